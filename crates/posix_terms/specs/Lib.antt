@@ -1,0 +1,4 @@
+pub mod Errors
+pub mod Calls
+pub mod Replies
+pub mod Text

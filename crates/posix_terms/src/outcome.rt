@@ -1,0 +1,48 @@
+ghost use Rattle.std.specs.Prelude.{◌≡◌, IfOk};
+
+use crate::bytes::Bytes;
+use crate::errno::Errno;
+use std::alloc::AllocError;
+
+/// What a call asks of a door to the outside.
+#[derive(Clone, Copy, Debug, PartialEq, Eq, Hash)]
+pub enum OutKind {
+    Open,
+    Read,
+    Write,
+    Seek,
+    Listen,
+    Connect,
+    Accept,
+    Shutdown,
+    Close,
+}
+
+/// What came back from outside: a value and, from a read, bytes; or a failure.
+#[derive(Debug, PartialEq, Eq, Drop)]
+pub enum Outcome {
+    Ok { value: u64, bytes: Bytes },
+    Fail(Errno),
+}
+
+impl Outcome {
+    /// A copy of the outcome.
+    pub fn try_clone(&self) -> Result<Outcome, AllocError>
+        ensures { IfOk result (λ outcome. outcome ≡ self.now) }
+    {
+        Ok(match self {
+            Outcome::Ok { value, bytes } => Outcome::Ok {
+                value: *value,
+                bytes: bytes.try_clone()?,
+            },
+            Outcome::Fail(error) => Outcome::Fail(*error),
+        })
+    }
+}
+
+/// One outcome of a thread's list, with the kind of the request that it answers.
+#[derive(Debug, PartialEq, Eq, Drop)]
+pub struct Given {
+    pub kind: OutKind,
+    pub outcome: Outcome,
+}
