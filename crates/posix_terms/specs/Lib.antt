@@ -2,3 +2,12 @@ pub mod Errors
 pub mod Calls
 pub mod Replies
 pub mod Text
+pub mod Files
+pub mod Object
+pub mod Effects
+pub mod Refusals
+pub mod Paths
+pub mod Descriptors
+pub mod Transfers
+pub mod Step
+pub mod Legal

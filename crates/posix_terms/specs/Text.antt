@@ -1,5 +1,5 @@
 -- Texts in pieces: the words of a line, the components of a path.
-use Rattle.std.specs.Prelude.{ℕ, List, [], ◌∷◌, Bool, not, filter, length, ◌==◌}
+use Rattle.std.specs.Prelude.{ℕ, List, not, filter, length, ◌==◌}
 use Rattle.std.specs.List.{slice_split}
 
 -- the pieces of a text between the separators, without the empty ones

@@ -5,6 +5,7 @@
 mod bytes;
 mod call;
 mod errno;
+mod laws;
 mod limits;
 mod outcome;
 mod reply;
@@ -13,7 +14,8 @@ mod transcript;
 pub use bytes::Bytes;
 pub use call::{Access, Call, CallKind, OpenFlags, Whence};
 pub use errno::{Errno, codes_lead_back, errno_name};
+pub use laws::failed_calls_change_nothing;
 pub use limits::Limits;
 pub use outcome::{Given, OutKind, Outcome};
-pub use reply::{ObjectKind, Reply};
-pub use transcript::{Row, Settings, Transcript, Turn};
+pub use reply::{Answer, ObjectKind, Reply};
+pub use transcript::{HistoryRow, Row, Settings, Transcript, Turn};

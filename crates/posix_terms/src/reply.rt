@@ -79,3 +79,10 @@ impl Reply {
         })
     }
 }
+
+/// The end of one attempt at a call: its reply, or that the call was blocked and is made again.
+#[derive(Debug, PartialEq, Eq, Drop)]
+pub enum Answer {
+    Gives(Reply),
+    Again,
+}

@@ -2,7 +2,8 @@ ghost use Rattle.std.specs.Prelude.{◌≡◌, ◌∷◌, [], ◌++◌, List, On
 ghost use Rattle.posix_terms.specs.declared.transcript.Row.{Row};
 
 use crate::call::Call;
-use crate::reply::Reply;
+use crate::outcome::Outcome;
+use crate::reply::{Answer, Reply};
 use std::alloc::{AllocError, Global};
 use std::marker::Model;
 
@@ -27,6 +28,16 @@ pub struct Row {
     pub call: Call,
     pub turn: Turn,
     pub reply: Reply,
+}
+
+/// One granted turn of a run: the call and its turn, the outcome from outside if it came, and the
+/// answer if it was given.
+#[derive(Debug, PartialEq, Eq, Drop)]
+pub struct HistoryRow {
+    pub call: Call,
+    pub turn: Turn,
+    pub outcome: Option<Outcome>,
+    pub answer: Option<Answer>,
 }
 
 /// What one thread saw: its calls with their replies, in order. Contracts see the list of its rows.

@@ -1,0 +1,56 @@
+-- The sequential object: one table of descriptors, as one thread after another uses it.
+-- POSIX.1-2017, System Interfaces, 2.5 and `open`: descriptors refer to open file descriptions, and these to objects.
+use Rattle.std.specs.Prelude.{ℕ, zero, suc, List, Bool, false, ◌||◌}
+use Rattle.std.specs.Ordering.{nat_cmp}
+use Rattle.std.specs.declared.cmp.Ordering.{Ordering}
+use Rattle.std.specs.Cmp.Lexicographic.{slice_cmp}
+use Rattle.std.specs.FinMap as map
+use Rattle.std.specs.FinMap.{FinMap}
+use Rattle.posix_terms.specs.declared.call.Access.{Access}
+
+-- an open file description: what it refers to, how it may be used, where the next read or write starts, and its flags
+pub record Description : Type 0 where
+  pub object : ℕ
+  pub access : Access
+  pub offset : ℕ
+  pub append : Bool
+  pub nonblock : Bool
+
+-- what an object holds
+pub data Content : Type 0 where
+  File : (bytes : List ℕ) → Content
+
+-- what a path names
+pub data Node : Type 0 where
+  FileNode : (object : ℕ) → Node
+  Directory : Node
+
+abbrev pub path_cmp : List (List ℕ) → List (List ℕ) → Ordering
+path_cmp = slice_cmp (slice_cmp nat_cmp)
+
+-- Descriptions and objects go by names that are never used again: `next_description` and `next_object` are the next ones.
+-- A path is the list of its components. The root, the path with none, is always a directory and stands in no map
+pub record State : Type 0 where
+  pub descriptors : FinMap nat_cmp ℕ
+  pub descriptions : FinMap nat_cmp Description
+  pub objects : FinMap nat_cmp Content
+  pub paths : FinMap path_cmp Node
+  pub next_description : ℕ
+  pub next_object : ℕ
+
+-- no descriptor is open, and there is only the root
+abbrev pub empty_state : State
+empty_state =
+    record {
+      descriptors = map.empty;
+      descriptions = map.empty;
+      objects = map.empty;
+      paths = map.empty;
+      next_description = 0;
+      next_object = 0;
+    }
+
+-- whether a test holds of a number below n
+abbrev pub any_below : ℕ → (ℕ → Bool) → Bool
+any_below zero test = false
+any_below (suc n) test = any_below n test || test n

@@ -1,0 +1,24 @@
+-- A call is a chain of refusals, in the order in which they are looked for, and then what it does.
+use Rattle.std.specs.Prelude.{ℕ, ℤ, pos, negsuc, Bool, true, false, Result, Ok, Err, Option, Some, None, if◌then◌else◌, nat_lt}
+use Rattle.posix_terms.specs.declared.errno.Errno.{Errno}
+use Rattle.posix_terms.specs.declared.errno.Errno.TheVariants.{EINVAL}
+use Rattle.posix_terms.specs.declared.limits.TheConstants.Limits as limit
+
+-- the first refusal ends the chain
+infixl 10 ◌>>=◌
+abbrev pub ◌>>=◌ : {A B : Type 0} → Result A Errno → (A → Result B Errno) → Result B Errno
+(Ok x) >>= f = f x
+(Err e) >>= f = Err e
+
+abbrev pub refuse_if : Bool → Errno → Result (Unit {0}) Errno
+refuse_if true e = Err e
+refuse_if false e = Ok tt
+
+abbrev pub some_or : {A : Type 0} → Option A → Errno → Result A Errno
+some_or (Some x) e = Ok x
+some_or None e = Err e
+
+-- the count of a read or write: neither negative nor above 32,767
+abbrev pub count_of : ℤ → Result ℕ Errno
+count_of (pos n) = if nat_lt limit.COUNT n then Err EINVAL else Ok n
+count_of (negsuc n) = Err EINVAL
