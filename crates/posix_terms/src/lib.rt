@@ -16,6 +16,6 @@ pub use call::{Access, Call, CallKind, OpenFlags, Whence};
 pub use errno::{Errno, codes_lead_back, errno_name};
 pub use laws::failed_calls_change_nothing;
 pub use limits::Limits;
-pub use outcome::{Given, OutKind, Outcome};
+pub use outcome::{Given, OutKind, Outcome, Outcomes};
 pub use reply::{Answer, ObjectKind, Reply};
-pub use transcript::{HistoryRow, Row, Settings, Transcript, Turn};
+pub use transcript::{HistoryRow, Row, Settings, Transcript, Transcripts, Turn};

@@ -1,8 +1,10 @@
-ghost use Rattle.std.specs.Prelude.{◌≡◌, IfOk};
+ghost use Rattle.std.specs.Prelude.{◌≡◌, List, IfOk};
+ghost use Rattle.posix_terms.specs.declared.outcome.Given.{Given};
 
 use crate::bytes::Bytes;
 use crate::errno::Errno;
 use std::alloc::AllocError;
+use std::marker::Model;
 
 /// What a call asks of a door to the outside.
 #[derive(Clone, Copy, Debug, PartialEq, Eq, Hash)]
@@ -45,4 +47,32 @@ impl Outcome {
 pub struct Given {
     pub kind: OutKind,
     pub outcome: Outcome,
+}
+
+/// The outcomes of one thread, in order. Contracts see the list of them.
+#[derive(Debug, Drop)]
+pub struct Outcomes {
+    list: Vec<Given>,
+}
+
+impl Model for Outcomes {
+    ghost Value = { List Given };
+
+    ghost view = { λ o. o.list.items };
+}
+
+impl Outcomes {
+    /// The outcomes of a thread. It takes no memory.
+    pub fn from_vec(list: Vec<Given>) -> Outcomes
+        ensures { result ≡ list.items }
+    {
+        Outcomes { list }
+    }
+
+    /// The outcomes, in order.
+    pub fn as_slice(&self) -> &[Given]
+        ensures { result.now ≡ self.now }
+    {
+        self.list.as_slice()
+    }
 }

@@ -85,3 +85,31 @@ impl Transcript {
         Ok(())
     }
 }
+
+/// The transcripts of all threads, by thread. Contracts see the list of them.
+#[derive(Debug, Drop)]
+pub struct Transcripts {
+    threads: Vec<Transcript>,
+}
+
+impl Model for Transcripts {
+    ghost Value = { List (List Row) };
+
+    ghost view = { λ t. t.threads.items };
+}
+
+impl Transcripts {
+    /// The transcripts of threads 0, 1 and so on. It takes no memory.
+    pub fn from_vec(threads: Vec<Transcript>) -> Transcripts
+        ensures { result ≡ threads.items }
+    {
+        Transcripts { threads }
+    }
+
+    /// The transcripts, by thread.
+    pub fn threads(&self) -> &[Transcript]
+        ensures { result.now ≡ self.now }
+    {
+        self.threads.as_slice()
+    }
+}
