@@ -1,4 +1,4 @@
--- The file rules: a file is a list of at most 65,536 bytes.
+-- The file rules: a file is a list of bytes, and no write takes it past 65,536.
 -- POSIX.1-2017, System Interfaces: `read`, `write`, `ftruncate`.
 use Rattle.std.specs.Prelude.{ℕ, ◌+◌, ◌-◌, List, ◌++◌, length, take, drop, replicate, Result, Ok, Err, if◌then◌else◌, ◌==◌, nat_le}
 use Rattle.posix_terms.specs.declared.errno.Errno.{Errno}
@@ -14,13 +14,13 @@ abbrev pub overlaid : List ℕ → ℕ → List ℕ → List ℕ
 overlaid file position bytes = take position (file ++ replicate (position - length file) 0) ++ bytes ++ drop (position + length bytes) file
 
 -- the file after a write at a position, and how many bytes were written: those that fit under the limit.
--- Where not one byte fits the write is refused
+-- Where not one fits the write is refused; of no bytes it changes nothing
 abbrev pub written : List ℕ → ℕ → List ℕ → Result (List ℕ × ℕ) Errno
 written file position bytes =
     if length bytes == 0 then Ok (file, 0) else
     if nat_le limit.FILE_BYTES position then Err EFBIG else
     let fitting = take (limit.FILE_BYTES - position) bytes in Ok (overlaid file position fitting, length fitting)
 
--- the file cut, or extended with 0 bytes, to this length
+-- the file at this length: its first bytes, and 0 bytes where it had fewer
 abbrev pub resized : List ℕ → ℕ → List ℕ
 resized file size = take size file ++ replicate (size - length file) 0

@@ -1,5 +1,5 @@
 -- The sequential object: one table of descriptors, as one thread after another uses it.
--- POSIX.1-2017, System Interfaces, 2.5 and `open`: descriptors refer to open file descriptions, and these to objects.
+-- POSIX.1-2017, Base Definitions, 3.258 (open file description): a descriptor refers to an open file description, and this to an object.
 use Rattle.std.specs.Prelude.{ℕ, zero, suc, List, Bool, false, ◌||◌}
 use Rattle.std.specs.Ordering.{nat_cmp}
 use Rattle.std.specs.declared.cmp.Ordering.{Ordering}
@@ -8,7 +8,7 @@ use Rattle.std.specs.FinMap as map
 use Rattle.std.specs.FinMap.{FinMap}
 use Rattle.posix_terms.specs.declared.call.Access.{Access}
 
--- an open file description: what it refers to, how it may be used, where the next read or write starts, and its flags
+-- an open file description: what it refers to, how it may be used, its offset and its flags
 pub record Description : Type 0 where
   pub object : ℕ
   pub access : Access
@@ -28,7 +28,7 @@ pub data Node : Type 0 where
 abbrev pub path_cmp : List (List ℕ) → List (List ℕ) → Ordering
 path_cmp = slice_cmp (slice_cmp nat_cmp)
 
--- Descriptions and objects go by names that are never used again: `next_description` and `next_object` are the next ones.
+-- Descriptions and objects have keys that are never used again: `next_description` and `next_object` are the next ones.
 -- A path is the list of its components. The root, the path with none, is always a directory and stands in no map
 pub record State : Type 0 where
   pub descriptors : FinMap nat_cmp ℕ
@@ -49,6 +49,10 @@ empty_state =
       next_description = 0;
       next_object = 0;
     }
+
+-- a new content for an object
+abbrev pub with_content : State → ℕ → Content → State
+with_content s object content = record s { objects = map.insert s.objects object content }
 
 -- whether a test holds of a number below n
 abbrev pub any_below : ℕ → (ℕ → Bool) → Bool

@@ -13,16 +13,20 @@ use Rattle.posix_terms.specs.declared.errno.Errno.{Errno}
 use Rattle.posix_terms.specs.declared.errno.Errno.TheVariants.{EINVAL, ENOENT, ENOTDIR, ENAMETOOLONG}
 use Rattle.posix_terms.specs.declared.limits.TheConstants.Limits as limit
 
--- several slashes count as one, and one at the head as none
+-- the byte `/`
+abbrev pub slash : ℕ
+slash = 47
+
+-- Empty components do not count: several slashes are as one, and slashes alone are the root
 abbrev pub components_of : List ℕ → List (List ℕ)
-components_of path = pieces_of 47 path
+components_of path = pieces_of slash path
 
 abbrev pub is_dots : List ℕ → Bool
 is_dots name = pointwise nat_eq name (codes ".") || pointwise nat_eq name (codes "..")
 
--- a slash after the last component
+-- there is a component, and the path goes on behind the last one
 abbrev pub has_trailing_slash : List ℕ → Bool
-has_trailing_slash path = nat_lt 0 (length (components_of path)) && (slice_index path (length path - 1) == 47)
+has_trailing_slash path = nat_lt 0 (length (components_of path)) && (slice_index path (length path - 1) == slash)
 
 -- the components of a path that is well formed
 unfoldable pub path_form : List ℕ → Result (List (List ℕ)) Errno
@@ -40,6 +44,7 @@ abbrev pub node_at : FinMap path_cmp Node → List (List ℕ) → Option Node
 node_at paths [] = Some Directory
 node_at paths (name ∷ names) = map.get paths (name ∷ names)
 
+-- whether a path may lead on through what stands there
 abbrev pub passed : Option Node → Result (Unit {0}) Errno
 passed None = Err ENOENT
 passed (Some (FileNode object)) = Err ENOTDIR
@@ -54,6 +59,6 @@ walked paths before (name ∷ next ∷ names) = passed (node_at paths (before ++
 -- the components of a path whose prefix is there; whether it names something itself is left to the call
 abbrev pub resolved : State → List ℕ → Result (List (List ℕ)) Errno
 resolved s path = do
-  names ← path_form path
-  _ ← walked s.paths [] names
-  Ok names
+  components ← path_form path
+  _ ← walked s.paths [] components
+  Ok components

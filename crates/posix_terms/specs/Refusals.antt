@@ -18,7 +18,7 @@ abbrev pub some_or : {A : Type 0} → Option A → Errno → Result A Errno
 some_or (Some x) e = Ok x
 some_or None e = Err e
 
--- the count of a read or write: neither negative nor above 32,767
+-- how many bytes a read asks for: neither negative nor above the greatest count
 abbrev pub count_of : ℤ → Result ℕ Errno
 count_of (pos n) = if nat_lt limit.COUNT n then Err EINVAL else Ok n
 count_of (negsuc n) = Err EINVAL

@@ -9,29 +9,43 @@ use Rattle.posix_terms.specs.declared.call.Call.TheVariants as call
 use Rattle.posix_terms.specs.declared.errno.Errno.{Errno}
 use Rattle.posix_terms.specs.declared.outcome.Outcome.{Outcome}
 use Rattle.posix_terms.specs.declared.reply.Answer.{Answer}
-use Rattle.posix_terms.specs.declared.reply.Answer.TheVariants.{Gives}
+use Rattle.posix_terms.specs.declared.reply.Answer.TheVariants as answer
 use Rattle.posix_terms.specs.declared.reply.Reply.TheVariants as reply
+use Rattle.posix_terms.specs.declared.transcript.Settings.{Settings}
 
--- what a call carries from one blocked turn to the next: for how many turns it was blocked
+-- what a blocked call hands on to its next turn: the number of its turns so far
 abbrev pub Carried : Type 0
 Carried = ℕ
 
-abbrev pub effect_of : State → Call → Result Effect Errno
-effect_of s (call.Open path access flags) = open_result s path access flags
-effect_of s (call.Close descriptor) = close_result s descriptor
-effect_of s (call.Read descriptor count) = read_result s descriptor count
-effect_of s (call.Write descriptor bytes) = write_result s descriptor bytes
-effect_of s (call.Lseek descriptor offset whence) = lseek_result s descriptor offset whence
+-- a call at its first turn
+abbrev pub nothing_carried : Carried
+nothing_carried = 0
 
--- a refused call leaves the state as it was
-abbrev pub concluded : State → Result Effect Errno → State × Answer
-concluded s (Ok (Completes after r)) = (after, Gives r)
-concluded s (Err e) = (s, Gives (reply.Fail e))
+-- what a call does, by the rows of the call table
+abbrev pub effect_of : State → Call → Carried → Result Effect Errno
+effect_of s (call.Open path access flags) carried = open_result s path access flags
+effect_of s (call.Close descriptor) carried = close_result s descriptor
+effect_of s (call.Read descriptor count) carried = read_result s descriptor count
+effect_of s (call.Write descriptor bytes) carried = write_result s descriptor bytes
+effect_of s (call.Lseek descriptor offset whence) carried = lseek_result s descriptor offset whence
 
--- The state after a call, and its answer. The outcome is there where the call asks something outside, as no call does so far
-abbrev pub step : State → Call → Option Outcome → Carried → State × Answer
-step s c outcome carried = concluded s (effect_of s c)
+-- the state after a turn of a call, how it was answered, and what the thread's next call turn carries
+pub record Stepped : Type 0 where
+  pub after : State
+  pub answer : Answer
+  pub carried : Carried
+
+-- The outcome is that of the request which the call makes of the outside, and patience is for calls that can be blocked: none of these is there yet
+abbrev pub concluded : Settings → State → Option Outcome → Carried → Result Effect Errno → Stepped
+concluded settings s outcome carried (Ok (Completes after r)) = record { after = after; answer = answer.Reply r; carried = nothing_carried }
+concluded settings s outcome carried (Err e) = record { after = s; answer = answer.Reply (reply.Fail e); carried = nothing_carried }
+
+abbrev pub step : Settings → State → Call → Option Outcome → Carried → Stepped
+step settings s c outcome carried = concluded settings s outcome carried (effect_of s c carried)
 
 -- a call that fails leaves the state as it was
 abbrev pub FailChangesNothing : Type 0
-FailChangesNothing = (s : State) (c : Call) (outcome : Option Outcome) (carried : Carried) (e : Errno) → (step s c outcome carried).1 ≡ Gives (reply.Fail e) → (step s c outcome carried).0 ≡ s
+FailChangesNothing =
+    (settings : Settings) (s : State) (c : Call) (outcome : Option Outcome) (carried : Carried) (e : Errno)
+    → (step settings s c outcome carried).answer ≡ answer.Reply (reply.Fail e)
+    → (step settings s c outcome carried).after ≡ s

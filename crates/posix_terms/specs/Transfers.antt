@@ -6,7 +6,7 @@ use Rattle.posix_terms.specs.Calls.{can_read, can_write}
 use Rattle.posix_terms.specs.Descriptors.{described}
 use Rattle.posix_terms.specs.Effects.{Effect, Completes}
 use Rattle.posix_terms.specs.Files.{bytes_at, written}
-use Rattle.posix_terms.specs.Object.{State, Description, Content, File}
+use Rattle.posix_terms.specs.Object.{State, Description, Content, File, with_content}
 use Rattle.posix_terms.specs.Refusals.{◌>>=◌, refuse_if, count_of}
 use Rattle.posix_terms.specs.declared.call.Whence.{Whence}
 use Rattle.posix_terms.specs.declared.call.Whence.TheVariants as whence
@@ -15,45 +15,42 @@ use Rattle.posix_terms.specs.declared.errno.Errno.TheVariants.{EBADF, EINVAL, EO
 use Rattle.posix_terms.specs.declared.limits.TheConstants.Limits as limit
 use Rattle.posix_terms.specs.declared.reply.Reply.TheVariants as reply
 
--- the content of a description's object, which is always in the map
+-- what an object holds; the object of a description is in the map
 abbrev pub content_of : State → ℕ → Content
 content_of s object = unwrap_or (map.get s.objects object) (File [])
 
 abbrev pub with_offset : State → ℕ → Description → ℕ → State
-with_offset s name d offset = record s { descriptions = map.insert s.descriptions name (record d { offset = offset }) }
-
-abbrev pub with_content : State → ℕ → Content → State
-with_content s object content = record s { objects = map.insert s.objects object content }
+with_offset s key d offset = record s { descriptions = map.insert s.descriptions key (record d { offset = offset }) }
 
 abbrev pub read_content : State → ℕ → Description → ℕ → Content → Result Effect Errno
-read_content s name d count (File file) =
+read_content s key d count (File file) =
     let bytes = bytes_at file d.offset count in
-    Ok (Completes (with_offset s name d (d.offset + length bytes)) (reply.Data bytes))
+    Ok (Completes (with_offset s key d (d.offset + length bytes)) (reply.Data bytes))
 
 -- `read`
 unfoldable pub read_result : State → ℤ → ℤ → Result Effect Errno
 read_result s descriptor count = do
-  d ← described s descriptor
-  _ ← refuse_if (not (can_read d.1.access)) EBADF
+  found ← described s descriptor
+  _ ← refuse_if (not (can_read found.1.access)) EBADF
   n ← count_of count
-  read_content s d.0 d.1 n (content_of s d.1.object)
+  read_content s found.0 found.1 n (content_of s found.1.object)
 
 -- where a write starts: with O_APPEND at the end
 abbrev pub start_of : Description → List ℕ → ℕ
 start_of d file = if d.append then length file else d.offset
 
 abbrev pub write_content : State → ℕ → Description → List ℕ → Content → Result Effect Errno
-write_content s name d bytes (File file) = do
+write_content s key d bytes (File file) = do
   w ← written file (start_of d file) bytes
-  Ok (Completes (with_content (with_offset s name d (start_of d file + w.1)) d.object (File w.0)) (reply.Count w.1))
+  Ok (Completes (with_content (with_offset s key d (start_of d file + w.1)) d.object (File w.0)) (reply.Count w.1))
 
--- `write`; of no bytes it does nothing
+-- `write`; of no bytes it does nothing, and with O_APPEND too leaves the offset
 unfoldable pub write_result : State → ℤ → List ℕ → Result Effect Errno
 write_result s descriptor bytes = do
-  d ← described s descriptor
-  _ ← refuse_if (not (can_write d.1.access)) EBADF
+  found ← described s descriptor
+  _ ← refuse_if (not (can_write found.1.access)) EBADF
   _ ← refuse_if (nat_lt limit.COUNT (length bytes)) EINVAL
-  if length bytes == 0 then Ok (Completes s (reply.Count 0)) else write_content s d.0 d.1 bytes (content_of s d.1.object)
+  if length bytes == 0 then Ok (Completes s (reply.Count 0)) else write_content s found.0 found.1 bytes (content_of s found.1.object)
 
 -- an offset is a number below 2^63
 abbrev pub offset_of : ℤ → Result ℕ Errno
@@ -66,12 +63,12 @@ base_of whence.Current offset size = offset
 base_of whence.End offset size = size
 
 abbrev pub seek_content : State → ℕ → Description → ℤ → Whence → Content → Result Effect Errno
-seek_content s name d offset from (File file) = do
+seek_content s key d offset from (File file) = do
   to ← offset_of (pos (base_of from d.offset (length file)) +ℤ offset)
-  Ok (Completes (with_offset s name d to) (reply.Number (pos to)))
+  Ok (Completes (with_offset s key d to) (reply.Number (pos to)))
 
 -- `lseek`
 unfoldable pub lseek_result : State → ℤ → ℤ → Whence → Result Effect Errno
 lseek_result s descriptor offset from = do
-  d ← described s descriptor
-  seek_content s d.0 d.1 offset from (content_of s d.1.object)
+  found ← described s descriptor
+  seek_content s found.0 found.1 offset from (content_of s found.1.object)

@@ -2,8 +2,7 @@ ghost use Rattle.std.specs.Prelude.{◌≡◌};
 ghost use Rattle.posix_terms.specs.Errors.{code_of, error_of, name_of};
 ghost use Rattle.posix_terms.specs.declared.errno.Errno.{Errno};
 
-/// The error numbers of this profile (POSIX.1-2017, `<errno.h>`). `HostDoors` maps every other error
-/// of the system to `EIO`.
+/// The error numbers of this profile (POSIX.1-2017, `<errno.h>`).
 #[derive(Clone, Copy, Debug, PartialEq, Eq, Hash)]
 pub enum Errno {
     EBADF,

@@ -51,7 +51,7 @@ pub enum Reply {
     },
     /// The call was done and has nothing to tell.
     Done,
-    /// The call was refused, and changed nothing.
+    /// The call failed.
     Fail(Errno),
 }
 
@@ -80,9 +80,10 @@ impl Reply {
     }
 }
 
-/// The end of one attempt at a call: its reply, or that the call was blocked and is made again.
+/// How one attempt at a call ended: with its reply, or blocked, and then the call is made again at a
+/// later turn.
 #[derive(Debug, PartialEq, Eq, Drop)]
 pub enum Answer {
-    Gives(Reply),
+    Reply(Reply),
     Again,
 }

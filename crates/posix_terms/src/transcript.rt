@@ -30,8 +30,8 @@ pub struct Row {
     pub reply: Reply,
 }
 
-/// One granted turn of a run: the call and its turn, the outcome from outside if it came, and the
-/// answer if it was given.
+/// One granted turn of a run: which call, when and by which thread, what came from outside, and how it
+/// was answered. The last two stay out until they come.
 #[derive(Debug, PartialEq, Eq, Drop)]
 pub struct HistoryRow {
     pub call: Call,

@@ -2,4 +2,4 @@ use Rattle.posix_terms.proofs.Refused.{fail_leaves_state}
 use Rattle.posix_terms.proofs.laws.failed_calls_change_nothing.Goals as goal
 
 pub returns : goal.returns
-returns c = λ s call outcome carried e. fail_leaves_state s call e
+returns c = fail_leaves_state
