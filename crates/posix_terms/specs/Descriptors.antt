@@ -84,7 +84,7 @@ open_node s components (Some node) access flags = do
 unfoldable pub open_result : State → List ℕ → Access → OpenFlags → Result Effect Errno
 open_result s path access flags = do
   _ ← refuse_if (flags.truncate && not (can_write access)) EINVAL
-  components ← resolved s path
+  components ← resolved s.paths path
   open_node s components (node_at s.paths components) access flags
 
 -- what refers to a description, and what to an object
@@ -128,5 +128,5 @@ freed s (negsuc n) = s
 -- `close`
 unfoldable pub close_result : State → ℤ → Result Effect Errno
 close_result s descriptor = do
-    found ← described s descriptor
-    Ok (Completes (released (freed s descriptor) found.0 found.1) reply.Done)
+  found ← described s descriptor
+  Ok (Completes (released (freed s descriptor) found.0 found.1) reply.Done)

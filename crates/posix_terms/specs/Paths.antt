@@ -6,7 +6,7 @@ use Rattle.std.specs.List.{list_any}
 use Rattle.std.specs.Cmp.Lexicographic.{pointwise}
 use Rattle.std.specs.FinMap as map
 use Rattle.std.specs.FinMap.{FinMap}
-use Rattle.posix_terms.specs.Object.{State, Node, FileNode, Directory, path_cmp}
+use Rattle.posix_terms.specs.Object.{Node, FileNode, Directory, path_cmp}
 use Rattle.posix_terms.specs.Refusals.{◌>>=◌, refuse_if}
 use Rattle.posix_terms.specs.Text.{pieces_of}
 use Rattle.posix_terms.specs.declared.errno.Errno.{Errno}
@@ -57,8 +57,8 @@ walked paths before (name ∷ []) = Ok tt
 walked paths before (name ∷ next ∷ names) = passed (node_at paths (before ++ name ∷ [])) >>= (λ _. walked paths (before ++ name ∷ []) (next ∷ names))
 
 -- the components of a path whose prefix is there; whether it names something itself is left to the call
-abbrev pub resolved : State → List ℕ → Result (List (List ℕ)) Errno
-resolved s path = do
+abbrev pub resolved : FinMap path_cmp Node → List ℕ → Result (List (List ℕ)) Errno
+resolved paths path = do
   components ← path_form path
-  _ ← walked s.paths [] components
+  _ ← walked paths [] components
   Ok components

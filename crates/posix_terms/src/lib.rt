@@ -9,6 +9,7 @@ mod laws;
 mod limits;
 mod outcome;
 mod reply;
+mod text;
 mod transcript;
 
 pub use bytes::Bytes;
@@ -18,4 +19,5 @@ pub use laws::failed_calls_change_nothing;
 pub use limits::Limits;
 pub use outcome::{Given, OutKind, Outcome, Outcomes};
 pub use reply::{Answer, ObjectKind, Reply};
+pub use text::{pieces, split};
 pub use transcript::{HistoryRow, Row, Settings, Transcript, Transcripts, Turn};

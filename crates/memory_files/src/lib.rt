@@ -1,0 +1,6 @@
+//! The bytes of a regular file in memory.
+#![tactic(auto)]
+
+mod body;
+
+pub use body::FileBody;

@@ -1,0 +1,59 @@
+-- What the script language keeps to.
+use Rattle.std.specs.Prelude.{◌≡◌, ◌≢◌, ℕ, ◌+◌, ◌<◌, ◌≤◌, ◌↔◌, List, [], ◌∷◌, length, map, drop, filter_map, slice_get, Option, Some, None, Ok, Err}
+use Rattle.posix_terms.specs.declared.call.Call.{Call}
+use Rattle.posix_terms.specs.declared.limits.TheConstants.Limits.{SCRIPT_LINES}
+use Rattle.posix_terms.specs.declared.reply.Reply.{Reply}
+use Rattle.thread_scripts.specs.Words.{lines_of}
+use Rattle.thread_scripts.specs.Faults.{bad_line, too_long}
+use Rattle.thread_scripts.specs.Grammar.{readings_of, script_of}
+use Rattle.thread_scripts.specs.Meaning.{call_of, next_of}
+use Rattle.thread_scripts.specs.declared.line.Line.{Line}
+use Rattle.thread_scripts.specs.declared.line.Line.TheVariants as line
+use Rattle.thread_scripts.specs.declared.actor.Step.{Step}
+use Rattle.thread_scripts.specs.declared.actor.Step.TheVariants as step
+use Rattle.thread_scripts.specs.declared.actor.ScriptState.{ScriptState}
+
+-- line k, counted from 0, is bad, and those before it are good
+pub record IsFirstBad (readings : List (Option (Option Line))) (k : ℕ) : Type 0 where
+  pub bad : slice_get readings k ≡ Some None
+  pub good : (j : ℕ) → j < k → slice_get readings j ≢ Some None
+
+-- each line is good, and the script's lines are what they say, without the lines that say nothing
+pub record AreGood (readings : List (Option (Option Line))) (lines : List Line) : Type 0 where
+  pub said : List (Option Line)
+  pub good : readings ≡ map Some said
+  pub kept : lines ≡ filter_map (λ l. l) said
+
+-- a text is too long where it has too many lines, whatever they are
+abbrev pub TooLongIsCounted : Type 0
+TooLongIsCounted = (text : List ℕ) → (script_of text ≡ Err too_long) ↔ (SCRIPT_LINES < length (lines_of text))
+
+-- the bad line that is told is the first one, counted from 1
+abbrev pub BadLineIsFirst : Type 0
+BadLineIsFirst = (text : List ℕ) (k : ℕ) → (script_of text ≡ Err (bad_line (k + 1))) ↔ ((length (lines_of text) ≤ SCRIPT_LINES) × IsFirstBad (readings_of (lines_of text)) k)
+
+-- a text is a script exactly where it is not too long and each line is good
+abbrev pub AcceptedExactly : Type 0
+AcceptedExactly = (text : List ℕ) (lines : List Line) → (script_of text ≡ Ok lines) ↔ ((length (lines_of text) ≤ SCRIPT_LINES) × AreGood (readings_of (lines_of text)) lines)
+
+-- the calls of lines
+abbrev pub calls_of : List Line → List Call
+calls_of [] = []
+calls_of ((line.Call l) ∷ lines) = call_of l ∷ calls_of lines
+
+-- the calls that a script has yet to make
+abbrev pub remaining : ScriptState → List Call
+remaining s = calls_of (drop s.place s.script)
+
+-- a step takes the first call that remains, and ends where none does
+abbrev pub Takes : Step → List Call → List Call → Type 0
+Takes (step.Work n) before after = before ≡ after
+Takes (step.Call call) before after = before ≡ call ∷ after
+Takes step.End before after = (before ≡ []) × (after ≡ [])
+
+abbrev pub StepsTakeWhatRemains : Type 0
+StepsTakeWhatRemains = (last : Option Reply) (s : ScriptState) → Takes (next_of last s).0 (remaining s) (remaining (next_of last s).1)
+
+-- the script itself never changes
+abbrev pub ScriptStays : Type 0
+ScriptStays = (last : Option Reply) (s : ScriptState) → (next_of last s).1.script ≡ s.script

@@ -1,0 +1,30 @@
+-- Decimal numbers.
+use Rattle.std.specs.Prelude.{ℕ, ◌+◌, ◌-◌, ◌*◌, ◌^◌, Bool, ◌&&◌, List, [], ◌∷◌, length, nat_le, ◌==◌, if◌then◌else◌, ℤ, pos, neg_ℤ, Option, Some, None, option_map}
+
+-- `0` to `9`
+abbrev pub is_digit : ℕ → Bool
+is_digit b = nat_le 48 b && nat_le b 57
+
+-- the value of more digits behind those of n
+abbrev pub digits_from : ℕ → List ℕ → Option ℕ
+digits_from n [] = Some n
+digits_from n (b ∷ digits) = if is_digit b then digits_from (10 * n + (b - 48)) digits else None
+
+-- the value of one or more digits, leading zeros allowed
+abbrev pub natural_of : List ℕ → Option ℕ
+natural_of text = if length text == 0 then None else digits_from 0 text
+
+-- the number, if it is not above the limit
+abbrev pub up_to : ℕ → Option ℕ → Option ℕ
+up_to limit None = None
+up_to limit (Some n) = if nat_le n limit then Some n else None
+
+abbrev pub minus : ℕ → ℤ
+minus n = neg_ℤ (pos n)
+
+-- the value of a decimal number of 64 bits: digits behind an optional minus sign
+abbrev pub number_of : List ℕ → Option ℤ
+number_of [] = None
+number_of (b ∷ digits) =
+    if b == 45 then option_map minus (up_to (2 ^ 63) (natural_of digits))
+    else option_map pos (up_to (2 ^ 63 - 1) (natural_of (b ∷ digits)))

@@ -1,0 +1,28 @@
+ghost use Rattle.thread_scripts.specs.Laws.{AcceptedExactly, BadLineIsFirst, ScriptStays, StepsTakeWhatRemains, TooLongIsCounted};
+
+/// The law of texts that are too long: those with more than 1,000 lines, whatever these are.
+pub fn too_long_is_counted()
+    ensures { TooLongIsCounted }
+{}
+
+/// The law of bad lines: the one that is told is the first one.
+pub fn bad_line_is_the_first()
+    ensures { BadLineIsFirst }
+{}
+
+/// The law of good lines: a text that is not too long is a script exactly where all its lines are
+/// good, and the script's lines are what they say.
+pub fn accepted_exactly()
+    ensures { AcceptedExactly }
+{}
+
+/// The law of a script's run: each call takes the first one that remains, and the end comes where
+/// none does.
+pub fn steps_take_what_remains()
+    ensures { StepsTakeWhatRemains }
+{}
+
+/// The law of a script's state: its script never changes.
+pub fn script_stays()
+    ensures { ScriptStays }
+{}
