@@ -1,0 +1,12 @@
+pub mod Keys
+pub mod PlaceLemmas
+pub mod Lowest
+pub mod Options
+pub mod FileLemmas
+pub mod Removing
+pub mod Adding
+pub mod Seeking
+pub mod Legality
+pub mod Stepping
+pub mod Running
+pub mod Starting

@@ -1,0 +1,59 @@
+ghost use Rattle.std.specs.Prelude.{◌≡◌};
+ghost use Rattle.call_machine.specs.declared.fault.PlainFault.TheVariants as plain_fault;
+
+use std::alloc::{AllocError, AllocFailed};
+use thiserror::Error;
+
+/// Why there was no run.
+#[derive(Clone, Copy, Debug, PartialEq, Eq, Error)]
+pub enum PlainFault {
+    /// Not one script, or not one list of outcomes for each script.
+    #[error("needs one script, and as many lists of outcomes")]
+    Threads,
+    /// The patience or the door cost is not 1 to 1,000,000.
+    #[error("patience and door cost must be 1 to 1,000,000")]
+    Settings,
+    #[error("no memory")]
+    Memory,
+}
+
+impl From<AllocError> for PlainFault {
+    ghost from_gives = { λ _ e. e ≡ plain_fault.Memory };
+
+    fn from(_error: AllocError) -> PlainFault {
+        PlainFault::Memory
+    }
+}
+
+impl<T: Drop> From<AllocFailed<T>> for PlainFault {
+    ghost from_gives = { λ _ e. e ≡ plain_fault.Memory };
+
+    fn from(_failed: AllocFailed<T>) -> PlainFault {
+        PlainFault::Memory
+    }
+}
+
+impl From<thread_scripts::Memory> for PlainFault {
+    ghost from_gives = { λ _ e. e ≡ plain_fault.Memory };
+
+    fn from(_memory: thread_scripts::Memory) -> PlainFault {
+        PlainFault::Memory
+    }
+}
+
+/// Why a run came to its end before all threads had ended.
+#[derive(Clone, Copy, Debug, PartialEq, Eq)]
+pub enum Stop {
+    /// There was no memory.
+    Memory,
+    /// The log's writer failed.
+    Sink,
+    /// A thread's logical clock would have passed its limit.
+    ClockFull,
+    /// What the threads noted is not what the history says.
+    Strayed,
+    /// This thread asked for an outcome that is not there.
+    EndOfLog(usize),
+    /// An outcome of this thread, with this number, does not fit what was asked.
+    Diverged(usize, u32),
+}
