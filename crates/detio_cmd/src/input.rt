@@ -1,0 +1,45 @@
+use crate::source::Source;
+use std::alloc::AllocError;
+use std::fs::File;
+use std::io::{Read, Stdin};
+use std::{fs, io};
+
+// Where a script comes from. One that could not be opened fails when it is read, so that the faults of
+// all scripts are found in one order.
+#[derive(Drop)]
+pub enum Input {
+    Stdin(Stdin),
+    File(File),
+    Unreadable,
+}
+
+impl Read for Input {
+    fn read(&mut self, buf: &mut [u8]) -> io::Result<usize> {
+        match self {
+            Input::Stdin(stdin) => stdin.read(buf),
+            Input::File(file) => file.read(buf),
+            Input::Unreadable => Err(io::Error::from(io::ErrorKind::NotFound)),
+        }
+    }
+}
+
+// The scripts at these paths. Standard input is read as such, since opening its path again is refused
+// where another user made the pipe behind it.
+pub fn open_scripts<'a>(
+    rt: &HostRuntime,
+    paths: &[&'a str],
+) -> Result<Vec<Source<'a, Input>>, AllocError> {
+    let mut sources = Vec::new(rt.alloc());
+    for path in paths {
+        let reader = if *path == "/dev/stdin" {
+            Input::Stdin(rt.stdin())
+        } else {
+            match fs::open(rt, *path) {
+                Ok(file) => Input::File(file),
+                Err(_) => Input::Unreadable,
+            }
+        };
+        sources.push(Source { path, reader })?;
+    }
+    Ok(sources)
+}

@@ -1,0 +1,105 @@
+ghost use Rattle.std.specs.Prelude.{◌≡◌, ◌++◌, IfOk, string_bytes};
+ghost use Rattle.detio_cmd.specs.Transcripts.{data_text, end_status, end_text, reply_text, row_text, rows_text, transcripts_text};
+
+use call_machine::Stop;
+use posix_terms::{Reply, Row, Transcript, errno_name};
+use std::alloc::{AllocError, Global};
+
+// The text of all transcripts, by thread.
+pub fn transcripts_text(alloc: Global, transcripts: &[Transcript]) -> Result<String, AllocError>
+    ensures { IfOk result (λ text. string_bytes text ≡ transcripts_text 0 transcripts.now) }
+{
+    let mut text = String::new(alloc);
+    for (thread, transcript) in transcripts.iter().enumerate() {
+        let rows = rows_text(alloc, thread, transcript.rows())?;
+        text.push_str(rows.as_str())?;
+    }
+    Ok(text)
+}
+
+// The text of one thread's rows.
+fn rows_text(alloc: Global, thread: usize, rows: &[Row]) -> Result<String, AllocError>
+    ensures { IfOk result (λ text. string_bytes text ≡ rows_text thread 0 rows.now) }
+{
+    let mut text = String::new(alloc);
+    for (number, row) in rows.iter().enumerate() {
+        let line = row_text(alloc, thread, number, row)?;
+        text.push_str(line.as_str())?;
+    }
+    Ok(text)
+}
+
+#[tactic(auto, unfolding(crate::specs::Transcripts::row_text))]
+fn row_text(alloc: Global, thread: usize, number: usize, row: &Row) -> Result<String, AllocError>
+    ensures { IfOk result (λ text. string_bytes text ≡ row_text thread number row.now) }
+{
+    let call = row.call.kind().word();
+    let reply = reply_text(alloc, &row.reply)?;
+    format!(in alloc; "{thread} {number} {call} {reply}\n")
+}
+
+#[tactic(auto, unfolding(crate::specs::Transcripts::reply_text))]
+fn reply_text(alloc: Global, reply: &Reply) -> Result<String, AllocError>
+    ensures { IfOk result (λ text. string_bytes text ≡ reply_text reply.now) }
+{
+    match reply {
+        Reply::Count(count) => format!(in alloc; "count {count}"),
+        Reply::Data(bytes) => {
+            let data = data_text(alloc, bytes.as_slice())?;
+            format!(in alloc; "data {data}")
+        }
+        Reply::Number(number) => format!(in alloc; "number {number}"),
+        Reply::Pair(first, second) => format!(in alloc; "pair {first} {second}"),
+        Reply::Stat {
+            kind,
+            number,
+            links,
+        } => {
+            let kind = kind.code();
+            format!(in alloc; "stat {kind} {number} {links}")
+        }
+        Reply::Done => String::from_str(alloc, "done"),
+        Reply::Fail(error) => {
+            let name = errno_name(*error);
+            format!(in alloc; "fail {name}")
+        }
+    }
+}
+
+fn data_text(alloc: Global, bytes: &[u8]) -> Result<String, AllocError>
+    ensures { IfOk result (λ text. string_bytes text ≡ data_text bytes.now) }
+{
+    if bytes.is_empty() {
+        return String::from_str(alloc, "-");
+    }
+    hex::encode(alloc, bytes)
+}
+
+// The line that tells how a run ended.
+#[tactic(auto, unfolding(crate::specs::Transcripts::end_text))]
+pub fn end_text(alloc: Global, stop: Option<Stop>) -> Result<String, AllocError>
+    ensures { IfOk result (λ text. string_bytes text ≡ end_text stop) }
+{
+    match stop {
+        None => String::from_str(alloc, "end\n"),
+        Some(Stop::Memory) => String::from_str(alloc, "stop memory\n"),
+        Some(Stop::Sink) => String::from_str(alloc, "stop sink\n"),
+        Some(Stop::ClockFull) => String::from_str(alloc, "stop clock full\n"),
+        Some(Stop::Strayed) => String::from_str(alloc, "stop strayed\n"),
+        Some(Stop::EndOfLog(thread)) => format!(in alloc; "stop end of log {thread}\n"),
+        Some(Stop::Diverged(thread, number)) => {
+            format!(in alloc; "stop diverged {thread} {number}\n")
+        }
+    }
+}
+
+// The exit status of a run that ended so.
+pub fn end_status(stop: Option<Stop>) -> u8
+    ensures { result ≡ end_status stop }
+{
+    match stop {
+        None => 0,
+        Some(Stop::EndOfLog(_)) | Some(Stop::Diverged(_, _)) => 1,
+        Some(Stop::Memory) | Some(Stop::Sink) | Some(Stop::ClockFull) | Some(Stop::Strayed) => 4,
+    }
+}
