@@ -1,8 +1,9 @@
-ghost use Rattle.std.specs.Prelude.{◌≡◌, ◌⊎◌, ◌∷◌, [], map, IfOk};
+ghost use Rattle.std.specs.Prelude.{◌≡◌, ◌⊎◌, ◌∷◌, [], map, IfOk, codes};
+ghost use Rattle.std.specs.Io.KnownBytes.{Appends};
 ghost use Rattle.thread_scripts.specs.Faults.{bad_line, too_long};
 ghost use Rattle.thread_scripts.specs.Grammar.{script_of};
 ghost use Rattle.call_machine.specs.Plain.{plain_run_of};
-ghost use Rattle.detio_cmd.specs.Commands.{IsCut, IsPrinted, PlainPrints, Prints, cannot_read, fault_printed, no_memory, read_printed, plain_printed, run_printed, script_fault};
+ghost use Rattle.detio_cmd.specs.Commands.{IsCut, IsPrinted, PlainPrints, Prints, cannot_read, fault_printed, read_printed, plain_printed, run_printed, script_fault};
 
 use crate::printed::Printed;
 use crate::source::{ReadFault, Source, read_text};
@@ -28,7 +29,7 @@ pub fn plain_over<R: Read + Drop, W: Write, E: Write>(
 {
     match plain_printed(alloc, settings, sources) {
         Ok(printed) => print(&printed, output, errors),
-        Err(AllocError) => no_memory(output, errors),
+        Err(AllocError) => no_memory(errors),
     }
 }
 
@@ -136,16 +137,21 @@ fn print<W: Write, E: Write>(printed: &Printed, output: &mut W, errors: &mut E) 
             errors.write_all(printed.errors.as_slice())?;
             Ok(printed.status)
         }
-        Err(_) => {
-            errors.write_all(b"cannot write -\n")?;
-            Ok(4)
-        }
+        Err(_) => cannot_write(errors),
     }
 }
 
-// Says that there is no memory.
-fn no_memory<W: Write, E: Write>(output: &mut W, errors: &mut E) -> io::Result<u8>
-    ensures { IfOk result (λ status. IsPrinted no_memory status (W.contents output.old) (W.contents output.new) (E.contents errors.old) (E.contents errors.new)) }
+/// Says that standard output could not be written, and answers the status.
+pub fn cannot_write<E: Write>(errors: &mut E) -> io::Result<u8>
+    ensures { IfOk result (λ status. IsCut status (E.contents errors.old) (E.contents errors.new)) }
+{
+    errors.write_all(b"cannot write -\n")?;
+    Ok(4)
+}
+
+/// Says that there is no memory, and answers the status.
+pub fn no_memory<E: Write>(errors: &mut E) -> io::Result<u8>
+    ensures { IfOk result (λ status. (status ≡ 4) × Appends (E.contents errors.old) (E.contents errors.new) (codes "no memory\n")) }
 {
     errors.write_all(b"no memory\n")?;
     Ok(4)

@@ -2,5 +2,7 @@
 #![tactic(auto)]
 
 mod body;
+#[cfg(test)]
+mod tests;
 
 pub use body::FileBody;
