@@ -12,6 +12,8 @@ mod refusal;
 mod run;
 mod step;
 mod table;
+#[cfg(test)]
+mod tests;
 mod transfer;
 
 pub use fault::{PlainFault, Stop};

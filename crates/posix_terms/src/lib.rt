@@ -9,6 +9,8 @@ mod laws;
 mod limits;
 mod outcome;
 mod reply;
+#[cfg(test)]
+mod tests;
 mod text;
 mod transcript;
 

@@ -1,0 +1,16 @@
+-- A lock that is open to whoever comes at a later time than its last release.
+use Rattle.std.specs.Prelude.{ℕ, Some, None, Bool, ◌&&◌, is_none, nat_lt}
+use Rattle.det_mutex.specs.declared.lock.DetLock.{DetLock}
+
+abbrev pub new_lock : DetLock
+new_lock = record { holder = None; released = 0 }
+
+-- an attempt at this clock succeeds
+unfoldable pub takes : DetLock → ℕ → Bool
+takes l clock = is_none l.holder && nat_lt l.released clock
+
+abbrev pub held : ℕ → DetLock → DetLock
+held thread l = record l { holder = Some thread }
+
+abbrev pub freed : ℕ → DetLock
+freed clock = record { holder = None; released = clock }

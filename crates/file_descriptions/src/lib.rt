@@ -1,0 +1,10 @@
+//! Open file descriptions: what several descriptors may share.
+#![tactic(auto)]
+
+mod description;
+mod descriptions;
+#[cfg(test)]
+mod tests;
+
+pub use description::{Description, End, StatusFlags};
+pub use descriptions::Descriptions;

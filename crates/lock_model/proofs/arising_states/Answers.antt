@@ -1,0 +1,29 @@
+use Rattle.lock_model.proofs.Arising.{arises_event, arises_run, arises_start, legal_arisen}
+use Rattle.lock_model.proofs.Follows.{run_follows}
+use Rattle.lock_model.proofs.OwnRows.{held_arisen, rows_arisen}
+use Rattle.lock_model.proofs.Rising.{rising_arisen}
+use Rattle.lock_model.proofs.arising_states.Goals as goal
+
+pub returns-clause-at_start : goal.returns-clause-at_start
+returns-clause-at_start c = arises_start
+
+pub returns-clause-by_event : goal.returns-clause-by_event
+returns-clause-by_event c = arises_event
+
+pub returns-clause-by_run : goal.returns-clause-by_run
+returns-clause-by_run c = arises_run
+
+pub returns-clause-follows : goal.returns-clause-follows
+returns-clause-follows c = run_follows
+
+pub returns-clause-legal : goal.returns-clause-legal
+returns-clause-legal c = legal_arisen
+
+pub returns-clause-rising : goal.returns-clause-rising
+returns-clause-rising c = rising_arisen
+
+pub returns-clause-locks : goal.returns-clause-locks
+returns-clause-locks c = held_arisen
+
+pub returns-clause-rows : goal.returns-clause-rows
+returns-clause-rows c = rows_arisen

@@ -1,0 +1,62 @@
+-- What calls do: any functions of what the calls before have made.
+use Rattle.std.specs.Prelude.{ℕ, Option, Bool, true, false}
+use Rattle.lock_model.specs.Terms.{World, Request}
+use Rattle.posix_terms.specs.declared.call.Call.{Call}
+use Rattle.posix_terms.specs.declared.outcome.Outcome.{Outcome}
+use Rattle.posix_terms.specs.declared.reply.Reply.{Reply}
+use Rattle.posix_terms.specs.Step.{Carried}
+use Rattle.posix_terms.specs.declared.transcript.Turn.{Turn}
+
+-- what a call that takes an object does with it: it acts inside, or goes outside through a door, or does so and keeps the table to its answer
+pub data Way : Type 0 where
+  Inside : Way
+  Door : Way
+  Keeps_table : Way
+
+-- which object's lock a call takes
+pub data Plan : Type 0 where
+  No_object : Plan
+  Object : (number : ℕ) → (way : Way) → Plan
+
+abbrev pub has_object : Plan → Bool
+has_object No_object = false
+has_object (Object number way) = true
+
+abbrev pub way_keeps : Way → Bool
+way_keeps Keeps_table = true
+way_keeps Inside = false
+way_keeps Door = false
+
+abbrev pub keeps_table : Plan → Bool
+keeps_table No_object = false
+keeps_table (Object number way) = way_keeps way
+
+abbrev pub way_goes : Way → Bool
+way_goes Inside = false
+way_goes Door = true
+way_goes Keeps_table = true
+
+abbrev pub goes_outside : Plan → Bool
+goes_outside No_object = false
+goes_outside (Object number way) = way_goes way
+
+-- a reply, or that the call was blocked and is made again
+pub data Answer : Type 0 where
+  Gives : (reply : Reply) → Answer
+  Again : (carried : Carried) → Answer
+
+-- each by the world that the call finds and what it carries from its blocked turns
+pub record CallTable : Type 0 where
+  -- what a call carries at its first turn
+  pub nothing_carried : Carried
+  -- what it locks
+  pub plan : World → Call → Carried → Plan
+  -- the world after a call that does not keep the table
+  pub change : World → Call → Carried → World
+  -- the world after a call that keeps the table
+  pub kept_change : World → Call → Carried → Outcome → World
+  -- what a call that goes outside asks there
+  pub asks : World → Call → Carried → Turn → Request
+  -- an outcome that this request can have, at the turn of its call
+  pub fits : Request → Turn → Outcome → Bool
+  pub answer : World → Call → Option Outcome → Carried → Answer

@@ -1,0 +1,75 @@
+-- Setups for runs worked out by hand. Whatever the world, all calls take the same locks and give the same answer.
+use Rattle.std.specs.Prelude.{ℕ, ◌^◌, List, [], ◌∷◌, map, true}
+use Rattle.lock_model.specs.CallTable.{CallTable, Answer, Plan}
+use Rattle.lock_model.specs.CallTable.Answer.{Gives, Again}
+use Rattle.lock_model.specs.CallTable.Plan.{Object}
+use Rattle.lock_model.specs.CallTable.Way.{Inside}
+use Rattle.lock_model.specs.Machine.{Setup}
+use Rattle.lock_model.specs.Programs.{listed}
+use Rattle.thread_scripts.specs.declared.actor.Step.{Step}
+use Rattle.thread_scripts.specs.declared.actor.Step.TheVariants as step
+use Rattle.lock_model.specs.State.{State, Row, start}
+use Rattle.lock_model.specs.Terms.{World, Request}
+use Rattle.posix_terms.specs.declared.call.Call.{Call}
+use Rattle.posix_terms.specs.declared.outcome.Outcome.{Outcome}
+use Rattle.posix_terms.specs.declared.reply.Reply.{Reply}
+use Rattle.posix_terms.specs.Step.{Carried}
+use Rattle.posix_terms.specs.declared.transcript.Row.{Row as TranscriptRow}
+use Rattle.posix_terms.specs.declared.transcript.Turn.{Turn}
+
+-- any values
+pub record Words : Type 0 where
+  pub world : World
+  pub call : Call
+  pub outcome : Outcome
+  pub reply : Reply
+  pub carried : Carried
+  pub request : Request
+
+abbrev pub alike : Words → Plan → Answer → CallTable
+alike x plan a =
+    record {
+      nothing_carried = x.carried;
+      plan = λ w c b. plan;
+      change = λ w c b. w;
+      kept_change = λ w c b o. w;
+      asks = λ w c b turn. x.request;
+      fits = λ r turn o. true;
+      answer = λ w c o b. a;
+    }
+
+-- each thread makes these steps, and three outcomes come for it
+abbrev pub setting : Words → Plan → Answer → ℕ → List Step → Setup
+setting x plan a limit steps =
+    record {
+      calls = alike x plan a;
+      limits = record { door_cost = 100; clock_limit = limit; outcome_limit = 2 ^ 27 };
+      supply = record { next = λ i. listed steps; outcomes = λ i. x.outcome ∷ x.outcome ∷ x.outcome ∷ [] };
+    }
+
+-- each thread makes one call
+abbrev pub one_call : Words → Plan → Setup
+one_call x plan = setting x plan (Gives x.reply) (2 ^ 62) (step.Call x.call ∷ step.End ∷ [])
+
+-- each thread makes three
+abbrev pub three_calls : Words → Plan → Setup
+three_calls x plan = setting x plan (Gives x.reply) (2 ^ 62) (step.Call x.call ∷ step.Call x.call ∷ step.Call x.call ∷ step.End ∷ [])
+
+-- each thread makes one call, which is blocked at every turn; the clocks end at 10
+abbrev pub blocked_call : Words → Setup
+blocked_call x = setting x (Object 0 Inside) (Again x.carried) 10 (step.Call x.call ∷ step.End ∷ [])
+
+abbrev pub turns : List Row → List Turn
+turns rows = map (λ (r : Row). r.turn) rows
+
+abbrev pub turn : ℕ → ℕ → Turn
+turn clock thread = record { clock = clock; thread = thread }
+
+abbrev pub replied_at : Words → Turn → TranscriptRow
+replied_at x t = record { call = x.call; turn = t; reply = x.reply }
+
+abbrev pub two : Words → State
+two x = start 2 1 x.world
+
+abbrev pub alone : Words → State
+alone x = start 1 1 x.world

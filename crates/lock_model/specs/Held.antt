@@ -1,0 +1,50 @@
+-- Which locks and which row a thread has, by its phase.
+use Rattle.std.specs.Prelude.{◌≡◌, ℕ, ◌<◌, length, Option, Some, None, Bool, true, false, not, ◌||◌, slice_get}
+use Rattle.lock_model.specs.CallTable.{Plan, has_object, keeps_table}
+use Rattle.lock_model.specs.CallTable.Plan.{No_object, Object}
+use Rattle.lock_model.specs.Machine.{is_number, is_open}
+use Rattle.lock_model.specs.State.{Job, Phase, Row, State, thread_of, object_of}
+use Rattle.lock_model.specs.State.Phase.{WantsObject, Granted, ToOutside, Outside, Recorded}
+
+-- the call that was granted and is not answered
+abbrev pub job_in : Phase → Option Job
+job_in (Granted job) = Some job
+job_in (ToOutside job) = Some job
+job_in (Outside job) = Some job
+job_in (Recorded job) = Some job
+job_in phase = None
+
+abbrev pub object_in : Plan → Option ℕ
+object_in No_object = None
+object_in (Object number way) = Some number
+
+abbrev pub object_held_by : Option Job → Option ℕ
+object_held_by (Some job) = object_in job.plan
+object_held_by None = None
+
+abbrev pub table_held_by : Option Job → Bool
+table_held_by (Some job) = not (has_object job.plan) || keeps_table job.plan
+table_held_by None = false
+
+-- the object whose lock a thread holds in this phase
+abbrev pub object_held : Phase → Option ℕ
+object_held phase = object_held_by (job_in phase)
+
+-- whether it holds the table
+abbrev pub holds_table : Phase → Bool
+holds_table (WantsObject c b clock n way) = true
+holds_table phase = table_held_by (job_in phase)
+
+-- each lock is held by just the thread whose phase says so
+pub record AreHeld (s : State) : Type 0 where
+  pub table : (i : ℕ) → is_number s.table.holder i ≡ holds_table (thread_of s i).phase
+  pub objects : (i n : ℕ) → n < length s.objects → is_number (object_of s n).holder i ≡ is_number (object_held (thread_of s i).phase) n
+
+-- the row of a call that was granted and is not answered
+abbrev pub row_of : Job → Row
+row_of job = record { turn = job.turn; call = job.call; outcome = job.outcome; answer = None }
+
+-- a thread in a call has one row without an answer, that of its call
+pub record HaveRows (s : State) : Type 0 where
+  pub own : (i : ℕ) (job : Job) → job_in (thread_of s i).phase ≡ Some job → (k : ℕ) × (slice_get s.rows k ≡ Some (row_of job)) × (job.turn.thread ≡ i)
+  pub one : (i j k : ℕ) (r q : Row) → slice_get s.rows j ≡ Some r → slice_get s.rows k ≡ Some q → is_open i r ≡ true → is_open i q ≡ true → j ≡ k

@@ -1,0 +1,16 @@
+pub mod Terms
+pub mod CallTable
+pub mod Programs
+pub mod State
+pub mod Machine
+pub mod Schedule
+pub mod Runs
+pub mod History
+pub mod Transcripts
+pub mod Legal
+pub mod Rising
+pub mod Held
+pub mod Laws
+pub mod RealCalls
+pub mod ScriptPrograms
+pub mod Example

@@ -1,0 +1,87 @@
+-- The state of the lock machine.
+use Rattle.std.specs.Prelude.{ℕ, List, [], replicate, get_or, map, Option, Some, None}
+use Rattle.det_mutex.specs.Attempt.{new_lock}
+use Rattle.det_mutex.specs.declared.lock.DetLock.{DetLock}
+use Rattle.lock_model.specs.CallTable.{Answer, Plan, Way}
+use Rattle.thread_scripts.specs.declared.actor.Step.{Step}
+use Rattle.lock_model.specs.Terms.{World}
+use Rattle.posix_terms.specs.declared.call.Call.{Call}
+use Rattle.posix_terms.specs.declared.outcome.Outcome.{Outcome}
+use Rattle.posix_terms.specs.declared.reply.Reply.{Reply}
+use Rattle.posix_terms.specs.Step.{Carried}
+use Rattle.posix_terms.specs.declared.transcript.Turn.{Turn}
+
+-- a granted call: with its turn, the world that it found, and its outcome once that came
+pub record Job : Type 0 where
+  pub call : Call
+  pub turn : Turn
+  pub plan : Plan
+  pub found : World
+  pub carried : Carried
+  pub outcome : Option Outcome
+
+pub data Phase : Type 0 where
+  Working : Phase
+  WantsTable : (call : Call) → (carried : Carried) → Phase
+  -- holding the table, with the clock of its table attempt
+  WantsObject : (call : Call) → (carried : Carried) → (clock : ℕ) → (number : ℕ) → (way : Way) → Phase
+  Granted : (job : Job) → Phase
+  ToOutside : (job : Job) → Phase
+  Outside : (job : Job) → Phase
+  Recorded : (job : Job) → Phase
+  Blocked : (call : Call) → (carried : Carried) → Phase
+  Ended : Phase
+
+-- with the steps that it asked, the replies that it got and the outcomes that came for it
+pub record Thread : Type 0 where
+  pub phase : Phase
+  pub clock : ℕ
+  pub asked : List Step
+  pub replies : List Reply
+  pub came : List Outcome
+
+-- a granted turn: its call, the outcome if it came, and the answer if it was given
+pub record Row : Type 0 where
+  pub turn : Turn
+  pub call : Call
+  pub outcome : Option Outcome
+  pub answer : Option Answer
+
+-- the locks of the table and of each object number, the rows in the order of the grants, and what the granted calls have made
+pub record State : Type 0 where
+  pub threads : List Thread
+  pub table : DetLock
+  pub objects : List DetLock
+  pub rows : List Row
+  pub world : World
+
+abbrev pub nobody : Thread
+nobody = record { phase = Ended; clock = 0; asked = []; replies = []; came = [] }
+
+abbrev pub thread_of : State → ℕ → Thread
+thread_of s i = get_or s.threads i nobody
+
+abbrev pub object_of : State → ℕ → DetLock
+object_of s n = get_or s.objects n new_lock
+
+abbrev pub live_clock_in : Phase → ℕ → Option ℕ
+live_clock_in Ended clock = None
+live_clock_in phase clock = Some clock
+
+-- the clock of a thread that has not ended
+abbrev pub live_clock : Thread → Option ℕ
+live_clock t = live_clock_in t.phase t.clock
+
+abbrev pub live_clocks : State → List (Option ℕ)
+live_clocks s = map live_clock s.threads
+
+-- so many threads and object locks, over this world
+abbrev pub start : ℕ → ℕ → World → State
+start threads objects w =
+    record {
+      threads = replicate threads (record { phase = Working; clock = 1; asked = []; replies = []; came = [] });
+      table = new_lock;
+      objects = replicate objects new_lock;
+      rows = [];
+      world = w;
+    }

@@ -1,0 +1,25 @@
+-- What one thread sees of its rows.
+use Rattle.std.specs.Prelude.{ℕ, List, filter_map, Option, Some, None}
+use Rattle.lock_model.specs.CallTable.{Answer}
+use Rattle.lock_model.specs.CallTable.Answer.{Gives, Again}
+use Rattle.lock_model.specs.History.{rows_of}
+use Rattle.lock_model.specs.State.{Row}
+use Rattle.posix_terms.specs.declared.outcome.Outcome.{Outcome}
+use Rattle.posix_terms.specs.declared.transcript.Row.{Row as TranscriptRow}
+
+abbrev pub replied : Row → Option Answer → Option TranscriptRow
+replied r (Some (Gives x)) = Some (record { call = r.call; turn = r.turn; reply = x })
+replied r (Some (Again b)) = None
+replied r None = None
+
+-- of the rows of thread i, the outcomes that came
+abbrev pub outcomes_of : ℕ → List Row → List Outcome
+outcomes_of i rows = filter_map (λ (r : Row). r.outcome) (rows_of i rows)
+
+-- the answers that were given
+abbrev pub answers_of : ℕ → List Row → List Answer
+answers_of i rows = filter_map (λ (r : Row). r.answer) (rows_of i rows)
+
+-- and the rows that were answered with a reply
+abbrev pub transcript : ℕ → List Row → List TranscriptRow
+transcript i rows = filter_map (λ (r : Row). replied r r.answer) (rows_of i rows)

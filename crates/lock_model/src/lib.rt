@@ -1,0 +1,108 @@
+//! The lock machine: threads that take locks at their turns, as definitions (`specs/`) and laws. Each function
+//! here has an empty body: its contract is a law, which a caller may cite.
+//!
+//! A *run* is any list of events that the machine allows; the *plain run* is the one deterministic schedule.
+#![tactic(auto)]
+
+ghost use Rattle.std.specs.Prelude.{◌≡◌, ◌∷◌, []};
+ghost use Rattle.lock_model.specs.CallTable.Plan.{No_object, Object};
+ghost use Rattle.lock_model.specs.CallTable.Way.{Door, Inside, Keeps_table};
+ghost use Rattle.lock_model.specs.Example.{Words, alone, blocked_call, one_call, replied_at, three_calls, turn, turns, two};
+ghost use Rattle.lock_model.specs.Laws.{ArisesAtStart, ArisesByEvent, ArisesByRun, EachEventLowers, EndedOrTurn, EndsHere, EndsNext, HolderHasTurn, LegalLaw, LegalOfArisen, LocksOfArisen, OneEventMore, OneTurn, OverLaw, OwnFinite, PlainIsRun, PrefixLaw, PrefixLawOfCame, PrefixLawOfFollowed, PrefixLawOfOwn, RisingLaw, RisingOfArisen, RowsOfArisen, RunFollows, SomeEnd, SomeTurn, StuckLaw, UniqueEnd};
+ghost use Rattle.lock_model.specs.Schedule.{IsOver, plain_run};
+ghost use Rattle.lock_model.specs.ScriptPrograms.{NeverLacks};
+ghost use Rattle.lock_model.specs.Transcripts.{transcript};
+
+/// The prefix law. Whatever the order of events, at every moment the rows of all threads together are the beginning
+/// of the plain run's rows, where an outcome or an answer that is not there yet agrees with any, and an answered row
+/// is the very row. So are each thread's rows, and the steps that it asked, its outcomes, its answers and its
+/// transcript are prefixes of those of the plain run. Where all threads have ended, the whole state is the plain
+/// run's last.
+///
+/// `under_supply`: the plain run is that of the same programs and the same lists of outcomes, which may be longer
+/// than what the run took. `under_came`: of the same programs and just the outcomes that came. `under_own`: of the
+/// steps that were asked, as lists, and the outcomes that came. `under_followed`: of any programs that the steps
+/// follow. `stuck`: a run that cannot go on, ended or not, has come to where the plain run ends.
+pub fn prefix_law()
+    ensures under_supply { PrefixLaw }
+    ensures under_came { PrefixLawOfCame }
+    ensures under_own { PrefixLawOfOwn }
+    ensures under_followed { PrefixLawOfFollowed }
+    ensures stuck { StuckLaw }
+{}
+
+/// The turn order: one thread has the turn at most (`one`), and some thread has it unless all have ended (`some`,
+/// `ended`); `turn_holder` names it (`holder`).
+pub fn turn_order()
+    ensures one { OneTurn }
+    ensures holder { HolderHasTurn }
+    ensures some { SomeTurn }
+    ensures ended { EndedOrTurn }
+{}
+
+/// The plain run has one end at most, and one where its programs are finite, as lists of steps are. Then no run goes on
+/// for ever: some number falls at each event that is allowed (`lowers`).
+///
+/// For a function that makes the plain run, event by event: `over`: where no event is next, none is allowed at all.
+/// `here` and `next`: where the plain run ends, seen from a state in which it is over, and from before its next event.
+/// `more`: the same, seen from the first state. `is_run`: the plain run is a run, so that the laws of runs hold of it.
+pub fn plain_run_ends()
+    ensures unique { UniqueEnd }
+    ensures ends { SomeEnd }
+    ensures own_finite { OwnFinite }
+    ensures lowers { EachEventLowers }
+    ensures over { OverLaw }
+    ensures here { EndsHere }
+    ensures next { EndsNext }
+    ensures more { OneEventMore }
+    ensures is_run { PlainIsRun }
+{}
+
+/// At every moment of every run the history is legal: each answer is the one that the calls before it, one granted
+/// turn at a time, lead to, whatever outcomes the rows that lack theirs will get. And each granted turn comes before
+/// all later ones.
+pub fn legal_history()
+    ensures legal { LegalLaw }
+    ensures rising { RisingLaw }
+{}
+
+/// A state arises from a first one where it is the end of a run in which just the steps and outcomes came that it
+/// has itself. The start arises; each event leads from a state that arises to one that arises, whatever the setup
+/// supplies; so each run's state arises, and its threads follow their programs. The history of a state that arises
+/// is legal, and its turns rise. In it each lock is held by just the thread whose phase says so, and a thread in a
+/// call has one row without an answer, that of its call.
+pub fn arising_states()
+    ensures at_start { ArisesAtStart }
+    ensures by_event { ArisesByEvent }
+    ensures by_run { ArisesByRun }
+    ensures follows { RunFollows }
+    ensures legal { LegalOfArisen }
+    ensures rising { RisingOfArisen }
+    ensures locks { LocksOfArisen }
+    ensures rows { RowsOfArisen }
+{}
+
+/// Runs worked out by hand, from the rules: a table attempt costs 1; an object attempt costs 1, and 1 more where it
+/// frees the table; going outside costs 100; and an answer costs 1 for each lock that it frees.
+///
+/// Two threads make one call each. With no lock but the table's they are granted at the clocks 1 and 3 (`unlocked`);
+/// where each takes the lock of an object, at 1 and 4 (`locked`). Three calls that go outside are granted at 1, 105 and
+/// 209, whether they free the table before (`outside`) or keep it (`keeping`). A call that is blocked at every turn is
+/// granted at 1 and 5, and never replies; at a limit of 10 its third attempt for the object is not allowed
+/// (`blocked`).
+pub fn worked_runs()
+    ensures unlocked { (x : Words) → turns (plain_run (one_call x No_object) 10 (two x)).rows ≡ turn 1 0 ∷ turn 3 1 ∷ [] }
+    ensures unlocked_over { (x : Words) → IsOver (one_call x No_object) (plain_run (one_call x No_object) 10 (two x)) }
+    ensures locked { (x : Words) → turns (plain_run (one_call x (Object 0 Inside)) 13 (two x)).rows ≡ turn 1 0 ∷ turn 4 1 ∷ [] }
+    ensures locked_over { (x : Words) → IsOver (one_call x (Object 0 Inside)) (plain_run (one_call x (Object 0 Inside)) 13 (two x)) }
+    ensures outside { (x : Words) → transcript 0 (plain_run (three_calls x (Object 0 Door)) 19 (alone x)).rows ≡ replied_at x (turn 1 0) ∷ replied_at x (turn 105 0) ∷ replied_at x (turn 209 0) ∷ [] }
+    ensures keeping { (x : Words) → transcript 0 (plain_run (three_calls x (Object 0 Keeps_table)) 19 (alone x)).rows ≡ replied_at x (turn 1 0) ∷ replied_at x (turn 105 0) ∷ replied_at x (turn 209 0) ∷ [] }
+    ensures blocked { (x : Words) → turns (plain_run (blocked_call x) 10 (alone x)).rows ≡ turn 1 0 ∷ turn 5 0 ∷ [] }
+    ensures blocked_silent { (x : Words) → transcript 0 (plain_run (blocked_call x) 10 (alone x)).rows ≡ [] }
+    ensures blocked_over { (x : Words) → IsOver (blocked_call x) (plain_run (blocked_call x) 10 (alone x)) }
+{}
+
+/// A program that is a script never lacks its next step: behind its last line a script goes on ending.
+pub fn scripts_never_lack()
+    ensures { NeverLacks }
+{}

@@ -1,0 +1,2 @@
+pub mod TurnOrder
+pub mod ThreadClocks

@@ -1,0 +1,191 @@
+ghost use Rattle.std.specs.Prelude.{◌≡◌, ◌+◌, ◌<◌, ◌≤◌, ◌↔◌, length, IsErr, IfOk, OnOk, OnErr};
+ghost use Rattle.logical_clocks.specs.ThreadClocks.{first_clocks, clock_at, with_clock, with_end, live_clock, live_clocks};
+ghost use Rattle.logical_clocks.specs.TurnOrder.{all_below, has_turn, yields, yields_at, turn_holder};
+
+use posix_terms::{Limits, Turn};
+use std::alloc::{AllocError, Global};
+use std::marker::Model;
+
+/// The logical clock of one thread, and whether the thread still takes part in turns.
+#[derive(Clone, Copy, Debug, PartialEq, Eq)]
+pub struct ThreadClock {
+    /// The clock. A thread that has ended keeps the one that it had.
+    pub clock: u64,
+    /// Whether the thread has not ended.
+    pub live: bool,
+}
+
+/// The clock of a thread is as far as clocks go.
+#[derive(Clone, Copy, Debug, PartialEq, Eq)]
+pub struct ClockFull;
+
+/// The logical clocks of all threads. Contracts see the list of them, by the threads' numbers. No clock
+/// passes `Limits::CLOCK`.
+#[derive(Debug, Drop)]
+pub struct Clocks {
+    threads: Vec<ThreadClock>,
+}
+
+impl Model for Clocks {
+    ghost use Rattle.std.specs.Prelude.{List};
+    ghost use Rattle.logical_clocks.specs.declared.clocks.ThreadClock.{ThreadClock};
+
+    ghost Value = { List ThreadClock };
+
+    ghost use Rattle.logical_clocks.specs.ThreadClocks.{AreWithinLimit};
+
+    ghost view = { λ c. c.threads.items };
+
+    ghost invariant = { λ c. AreWithinLimit c.threads.items };
+}
+
+impl Clocks {
+    /// So many threads, each at clock 1. This takes all the memory that they need.
+    pub fn new(alloc: Global, threads: usize) -> Result<Clocks, AllocError>
+        requires some { 1 ≤ threads }
+        requires within_limit { threads ≤ Limits.THREADS }
+        ensures { IfOk result (λ clocks. clocks ≡ first_clocks threads) }
+    {
+        let first = ThreadClock {
+            clock: 1,
+            live: true,
+        };
+        Ok(Clocks {
+            threads: vec![in alloc; first; threads]?,
+        })
+    }
+
+    /// Adds to the clock of a thread, exactly this much. Where that would take the clock past its limit
+    /// it is refused, and nothing changes.
+    pub fn add(&mut self, i: usize, n: u64) -> Result<(), ClockFull>
+        requires { i < length self.old }
+        ensures ok { OnOk result (self.new ≡ with_clock self.old i (clock_at self.old i + n)) }
+        ensures full { IsErr result ↔ (Limits.CLOCK < clock_at self.old i + n) }
+        ensures err { OnErr result (self.new ≡ self.old) }
+    {
+        let thread = &mut self.threads[i];
+        if n > Limits::CLOCK - thread.clock {
+            return Err(ClockFull);
+        }
+        thread.clock += n;
+        Ok(())
+    }
+
+    /// Whether a thread has the turn: it has not ended, and each other thread that has not ended has a
+    /// greater clock, or the same and a greater number.
+    #[tactic(auto, unfolding(crate::specs::TurnOrder::has_turn))]
+    pub fn is_turn(&self, i: usize) -> bool
+        requires { i < length self.now }
+        ensures { result ≡ has_turn (live_clocks self.now) i }
+    {
+        let own = self.threads[i];
+        own.live
+            && self.all_yield(Turn {
+                clock: own.clock,
+                thread: i,
+            })
+    }
+
+    // Whether all threads yield to the thread of this turn.
+    #[tactic(auto, using(crate::proofs::TurnLemmas::turns))]
+    fn all_yield(&self, turn: Turn) -> bool
+        ensures { result ≡ all_below (length self.now) (yields (live_clocks self.now) turn) }
+    {
+        for j in 0..self.threads.len() {
+            if !yields_to(turn, j, self.threads[j]) {
+                return false;
+            }
+        }
+        true
+    }
+
+    /// The thread that has the turn; there is one unless all threads have ended.
+    #[tactic(auto, using(crate::proofs::TurnLemmas::turns), unfolding(crate::specs::TurnOrder::turn_holder))]
+    pub fn turn_holder(&self) -> Option<usize>
+        ensures { result ≡ turn_holder (live_clocks self.now) }
+    {
+        for i in 0..self.threads.len() {
+            if self.is_turn(i) {
+                return Some(i);
+            }
+        }
+        None
+    }
+
+    /// Takes a thread out of all turns to come. It keeps its clock.
+    pub fn end(&mut self, i: usize)
+        requires { i < length self.old }
+        ensures { self.new ≡ with_end self.old i }
+    {
+        self.threads[i].live = false;
+    }
+
+    /// The clock of a thread; of one that has ended the clock that it had.
+    pub fn clock(&self, i: usize) -> u64
+        requires { i < length self.now }
+        ensures value { result ≡ clock_at self.now i }
+        ensures within_limit { result ≤ Limits.CLOCK }
+    {
+        self.threads[i].clock
+    }
+}
+
+// Whether thread j yields the thread of this turn go first: it is that thread, or has ended, or comes later.
+fn yields_to(turn: Turn, j: usize, other: ThreadClock) -> bool
+    ensures { result ≡ yields_at turn j (live_clock other) }
+{
+    !other.live
+        || j == turn.thread
+        || turn.clock < other.clock
+        || (turn.clock == other.clock && turn.thread < j)
+}
+
+#[cfg(test)]
+mod tests {
+    use super::*;
+    use std::test::Fail;
+
+    fn holder_after(clocks: &mut Clocks, thread: usize, amount: u64) -> Option<usize>
+        requires { thread < length clocks.old }
+        ensures { length clocks.new ≡ length clocks.old }
+    {
+        let _ = clocks.add(thread, amount);
+        clocks.turn_holder()
+    }
+
+    #[test]
+    fn turns_go_by_clock_and_then_by_number(rt: HostRuntime) -> Result<(), Fail> {
+        let mut clocks = Clocks::new(rt.alloc(), 3)?;
+        assert_eq!(rt; clocks.turn_holder(), Some(0));
+        assert!(rt; clocks.is_turn(0) && !clocks.is_turn(1));
+        assert_eq!(rt; holder_after(&mut clocks, 0, 4), Some(1));
+        assert_eq!(rt; holder_after(&mut clocks, 1, 4), Some(2));
+        assert_eq!(rt; holder_after(&mut clocks, 2, 3), Some(2));
+        assert_eq!(rt; holder_after(&mut clocks, 2, 2), Some(0));
+        assert_eq!(rt; holder_after(&mut clocks, 0, 1), Some(1));
+        Ok(())
+    }
+
+    #[test]
+    fn a_thread_that_ends_leaves_the_turns(rt: HostRuntime) -> Result<(), Fail> {
+        let mut clocks = Clocks::new(rt.alloc(), 2)?;
+        assert_eq!(rt; clocks.add(1, 8), Ok(()));
+        clocks.end(0);
+        assert!(rt; !clocks.is_turn(0) && clocks.is_turn(1));
+        assert_eq!(rt; clocks.clock(0), 1);
+        clocks.end(1);
+        assert_eq!(rt; clocks.turn_holder(), None);
+        Ok(())
+    }
+
+    #[test]
+    fn a_full_clock_refuses(rt: HostRuntime) -> Result<(), Fail> {
+        let mut clocks = Clocks::new(rt.alloc(), 1)?;
+        assert_eq!(rt; clocks.add(0, 4_611_686_018_427_387_903), Ok(()));
+        assert_eq!(rt; clocks.clock(0), 4_611_686_018_427_387_904);
+        assert_eq!(rt; clocks.add(0, 1), Err(ClockFull));
+        assert_eq!(rt; clocks.add(0, u64::MAX), Err(ClockFull));
+        assert_eq!(rt; clocks.clock(0), 4_611_686_018_427_387_904);
+        Ok(())
+    }
+}

@@ -1,0 +1,183 @@
+use crate::{
+    Access, Answer, Bytes, Call, CallKind, Errno, Given, HistoryRow, ObjectKind, OpenFlags,
+    OutKind, Outcome, Outcomes, Reply, Row, Transcript, Transcripts, Turn, Whence, errno_name,
+    pieces, split,
+};
+use std::alloc::{AllocError, Global};
+use std::test::Fail;
+
+// The errors by their numbers, from 1.
+const NAMES: [&str; 26] = [
+    "EBADF",
+    "EINVAL",
+    "EOVERFLOW",
+    "ESPIPE",
+    "EFBIG",
+    "EAGAIN",
+    "EPIPE",
+    "EINTR",
+    "EIO",
+    "ENOENT",
+    "EEXIST",
+    "ENOTDIR",
+    "EISDIR",
+    "ENOTEMPTY",
+    "EPERM",
+    "EACCES",
+    "EMFILE",
+    "ENFILE",
+    "ENOSPC",
+    "ENAMETOOLONG",
+    "ENOTSOCK",
+    "EBUSY",
+    "ECONNREFUSED",
+    "ECONNRESET",
+    "EADDRINUSE",
+    "ETIMEDOUT",
+];
+
+#[test]
+fn errors_have_their_numbers(rt: HostRuntime) -> Result<(), Fail> {
+    assert_eq!(rt; Errno::from_code(0), None);
+    assert_eq!(rt; Errno::from_code(27), None);
+    let mut code = 0u8;
+    for name in NAMES {
+        code = code.saturating_add(1);
+        let error = Errno::from_code(code).ok_or("no error")?;
+        assert_eq!(rt; error.code(), code);
+        assert!(rt; errno_name(error) == name, "{name}");
+    }
+    Ok(())
+}
+
+fn calls(alloc: Global) -> Result<Vec<Call>, AllocError> {
+    Ok(vec![in alloc;
+        Call::Open {
+            path: Bytes::from_slice(alloc, b"/a")?,
+            access: Access::ReadWrite,
+            flags: OpenFlags {
+                create: true,
+                exclusive: false,
+                truncate: true,
+                append: false,
+                nonblock: true
+            },
+        },
+        Call::Close { descriptor: 3 },
+        Call::Read {
+            descriptor: 0,
+            count: -1
+        },
+        Call::Write {
+            descriptor: 1,
+            bytes: Bytes::from_slice(alloc, b"hi")?
+        },
+        Call::Lseek {
+            descriptor: 2,
+            offset: -5,
+            whence: Whence::End
+        },
+    ]?)
+}
+
+#[test]
+fn copies_equal_their_sources(rt: HostRuntime) -> Result<(), Fail> {
+    let alloc = rt.alloc();
+    for call in &calls(alloc)? {
+        assert_eq!(rt; &call.try_clone()?, call);
+    }
+    for reply in [
+        Reply::Count(7),
+        Reply::Data(Bytes::from_slice(alloc, b"hi")?),
+        Reply::Number(-1),
+        Reply::Pair(0, 1),
+        Reply::Stat {
+            kind: ObjectKind::File,
+            number: 5,
+            links: 2,
+        },
+        Reply::Done,
+        Reply::Fail(Errno::EIO),
+    ] {
+        assert_eq!(rt; reply.try_clone()?, reply);
+    }
+    let outcome = Outcome::Ok {
+        value: 2,
+        bytes: Bytes::from_slice(alloc, b"hi")?,
+    };
+    assert_eq!(rt; outcome.try_clone()?, outcome);
+    assert_eq!(rt;
+        Outcome::Fail(Errno::EIO).try_clone()?,
+        Outcome::Fail(Errno::EIO)
+    );
+    Ok(())
+}
+
+#[test]
+fn words_of_calls(rt: HostRuntime) -> Result<(), Fail> {
+    let calls = calls(rt.alloc())?;
+    let kinds = [
+        (CallKind::Open, "open"),
+        (CallKind::Close, "close"),
+        (CallKind::Read, "read"),
+        (CallKind::Write, "write"),
+        (CallKind::Lseek, "lseek"),
+    ];
+    for (call, (kind, word)) in calls.iter().zip(kinds.iter()) {
+        assert_eq!(rt; call.kind(), *kind);
+        assert!(rt; kind.word() == *word, "{word}");
+    }
+    assert!(rt; Access::ReadOnly.can_read() && !Access::ReadOnly.can_write());
+    assert_eq!(rt; ObjectKind::Stream.code(), 6);
+    Ok(())
+}
+
+#[test]
+fn lists_give_back_what_they_got(rt: HostRuntime) -> Result<(), Fail> {
+    let alloc = rt.alloc();
+    let bytes = Bytes::from_vec(vec![in alloc; 1, 2]?);
+    assert!(rt; bytes.into_vec().as_slice() == [1, 2].as_slice());
+    let mut transcript = Transcript::new(alloc);
+    transcript.push(Row {
+        call: Call::Close { descriptor: 0 },
+        turn: Turn {
+            clock: 1,
+            thread: 0,
+        },
+        reply: Reply::Done,
+    })?;
+    assert_eq!(rt; transcript.rows().len(), 1);
+    let transcripts = Transcripts::from_vec(vec![in alloc;
+        transcript,
+        Transcript::from_vec(Vec::new(alloc)),
+    ]?);
+    assert_eq!(rt; transcripts.threads().len(), 2);
+    let outcomes = Outcomes::from_vec(vec![in alloc;
+        Given {
+            kind: OutKind::Close,
+            outcome: Outcome::Fail(Errno::EIO)
+        },
+    ]?);
+    assert_eq!(rt; outcomes.as_slice().len(), 1);
+    let row = HistoryRow {
+        call: Call::Close { descriptor: 0 },
+        turn: Turn {
+            clock: 1,
+            thread: 0,
+        },
+        outcome: None,
+        answer: Some(Answer::Again),
+    };
+    assert_eq!(rt; row.answer, Some(Answer::Again));
+    Ok(())
+}
+
+#[test]
+fn texts_in_pieces(rt: HostRuntime) -> Result<(), Fail> {
+    let all = split(rt.alloc(), b"/a//b", b'/')?;
+    assert_eq!(rt; all.len(), 4);
+    let parts = pieces(rt.alloc(), b"/a//b", b'/')?;
+    assert_eq!(rt; parts.len(), 2);
+    assert!(rt; parts[0] == b"a".as_slice() && parts[1] == b"b".as_slice());
+    Ok(())
+}
