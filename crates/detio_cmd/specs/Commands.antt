@@ -40,7 +40,8 @@ run_printed plain = record { status = end_status plain.stop; output = transcript
 -- the run of one script that could be read
 abbrev pub plain_printed : Result Plain Refused → Printed
 plain_printed (Ok plain) = run_printed plain
-plain_printed (Err refused) = needs_scripts
+plain_printed (Err bad_threads) = needs_scripts
+plain_printed (Err bad_settings) = fault_printed 2 (codes "patience and door cost are 1 to 1000000\n")
 
 abbrev pub read_printed : Settings → Result (List Line) Fault → Printed
 read_printed settings (Err fault) = script_fault 0 fault

@@ -76,8 +76,9 @@ fn script_run(alloc: Global, settings: Settings, script: Script) -> Result<Print
     match plain_run(alloc, scripts, outcomes, settings) {
         Ok(plain) => run_printed(alloc, &plain),
         Err(PlainFault::Memory) => Err(AllocError),
-        Err(PlainFault::Threads) | Err(PlainFault::Settings) => {
-            fault(alloc, 2, "needs 1 to 8 scripts\n")
+        Err(PlainFault::Threads) => fault(alloc, 2, "needs 1 to 8 scripts\n"),
+        Err(PlainFault::Settings) => {
+            fault(alloc, 2, "patience and door cost are 1 to 1000000\n")
         }
     }
 }
