@@ -1,4 +1,6 @@
 pub mod Terms
+pub mod TurnOrder
+pub mod Attempt
 pub mod CallTable
 pub mod Programs
 pub mod State

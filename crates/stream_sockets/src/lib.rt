@@ -1,0 +1,7 @@
+//! The bytes of a pair of connected sockets in memory.
+#![tactic(auto)]
+
+mod half;
+mod pair;
+
+pub use pair::{PairAnswer, PairBody, ShutdownHow, Side};
