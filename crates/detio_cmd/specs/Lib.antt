@@ -1,3 +1,2 @@
 pub mod Transcripts
 pub mod Commands
-pub mod FirstFaults

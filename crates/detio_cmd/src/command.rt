@@ -24,12 +24,11 @@ Exit statuses:
   3  a bad script or log
   4  a file that cannot be read or written, no memory, a full clock";
 
-const PLAIN_ABOUT: &str = "Runs 1 to 8 scripts together and prints their transcripts";
+const PLAIN_ABOUT: &str = "Runs one script and prints its transcript";
 
-const PLAIN_LONG_ABOUT: &str = "Runs 1 to 8 scripts together and prints their transcripts.
+const PLAIN_LONG_ABOUT: &str = "Runs one script and prints its transcript.
 
-A line of a transcript has the thread, the number of its row, with --turns the clock of its turn, the
-call and the reply. Faults go to
+A line of the transcript has the thread, the number of its row, the call and the reply. Faults go to
 standard error, one line each. A script is ASCII text, one call a line:
 
   open PATH r|w|rw [create] [excl] [trunc] [append] [nonblock]
@@ -72,16 +71,11 @@ fn plain<'a>(alloc: Global) -> Result<Command<'a>, AllocError> {
         .value_name("SCRIPT")
         .action(ArgAction::Append)
         .num_args(0..)
-        .help("The scripts to run, 1 to 8");
-    let turns = Arg::new(alloc, "turns")
-        .long("turns")
-        .action(ArgAction::SetTrue)
-        .help("Prints the clock of each turn");
+        .help("The script to run");
     Command::new(alloc, "plain")
         .about(PLAIN_ABOUT)
         .long_about(PLAIN_LONG_ABOUT)
         .arg(patience)?
         .arg(door_cost)?
-        .arg(turns)?
         .arg(scripts)
 }

@@ -2,45 +2,84 @@
 #![tactic(auto)]
 
 mod command;
-mod first_fault;
 mod input;
 mod plain;
 mod printed;
-mod reading;
 mod source;
+#[cfg(test)]
+mod tests;
 mod transcripts;
 
 use clap::ArgMatches;
+use clap::error::ErrorKind;
 use command::command;
 use input::open_scripts;
-use plain::plain_over;
+use plain::{cannot_write, no_memory, plain_over};
 use posix_terms::Settings;
+use std::alloc::AllocError;
+use std::io;
 use std::process::ExitCode;
 
-fn main(rt: HostRuntime) -> anyhow::Result<ExitCode> {
-    let alloc = rt.alloc();
-    let words: Vec<String> = std::env::args(&rt)?.collect(alloc)?;
-    let matches = match command(alloc)?.try_get_matches_from(words.as_slice()) {
-        Ok(matches) => matches,
-        Err(error) => {
-            error.print(&rt)?;
-            return Ok(ExitCode::from(error.exit_code() as u8));
-        }
+fn main(rt: HostRuntime) -> ExitCode {
+    let status = match run(&rt) {
+        Ok(status) => status,
+        Err(AllocError) => no_memory(&mut rt.stderr()).unwrap_or(4),
     };
-    match matches.subcommand() {
-        Some(("plain", matches)) => Ok(ExitCode::from(run_plain(&rt, matches)?)),
-        _ => Ok(ExitCode::from(2)),
+    ExitCode::from(status)
+}
+
+// Runs the command that the command line names, and answers the exit status.
+fn run(rt: &HostRuntime) -> Result<u8, AllocError> {
+    let alloc = rt.alloc();
+    let words = match words(rt) {
+        Ok(words) => words,
+        Err(error) if error.kind() == io::ErrorKind::OutOfMemory => return Err(AllocError),
+        Err(_) => return Ok(not_text(rt)),
+    };
+    match command(alloc)?.try_get_matches_from(words.as_slice()) {
+        Ok(matches) => match matches.subcommand() {
+            Some(("plain", matches)) => run_plain(rt, matches),
+            _ => Ok(2),
+        },
+        Err(error) => other_usage(rt, error),
+    }
+}
+
+// The words of the command line.
+fn words(rt: &HostRuntime) -> io::Result<Vec<String>> {
+    Ok(std::env::args(rt)?.collect(rt.alloc())?)
+}
+
+// A word of the command line is not text.
+fn not_text(rt: &HostRuntime) -> u8 {
+    let _ = eprintln!(rt; "error: the arguments are not UTF-8");
+    2
+}
+
+// The help, the version, or wrong usage, in the words of `clap`.
+fn other_usage(rt: &HostRuntime, error: clap::Error) -> Result<u8, AllocError> {
+    if error.kind() == ErrorKind::OutOfMemory {
+        return Err(AllocError);
+    }
+    match error.print(rt) {
+        Ok(()) => Ok(error.exit_code() as u8),
+        Err(_) => Ok(cannot_write(&mut rt.stderr()).unwrap_or(4)),
     }
 }
 
 // `detio plain`, as the command line has it.
-fn run_plain(rt: &HostRuntime, matches: &ArgMatches<'_>) -> anyhow::Result<u8> {
-    let alloc = rt.alloc();
+fn run_plain(rt: &HostRuntime, matches: &ArgMatches<'_>) -> Result<u8, AllocError> {
     let settings = Settings {
         patience: matches.get_one::<u32>("patience").unwrap_or(1000),
         door_cost: matches.get_one::<u32>("door-cost").unwrap_or(100),
     };
-    let turns = matches.get_flag("turns");
     let sources = open_scripts(rt, matches.get_strs("script").unwrap_or(&[]))?;
-    Ok(plain_over(alloc, settings, turns, sources, &mut rt.stdout(), &mut rt.stderr())?)
+    let status = plain_over(
+        rt.alloc(),
+        settings,
+        sources,
+        &mut rt.stdout(),
+        &mut rt.stderr(),
+    );
+    Ok(status.unwrap_or(4))
 }

@@ -1,9 +1,8 @@
-ghost use Rattle.std.specs.Prelude.{◌≡◌, ◌≤◌, ◌<◌, length, map, IfOk, IfSome};
-ghost use Rattle.detio_cmd.specs.Commands.{AreRead, IsText, read_limit};
+ghost use Rattle.std.specs.Prelude.{◌≡◌, ◌≤◌, ◌<◌, length, IfOk, IfSome};
+ghost use Rattle.detio_cmd.specs.Commands.{read_limit};
 
-use crate::reading::Reading;
 use posix_terms::Bytes;
-use std::alloc::{AllocError, Global};
+use std::alloc::Global;
 use std::io::{ErrorKind, Read};
 
 /// A script to be read: the path that messages name, and where its text comes from.
@@ -35,31 +34,5 @@ pub fn read_text<R: Read + Drop>(alloc: Global, reader: R) -> Result<Bytes, Read
         Ok(_) => Err(ReadFault::Failed),
         Err(error) if error.kind() == ErrorKind::OutOfMemory => Err(ReadFault::Memory),
         Err(_) => Err(ReadFault::Failed),
-    }
-}
-
-// Reads all scripts, in the order given.
-pub fn read_all<'a, R: Read + Drop>(
-    alloc: Global,
-    sources: Vec<Source<'a, R>>,
-) -> Result<Vec<Reading<'a>>, AllocError>
-    ensures { IfOk result (λ readings. AreRead (map (λ s. (s.path.now, R.remaining s.reader)) sources.entry.items) readings.items) }
-{
-    let mut readings = Vec::new(alloc);
-    for source in sources {
-        let path = source.path;
-        let text = read_or_not(alloc, source.reader)?;
-        readings.push(Reading { path, text })?;
-    }
-    Ok(readings)
-}
-
-fn read_or_not<R: Read + Drop>(alloc: Global, reader: R) -> Result<Option<Bytes>, AllocError>
-    ensures { IfOk result (λ text. IsText (R.remaining reader) text) }
-{
-    match read_text(alloc, reader) {
-        Ok(text) => Ok(Some(text)),
-        Err(ReadFault::Failed) => Ok(None),
-        Err(ReadFault::Memory) => Err(AllocError),
     }
 }

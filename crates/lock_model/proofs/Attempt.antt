@@ -2,7 +2,8 @@
 use Rattle.std.proofs.Common.{◌≡◌, ℕ, ◌+◌, ◌≤◌, List, [], ◌∷◌, ◌++◌, map, set, get_or, Option, Some, None, Bool, true, false, ◌&&◌, is_some, is_none, nat_lt, nat_le, sym, refl, ap, ap₂, ◌∙◌, ⊎_elim}
 use Rattle.std.proofs.lemmas.Bool.{false≢true, le-ltb, ne_eqb, and_parts, and_from, and_left, cond-true, cond-false, cond_both, cases_Bool}
 use Rattle.std.proofs.lemmas.List.{set_comm, map-set, map-append, get_or-set_other}
-use Rattle.lock_model.specs.Attempt.{Lock, new_lock, takes, held, freed}
+use Rattle.det_mutex.specs.Attempt.{new_lock, takes, held, freed}
+use Rattle.det_mutex.specs.declared.lock.DetLock.{DetLock}
 use Rattle.lock_model.specs.CallTable.{CallTable, Plan, Way}
 use Rattle.lock_model.specs.CallTable.Plan.{No_object, Object}
 use Rattle.lock_model.specs.CallTable.Way.{Inside, Door, Keeps_table}
@@ -13,14 +14,14 @@ use Rattle.lock_model.specs.State.Phase.{WantsTable, WantsObject}
 use Rattle.lock_model.specs.Terms.{World}
 use Rattle.posix_terms.specs.declared.call.Call.{Call}
 use Rattle.posix_terms.specs.Step.{Carried}
-use Rattle.lock_model.specs.TurnOrder.{has_turn}
+use Rattle.logical_clocks.specs.TurnOrder.{has_turn}
 use Rattle.posix_terms.specs.declared.transcript.Turn.{Turn}
 use Rattle.lock_model.proofs.Commute.{row_other, lock_other, lock_mine, lock_not, one_holder, world_other, thread_move, advance_move}
 use Rattle.lock_model.proofs.Turn.{map_at, IsLate, IsLate-trans, Leading, leading_out, leading_in, leading_move, leading_clock, moves_later, moves_live}
 
 -- ## Locks
 
-taken_free : (l : Lock) (c : ℕ) → takes l c ≡ true → (is_none l.holder ≡ true) × (nat_lt l.released c ≡ true)
+taken_free : (l : DetLock) (c : ℕ) → takes l c ≡ true → (is_none l.holder ≡ true) × (nat_lt l.released c ≡ true)
 unfolding takes
 taken_free l c h = and_parts (is_none l.holder) (nat_lt l.released c) h
 
@@ -28,41 +29,41 @@ no_holder : (o : Option ℕ) (j : ℕ) → is_none o ≡ true → is_number o j 
 no_holder None j h = refl
 no_holder (Some k) j h = absurd (false≢true h)
 
-pub taken_not : (l : Lock) (c j : ℕ) → takes l c ≡ true → is_number l.holder j ≡ false
+pub taken_not : (l : DetLock) (c j : ℕ) → takes l c ≡ true → is_number l.holder j ≡ false
 taken_not l c j h = no_holder l.holder j (taken_free l c h).0
 
 held_by : (o : Option ℕ) (j : ℕ) → is_number o j ≡ true → is_none o ≡ false
 held_by None j h = absurd (false≢true h)
 held_by (Some k) j h = refl
 
-takes_held : (l : Lock) (c j : ℕ) → is_number l.holder j ≡ true → takes l c ≡ false
+takes_held : (l : DetLock) (c j : ℕ) → is_number l.holder j ≡ true → takes l c ≡ false
 unfolding takes
 takes_held l c j h = and_left (is_none l.holder) (nat_lt l.released c) (held_by l.holder j h)
 
-takes_freed : (o : Option ℕ) (l : Lock) (c j : ℕ) → IsLate c o → is_number l.holder j ≡ true → takes (freed_by o l) c ≡ false
+takes_freed : (o : Option ℕ) (l : DetLock) (c j : ℕ) → IsLate c o → is_number l.holder j ≡ true → takes (freed_by o l) c ≡ false
 unfolding takes
 takes_freed None l c j late h = takes_held l c j h
 takes_freed (Some r) l c j late h = le-ltb r c late
 
 -- an attempt finds a lock as it was before a late event
-takes_after : (j : ℕ) (o : Option ℕ) (l : Lock) (c : ℕ) → IsLate c o → takes (lock_after j o l) c ≡ takes l c
+takes_after : (j : ℕ) (o : Option ℕ) (l : DetLock) (c : ℕ) → IsLate c o → takes (lock_after j o l) c ≡ takes l c
 takes_after j o l c late =
     ⊎_elim
-    (λ (own : is_number l.holder j ≡ true). ap (λ (k : Lock). takes k c) (lock_mine j o l own) ∙ (takes_freed o l c j late own ∙ sym (takes_held l c j own)))
-    (λ (off : is_number l.holder j ≡ false). ap (λ (k : Lock). takes k c) (lock_other j o l off))
+    (λ (own : is_number l.holder j ≡ true). ap (λ (k : DetLock). takes k c) (lock_mine j o l own) ∙ (takes_freed o l c j late own ∙ sym (takes_held l c j own)))
+    (λ (off : is_number l.holder j ≡ false). ap (λ (k : DetLock). takes k c) (lock_other j o l off))
     (cases_Bool (is_number l.holder j))
 
 -- thread i holds a lock after an event of j if it did before
-pub holder_after : (i j : ℕ) (o : Option ℕ) (l : Lock) → (i ≡ j → ⊥) → is_number (lock_after j o l).holder i ≡ is_number l.holder i
+pub holder_after : (i j : ℕ) (o : Option ℕ) (l : DetLock) → (i ≡ j → ⊥) → is_number (lock_after j o l).holder i ≡ is_number l.holder i
 holder_after i j o l apart =
     ⊎_elim
     (λ (own : is_number l.holder j ≡ true).
     let off = one_holder l.holder j i own (λ e. apart (sym e)) in
     lock_not j i o l off ∙ sym off)
-    (λ (off : is_number l.holder j ≡ false). ap (λ (k : Lock). is_number k.holder i) (lock_other j o l off))
+    (λ (off : is_number l.holder j ≡ false). ap (λ (k : DetLock). is_number k.holder i) (lock_other j o l off))
     (cases_Bool (is_number l.holder j))
 
-not_mine : (i j : ℕ) (o : Option ℕ) (l : Lock) → (i ≡ j → ⊥) → lock_after j o (held i l) ≡ held i l
+not_mine : (i j : ℕ) (o : Option ℕ) (l : DetLock) → (i ≡ j → ⊥) → lock_after j o (held i l) ≡ held i l
 not_mine i j o l apart = lock_other j o (held i l) (ne_eqb i j apart)
 
 -- ## The parts of a grant
@@ -74,14 +75,14 @@ rows_push i j e rs r own apart =
 new_lock_stays : (j : ℕ) (o : Option ℕ) → lock_after j o new_lock ≡ new_lock
 new_lock_stays j o = lock_other j o new_lock refl
 
-pub object_after : (j n : ℕ) (o : Option ℕ) (ls : List Lock) → get_or (map (lock_after j o) ls) n new_lock ≡ lock_after j o (get_or ls n new_lock)
+pub object_after : (j n : ℕ) (o : Option ℕ) (ls : List DetLock) → get_or (map (lock_after j o) ls) n new_lock ≡ lock_after j o (get_or ls n new_lock)
 object_after j n o ls = ap (get_or (map (lock_after j o) ls) n) (sym (new_lock_stays j o)) ∙ map_at (lock_after j o) ls n new_lock
 
 -- taking an object that nobody holds
-objects_set : (i j n : ℕ) (o : Option ℕ) (ls : List Lock) → (i ≡ j → ⊥) → is_number (get_or ls n new_lock).holder j ≡ false
+objects_set : (i j n : ℕ) (o : Option ℕ) (ls : List DetLock) → (i ≡ j → ⊥) → is_number (get_or ls n new_lock).holder j ≡ false
     → set (map (lock_after j o) ls) n (held i (get_or (map (lock_after j o) ls) n new_lock)) ≡ map (lock_after j o) (set ls n (held i (get_or ls n new_lock)))
 objects_set i j n o ls apart off =
-    ap (λ (l : Lock). set (map (lock_after j o) ls) n (held i l)) (object_after j n o ls ∙ lock_other j o (get_or ls n new_lock) off)
+    ap (λ (l : DetLock). set (map (lock_after j o) ls) n (held i l)) (object_after j n o ls ∙ lock_other j o (get_or ls n new_lock) off)
     ∙ (ap (set (map (lock_after j o) ls) n) (sym (not_mine i j o (get_or ls n new_lock) apart)) ∙ sym (map-set (lock_after j o) ls n (held i (get_or ls n new_lock))))
 
 -- ## What an attempt leads to
@@ -175,7 +176,7 @@ tries_comm calls s i j t (WantsObject c b clock n way) m apart object_late table
     let b1 = is_number z.table.holder i && takes (object_of z n) t.clock in
     let test : b1 ≡ b0 =
     ap₂ ◌&&◌ (holder_after i j m.effect.table_freed s.table apart)
-    (ap (λ (l : Lock). takes l t.clock) (object_after j n m.effect.object_freed s.objects) ∙ takes_after j m.effect.object_freed (object_of s n) t.clock object_late) in
+    (ap (λ (l : DetLock). takes l t.clock) (object_after j n m.effect.object_freed s.objects) ∙ takes_after j m.effect.object_freed (object_of s n) t.clock object_late) in
     ⊎_elim
     (λ (can : b0 ≡ true).
     let parts = and_parts (is_number s.table.holder i) (takes (object_of s n) t.clock) can in

@@ -14,7 +14,7 @@ use Rattle.lock_model.specs.State.Phase.{Ended}
 use Rattle.lock_model.specs.Terms.{World}
 use Rattle.posix_terms.specs.Step.{Carried}
 use Rattle.lock_model.specs.Transcripts.{replied}
-use Rattle.lock_model.specs.TurnOrder.{has_turn}
+use Rattle.logical_clocks.specs.TurnOrder.{has_turn}
 use Rattle.posix_terms.specs.declared.transcript.Turn.{Turn}
 use Rattle.std.specs.List.{cons_option}
 use Rattle.lock_model.proofs.Diamond.{IsStill, Reaches, still_same}

@@ -2,7 +2,7 @@
 use Rattle.std.proofs.Common.{◌≡◌, ℕ, List, [], ◌∷◌, map, Option, Some, None, true, false, is_none, ◌==◌, sym, refl, ap, ap₂, ◌∙◌, ⊎_elim}
 use Rattle.std.proofs.lemmas.Bool.{eqb-true, ne_eqb, and_left, cond-true, cond-false, cond_both, cases_eq, cases_Bool}
 use Rattle.std.proofs.lemmas.List.{set_comm, get_or-set_other}
-use Rattle.lock_model.specs.Attempt.{Lock}
+use Rattle.det_mutex.specs.declared.lock.DetLock.{DetLock}
 use Rattle.lock_model.specs.Machine.{Setup, Effect, Moved, moves, is_number, freed_by, lock_after, or_else, world_after, is_open, filled_by, row_after, move, advance}
 use Rattle.lock_model.specs.State.{Thread, Row, State, nobody, thread_of}
 use Rattle.lock_model.specs.Terms.{World}
@@ -43,31 +43,31 @@ row_comm i j e f r apart =
 
 -- ## Locks
 
-pub lock_other : (i : ℕ) (o : Option ℕ) (l : Lock) → is_number l.holder i ≡ false → lock_after i o l ≡ l
+pub lock_other : (i : ℕ) (o : Option ℕ) (l : DetLock) → is_number l.holder i ≡ false → lock_after i o l ≡ l
 unfolding lock_after
 lock_other i o l h = cond-false _ _ _ h
 
-pub lock_mine : (i : ℕ) (o : Option ℕ) (l : Lock) → is_number l.holder i ≡ true → lock_after i o l ≡ freed_by o l
+pub lock_mine : (i : ℕ) (o : Option ℕ) (l : DetLock) → is_number l.holder i ≡ true → lock_after i o l ≡ freed_by o l
 unfolding lock_after
 lock_mine i o l h = cond-true _ _ _ h
 
-freed_not : (j : ℕ) (o : Option ℕ) (l : Lock) → is_number l.holder j ≡ false → is_number (freed_by o l).holder j ≡ false
+freed_not : (j : ℕ) (o : Option ℕ) (l : DetLock) → is_number l.holder j ≡ false → is_number (freed_by o l).holder j ≡ false
 freed_not j None l h = h
 freed_not j (Some r) l h = refl
 
 -- an event gives no lock
-pub lock_not : (i j : ℕ) (o : Option ℕ) (l : Lock) → is_number l.holder j ≡ false → is_number (lock_after i o l).holder j ≡ false
+pub lock_not : (i j : ℕ) (o : Option ℕ) (l : DetLock) → is_number l.holder j ≡ false → is_number (lock_after i o l).holder j ≡ false
 unfolding lock_after
-lock_not i j o l h = cond_both (is_number l.holder i) (freed_by o l) l (λ (k : Lock). is_number k.holder j ≡ false) (λ yes. freed_not j o l h) (λ off. h)
+lock_not i j o l h = cond_both (is_number l.holder i) (freed_by o l) l (λ (k : DetLock). is_number k.holder j ≡ false) (λ yes. freed_not j o l h) (λ off. h)
 
 pub one_holder : (o : Option ℕ) (i j : ℕ) → is_number o i ≡ true → (i ≡ j → ⊥) → is_number o j ≡ false
 one_holder None i j h apart = refl
 one_holder (Some k) i j h apart = ne_eqb k j (λ q. apart (sym (eqb-true k i h) ∙ q))
 
-lock_comm_by : (i j : ℕ) (o p : Option ℕ) (l : Lock) → is_number l.holder j ≡ false → lock_after i o (lock_after j p l) ≡ lock_after j p (lock_after i o l)
+lock_comm_by : (i j : ℕ) (o p : Option ℕ) (l : DetLock) → is_number l.holder j ≡ false → lock_after i o (lock_after j p l) ≡ lock_after j p (lock_after i o l)
 lock_comm_by i j o p l off = ap (lock_after i o) (lock_other j p l off) ∙ sym (lock_other j p (lock_after i o l) (lock_not i j o l off))
 
-pub lock_comm : (i j : ℕ) (o p : Option ℕ) (l : Lock) → (i ≡ j → ⊥) → lock_after i o (lock_after j p l) ≡ lock_after j p (lock_after i o l)
+pub lock_comm : (i j : ℕ) (o p : Option ℕ) (l : DetLock) → (i ≡ j → ⊥) → lock_after i o (lock_after j p l) ≡ lock_after j p (lock_after i o l)
 lock_comm i j o p l apart =
     ⊎_elim
     (λ (own : is_number l.holder i ≡ true). lock_comm_by i j o p l (one_holder l.holder i j own apart))
@@ -76,21 +76,21 @@ lock_comm i j o p l apart =
 
 -- ## The world
 
-pub world_other : (i : ℕ) (l : Lock) (o : Option World) (w : World) → is_number l.holder i ≡ false → world_after i l o w ≡ w
+pub world_other : (i : ℕ) (l : DetLock) (o : Option World) (w : World) → is_number l.holder i ≡ false → world_after i l o w ≡ w
 unfolding world_after
 world_other i l o w h = cond-false _ _ _ h
 
-pub world_mine : (i : ℕ) (l : Lock) (o : Option World) (w : World) → is_number l.holder i ≡ true → world_after i l o w ≡ or_else o w
+pub world_mine : (i : ℕ) (l : DetLock) (o : Option World) (w : World) → is_number l.holder i ≡ true → world_after i l o w ≡ or_else o w
 unfolding world_after
 world_mine i l o w h = cond-true _ _ _ h
 
-world_comm_by : (i j : ℕ) (l : Lock) (p q : Option ℕ) (o v : Option World) (w : World) → is_number l.holder j ≡ false
+world_comm_by : (i j : ℕ) (l : DetLock) (p q : Option ℕ) (o v : Option World) (w : World) → is_number l.holder j ≡ false
     → world_after i (lock_after j q l) o (world_after j l v w) ≡ world_after j (lock_after i p l) v (world_after i l o w)
 world_comm_by i j l p q o v w off =
-    ap₂ (λ (k : Lock) (u : World). world_after i k o u) (lock_other j q l off) (world_other j l v w off)
+    ap₂ (λ (k : DetLock) (u : World). world_after i k o u) (lock_other j q l off) (world_other j l v w off)
     ∙ sym (world_other j (lock_after i p l) v (world_after i l o w) (lock_not i j p l off))
 
-pub world_comm : (i j : ℕ) (l : Lock) (p q : Option ℕ) (o v : Option World) (w : World) → (i ≡ j → ⊥)
+pub world_comm : (i j : ℕ) (l : DetLock) (p q : Option ℕ) (o v : Option World) (w : World) → (i ≡ j → ⊥)
     → world_after i (lock_after j q l) o (world_after j l v w) ≡ world_after j (lock_after i p l) v (world_after i l o w)
 world_comm i j l p q o v w apart =
     ⊎_elim

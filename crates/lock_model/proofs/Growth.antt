@@ -3,7 +3,7 @@ use Rattle.std.proofs.Common.{◌≡◌, ℕ, zero, suc, ◌+◌, ◌<◌, List,
 use Rattle.std.proofs.lemmas.Bool.{false≢true, and_parts, cond_both, cases_eq, cases_Bool}
 use Rattle.std.proofs.lemmas.List.{get_or-set_same, append_assoc, append-nil}
 use Rattle.std.proofs.lemmas.Option.{same_Some, none-some}
-use Rattle.lock_model.specs.Attempt.{takes}
+use Rattle.det_mutex.specs.Attempt.{takes}
 use Rattle.lock_model.specs.CallTable.{CallTable, Answer, Plan, Way}
 use Rattle.lock_model.specs.CallTable.Answer.{Gives, Again}
 use Rattle.lock_model.specs.CallTable.Plan.{No_object, Object}

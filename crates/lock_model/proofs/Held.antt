@@ -2,7 +2,8 @@
 use Rattle.std.proofs.Common.{◌≡◌, ℕ, ◌+◌, ◌<◌, ◌⊎◌, List, length, set, get_or, Option, Some, None, true, false, not, ◌||◌, sym, refl, ap, ◌∙◌, subst, inl, inr, ⊎_elim}
 use Rattle.std.proofs.lemmas.Bool.{false≢true, eq-eqb, ne_eqb, cases_eq, cases_Bool}
 use Rattle.std.proofs.lemmas.List.{get_or-set_other, get_or-set_same, length-set, length-map, get_or-replicate, length-replicate}
-use Rattle.lock_model.specs.Attempt.{Lock, new_lock, takes, held}
+use Rattle.det_mutex.specs.Attempt.{new_lock, takes, held}
+use Rattle.det_mutex.specs.declared.lock.DetLock.{DetLock}
 use Rattle.lock_model.specs.CallTable.{CallTable, Answer, Plan, Way, has_object, keeps_table}
 use Rattle.lock_model.specs.CallTable.Answer.{Gives, Again}
 use Rattle.lock_model.specs.CallTable.Plan.{No_object, Object}
@@ -25,10 +26,10 @@ use Rattle.lock_model.proofs.Attempt.{move_of, can_out, taken_not, holder_after,
 use Rattle.lock_model.proofs.Growth.{at_moves, at_attempt, wanting_within}
 use Rattle.lock_model.proofs.Kept.{lock_quiet, run_keeps, first_thread, start_thread}
 
-freed_mine : (i t : ℕ) (l : Lock) → is_number (lock_after i (Some t) l).holder i ≡ false
+freed_mine : (i t : ℕ) (l : DetLock) → is_number (lock_after i (Some t) l).holder i ≡ false
 freed_mine i t l =
     ⊎_elim
-    (λ (own : is_number l.holder i ≡ true). ap (λ (k : Lock). is_number k.holder i) (lock_mine i (Some t) l own))
+    (λ (own : is_number l.holder i ≡ true). ap (λ (k : DetLock). is_number k.holder i) (lock_mine i (Some t) l own))
     (λ (off : is_number l.holder i ≡ false). lock_not i i (Some t) l off)
     (cases_Bool (is_number l.holder i))
 
@@ -76,15 +77,15 @@ locks_move setup i t m h =
     })
     h
 
-lock_kept : (i : ℕ) (o : Option ℕ) (l : Lock) → o ≡ None → lock_after i o l ≡ l
+lock_kept : (i : ℕ) (o : Option ℕ) (l : DetLock) → o ≡ None → lock_after i o l ≡ l
 lock_kept i o l h = ap (λ (q : Option ℕ). lock_after i q l) h ∙ lock_quiet i l
 
-table_moved : (i : ℕ) (p : Phase) (m : Moved) (l : Lock) → KeepsLocks p m ⊎ FreesLocks m → is_number l.holder i ≡ holds_table p → is_number (lock_after i m.effect.table_freed l).holder i ≡ holds_table m.thread.phase
-table_moved i p m l (inl k) h = ap (λ (x : Lock). is_number x.holder i) (lock_kept i m.effect.table_freed l k.table_freed) ∙ (h ∙ sym k.table)
+table_moved : (i : ℕ) (p : Phase) (m : Moved) (l : DetLock) → KeepsLocks p m ⊎ FreesLocks m → is_number l.holder i ≡ holds_table p → is_number (lock_after i m.effect.table_freed l).holder i ≡ holds_table m.thread.phase
+table_moved i p m l (inl k) h = ap (λ (x : DetLock). is_number x.holder i) (lock_kept i m.effect.table_freed l k.table_freed) ∙ (h ∙ sym k.table)
 table_moved i p m l (inr f) h = ap (λ (o : Option ℕ). is_number (lock_after i o l).holder i) f.table_freed.1 ∙ (freed_mine i f.table_freed.0 l ∙ sym f.table)
 
-object_moved : (i n : ℕ) (p : Phase) (m : Moved) (l : Lock) → KeepsLocks p m ⊎ FreesLocks m → is_number l.holder i ≡ is_number (object_held p) n → is_number (lock_after i m.effect.object_freed l).holder i ≡ is_number (object_held m.thread.phase) n
-object_moved i n p m l (inl k) h = ap (λ (x : Lock). is_number x.holder i) (lock_kept i m.effect.object_freed l k.object_freed) ∙ (h ∙ ap (λ (o : Option ℕ). is_number o n) (sym k.object))
+object_moved : (i n : ℕ) (p : Phase) (m : Moved) (l : DetLock) → KeepsLocks p m ⊎ FreesLocks m → is_number l.holder i ≡ is_number (object_held p) n → is_number (lock_after i m.effect.object_freed l).holder i ≡ is_number (object_held m.thread.phase) n
+object_moved i n p m l (inl k) h = ap (λ (x : DetLock). is_number x.holder i) (lock_kept i m.effect.object_freed l k.object_freed) ∙ (h ∙ ap (λ (o : Option ℕ). is_number o n) (sym k.object))
 object_moved i n p m l (inr f) h = ap (λ (o : Option ℕ). is_number (lock_after i o l).holder i) f.object_freed.1 ∙ (freed_mine i f.object_freed.0 l ∙ ap (λ (o : Option ℕ). is_number o n) (sym f.object))
 
 held_move : (setup : Setup) (s : State) (i : ℕ) (m : Moved) → moves setup i (thread_of s i) ≡ Some m → AreHeld s → AreHeld (move i (Some m) s)
@@ -105,7 +106,7 @@ held_move setup s i m e h =
       objects = λ k n l.
           let inside : n < length s.objects = subst (λ (x : ℕ). n < x) (length-map s.objects (lock_after i m.effect.object_freed)) l in
           let at : object_of z n ≡ lock_after i m.effect.object_freed (object_of s n) = object_after i n m.effect.object_freed s.objects in
-          ap (λ (x : Lock). is_number x.holder k) at
+          ap (λ (x : DetLock). is_number x.holder k) at
           ∙ ⊎_elim
           (λ (q : i ≡ k).
           subst (λ (j : ℕ). is_number (lock_after i m.effect.object_freed (object_of s n)).holder j ≡ is_number (object_held (thread_of z j).phase) n) q
@@ -143,29 +144,29 @@ table_now s z i p g mine others h k =
 objects_same : (s z : State) (i : ℕ) (p : Phase) → NowIn s z i p → z.objects ≡ s.objects → object_held p ≡ object_held (thread_of s i).phase
     → AreHeld s → (k n : ℕ) → n < length z.objects → is_number (object_of z n).holder k ≡ is_number (object_held (thread_of z k).phase) n
 objects_same s z i p g same held h k n l =
-    let inside : n < length s.objects = subst (λ (ls : List Lock). n < length ls) same l in
-    ap (λ (ls : List Lock). is_number (get_or ls n new_lock).holder k) same
+    let inside : n < length s.objects = subst (λ (ls : List DetLock). n < length ls) same l in
+    ap (λ (ls : List DetLock). is_number (get_or ls n new_lock).holder k) same
     ∙ (h.objects k n inside
     ∙ ⊎_elim
     (λ (q : i ≡ k). subst (λ (j : ℕ). is_number (object_held (thread_of s j).phase) n ≡ is_number (object_held (thread_of z j).phase) n) q (ap (λ (o : Option ℕ). is_number o n) (sym held ∙ ap object_held (sym g.phase))))
     (λ (apart : i ≡ k → ⊥). ap (λ (u : Thread). is_number (object_held u.phase) n) (sym (g.others k apart)))
     (cases_eq i k))
 
-abbrev held_lock : ℕ → ℕ → State → Lock
+abbrev held_lock : ℕ → ℕ → State → DetLock
 held_lock i m s = held i (object_of s m)
 
 -- where this object is taken
 objects_taken : (s z : State) (i m : ℕ) (p : Phase) → NowIn s z i p → z.objects ≡ set s.objects m (held i (object_of s m)) → object_held p ≡ Some m → object_held (thread_of s i).phase ≡ None
     → ((k : ℕ) → is_number (object_of s m).holder k ≡ false) → AreHeld s → (k n : ℕ) → n < length z.objects → is_number (object_of z n).holder k ≡ is_number (object_held (thread_of z k).phase) n
 objects_taken s z i m p g taken now before none h k n l =
-    let inside : n < length s.objects = subst (λ (x : ℕ). n < x) (length-set s.objects m (held_lock i m s)) (subst (λ (ls : List Lock). n < length ls) taken l) in
-    ap (λ (ls : List Lock). is_number (get_or ls n new_lock).holder k) taken
+    let inside : n < length s.objects = subst (λ (x : ℕ). n < x) (length-set s.objects m (held_lock i m s)) (subst (λ (ls : List DetLock). n < length ls) taken l) in
+    ap (λ (ls : List DetLock). is_number (get_or ls n new_lock).holder k) taken
     ∙ ⊎_elim
     (λ (here : m ≡ n).
     let lock : get_or (set s.objects m (held_lock i m s)) n new_lock ≡ held_lock i m s =
     subst (λ (x : ℕ). get_or (set s.objects m (held_lock i m s)) x new_lock ≡ held_lock i m s) here
     (get_or-set_same s.objects m (held_lock i m s) new_lock (subst (λ (x : ℕ). x < length s.objects) (sym here) inside)) in
-    ap (λ (x : Lock). is_number x.holder k) lock
+    ap (λ (x : DetLock). is_number x.holder k) lock
     ∙ ⊎_elim
     (λ (q : i ≡ k).
     eq-eqb i k q
@@ -176,7 +177,7 @@ objects_taken s z i m p g taken now before none h k n l =
     ∙ (h.objects k n inside ∙ ap (λ (u : Thread). is_number (object_held u.phase) n) (sym (g.others k apart)))))
     (cases_eq i k))
     (λ (elsewhere : m ≡ n → ⊥).
-    ap (λ (x : Lock). is_number x.holder k) (get_or-set_other s.objects m n (held_lock i m s) new_lock (λ q. elsewhere (sym q)))
+    ap (λ (x : DetLock). is_number x.holder k) (get_or-set_other s.objects m n (held_lock i m s) new_lock (λ q. elsewhere (sym q)))
     ∙ (h.objects k n inside
     ∙ ⊎_elim
     (λ (q : i ≡ k).
@@ -282,7 +283,7 @@ held_start threads objects w =
       table = λ k. (free k).0;
       objects = λ k n l.
           let inside : n < objects = subst (λ (x : ℕ). n < x) (length-replicate objects new_lock) l in
-          ap (λ (x : Lock). is_number x.holder k) (get_or-replicate objects n new_lock new_lock inside) ∙ ap (λ (o : Option ℕ). is_number o n) (sym (free k).1);
+          ap (λ (x : DetLock). is_number x.holder k) (get_or-replicate objects n new_lock new_lock inside) ∙ ap (λ (o : Option ℕ). is_number o n) (sym (free k).1);
     }
 
 pub held_run : (setup : Setup) (threads objects : ℕ) (w : World) (events : List Event) → AreHeld (run setup events (start threads objects w))

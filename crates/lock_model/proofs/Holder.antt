@@ -5,7 +5,7 @@ use Rattle.std.proofs.lemmas.Option.{same_Some, none-some}
 use Rattle.lock_model.specs.Laws.{HaveEnded}
 use Rattle.lock_model.specs.State.{Phase, State, thread_of, live_clock_in, live_clock, live_clocks}
 use Rattle.lock_model.specs.State.Phase.{Ended}
-use Rattle.lock_model.specs.TurnOrder.{has_turn, turn_holder}
+use Rattle.logical_clocks.specs.TurnOrder.{has_turn, turn_holder}
 use Rattle.std.proofs.Common.{◌↔◌}
 use Rattle.lock_model.proofs.Turn.{IsEarlier, turn_in, turn_out, turn_unique, clock_within, clock_at}
 use Rattle.lock_model.proofs.Plain.{first_some, first_none}

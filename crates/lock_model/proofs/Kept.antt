@@ -3,7 +3,8 @@ use Rattle.std.proofs.Common.{◌≡◌, ℕ, ◌+◌, ◌<◌, ◌≤◌, ◌�
 use Rattle.std.proofs.lemmas.Bool.{false≢true, eq-eqb, and_parts, cond_both, cases_eq, cases_Bool, cases_lt}
 use Rattle.std.proofs.lemmas.List.{get_or-set_other, get_or-set_same, get_or_past, get_or-replicate, length-replicate}
 use Rattle.std.proofs.lemmas.Option.{same_Some, none-some}
-use Rattle.lock_model.specs.Attempt.{Lock, takes}
+use Rattle.det_mutex.specs.Attempt.{takes}
+use Rattle.det_mutex.specs.declared.lock.DetLock.{DetLock}
 use Rattle.lock_model.specs.CallTable.{CallTable, Answer, Plan, Way, keeps_table, goes_outside}
 use Rattle.lock_model.specs.CallTable.Answer.{Gives, Again}
 use Rattle.lock_model.specs.CallTable.Plan.{No_object, Object}
@@ -43,9 +44,9 @@ rows_quiet : (i : ℕ) (rs : List Row) → map (row_after i quiet) rs ≡ rs
 rows_quiet i [] = refl
 rows_quiet i (r ∷ rs) = ap₂ ◌∷◌ (row_quiet i r) (rows_quiet i rs)
 
-pub lock_quiet : (i : ℕ) (l : Lock) → lock_after i None l ≡ l
+pub lock_quiet : (i : ℕ) (l : DetLock) → lock_after i None l ≡ l
 unfolding lock_after
-lock_quiet i l = cond_both (is_number l.holder i) l l (λ (k : Lock). k ≡ l) (λ yes. refl) (λ off. refl)
+lock_quiet i l = cond_both (is_number l.holder i) l l (λ (k : DetLock). k ≡ l) (λ yes. refl) (λ off. refl)
 
 -- what a state's rows are found to be, from the first world on
 abbrev pub Right : CallTable → World → State → Type 0
@@ -54,7 +55,7 @@ Right calls w s = Walk calls s w (λ i. calls.nothing_carried) (λ i. false) s.r
 -- the thread before and after a quiet event: it holds the same job, and stands as ready
 pub record Stands (calls : CallTable) (i : ℕ) (p q : Phase) : Type 0 where
   pub hold : (job : Job) → Holding calls p job → Holding calls q job
-  pub ready : (v : World) (l : Lock) (b : Carried) (o : Bool) → Ready calls v l i p b o → Ready calls v l i q b o
+  pub ready : (v : World) (l : DetLock) (b : Carried) (o : Bool) → Ready calls v l i p b o → Ready calls v l i q b o
 
 right_quiet : (setup : Setup) (w : World) (s : State) (i : ℕ) (u : Thread) → moves setup i (thread_of s i) ≡ Some (quietly u)
     → Stands setup.calls i (thread_of s i).phase u.phase → Right setup.calls w s → Right setup.calls w (move i (Some (quietly u)) s)
@@ -66,10 +67,10 @@ right_quiet setup w s i u e stands h =
     (walk_thread setup.calls s z i w (λ k. setup.calls.nothing_carried) (λ k. false) s.rows
     (λ k apart. thread_move i k (Some (quietly u)) s apart)
     (world_none i s.table s.world)
-    (λ k g. subst (λ (l : Lock). is_number l.holder k ≡ true) (sym table) g)
+    (λ k g. subst (λ (l : DetLock). is_number l.holder k ≡ true) (sym table) g)
     (λ job g. subst (λ (t : Thread). Holding setup.calls t.phase job) (sym there) (stands.hold job g))
     (λ v b o k g.
-    subst (λ (l : Lock). Ready setup.calls v l i (thread_of z i).phase b o) (sym table)
+    subst (λ (l : DetLock). Ready setup.calls v l i (thread_of z i).phase b o) (sym table)
     (subst (λ (t : Thread). Ready setup.calls v s.table i t.phase b o) (sym there) (stands.ready v s.table b o g)))
     h)
 
@@ -109,7 +110,7 @@ busy_phase (Outside job) = true
 busy_phase (Recorded job) = true
 busy_phase p = false
 
-ready_busy : (calls : CallTable) (v : World) (l : Lock) (i : ℕ) (b : Carried) (o : Bool) (p : Phase) → busy_phase p ≡ true → Ready calls v l i p b o → o ≡ true
+ready_busy : (calls : CallTable) (v : World) (l : DetLock) (i : ℕ) (b : Carried) (o : Bool) (p : Phase) → busy_phase p ≡ true → Ready calls v l i p b o → o ≡ true
 ready_busy calls v l i b o (Granted j) g r = r
 ready_busy calls v l i b o (ToOutside j) g r = r
 ready_busy calls v l i b o (Outside j) g r = r
@@ -126,7 +127,7 @@ busy_found calls s i h v c o free a = false≢true (sym free ∙ ready_busy call
 
 -- after all rows, where thread i made an event that leaves it in this state
 last_move : (calls : CallTable) (s : State) (i : ℕ) (m : Moved) (d : Carried) (q : Bool) → i < length s.threads → world_after i s.table m.effect.world s.world ≡ s.world
-    → ((v : World) (l : Lock) → Ready calls v l i m.thread.phase d q) → LastBeside calls s (move i (Some m) s) i d q
+    → ((v : World) (l : DetLock) → Ready calls v l i m.thread.phase d q) → LastBeside calls s (move i (Some m) s) i d q
 last_move calls s i m d q l world ready v c a o p beside still given free e =
     let z = move i (Some m) s in
     record {
@@ -185,7 +186,7 @@ open_record setup s i job o e phase fits v c busy r us mine none free p h =
         carried = p.carried;
         plan = p.plan;
         outcome = ap (λ (x : Option Outcome). first_of x (Some o)) (sym held.2 ∙ p.outcome);
-        keeps = λ q. let g = p.keeps q in (ap (map (row_after i m.effect)) g.0, subst (λ (t : Lock). is_number t.holder r.turn.thread ≡ true) (sym (lock_quiet i s.table)) g.1);
+        keeps = λ q. let g = p.keeps q in (ap (map (row_after i m.effect)) g.0, subst (λ (t : DetLock). is_number t.holder r.turn.thread ≡ true) (sym (lock_quiet i s.table)) g.1);
       },
       walk_tail calls s z i m.effect (next_world calls v (c r.turn.thread) r None) (handed_on calls c r) (handed_on calls c n) (opened busy r) (opened busy n) (c i) true us
           (part_move calls s i m)
@@ -248,7 +249,7 @@ keeps_goes (Object n Inside) h = absurd (false≢true h)
 keeps_goes (Object n Door) h = absurd (false≢true h)
 keeps_goes (Object n Keeps_table) h = refl
 
-ready_answered : (calls : CallTable) (v : World) (l : Lock) (i : ℕ) (t : Thread) (c : Call) (n : ℕ) (b : Carried) (a : Answer) → Ready calls v l i (answered t c n a).phase (carried_after calls b (Some a)) false
+ready_answered : (calls : CallTable) (v : World) (l : DetLock) (i : ℕ) (t : Thread) (c : Call) (n : ℕ) (b : Carried) (a : Answer) → Ready calls v l i (answered t c n a).phase (carried_after calls b (Some a)) false
 ready_answered calls v l i t c n b (Gives r) = (refl, refl)
 ready_answered calls v l i t c n b (Again d) = (refl, refl)
 
@@ -386,7 +387,7 @@ holding_granted : (calls : CallTable) (job : Job) (g : Bool) → goes_outside jo
 holding_granted calls job true h n = (refl, h, n)
 holding_granted calls job false h n = (refl, h, n)
 
-ready_granted : (calls : CallTable) (v : World) (l : Lock) (i : ℕ) (job : Job) (g : Bool) (b : Carried) (o : Bool) → o ≡ true → Ready calls v l i (granted_phase g job) b o
+ready_granted : (calls : CallTable) (v : World) (l : DetLock) (i : ℕ) (job : Job) (g : Bool) (b : Carried) (o : Bool) → o ≡ true → Ready calls v l i (granted_phase g job) b o
 ready_granted calls v l i job true b o h = h
 ready_granted calls v l i job false b o h = h
 

@@ -8,7 +8,7 @@ use Rattle.lock_model.specs.Machine.Event.{Advances, Attempts}
 use Rattle.lock_model.specs.Runs.{run}
 use Rattle.lock_model.specs.Schedule.{EndsIn, IsOver, next_event, plain, plain_run, advance_by, attempt_by, after_event}
 use Rattle.lock_model.specs.State.{Thread, State, nobody, live_clocks}
-use Rattle.lock_model.specs.TurnOrder.{first_or, first_below, has_turn, turn_holder}
+use Rattle.logical_clocks.specs.TurnOrder.{first_or, first_below, has_turn, turn_holder}
 use Rattle.lock_model.proofs.Turn.{turn_unique, turn_out, clock_within}
 use Rattle.lock_model.proofs.Attempt.{can_out}
 use Rattle.lock_model.proofs.Diamond.{Leads, Reaches, IsStill, reaches_event, reaches_run, still_same}

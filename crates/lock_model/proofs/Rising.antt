@@ -2,7 +2,8 @@
 use Rattle.std.proofs.Common.{◌≡◌, ℕ, ◌+◌, ◌<◌, ◌≤◌, List, [], ◌∷◌, ◌++◌, length, map, set, get_or, Option, Some, Bool, true, false, sym, refl, ap, ◌∙◌, subst, inl, inr, ⊎_elim, arith}
 use Rattle.std.proofs.lemmas.Bool.{true≢false, false≢true, cases_eq, cases_Bool, cases_lt}
 use Rattle.std.proofs.lemmas.List.{get_or-set_other, get_or-set_same}
-use Rattle.lock_model.specs.Attempt.{Lock, takes}
+use Rattle.det_mutex.specs.Attempt.{takes}
+use Rattle.det_mutex.specs.declared.lock.DetLock.{DetLock}
 use Rattle.lock_model.specs.CallTable.{CallTable, Answer, Plan, Way}
 use Rattle.lock_model.specs.CallTable.Answer.{Gives, Again}
 use Rattle.lock_model.specs.CallTable.Plan.{No_object, Object}
@@ -19,7 +20,7 @@ use Rattle.lock_model.specs.State.Phase.{Working, WantsTable, WantsObject, Grant
 use Rattle.lock_model.specs.Terms.{World}
 use Rattle.posix_terms.specs.declared.call.Call.{Call}
 use Rattle.posix_terms.specs.Step.{Carried}
-use Rattle.lock_model.specs.TurnOrder.{is_before}
+use Rattle.logical_clocks.specs.TurnOrder.{is_before}
 use Rattle.posix_terms.specs.declared.transcript.Turn.{Turn}
 use Rattle.lock_model.proofs.Commute.{row_turn, advance_move, thread_move, one_holder}
 use Rattle.lock_model.proofs.Turn.{IsEarlier, before_in, before_out, Leading, leading_out, thread_moved, moves_live, moves_later}
@@ -191,7 +192,7 @@ ordered_move setup s i m e h =
 at_end : (calls : CallTable) (s : State) (w : World) (carried : ℕ → Carried) (busy : ℕ → Bool) (rs : List Row) → Walk calls s w carried busy rs → (k : ℕ) → is_waiting (thread_of s k).phase ≡ true → is_number s.table.holder k ≡ true
 at_end calls s w carried busy [] h k q = waiting_holds calls w s.table k (thread_of s k).phase (carried k) (busy k) q (h.ready k)
   where
-    waiting_holds : (calls : CallTable) (w : World) (l : Lock) (k : ℕ) (p : Phase) (b : Carried) (o : Bool) → is_waiting p ≡ true → Ready calls w l k p b o → is_number l.holder k ≡ true
+    waiting_holds : (calls : CallTable) (w : World) (l : DetLock) (k : ℕ) (p : Phase) (b : Carried) (o : Bool) → is_waiting p ≡ true → Ready calls w l k p b o → is_number l.holder k ≡ true
     waiting_holds calls w l k (WantsObject c d clock n way) b o q r = r.3
     waiting_holds calls w l k Working b o q r = absurd (false≢true q)
     waiting_holds calls w l k (WantsTable c d) b o q r = absurd (false≢true q)

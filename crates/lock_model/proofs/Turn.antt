@@ -12,7 +12,7 @@ use Rattle.lock_model.specs.State.{Job, Phase, Thread, State, nobody, thread_of,
 use Rattle.lock_model.specs.State.Phase.{Working, Granted, ToOutside, Outside, Recorded, Blocked, Ended}
 use Rattle.posix_terms.specs.declared.call.Call.{Call}
 use Rattle.posix_terms.specs.declared.outcome.Outcome.{Outcome}
-use Rattle.lock_model.specs.TurnOrder.{is_before, all_below, yields_at, yields, has_turn_at, has_turn}
+use Rattle.logical_clocks.specs.TurnOrder.{is_before, all_below, yields_at, yields, has_turn_at, has_turn}
 use Rattle.posix_terms.specs.declared.transcript.Turn.{Turn}
 use Rattle.lock_model.proofs.Commute.{thread_move}
 

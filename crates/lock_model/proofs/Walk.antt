@@ -1,7 +1,7 @@
 -- The rows, gone over in their order: what each was granted with, and what the threads stand ready for after them.
 use Rattle.std.proofs.Common.{◌≡◌, ℕ, List, [], ◌∷◌, ◌++◌, map, Option, Some, None, Bool, true, false, is_none, if◌then◌else◌, ◌==◌, sym, refl, ap, ◌∙◌, subst, ⊎_elim}
 use Rattle.std.proofs.lemmas.Bool.{false≢true, eqb-true, eq-eqb, ne_eqb, and_parts, and_from, and_cases, cond-true, cond-false, cond_both, cases_eq, cases_Bool}
-use Rattle.lock_model.specs.Attempt.{Lock}
+use Rattle.det_mutex.specs.declared.lock.DetLock.{DetLock}
 use Rattle.lock_model.specs.CallTable.{CallTable, Answer, keeps_table, goes_outside}
 use Rattle.lock_model.specs.CallTable.Plan.{Object}
 use Rattle.lock_model.specs.Legal.{IsRight, changed, handed_on, carried_after}
@@ -49,7 +49,7 @@ abbrev pub opened : (ℕ → Bool) → Row → ℕ → Bool
 opened busy r k = if r.turn.thread == k then is_none r.answer else busy k
 
 -- after all rows, thread k in this phase
-abbrev pub Ready : CallTable → World → Lock → ℕ → Phase → Carried → Bool → Type 0
+abbrev pub Ready : CallTable → World → DetLock → ℕ → Phase → Carried → Bool → Type 0
 Ready calls w table k Working b busy = (busy ≡ false) × (b ≡ calls.nothing_carried)
 Ready calls w table k (WantsTable c d) b busy = (busy ≡ false) × (b ≡ d)
 Ready calls w table k (WantsObject c d clock n way) b busy = (busy ≡ false) × (b ≡ d) × (calls.plan w c d ≡ Object n way) × (is_number table.holder k ≡ true)
@@ -79,7 +79,7 @@ pub none_is : {A : Type 0} (o : Option A) → is_none o ≡ true → o ≡ None
 none_is None h = refl
 none_is (Some x) h = absurd (false≢true h)
 
-pub world_none : (i : ℕ) (l : Lock) (w : World) → world_after i l None w ≡ w
+pub world_none : (i : ℕ) (l : DetLock) (w : World) → world_after i l None w ≡ w
 unfolding world_after
 world_none i l w = cond_both (is_number l.holder i) w w (λ (v : World). v ≡ w) (λ yes. refl) (λ off. refl)
 
@@ -211,7 +211,7 @@ walk_found calls s z i e w carried busy (r ∷ rs) part at never free h =
 
 -- ## What an event leaves as it was
 
-Ready-map : (calls : CallTable) (v w : World) (l m : Lock) (k : ℕ) (p : Phase) (b : Carried) (o : Bool)
+Ready-map : (calls : CallTable) (v w : World) (l m : DetLock) (k : ℕ) (p : Phase) (b : Carried) (o : Bool)
     → (is_number l.holder k ≡ true → (v ≡ w) × (is_number m.holder k ≡ true)) → Ready calls v l k p b o → Ready calls w m k p b o
 Ready-map calls v w l m k (WantsObject c d clock n way) b o f h =
     let g = f h.3 in

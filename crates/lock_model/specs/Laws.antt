@@ -12,7 +12,7 @@ use Rattle.lock_model.specs.State.{State, thread_of, live_clocks, start}
 use Rattle.lock_model.specs.State.Phase.{Ended}
 use Rattle.lock_model.specs.Terms.{World}
 use Rattle.lock_model.specs.Transcripts.{outcomes_of, answers_of, transcript}
-use Rattle.lock_model.specs.TurnOrder.{has_turn, turn_holder}
+use Rattle.logical_clocks.specs.TurnOrder.{has_turn, turn_holder}
 
 -- every thread has ended
 abbrev pub HaveEnded : State → Type 0

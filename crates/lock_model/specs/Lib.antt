@@ -1,6 +1,4 @@
 pub mod Terms
-pub mod TurnOrder
-pub mod Attempt
 pub mod CallTable
 pub mod Programs
 pub mod State

@@ -1,6 +1,7 @@
 -- The events of the lock machine. Each is a function of the whole state, which it leaves as it is where the event is not allowed.
 use Rattle.std.specs.Prelude.{ℕ, ◌+◌, [], ◌∷◌, ◌++◌, length, map, set, Option, Some, None, Bool, true, false, not, ◌&&◌, ◌||◌, is_some, is_none, if◌then◌else◌, nat_lt, nat_le, ◌==◌, slice_get}
-use Rattle.lock_model.specs.Attempt.{Lock, takes, held, freed}
+use Rattle.det_mutex.specs.Attempt.{takes, held, freed}
+use Rattle.det_mutex.specs.declared.lock.DetLock.{DetLock}
 use Rattle.lock_model.specs.CallTable.{CallTable, Answer, Plan, Way, has_object, keeps_table}
 use Rattle.lock_model.specs.CallTable.Answer.{Gives, Again}
 use Rattle.lock_model.specs.CallTable.Plan.{No_object, Object}
@@ -14,7 +15,7 @@ use Rattle.lock_model.specs.Terms.{World}
 use Rattle.posix_terms.specs.declared.call.Call.{Call}
 use Rattle.posix_terms.specs.declared.outcome.Outcome.{Outcome}
 use Rattle.posix_terms.specs.Step.{Carried}
-use Rattle.lock_model.specs.TurnOrder.{has_turn}
+use Rattle.logical_clocks.specs.TurnOrder.{has_turn}
 use Rattle.posix_terms.specs.declared.transcript.Turn.{Turn}
 
 pub record Limits : Type 0 where
@@ -140,12 +141,12 @@ abbrev pub is_number : Option ℕ → ℕ → Bool
 is_number None i = false
 is_number (Some j) i = j == i
 
-abbrev pub freed_by : Option ℕ → Lock → Lock
+abbrev pub freed_by : Option ℕ → DetLock → DetLock
 freed_by None l = l
 freed_by (Some clock) l = freed clock
 
 -- a lock after an event of thread i: freed at this time, if the thread holds it
-unfoldable pub lock_after : ℕ → Option ℕ → Lock → Lock
+unfoldable pub lock_after : ℕ → Option ℕ → DetLock → DetLock
 lock_after i o l = if is_number l.holder i then freed_by o l else l
 
 abbrev pub or_else : {A : Type 0} → Option A → A → A
@@ -153,7 +154,7 @@ or_else None a = a
 or_else (Some b) a = b
 
 -- the world after an event of thread i, which changes it only where it holds the table
-unfoldable pub world_after : ℕ → Lock → Option World → World → World
+unfoldable pub world_after : ℕ → DetLock → Option World → World → World
 world_after i table o w = if is_number table.holder i then or_else o w else w
 
 -- the row of thread i that has no answer

@@ -1,7 +1,7 @@
 -- Granted turns rise.
 use Rattle.std.specs.Prelude.{◌≡◌, List, [], ◌∷◌, true}
 use Rattle.lock_model.specs.State.{Row}
-use Rattle.lock_model.specs.TurnOrder.{is_before}
+use Rattle.logical_clocks.specs.TurnOrder.{is_before}
 use Rattle.posix_terms.specs.declared.transcript.Turn.{Turn}
 
 abbrev pub IsBeforeAll : Turn → List Row → Type 0

@@ -3,7 +3,7 @@ use Rattle.std.specs.Prelude.{◌≡◌, ℕ, zero, suc, length, Option, Some, N
 use Rattle.lock_model.specs.Machine.{Setup, Event, can_advance, can_attempt, happens}
 use Rattle.lock_model.specs.Machine.Event.{Advances, Attempts}
 use Rattle.lock_model.specs.State.{State, live_clocks}
-use Rattle.lock_model.specs.TurnOrder.{first_below, turn_holder}
+use Rattle.logical_clocks.specs.TurnOrder.{first_below, turn_holder}
 
 abbrev pub attempt_by : Setup → State → Option ℕ → Option Event
 attempt_by setup s None = None

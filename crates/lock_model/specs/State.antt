@@ -1,6 +1,7 @@
 -- The state of the lock machine.
 use Rattle.std.specs.Prelude.{ℕ, List, [], replicate, get_or, map, Option, Some, None}
-use Rattle.lock_model.specs.Attempt.{Lock, new_lock}
+use Rattle.det_mutex.specs.Attempt.{new_lock}
+use Rattle.det_mutex.specs.declared.lock.DetLock.{DetLock}
 use Rattle.lock_model.specs.CallTable.{Answer, Plan, Way}
 use Rattle.thread_scripts.specs.declared.actor.Step.{Step}
 use Rattle.lock_model.specs.Terms.{World}
@@ -49,8 +50,8 @@ pub record Row : Type 0 where
 -- the locks of the table and of each object number, the rows in the order of the grants, and what the granted calls have made
 pub record State : Type 0 where
   pub threads : List Thread
-  pub table : Lock
-  pub objects : List Lock
+  pub table : DetLock
+  pub objects : List DetLock
   pub rows : List Row
   pub world : World
 
@@ -60,7 +61,7 @@ nobody = record { phase = Ended; clock = 0; asked = []; replies = []; came = [] 
 abbrev pub thread_of : State → ℕ → Thread
 thread_of s i = get_or s.threads i nobody
 
-abbrev pub object_of : State → ℕ → Lock
+abbrev pub object_of : State → ℕ → DetLock
 object_of s n = get_or s.objects n new_lock
 
 abbrev pub live_clock_in : Phase → ℕ → Option ℕ

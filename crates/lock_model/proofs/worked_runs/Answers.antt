@@ -1,8 +1,8 @@
 use Rattle.std.proofs.Common.{refl}
-use Rattle.lock_model.specs.Attempt.{takes}
+use Rattle.det_mutex.specs.Attempt.{takes}
 use Rattle.lock_model.specs.Machine.{moves, lock_after, world_after, row_after, advance, can_attempt, attempt}
 use Rattle.lock_model.specs.Schedule.{next_event, plain, plain_run}
-use Rattle.lock_model.specs.TurnOrder.{first_below, yields, has_turn, turn_holder}
+use Rattle.logical_clocks.specs.TurnOrder.{first_below, yields, has_turn, turn_holder}
 use Rattle.lock_model.proofs.worked_runs.Goals as goal
 
 pub returns : goal.returns

@@ -1,0 +1,82 @@
+use crate::{Plain, PlainFault, plain_run};
+use posix_terms::{Outcomes, Settings};
+use std::alloc::Global;
+use std::test::Fail;
+use thread_scripts::{ScriptFault, Step, parse};
+
+const DEFAULTS: Settings = Settings {
+    patience: 1000,
+    door_cost: 100,
+};
+
+// The run of these scripts, with so many empty lists of outcomes.
+fn run(
+    alloc: Global,
+    texts: &[&str],
+    lists: usize,
+    settings: Settings,
+) -> Result<Plain, PlainFault> {
+    let mut scripts = Vec::new(alloc);
+    for text in texts {
+        match parse(alloc, text.as_bytes()) {
+            Ok(script) => scripts.push(script)?,
+            Err(ScriptFault::Memory) => return Err(PlainFault::Memory),
+            Err(_) => return Err(PlainFault::Threads),
+        }
+    }
+    let mut outcomes = Vec::new(alloc);
+    for _ in 0..lists {
+        outcomes.push(Outcomes::from_vec(Vec::new(alloc)))?;
+    }
+    plain_run(alloc, scripts, outcomes, settings)
+}
+
+// The fault of a run, if it has one; where memory is wanted, any fault is as good.
+fn faults(run: Result<Plain, PlainFault>, wanted: PlainFault) -> bool {
+    match run {
+        Ok(_) => false,
+        Err(fault) => fault == wanted || fault == PlainFault::Memory,
+    }
+}
+
+#[test]
+fn refuses_wrong_numbers(rt: HostRuntime) {
+    let alloc = rt.alloc();
+    assert!(rt; faults(run(alloc, &[], 0, DEFAULTS), PlainFault::Threads));
+    assert!(rt; faults(run(alloc, &["", ""], 2, DEFAULTS), PlainFault::Threads));
+    assert!(rt; faults(run(alloc, &[""], 0, DEFAULTS), PlainFault::Threads));
+    for (patience, door_cost) in [(0, 1), (1, 0), (1_000_001, 1), (1, 1_000_001)] {
+        let settings = Settings {
+            patience,
+            door_cost,
+        };
+        assert!(rt; faults(run(alloc, &[""], 1, settings), PlainFault::Settings));
+        assert!(rt; faults(run(alloc, &[], 0, settings), PlainFault::Threads));
+    }
+}
+
+#[test]
+fn keeps_the_history(rt: HostRuntime) -> Result<(), Fail> {
+    let text = "open /a rw create\nwrite 0 x68656c6c6f\nclose 7";
+    let plain = match run(rt.alloc(), &[text], 1, DEFAULTS) {
+        Err(PlainFault::Memory) => return Ok(()),
+        run => run?,
+    };
+    let rows = plain.history.rows();
+    assert_eq!(rt; rows.len(), 3);
+    let mut clock = 1u64;
+    for row in rows {
+        assert_eq!(rt; row.turn.clock, clock);
+        assert_eq!(rt; row.turn.thread, 0);
+        assert_eq!(rt; row.outcome, None);
+        clock = clock.saturating_add(2);
+    }
+    let asked = plain.history.asked();
+    assert_eq!(rt; asked.len(), 1);
+    assert_eq!(rt; asked[0].as_slice().last(), Some(&Step::End));
+    assert_eq!(rt; asked[0].as_slice().len(), 4);
+    assert_eq!(rt; plain.transcripts.threads().len(), 1);
+    assert!(rt; plain.log.as_slice().is_empty());
+    assert_eq!(rt; plain.stop, None);
+    Ok(())
+}

@@ -1,7 +1,0 @@
-//! The bytes of a pair of connected sockets in memory.
-#![tactic(auto)]
-
-mod half;
-mod pair;
-
-pub use pair::{PairAnswer, PairBody, ShutdownHow, Side};
