@@ -1,10 +1,12 @@
 -- The history of a run, and what each thread saw of it.
-use Rattle.std.specs.Prelude.{ℕ, List, [], ◌∷◌, Option, Some, None, if◌then◌else◌, ◌==◌}
+use Rattle.std.specs.Prelude.{◌≡◌, ℕ, zero, suc, List, [], ◌∷◌, ◌++◌, Option, Some, None, true, if◌then◌else◌, ◌==◌}
 use Rattle.posix_terms.specs.declared.reply.Answer.{Answer}
 use Rattle.posix_terms.specs.declared.reply.Answer.TheVariants as answer
 use Rattle.posix_terms.specs.declared.transcript.HistoryRow.{HistoryRow}
 use Rattle.posix_terms.specs.declared.transcript.Row.{Row}
+use Rattle.posix_terms.specs.declared.transcript.Turn.{Turn}
 use Rattle.thread_scripts.specs.declared.actor.Step.{Step}
+use Rattle.logical_clocks.specs.TurnOrder.{is_before}
 
 -- the granted turns in their order, and the steps that each thread asked
 pub record Past : Type 0 where
@@ -21,3 +23,17 @@ reply_before row None rows = rows
 abbrev pub transcript_of : ℕ → List HistoryRow → List Row
 transcript_of thread [] = []
 transcript_of thread (row ∷ rows) = if row.turn.thread == thread then reply_before row row.answer (transcript_of thread rows) else transcript_of thread rows
+
+-- those of the first threads, so many
+abbrev pub transcripts_of : ℕ → List HistoryRow → List (List Row)
+transcripts_of zero rows = []
+transcripts_of (suc n) rows = transcripts_of n rows ++ transcript_of n rows ∷ []
+
+abbrev pub IsBeforeAll : Turn → List HistoryRow → Type 0
+IsBeforeAll turn [] = Unit {0}
+IsBeforeAll turn (row ∷ rows) = (is_before turn row.turn ≡ true) × IsBeforeAll turn rows
+
+-- each turn comes before all later ones
+abbrev pub AreRising : List HistoryRow → Type 0
+AreRising [] = Unit {0}
+AreRising (row ∷ rows) = IsBeforeAll row.turn rows × AreRising rows

@@ -7,8 +7,8 @@ use thiserror::Error;
 /// Why there was no run.
 #[derive(Clone, Copy, Debug, PartialEq, Eq, Error)]
 pub enum PlainFault {
-    /// Not one script, or not one list of outcomes for each script.
-    #[error("needs one script, and as many lists of outcomes")]
+    /// Not 1 to 8 scripts, or not one list of outcomes for each script.
+    #[error("needs 1 to 8 scripts, and as many lists of outcomes")]
     Threads,
     /// The patience or the door cost is not 1 to 1,000,000.
     #[error("patience and door cost must be 1 to 1,000,000")]

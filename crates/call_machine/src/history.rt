@@ -1,9 +1,10 @@
-ghost use Rattle.std.specs.Prelude.{◌≡◌, List, map};
+ghost use Rattle.std.specs.Prelude.{◌≡◌, ◌∷◌, [], ◌++◌, List, OnOk, OnErr};
 ghost use Rattle.posix_terms.specs.declared.transcript.HistoryRow.{HistoryRow};
 ghost use Rattle.thread_scripts.specs.declared.actor.Step.{Step};
 ghost use Rattle.call_machine.specs.History.{Past};
 
 use posix_terms::HistoryRow;
+use std::alloc::AllocError;
 use std::marker::Model;
 use thread_scripts::Step;
 
@@ -25,6 +26,15 @@ impl Steps {
         ensures { result ≡ list.items }
     {
         Steps { list }
+    }
+
+    // Adds a step at the end; without memory for it the steps are as they were.
+    pub(crate) fn push(&mut self, step: Step) -> Result<(), AllocError>
+        ensures ok { OnOk result (self.new ≡ self.old ++ step ∷ []) }
+        ensures err { OnErr result (self.new ≡ self.old) }
+    {
+        self.list.push(step)?;
+        Ok(())
     }
 
     /// The steps, in order.

@@ -1,20 +1,30 @@
 //! Runs calls of threads against one shared table of descriptors.
 #![tactic(auto)]
 
+mod advance;
+mod ask;
+mod drive;
+mod events;
 mod fault;
+mod finish;
 mod history;
+mod lock;
 mod lookup;
+mod machine;
 mod new_table;
 mod open;
 mod paths;
 mod plain;
 mod refusal;
 mod run;
+mod start;
 mod step;
 mod table;
 #[cfg(test)]
 mod tests;
+mod thread;
 mod transfer;
+mod turns;
 
 pub use fault::{PlainFault, Stop};
 pub use history::{History, Steps};

@@ -1,5 +1,5 @@
 use crate::{Plain, PlainFault, plain_run};
-use posix_terms::{Outcomes, Settings};
+use posix_terms::{Outcomes, Settings, Turn};
 use std::alloc::Global;
 use std::test::Fail;
 use thread_scripts::{ScriptFault, Step, parse};
@@ -43,8 +43,9 @@ fn faults(run: Result<Plain, PlainFault>, wanted: PlainFault) -> bool {
 fn refuses_wrong_numbers(rt: HostRuntime) {
     let alloc = rt.alloc();
     assert!(rt; faults(run(alloc, &[], 0, DEFAULTS), PlainFault::Threads));
-    assert!(rt; faults(run(alloc, &["", ""], 2, DEFAULTS), PlainFault::Threads));
+    assert!(rt; faults(run(alloc, &[""; 9], 9, DEFAULTS), PlainFault::Threads));
     assert!(rt; faults(run(alloc, &[""], 0, DEFAULTS), PlainFault::Threads));
+    assert!(rt; faults(run(alloc, &["", ""], 1, DEFAULTS), PlainFault::Threads));
     for (patience, door_cost) in [(0, 1), (1, 0), (1_000_001, 1), (1, 1_000_001)] {
         let settings = Settings {
             patience,
@@ -78,5 +79,20 @@ fn keeps_the_history(rt: HostRuntime) -> Result<(), Fail> {
     assert_eq!(rt; plain.transcripts.threads().len(), 1);
     assert!(rt; plain.log.as_slice().is_empty());
     assert_eq!(rt; plain.stop, None);
+    Ok(())
+}
+
+#[test]
+fn rows_stand_in_the_order_of_their_turns(rt: HostRuntime) -> Result<(), Fail> {
+    let late = "work 3\nopen /a rw create";
+    let early = "open /b rw create\nwork 1000000";
+    let plain = match run(rt.alloc(), &[late, early], 2, DEFAULTS) {
+        Err(PlainFault::Memory) => return Ok(()),
+        run => run?,
+    };
+    let rows = plain.history.rows();
+    assert_eq!(rt; rows.len(), 2);
+    assert_eq!(rt; rows[0].turn, Turn { clock: 1, thread: 1 });
+    assert_eq!(rt; rows[1].turn, Turn { clock: 4, thread: 0 });
     Ok(())
 }

@@ -1,2 +1,3 @@
 pub mod Transcripts
 pub mod Commands
+pub mod FirstFaults

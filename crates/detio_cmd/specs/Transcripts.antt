@@ -1,5 +1,5 @@
 -- The printed text of transcripts: a line for each row, and then how the run ended.
-use Rattle.std.specs.Prelude.{ℕ, ◌+◌, List, [], ◌∷◌, ◌++◌, length, Option, Some, None, codes, if◌then◌else◌, ◌==◌}
+use Rattle.std.specs.Prelude.{ℕ, ◌+◌, Bool, true, false, List, [], ◌∷◌, ◌++◌, length, Option, Some, None, codes, if◌then◌else◌, ◌==◌}
 use Rattle.std.specs.Fmt.{decimal, signed_decimal}
 use Rattle.hex.specs.Hex.{encode_lower}
 use Rattle.posix_terms.specs.Calls.{kind_of, word_of}
@@ -29,19 +29,20 @@ reply_text (reply.Stat kind number links) = codes "stat " +++ decimal (kind_code
 reply_text reply.Done = codes "done"
 reply_text (reply.Fail e) = codes "fail " +++ name_of e
 
--- thread, number of the row, call and reply
-unfoldable pub row_text : ℕ → ℕ → Row → List ℕ
-row_text thread number row = decimal thread +++ codes " " +++ decimal number +++ codes " " +++ word_of (kind_of row.call) +++ codes " " +++ reply_text row.reply +++ codes "\n"
+-- thread, number of the row, with turns the clock of its turn, call and reply
+unfoldable pub row_text : Bool → ℕ → ℕ → Row → List ℕ
+row_text false thread number row = decimal thread +++ codes " " +++ decimal number +++ codes " " +++ word_of (kind_of row.call) +++ codes " " +++ reply_text row.reply +++ codes "\n"
+row_text true thread number row = decimal thread +++ codes " " +++ decimal number +++ codes " " +++ decimal row.turn.clock +++ codes " " +++ word_of (kind_of row.call) +++ codes " " +++ reply_text row.reply +++ codes "\n"
 
 -- the rows of a thread, the first of which has this number
-abbrev pub rows_text : ℕ → ℕ → List Row → List ℕ
-rows_text thread number [] = []
-rows_text thread number (row ∷ rows) = row_text thread number row ++ rows_text thread (number + 1) rows
+abbrev pub rows_text : Bool → ℕ → ℕ → List Row → List ℕ
+rows_text turns thread number [] = []
+rows_text turns thread number (row ∷ rows) = row_text turns thread number row ++ rows_text turns thread (number + 1) rows
 
 -- the transcripts of threads, the first of which has this number
-abbrev pub transcripts_text : ℕ → List (List Row) → List ℕ
-transcripts_text thread [] = []
-transcripts_text thread (rows ∷ transcripts) = rows_text thread 0 rows ++ transcripts_text (thread + 1) transcripts
+abbrev pub transcripts_text : Bool → ℕ → List (List Row) → List ℕ
+transcripts_text turns thread [] = []
+transcripts_text turns thread (rows ∷ transcripts) = rows_text turns thread 0 rows ++ transcripts_text turns (thread + 1) transcripts
 
 -- the last line
 unfoldable pub end_text : Option Stop → List ℕ

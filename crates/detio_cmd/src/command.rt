@@ -24,20 +24,49 @@ Exit statuses:
   3  a bad script or log
   4  a file that cannot be read or written, no memory, a full clock";
 
-const PLAIN_ABOUT: &str = "Runs one script and prints its transcript";
+const PLAIN_ABOUT: &str = "Runs 1 to 8 scripts together and prints their transcripts";
 
-const PLAIN_LONG_ABOUT: &str = "Runs one script and prints its transcript.
+const PLAIN_LONG_ABOUT: &str = "Runs 1 to 8 scripts together and prints their transcripts.
 
-A line of the transcript has the thread, the number of its row, the call and the reply. Faults go to
-standard error, one line each. A script is ASCII text, one call a line:
+Each script is a thread, from 0 in the order given. All share one table of descriptors, and the thread
+whose logical clock is least has the turn; of two with the same clock, the one that was given first. A
+line is printed for each reply: thread, number of the row, with --turns the clock of the turn, call and
+reply. The first fault goes to standard error, on one line.
+
+A script is ASCII text, one of these a line. Lines that are empty or start with # do nothing.
 
   open PATH r|w|rw [create] [excl] [trunc] [append] [nonblock]
-  close DESCRIPTOR
-  read DESCRIPTOR COUNT
-  write DESCRIPTOR xHEX
-  lseek DESCRIPTOR OFFSET set|cur|end
+  close NUM
+  read NUM NUM                  descriptor and count
+  write NUM BYTES               descriptor and what to write
+  lseek NUM NUM set|cur|end     descriptor and offset
+  work N                        adds 0 to 1000000 to the clock
+  set rA NUM                    puts a number in a register
+  add rA NUM                    adds to it, modulo 2^64
+  setb bA BYTES                 puts bytes in a register
+  label NAME                    where jumps lead
+  jump NAME
+  jzero rA NAME                 jumps if the register is 0
+  jfail NAME                    jumps if the last reply is a failure
+  end                           ends the thread, as the last line does
 
-Lines that start with # are comments. The path /dev/stdin reads the script from standard input.";
+NUM is a decimal number of 64 bits, as -1, or a register r0 to r15. BYTES are x and hexadecimal digits,
+as x6869, or a register b0 to b3. PATH has no spaces. NAME has 1 to 14 lower-case letters or digits.
+Registers start at 0, and b0 to b3 empty. A reply sets r0: the count, the length of the data, the
+number, 0 for done, or minus the code of the error; data go to b0. A thread also ends once it has
+executed 10000 lines.
+
+The path /dev/stdin reads a script from standard input.";
+
+const PLAIN_AFTER_HELP: &str = "Example:
+  printf 'work 3\\nopen /a rw create\\n' > late.script
+  printf 'open /a rw create\\n' > early.script
+  detio plain --turns late.script early.script
+
+prints
+  0 0 4 open number 1
+  1 0 1 open number 0
+  end";
 
 /// The command line of the program.
 pub fn command<'a>(alloc: Global) -> Result<Command<'a>, AllocError> {
@@ -71,11 +100,17 @@ fn plain<'a>(alloc: Global) -> Result<Command<'a>, AllocError> {
         .value_name("SCRIPT")
         .action(ArgAction::Append)
         .num_args(0..)
-        .help("The script to run");
+        .help("The scripts to run, 1 to 8");
+    let turns = Arg::new(alloc, "turns")
+        .long("turns")
+        .action(ArgAction::SetTrue)
+        .help("Prints the clock of each turn");
     Command::new(alloc, "plain")
         .about(PLAIN_ABOUT)
         .long_about(PLAIN_LONG_ABOUT)
+        .after_help(PLAIN_AFTER_HELP)
         .arg(patience)?
         .arg(door_cost)?
+        .arg(turns)?
         .arg(scripts)
 }

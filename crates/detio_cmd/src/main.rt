@@ -2,6 +2,7 @@
 #![tactic(auto)]
 
 mod command;
+mod first_fault;
 mod input;
 mod plain;
 mod printed;
@@ -73,10 +74,12 @@ fn run_plain(rt: &HostRuntime, matches: &ArgMatches<'_>) -> Result<u8, AllocErro
         patience: matches.get_one::<u32>("patience").unwrap_or(1000),
         door_cost: matches.get_one::<u32>("door-cost").unwrap_or(100),
     };
+    let turns = matches.get_flag("turns");
     let sources = open_scripts(rt, matches.get_strs("script").unwrap_or(&[]))?;
     let status = plain_over(
         rt.alloc(),
         settings,
+        turns,
         sources,
         &mut rt.stdout(),
         &mut rt.stderr(),

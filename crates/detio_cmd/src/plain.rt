@@ -1,33 +1,37 @@
-ghost use Rattle.std.specs.Prelude.{◌≡◌, ◌⊎◌, ◌∷◌, [], map, IfOk, codes};
+ghost use Rattle.std.specs.Prelude.{◌≡◌, ◌⊎◌, MatchResult, ◌∷◌, [], length, map, IfOk, codes, replicate, true};
 ghost use Rattle.std.specs.Io.KnownBytes.{Appends};
 ghost use Rattle.thread_scripts.specs.Faults.{bad_line, too_long};
 ghost use Rattle.thread_scripts.specs.Grammar.{script_of};
-ghost use Rattle.call_machine.specs.Plain.{plain_run_of};
-ghost use Rattle.detio_cmd.specs.Commands.{IsCut, IsPrinted, PlainPrints, Prints, cannot_read, fault_printed, read_printed, plain_printed, run_printed, script_fault};
+ghost use Rattle.call_machine.specs.Plain.{are_settings, counts_fit};
+ghost use Rattle.detio_cmd.specs.Commands.{IsCut, IsPrinted, PlainPrints, Prints, RunPrints, ScriptsPrint, cannot_read, fault_printed, inputs_of, run_printed, script_fault, scripts_from};
+ghost use Rattle.detio_cmd.specs.FirstFaults.{IsFirst, IsScript};
 
+use crate::first_fault::FirstFault;
 use crate::printed::Printed;
-use crate::source::{ReadFault, Source, read_text};
+use crate::source::{Source, Unread, read_all};
 use crate::transcripts::{end_status, end_text, transcripts_text};
 use call_machine::{Plain, PlainFault, plain_run};
-use posix_terms::{Bytes, Outcomes, Settings};
+use posix_terms::{Bytes, Limits, Outcomes, Settings};
 use std::alloc::{AllocError, Global};
 use std::io;
 use std::io::{Read, Write};
 use thread_scripts::{Script, ScriptFault, parse};
 
-/// `detio plain`: runs the scripts on the plain schedule and prints their transcripts, or one line for
-/// the first fault; the answer is the exit status. Where there is no memory, a script cannot be read
-/// or the output cannot be written, that is the fault. An error is one of the writer `errors`.
+/// `detio plain`: runs the scripts on the plain schedule and prints their transcripts, with the clocks of
+/// the turns if that is asked, or one line for the first fault; the answer is the exit status. Where there
+/// is no memory, a script cannot be read or the output cannot be written, that is the fault. An error is
+/// one of the writer `errors`.
 pub fn plain_over<R: Read + Drop, W: Write, E: Write>(
     alloc: Global,
     settings: Settings,
+    turns: bool,
     sources: Vec<Source<'_, R>>,
     output: &mut W,
     errors: &mut E,
 ) -> io::Result<u8>
-    ensures { IfOk result (λ status. Prints (PlainPrints settings (map (λ s. (s.path.now, R.remaining s.reader)) sources.entry.items)) status (W.contents output.old) (W.contents output.new) (E.contents errors.old) (E.contents errors.new)) }
+    ensures { IfOk result (λ status. Prints (PlainPrints settings turns (map (λ s. (s.path.now, R.remaining s.reader)) sources.entry.items)) status (W.contents output.old) (W.contents output.new) (E.contents errors.old) (E.contents errors.new)) }
 {
-    match plain_printed(alloc, settings, sources) {
+    match plain_printed(alloc, settings, turns, sources) {
         Ok(printed) => print(&printed, output, errors),
         Err(AllocError) => no_memory(errors),
     }
@@ -37,57 +41,106 @@ pub fn plain_over<R: Read + Drop, W: Write, E: Write>(
 fn plain_printed<R: Read + Drop>(
     alloc: Global,
     settings: Settings,
+    turns: bool,
     sources: Vec<Source<'_, R>>,
 ) -> Result<Printed, AllocError>
-    ensures { IfOk result (PlainPrints settings (map (λ s. (s.path.now, R.remaining s.reader)) sources.entry.items)) }
+    ensures { IfOk result (PlainPrints settings turns (map (λ s. (s.path.now, R.remaining s.reader)) sources.entry.items)) }
 {
-    let mut sources = sources;
-    if sources.len() != 1 {
+    if !fits(sources.len()) {
         return fault(alloc, 2, "needs 1 to 8 scripts\n");
     }
-    let source = sources.remove(0);
-    match read_text(alloc, source.reader) {
-        Ok(text) => text_printed(alloc, settings, text.as_slice()),
-        Err(ReadFault::Failed) => cannot_read(alloc, source.path),
-        Err(ReadFault::Memory) => Err(AllocError),
+    match read_all(alloc, sources) {
+        Ok(texts) => texts_printed(alloc, settings, turns, &texts),
+        Err(Unread::Script(path)) => cannot_read(alloc, path),
+        Err(Unread::Memory) => Err(AllocError),
     }
 }
 
-// What is to be printed for a text that was read.
-fn text_printed(alloc: Global, settings: Settings, text: &[u8]) -> Result<Printed, AllocError>
-    ensures { IfOk result (λ printed. printed ≡ read_printed settings (script_of text.now)) }
+// Whether so many scripts can run together.
+fn fits(scripts: usize) -> bool
+    ensures { result ≡ counts_fit scripts scripts }
 {
-    match parse(alloc, text) {
-        Ok(script) => script_run(alloc, settings, script),
-        Err(ScriptFault::BadLine(line)) => bad_line(alloc, 0, line),
-        Err(ScriptFault::TooLong) => too_long(alloc, 0),
-        Err(ScriptFault::Memory) => Err(AllocError),
+    1 <= scripts && scripts <= Limits::THREADS
+}
+
+// What is to be printed for texts that were read.
+fn texts_printed(
+    alloc: Global,
+    settings: Settings,
+    turns: bool,
+    texts: &[Bytes],
+) -> Result<Printed, AllocError>
+    requires { counts_fit (length texts.now) (length texts.now) ≡ true }
+    ensures { IfOk result (ScriptsPrint settings turns (scripts_from 0 texts.now)) }
+{
+    match scripts(alloc, texts) {
+        Ok(scripts) => scripts_run(alloc, settings, turns, scripts),
+        Err(FirstFault::BadLine(script, line)) => bad_line(alloc, script, line),
+        Err(FirstFault::TooLong(script)) => too_long(alloc, script),
+        Err(FirstFault::Memory) => Err(AllocError),
     }
 }
 
-// What is to be printed for the run of a script.
-fn script_run(alloc: Global, settings: Settings, script: Script) -> Result<Printed, AllocError>
-    ensures { IfOk result (λ printed. printed ≡ plain_printed (plain_run_of (script ∷ []) ([] ∷ []) settings)) }
+// The scripts of texts, or the first fault.
+fn scripts(alloc: Global, texts: &[Bytes]) -> Result<Vec<Script>, FirstFault>
+    ensures { MatchResult result (λ scripts. scripts_from 0 texts.now ≡ Ok scripts.items) (λ fault. IsFirst fault (scripts_from 0 texts.now)) }
 {
     let mut scripts = Vec::new(alloc);
-    scripts.push(script)?;
-    let mut outcomes = Vec::new(alloc);
-    outcomes.push(Outcomes::from_vec(Vec::new(alloc)))?;
+    for i in 0..texts.len() {
+        scripts.push(script(alloc, i, texts[i].as_slice())?)?;
+    }
+    Ok(scripts)
+}
+
+// The script of this number.
+fn script(alloc: Global, i: usize, text: &[u8]) -> Result<Script, FirstFault>
+    ensures { IsScript i result (script_of text.now) }
+{
+    match parse(alloc, text) {
+        Ok(script) => Ok(script),
+        Err(ScriptFault::BadLine(line)) => Err(FirstFault::BadLine(i, line)),
+        Err(ScriptFault::TooLong) => Err(FirstFault::TooLong(i)),
+        Err(ScriptFault::Memory) => Err(FirstFault::Memory),
+    }
+}
+
+// What is to be printed for the run of scripts.
+fn scripts_run(
+    alloc: Global,
+    settings: Settings,
+    turns: bool,
+    scripts: Vec<Script>,
+) -> Result<Printed, AllocError>
+    requires { counts_fit (length scripts.items) (length scripts.items) ≡ true }
+    ensures { IfOk result (RunPrints (are_settings settings) turns (inputs_of settings scripts.items)) }
+{
+    let outcomes = no_outcomes(alloc, scripts.len())?;
     match plain_run(alloc, scripts, outcomes, settings) {
-        Ok(plain) => run_printed(alloc, &plain),
+        Ok(plain) => run_printed(alloc, turns, &plain),
         Err(PlainFault::Memory) => Err(AllocError),
-        Err(PlainFault::Threads) => fault(alloc, 2, "needs 1 to 8 scripts\n"),
+        Err(PlainFault::Threads) => unreachable!(),
         Err(PlainFault::Settings) => {
             fault(alloc, 2, "patience and door cost are 1 to 1000000\n")
         }
     }
 }
 
-// The transcripts of a run, and how it ended.
-fn run_printed(alloc: Global, plain: &Plain) -> Result<Printed, AllocError>
-    ensures { IfOk result (λ printed. printed ≡ run_printed plain.now) }
+// So many empty lists of outcomes.
+fn no_outcomes(alloc: Global, scripts: usize) -> Result<Vec<Outcomes>, AllocError>
+    ensures { IfOk result (λ outcomes. outcomes.items ≡ replicate scripts []) }
 {
-    let mut output = transcripts_text(alloc, plain.transcripts.threads())?;
+    let mut outcomes = Vec::new(alloc);
+    for _ in 0..scripts {
+        outcomes.push(Outcomes::from_vec(Vec::new(alloc)))?;
+    }
+    Ok(outcomes)
+}
+
+// The transcripts of a run, and how it ended.
+fn run_printed(alloc: Global, turns: bool, plain: &Plain) -> Result<Printed, AllocError>
+    ensures { IfOk result (λ printed. printed ≡ run_printed turns plain.now) }
+{
+    let mut output = transcripts_text(alloc, turns, plain.transcripts.threads())?;
     let end = end_text(alloc, plain.stop)?;
     output.push_str(end.as_str())?;
     Ok(Printed {

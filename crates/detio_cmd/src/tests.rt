@@ -11,26 +11,50 @@ const DEFAULTS: Settings = Settings {
     door_cost: 100,
 };
 
-// The status of a script, with what it prints on standard output and standard error.
-fn run(alloc: Global, script: &[u8]) -> io::Result<(u8, Vec<u8>, Vec<u8>)> {
+// The status of scripts, with what they print on standard output and standard error.
+fn run(
+    alloc: Global,
+    settings: Settings,
+    turns: bool,
+    scripts: &[&[u8]],
+) -> io::Result<(u8, Vec<u8>, Vec<u8>)> {
     let mut sources = Vec::new(alloc);
-    sources.push(Source {
-        path: "a.script",
-        reader: script,
-    })?;
+    for script in scripts {
+        sources.push(Source {
+            path: "a.script",
+            reader: *script,
+        })?;
+    }
     let mut output = Vec::new(alloc);
     let mut errors = Vec::new(alloc);
-    let status = plain_over(alloc, DEFAULTS, sources, &mut output, &mut errors)?;
+    let status = plain_over(alloc, settings, turns, sources, &mut output, &mut errors)?;
     Ok((status, output, errors))
 }
 
-// Whether a script prints this, with these replies in order. Where memory is wanted it may say so.
-fn prints(alloc: Global, script: &str, wanted: &str) -> io::Result<bool> {
-    let (status, output, errors) = run(alloc, script.as_bytes())?;
+// Whether scripts print this, with these replies in order. Where memory is wanted they may say so.
+fn print(alloc: Global, turns: bool, scripts: &[&[u8]], wanted: &str) -> io::Result<bool> {
+    let (status, output, errors) = run(alloc, DEFAULTS, turns, scripts)?;
     if status == 4 && errors.as_slice() == b"no memory\n".as_slice() {
         return Ok(output.is_empty());
     }
     Ok(status == 0 && errors.is_empty() && output.as_slice() == wanted.as_bytes())
+}
+
+// Whether one script prints this.
+fn prints(alloc: Global, script: &str, wanted: &str) -> io::Result<bool> {
+    print(alloc, false, &[script.as_bytes()], wanted)
+}
+
+// Whether scripts end with this status and this line on standard error, and print nothing.
+fn refuse(
+    alloc: Global,
+    settings: Settings,
+    scripts: &[&[u8]],
+    status: u8,
+    line: &str,
+) -> io::Result<bool> {
+    let (found, output, errors) = run(alloc, settings, false, scripts)?;
+    Ok(found == status && output.is_empty() && errors.as_slice() == line.as_bytes())
 }
 
 #[test]
@@ -229,44 +253,212 @@ fn faults(rt: HostRuntime) -> Result<(), Fail> {
         long.push_str("\n")?;
     }
     let cases = [
-        ("close 0\nfstat 0\n", "script 0: bad line 2\n"),
-        ("work 1\n", "script 0: bad line 1\n"),
+        ("close 0\nclose 0 0\n", "script 0: bad line 2\n"),
+        ("work r1\n", "script 0: bad line 1\n"),
+        ("jump a\nlabel b\n", "script 0: bad line 1\n"),
         ("# \n\nread 0 1 1", "script 0: bad line 3\n"),
         (long.as_str(), "script 0: too long\n"),
     ];
     for (script, wanted) in cases {
-        let (status, output, errors) = run(alloc, script.as_bytes())?;
-        assert_eq!(rt; status, 3);
-        assert!(rt; output.is_empty());
-        assert!(rt; errors.as_slice() == wanted.as_bytes(), "{wanted}");
+        assert!(rt;
+            refuse(alloc, DEFAULTS, &[script.as_bytes()], 3, wanted)?,
+            "{wanted}"
+        );
     }
+    Ok(())
+}
+
+// Of several scripts the first that is none is told.
+#[test]
+fn faults_by_script(rt: HostRuntime) -> Result<(), Fail> {
+    let alloc = rt.alloc();
+    let mut long = String::new(alloc);
+    for _ in 0u32..1001 {
+        long.push_str("\n")?;
+    }
+    let cases = [
+        ("close 0\n", "end\nx\n", "script 1: bad line 2\n"),
+        ("close 0\n", long.as_str(), "script 1: too long\n"),
+        ("end\nend\nx\n", "x\n", "script 0: bad line 3\n"),
+        ("x\n", long.as_str(), "script 0: bad line 1\n"),
+        (long.as_str(), "x\n", "script 0: too long\n"),
+    ];
+    for (first, second, wanted) in cases {
+        let scripts = [first.as_bytes(), second.as_bytes()];
+        assert!(rt; refuse(alloc, DEFAULTS, &scripts, 3, wanted)?, "{wanted}");
+    }
+    Ok(())
+}
+
+// Settings out of range are told last.
+#[test]
+fn faults_of_settings(rt: HostRuntime) -> Result<(), Fail> {
+    let alloc = rt.alloc();
+    for (patience, door_cost) in [(0, 100), (1_000_001, 100), (1000, 0), (1000, 1_000_001)] {
+        let settings = Settings {
+            patience,
+            door_cost,
+        };
+        let line = "patience and door cost are 1 to 1000000\n";
+        assert!(rt;
+            refuse(alloc, settings, &[b"end"], 2, line)?,
+            "{patience} {door_cost}"
+        );
+        let line = "script 0: bad line 1\n";
+        assert!(rt;
+            refuse(alloc, settings, &[b"x"], 3, line)?,
+            "{patience} {door_cost}"
+        );
+        let line = "needs 1 to 8 scripts\n";
+        assert!(rt;
+            refuse(alloc, settings, &[], 2, line)?,
+            "{patience} {door_cost}"
+        );
+    }
+    for (patience, door_cost) in [(1, 1), (1_000_000, 1_000_000)] {
+        let settings = Settings {
+            patience,
+            door_cost,
+        };
+        let (status, output, errors) = run(alloc, settings, false, &[b"end"])?;
+        assert_eq!(rt; status, 0);
+        assert!(rt; errors.is_empty() && output.as_slice() == b"end\n".as_slice());
+    }
+    Ok(())
+}
+
+// Two threads that open one file, one that works before it opens, and a loop that counts.
+#[test]
+fn turns(rt: HostRuntime) -> Result<(), Fail> {
+    let alloc = rt.alloc();
+    let opener = b"open /a rw create\n".as_slice();
+    let worker = b"work 3\nopen /a rw create\n".as_slice();
+    let counter =
+        b"set r2 -2\nlabel a\nopen /a r\njfail b\nend\nlabel b\nadd r2 1\njzero r2 c\njump a\nlabel c\n".as_slice();
+    let openers = [opener, opener];
+    let workers = [worker, opener];
+    let counters = [counter];
+    let cases = [
+        (
+            true,
+            openers.as_slice(),
+            "0 0 1 open number 0\n1 0 3 open number 1\nend\n",
+        ),
+        (
+            false,
+            openers.as_slice(),
+            "0 0 open number 0\n1 0 open number 1\nend\n",
+        ),
+        (
+            true,
+            workers.as_slice(),
+            "0 0 4 open number 1\n1 0 1 open number 0\nend\n",
+        ),
+        (
+            false,
+            workers.as_slice(),
+            "0 0 open number 1\n1 0 open number 0\nend\n",
+        ),
+        (
+            true,
+            counters.as_slice(),
+            "0 0 1 open fail ENOENT\n0 1 3 open fail ENOENT\nend\n",
+        ),
+        (
+            false,
+            counters.as_slice(),
+            "0 0 open fail ENOENT\n0 1 open fail ENOENT\nend\n",
+        ),
+    ];
+    for (turns, scripts, wanted) in cases {
+        assert!(rt; print(alloc, turns, scripts, wanted)?, "{wanted}");
+    }
+    Ok(())
+}
+
+// Eight threads take their turns by number, each two steps of the clock after the one before.
+#[test]
+fn eight_threads(rt: HostRuntime) -> Result<(), Fail> {
+    let alloc = rt.alloc();
+    let script = b"open /a rw create\n".as_slice();
+    let mut wanted = String::new(alloc);
+    for thread in 0u32..8 {
+        let clock = 2 * thread + 1;
+        let row = format!(in alloc; "{thread} 0 {clock} open number {thread}\n")?;
+        wanted.push_str(row.as_str())?;
+    }
+    wanted.push_str("end\n")?;
+    assert!(rt; print(alloc, true, &[script; 8], wanted.as_str())?);
     Ok(())
 }
 
 #[test]
-fn numbers_of_scripts(rt: HostRuntime) -> Result<(), Fail> {
-    let alloc = rt.alloc();
-    for count in [0u32, 2] {
-        let mut sources: Vec<Source<'_, &[u8]>> = Vec::new(alloc);
-        for _ in 0..count {
-            sources.push(Source {
-                path: "a.script",
-                reader: b"".as_slice(),
-            })?;
-        }
-        let mut output: Vec<u8> = Vec::new(alloc);
-        let mut errors: Vec<u8> = Vec::new(alloc);
-        let status = plain_over(alloc, DEFAULTS, sources, &mut output, &mut errors)?;
-        assert_eq!(rt; status, 2);
-        assert!(rt; output.is_empty());
-        assert!(rt; errors.as_slice() == b"needs 1 to 8 scripts\n".as_slice());
-    }
+fn endless_loop(rt: HostRuntime) -> Result<(), Fail> {
+    assert!(rt; prints(rt.alloc(), "label a\njump a\n", "end\n")?);
     Ok(())
 }
 
-// A device that fails, or gives bytes for ever.
-#[derive(Drop)]
+// Numbers at their edges, sums modulo 2^64, and what a reply leaves in the registers.
+#[test]
+fn registers(rt: HostRuntime) -> Result<(), Fail> {
+    let edges = "open /a rw create
+set r2 9223372036854775807
+lseek 0 r2 set
+lseek 0 r2 cur
+add r2 1
+lseek 0 r2 set
+add r2 -1
+lseek 0 r2 set
+set r3 -9223372036854775808
+add r3 r3
+lseek 0 r3 set
+jzero r3 b
+close 0
+label b
+close 31
+";
+    let wanted = "0 0 open number 0
+0 1 lseek number 9223372036854775807
+0 2 lseek fail EOVERFLOW
+0 3 lseek fail EINVAL
+0 4 lseek number 9223372036854775807
+0 5 lseek number 0
+0 6 close fail EBADF
+end
+";
+    assert!(rt; prints(rt.alloc(), edges, wanted)?);
+    let replies = "setb b1 x6869
+open /a rw create
+write 0 b1
+lseek r15 0 set
+read 0 9
+write 0 b0
+lseek 0 r0 set
+read 0 9
+close 7
+lseek 0 r0 end
+write 0 b3
+";
+    let wanted = "0 0 open number 0
+0 1 write count 2
+0 2 lseek number 0
+0 3 read data 6869
+0 4 write count 2
+0 5 lseek number 2
+0 6 read data 6869
+0 7 close fail EBADF
+0 8 lseek number 3
+0 9 write count 0
+end
+";
+    assert!(rt; prints(rt.alloc(), replies, wanted)?);
+    Ok(())
+}
+
+// A text, or a device that fails or gives bytes for ever.
+#[derive(Clone, Copy, Drop)]
 enum Device {
+    Text(&'static [u8]),
     Broken,
     Endless,
 }
@@ -274,6 +466,7 @@ enum Device {
 impl Read for Device {
     fn read(&mut self, buf: &mut [u8]) -> io::Result<usize> {
         match self {
+            Device::Text(text) => text.read(buf),
             Device::Broken => Err(io::Error::from(io::ErrorKind::Other)),
             Device::Endless => {
                 for byte in buf.iter_mut() {
@@ -295,23 +488,62 @@ impl Write for Device {
     }
 }
 
-#[test]
-fn failing_devices(rt: HostRuntime) -> Result<(), Fail> {
-    let alloc = rt.alloc();
-    for device in [Device::Broken, Device::Endless] {
-        let mut sources = Vec::new(alloc);
+// What is told of devices, which are the sources "0", "1" and so on.
+fn told(alloc: Global, devices: &[Device]) -> io::Result<(u8, Vec<u8>)> {
+    let paths = ["0", "1", "2", "3", "4", "5", "6", "7", "8"];
+    let mut sources = Vec::new(alloc);
+    for (path, device) in paths.iter().zip(devices.iter()) {
         sources.push(Source {
-            path: "a.script",
-            reader: device,
+            path: *path,
+            reader: *device,
         })?;
-        let mut output: Vec<u8> = Vec::new(alloc);
-        let mut errors: Vec<u8> = Vec::new(alloc);
-        let status = plain_over(alloc, DEFAULTS, sources, &mut output, &mut errors)?;
-        assert_eq!(rt; status, 4);
-        assert!(rt; output.is_empty());
-        assert!(rt; errors.as_slice() == b"cannot read a.script\n".as_slice());
     }
+    let mut output: Vec<u8> = Vec::new(alloc);
+    let mut errors: Vec<u8> = Vec::new(alloc);
+    let status = plain_over(alloc, DEFAULTS, false, sources, &mut output, &mut errors)?;
+    errors.append(&mut output)?;
+    Ok((status, errors))
+}
 
+// The number of scripts is looked at before anything is read.
+#[test]
+fn numbers_of_scripts(rt: HostRuntime) -> Result<(), Fail> {
+    let none: [Device; 0] = [];
+    let nine = [Device::Broken; 9];
+    for devices in [none.as_slice(), nine.as_slice()] {
+        let (status, line) = told(rt.alloc(), devices)?;
+        assert_eq!(rt; status, 2);
+        assert!(rt; line.as_slice() == b"needs 1 to 8 scripts\n".as_slice());
+    }
+    Ok(())
+}
+
+// A script that cannot be read is told before the bad lines of others, and the first of two.
+#[test]
+fn failing_readers(rt: HostRuntime) -> Result<(), Fail> {
+    let bad = Device::Text(b"x\n");
+    let good = Device::Text(b"end\n");
+    let cases = [
+        ([Device::Broken, good], b"cannot read 0\n".as_slice()),
+        ([Device::Endless, bad], b"cannot read 0\n".as_slice()),
+        ([bad, Device::Broken], b"cannot read 1\n".as_slice()),
+        ([good, Device::Endless], b"cannot read 1\n".as_slice()),
+        (
+            [Device::Endless, Device::Broken],
+            b"cannot read 0\n".as_slice(),
+        ),
+    ];
+    for (devices, wanted) in cases {
+        let (status, line) = told(rt.alloc(), &devices)?;
+        assert_eq!(rt; status, 4);
+        assert!(rt; line.as_slice() == wanted);
+    }
+    Ok(())
+}
+
+#[test]
+fn full_device(rt: HostRuntime) -> Result<(), Fail> {
+    let alloc = rt.alloc();
     let mut sources = Vec::new(alloc);
     sources.push(Source {
         path: "a.script",
@@ -319,7 +551,7 @@ fn failing_devices(rt: HostRuntime) -> Result<(), Fail> {
     })?;
     let mut errors: Vec<u8> = Vec::new(alloc);
     let mut full = Device::Broken;
-    let status = plain_over(alloc, DEFAULTS, sources, &mut full, &mut errors)?;
+    let status = plain_over(alloc, DEFAULTS, false, sources, &mut full, &mut errors)?;
     assert_eq!(rt; status, 4);
     assert!(rt; errors.as_slice() == b"cannot write -\n".as_slice());
     Ok(())

@@ -5,36 +5,50 @@ use call_machine::Stop;
 use posix_terms::{Reply, Row, Transcript, errno_name};
 use std::alloc::{AllocError, Global};
 
-// The text of all transcripts, by thread.
-pub fn transcripts_text(alloc: Global, transcripts: &[Transcript]) -> Result<String, AllocError>
-    ensures { IfOk result (λ text. string_bytes text ≡ transcripts_text 0 transcripts.now) }
+// The text of all transcripts, by thread, with the clocks of the turns if that is asked.
+pub fn transcripts_text(
+    alloc: Global,
+    turns: bool,
+    transcripts: &[Transcript],
+) -> Result<String, AllocError>
+    ensures { IfOk result (λ text. string_bytes text ≡ transcripts_text turns 0 transcripts.now) }
 {
     let mut text = String::new(alloc);
     for (thread, transcript) in transcripts.iter().enumerate() {
-        let rows = rows_text(alloc, thread, transcript.rows())?;
+        let rows = rows_text(alloc, turns, thread, transcript.rows())?;
         text.push_str(rows.as_str())?;
     }
     Ok(text)
 }
 
 // The text of one thread's rows.
-fn rows_text(alloc: Global, thread: usize, rows: &[Row]) -> Result<String, AllocError>
-    ensures { IfOk result (λ text. string_bytes text ≡ rows_text thread 0 rows.now) }
+fn rows_text(alloc: Global, turns: bool, thread: usize, rows: &[Row]) -> Result<String, AllocError>
+    ensures { IfOk result (λ text. string_bytes text ≡ rows_text turns thread 0 rows.now) }
 {
     let mut text = String::new(alloc);
     for (number, row) in rows.iter().enumerate() {
-        let line = row_text(alloc, thread, number, row)?;
+        let line = row_text(alloc, turns, thread, number, row)?;
         text.push_str(line.as_str())?;
     }
     Ok(text)
 }
 
 #[tactic(auto, unfolding(crate::specs::Transcripts::row_text))]
-fn row_text(alloc: Global, thread: usize, number: usize, row: &Row) -> Result<String, AllocError>
-    ensures { IfOk result (λ text. string_bytes text ≡ row_text thread number row.now) }
+fn row_text(
+    alloc: Global,
+    turns: bool,
+    thread: usize,
+    number: usize,
+    row: &Row,
+) -> Result<String, AllocError>
+    ensures { IfOk result (λ text. string_bytes text ≡ row_text turns thread number row.now) }
 {
     let call = row.call.kind().word();
     let reply = reply_text(alloc, &row.reply)?;
+    if turns {
+        let clock = row.turn.clock;
+        return format!(in alloc; "{thread} {number} {clock} {call} {reply}\n");
+    }
     format!(in alloc; "{thread} {number} {call} {reply}\n")
 }
 

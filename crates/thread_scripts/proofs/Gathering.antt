@@ -1,14 +1,9 @@
 -- What readings of lines give a script, and which line is told as bad.
-use Rattle.std.proofs.Common.{◌≡◌, ◌≢◌, ◌↔◌, ℕ, zero, suc, ◌+◌, ◌<◌, ◌≤◌, List, [], ◌∷◌, ◌++◌, map, filter_map, slice_get, nat_lt, if◌then◌else◌, Option, Some, None, Result, Ok, Err, refl, arith}
+use Rattle.std.proofs.Common.{◌≡◌, ◌≢◌, ◌↔◌, ℕ, zero, suc, ◌+◌, ◌<◌, ◌≤◌, List, [], ◌∷◌, map, filter_map, slice_get, nat_lt, if◌then◌else◌, Option, Some, None, Result, Ok, Err, refl, arith}
 use Rattle.thread_scripts.specs.Faults.{Fault, bad_line, too_long}
 use Rattle.thread_scripts.specs.Grammar.{gathered, line_before}
 use Rattle.thread_scripts.specs.Laws.{AreGood, IsFirstBad}
 use Rattle.thread_scripts.specs.declared.line.Line.{Line}
-
--- lines that were read before the others
-abbrev pub with_front : List Line → Result (List Line) Fault → Result (List Line) Fault
-with_front front (Ok lines) = Ok (front ++ lines)
-with_front front (Err fault) = Err fault
 
 -- behind a good line, the first bad one is one further on
 later_bad : (r : Option Line) (readings : List (Option (Option Line))) (k : ℕ) → IsFirstBad readings k → IsFirstBad (Some r ∷ readings) (suc k)

@@ -1,3 +1,7 @@
 pub mod Digits
+pub mod Ending
+pub mod Executing
+pub mod Front
 pub mod Gathering
-pub mod Remaining
+pub mod Jumps
+pub mod Targets

@@ -1,9 +1,9 @@
 -- The lines that make a call, by its word and operands.
-use Rattle.std.specs.Prelude.{ℕ, List, [], ◌∷◌, if◌then◌else◌, Option, Some, None, option_map, bytes_eq}
+use Rattle.std.specs.Prelude.{ℕ, List, [], ◌∷◌, if◌then◌else◌, ℤ, Option, Some, None, option_map, bytes_eq}
 use Rattle.posix_terms.specs.Calls.{word_of}
 use Rattle.posix_terms.specs.declared.call.CallKind.{CallKind}
 use Rattle.posix_terms.specs.declared.call.CallKind.TheVariants as kind
-use Rattle.thread_scripts.specs.Numbers.{number_of}
+use Rattle.thread_scripts.specs.Numbers.{byte_register_of, number_of, register_of}
 use Rattle.thread_scripts.specs.Texts.{access_of, bytes_of, no_flags, path_of, whence_of, with_flags}
 use Rattle.thread_scripts.specs.declared.line.Number.{Number}
 use Rattle.thread_scripts.specs.declared.line.Number.TheVariants as number
@@ -17,13 +17,21 @@ abbrev pub ◌>>=◌ : {A B : Type 0} → Option A → (A → Option B) → Opti
 None >>= f = None
 (Some x) >>= f = f x
 
--- an operand that is a number
-abbrev pub number_operand : List ℕ → Option Number
-number_operand word = option_map number.Value (number_of word)
+-- an operand that is a number: a register's or its own
+abbrev pub register_or_number : Option ℕ → Option ℤ → Option Number
+register_or_number (Some register) value = Some (number.Register register)
+register_or_number None value = option_map number.Value value
 
--- an operand that is bytes
-abbrev pub data_operand : List ℕ → Option Data
-data_operand word = option_map bytes.Text (bytes_of word)
+unfoldable pub number_operand : List ℕ → Option Number
+number_operand word = register_or_number (register_of word) (number_of word)
+
+-- an operand that is bytes: a byte register's or its own
+abbrev pub register_or_bytes : Option ℕ → Option (List ℕ) → Option Data
+register_or_bytes (Some register) value = Some (bytes.Register register)
+register_or_bytes None value = option_map bytes.Text value
+
+unfoldable pub data_operand : List ℕ → Option Data
+data_operand word = register_or_bytes (byte_register_of word) (bytes_of word)
 
 -- the call that a word names
 abbrev pub kind_named : List ℕ → Option CallKind

@@ -1,35 +1,21 @@
 -- The script language: which texts are scripts, and which lines they have.
-use Rattle.std.specs.Prelude.{ℕ, ◌+◌, Bool, false, List, [], ◌∷◌, length, nat_lt, ◌==◌, if◌then◌else◌, Option, Some, None, map, option_map, option_and_then, Result, Ok, Err}
-use Rattle.std.specs.List.{cons_option, list_all}
+use Rattle.std.specs.Prelude.{ℕ, ◌+◌, List, [], ◌∷◌, length, nat_lt, if◌then◌else◌, Option, Some, None, Result, Ok, Err}
+use Rattle.std.specs.List.{cons_option}
 use Rattle.posix_terms.specs.declared.limits.TheConstants.Limits.{SCRIPT_LINES}
-use Rattle.thread_scripts.specs.Words.{lines_of, words_of}
-use Rattle.thread_scripts.specs.Calls.{call_line, kind_named}
 use Rattle.thread_scripts.specs.Faults.{Fault, bad_line, too_long}
+use Rattle.thread_scripts.specs.Labels.{labels_from, place_after}
+use Rattle.thread_scripts.specs.Lines.{line_of}
+use Rattle.thread_scripts.specs.Words.{lines_of, words_of}
 use Rattle.thread_scripts.specs.declared.line.Line.{Line}
-use Rattle.thread_scripts.specs.declared.line.Line.TheVariants as line
 
-abbrev pub is_ascii : List ℕ → Bool
-is_ascii text = list_all (λ b. nat_lt b 128) text
-
--- `#` comes first, before any space
-abbrev pub is_comment : List ℕ → Bool
-is_comment [] = false
-is_comment (b ∷ rest) = b == 35
-
--- what the words of a line say: nothing where there are none
-abbrev pub words_say : List (List ℕ) → Option (Option Line)
-words_say [] = Some None
-words_say (word ∷ operands) = option_map (λ call. Some (line.Call call)) (option_and_then (λ kind. call_line kind operands) (kind_named word))
-
--- what a line says, if it is good: comments, empty lines and lines of spaces say nothing
-unfoldable pub line_of : List ℕ → Option (Option Line)
-line_of text =
-    if is_ascii text then if is_comment text then Some None else words_say (words_of text)
-    else None
+-- what lines say, given the labels and how many lines that do something lie before
+abbrev pub readings_from : List (List ℕ × ℕ) → ℕ → List (List ℕ) → List (Option (Option Line))
+readings_from labels place [] = []
+readings_from labels place (text ∷ texts) = line_of labels place text ∷ readings_from labels (place_after place (words_of text)) texts
 
 -- what the lines of a text say
 abbrev pub readings_of : List (List ℕ) → List (Option (Option Line))
-readings_of texts = map line_of texts
+readings_of texts = readings_from (labels_from 0 texts) 0 texts
 
 -- line n before the others: a bad line is told before those behind it
 abbrev pub line_before : ℕ → Option (Option Line) → Result (List Line) Fault → Result (List Line) Fault

@@ -1,17 +1,15 @@
 -- What the script language keeps to.
-use Rattle.std.specs.Prelude.{◌≡◌, ◌≢◌, ℕ, ◌+◌, ◌<◌, ◌≤◌, ◌↔◌, List, [], ◌∷◌, length, map, drop, filter_map, slice_get, Option, Some, None, Ok, Err}
-use Rattle.posix_terms.specs.declared.call.Call.{Call}
+use Rattle.std.specs.Prelude.{◌≡◌, ◌≢◌, ℕ, ◌+◌, ◌<◌, ◌≤◌, ◌↔◌, ◌⊎◌, List, length, map, filter_map, slice_get, Option, Some, None, Ok, Err, option_and_then}
 use Rattle.posix_terms.specs.declared.limits.TheConstants.Limits.{SCRIPT_LINES}
 use Rattle.posix_terms.specs.declared.reply.Reply.{Reply}
-use Rattle.thread_scripts.specs.Words.{lines_of}
 use Rattle.thread_scripts.specs.Faults.{bad_line, too_long}
 use Rattle.thread_scripts.specs.Grammar.{readings_of, script_of}
-use Rattle.thread_scripts.specs.Meaning.{call_of, next_of}
+use Rattle.thread_scripts.specs.Meaning.{lines_left, next_of}
+use Rattle.thread_scripts.specs.Words.{lines_of}
 use Rattle.thread_scripts.specs.declared.line.Line.{Line}
 use Rattle.thread_scripts.specs.declared.line.Line.TheVariants as line
-use Rattle.thread_scripts.specs.declared.actor.Step.{Step}
-use Rattle.thread_scripts.specs.declared.actor.Step.TheVariants as step
 use Rattle.thread_scripts.specs.declared.actor.ScriptState.{ScriptState}
+use Rattle.thread_scripts.specs.declared.actor.Step.TheVariants as step
 
 -- line k, counted from 0, is bad, and those before it are good
 pub record IsFirstBad (readings : List (Option (Option Line))) (k : ℕ) : Type 0 where
@@ -36,23 +34,20 @@ BadLineIsFirst = (text : List ℕ) (k : ℕ) → (script_of text ≡ Err (bad_li
 abbrev pub AcceptedExactly : Type 0
 AcceptedExactly = (text : List ℕ) (lines : List Line) → (script_of text ≡ Ok lines) ↔ ((length (lines_of text) ≤ SCRIPT_LINES) × AreGood (readings_of (lines_of text)) lines)
 
--- the calls of lines
-abbrev pub calls_of : List Line → List Call
-calls_of [] = []
-calls_of ((line.Call l) ∷ lines) = call_of l ∷ calls_of lines
+-- where a line may jump to
+abbrev pub target_of : Line → Option ℕ
+target_of (line.Jump place) = Some place
+target_of (line.JumpIfZero register place) = Some place
+target_of (line.JumpIfFailed place) = Some place
+target_of _ = None
 
--- the calls that a script has yet to make
-abbrev pub remaining : ScriptState → List Call
-remaining s = calls_of (drop s.place s.script)
+-- the lines that a script may jump to are labels
+abbrev pub JumpsLeadToLabels : Type 0
+JumpsLeadToLabels = (text : List ℕ) (lines : List Line) (k place : ℕ) → script_of text ≡ Ok lines → option_and_then target_of (slice_get lines k) ≡ Some place → slice_get lines place ≡ Some line.Label
 
--- a step takes the first call that remains, and ends where none does
-abbrev pub Takes : Step → List Call → List Call → Type 0
-Takes (step.Work n) before after = before ≡ after
-Takes (step.Call call) before after = before ≡ call ∷ after
-Takes step.End before after = (before ≡ []) × (after ≡ [])
-
-abbrev pub StepsTakeWhatRemains : Type 0
-StepsTakeWhatRemains = (last : Option Reply) (s : ScriptState) → Takes (next_of last s).0 (remaining s) (remaining (next_of last s).1)
+-- each step but the end executes a line, and so a run of steps ends
+abbrev pub RunsEnd : Type 0
+RunsEnd = (last : Option Reply) (s : ScriptState) → ((next_of last s).0 ≡ step.End) ⊎ (lines_left (next_of last s).1 < lines_left s)
 
 -- the script itself never changes
 abbrev pub ScriptStays : Type 0

@@ -2,7 +2,10 @@ pub mod Words
 pub mod Numbers
 pub mod Texts
 pub mod Calls
+pub mod Labels
+pub mod Lines
 pub mod Faults
 pub mod Grammar
 pub mod Meaning
+pub mod Saving
 pub mod Laws

@@ -1,8 +1,13 @@
--- What a script does: the next step of a thread, and its state behind it.
-use Rattle.std.specs.Prelude.{ℕ, ◌+◌, List, slice_get, Option, Some, None, ℤ}
+-- What a script does: the next step of a thread after the last reply, and its state behind that step.
+use Rattle.std.specs.Prelude.{ℕ, zero, suc, ◌+◌, ◌-◌, Bool, true, false, List, [], length, replicate, slice_get, slice_index_or, slice_set, if◌then◌else◌, Option, Some, None, ℤ, pos, neg_ℤ}
+use Rattle.std.specs.Int.{cast_signed, int_wrapping_add, w64}
+use Rattle.std.specs.Ordering.{int_eq}
+use Rattle.posix_terms.specs.Errors.{code_of}
 use Rattle.posix_terms.specs.declared.call.Call.{Call}
 use Rattle.posix_terms.specs.declared.call.Call.TheVariants as call
+use Rattle.posix_terms.specs.declared.limits.TheConstants.Limits.{EXECUTED_LINES}
 use Rattle.posix_terms.specs.declared.reply.Reply.{Reply}
+use Rattle.posix_terms.specs.declared.reply.Reply.TheVariants as reply
 use Rattle.thread_scripts.specs.declared.line.Number.{Number}
 use Rattle.thread_scripts.specs.declared.line.Number.TheVariants as number
 use Rattle.thread_scripts.specs.declared.line.Data.{Data}
@@ -11,36 +16,113 @@ use Rattle.thread_scripts.specs.declared.line.CallLine.{CallLine}
 use Rattle.thread_scripts.specs.declared.line.CallLine.TheVariants as call_line
 use Rattle.thread_scripts.specs.declared.line.Line.{Line}
 use Rattle.thread_scripts.specs.declared.line.Line.TheVariants as line
+use Rattle.thread_scripts.specs.declared.state.Action.{Action}
+use Rattle.thread_scripts.specs.declared.state.Action.TheVariants as action
 use Rattle.thread_scripts.specs.declared.actor.Step.{Step}
 use Rattle.thread_scripts.specs.declared.actor.Step.TheVariants as step
 use Rattle.thread_scripts.specs.declared.actor.ScriptState.{ScriptState}
 
-abbrev pub number_value : Number → ℤ
-number_value (number.Value n) = n
+-- a script before its first line: every register is 0, every byte register empty
+abbrev pub start_of : List Line → ScriptState
+start_of script = record { script = script; place = 0; numbers = replicate 16 (pos 0); bytes = replicate 4 []; executed = 0 }
 
-abbrev pub data_value : Data → List ℕ
-data_value (bytes.Text b) = b
+-- what a reply leaves in r0 and r1; counts beyond 64 bits with a sign wrap
+abbrev pub numbers_after : Reply → List ℤ → List ℤ
+numbers_after (reply.Count n) numbers = slice_set numbers 0 (cast_signed w64 n)
+numbers_after (reply.Data bytes) numbers = slice_set numbers 0 (cast_signed w64 (length bytes))
+numbers_after (reply.Number n) numbers = slice_set numbers 0 n
+numbers_after (reply.Pair first second) numbers = slice_set (slice_set numbers 0 first) 1 second
+numbers_after (reply.Stat kind n links) numbers = slice_set (slice_set numbers 0 (cast_signed w64 n)) 1 (cast_signed w64 links)
+numbers_after reply.Done numbers = slice_set numbers 0 (pos 0)
+numbers_after (reply.Fail error) numbers = slice_set numbers 0 (neg_ℤ (pos (code_of error)))
+
+-- what it leaves in b0
+abbrev pub bytes_after : Reply → List (List ℕ) → List (List ℕ)
+bytes_after (reply.Data bytes) registers = slice_set registers 0 bytes
+bytes_after _ registers = registers
+
+-- the state in which a reply is stored
+abbrev pub stored : Option Reply → ScriptState → ScriptState
+stored None s = s
+stored (Some last) s = record s { numbers = numbers_after last s.numbers; bytes = bytes_after last s.bytes }
+
+-- whether there is a last reply, and it is a failure
+abbrev pub is_failure : Option Reply → Bool
+is_failure (Some (reply.Fail error)) = true
+is_failure _ = false
+
+abbrev pub register_value : ScriptState → ℕ → ℤ
+register_value s register = slice_index_or s.numbers register (pos 0)
+
+abbrev pub number_value : ScriptState → Number → ℤ
+number_value s (number.Value n) = n
+number_value s (number.Register register) = register_value s register
+
+abbrev pub data_value : ScriptState → Data → List ℕ
+data_value s (bytes.Text text) = text
+data_value s (bytes.Register register) = slice_index_or s.bytes register []
 
 -- the call that a line makes
-abbrev pub call_of : CallLine → Call
-call_of (call_line.Open path access flags) = call.Open path access flags
-call_of (call_line.Close d) = call.Close (number_value d)
-call_of (call_line.Read d n) = call.Read (number_value d) (number_value n)
-call_of (call_line.Write d b) = call.Write (number_value d) (data_value b)
-call_of (call_line.Lseek d o whence) = call.Lseek (number_value d) (number_value o) whence
+abbrev pub call_of : ScriptState → CallLine → Call
+call_of s (call_line.Open path access flags) = call.Open path access flags
+call_of s (call_line.Close d) = call.Close (number_value s d)
+call_of s (call_line.Read d n) = call.Read (number_value s d) (number_value s n)
+call_of s (call_line.Write d b) = call.Write (number_value s d) (data_value s b)
+call_of s (call_line.Lseek d o whence) = call.Lseek (number_value s d) (number_value s o) whence
 
-abbrev pub step_of : Line → Step
-step_of (line.Call l) = step.Call (call_of l)
+-- what a line does; `end` goes behind the last line
+unfoldable pub action_of : Bool → ScriptState → Line → Action
+action_of failed s (line.Call l) = action.Step (step.Call (call_of s l))
+action_of failed s (line.Work amount) = action.Step (step.Work amount)
+action_of failed s line.End = action.Go (length s.script)
+action_of failed s (line.Set register value) = action.Set register (number_value s value)
+action_of failed s (line.Add register value) = action.Set register (int_wrapping_add w64 (register_value s register) (number_value s value))
+action_of failed s (line.SetBytes register value) = action.SetBytes register (data_value s value)
+action_of failed s line.Label = action.Nothing
+action_of failed s (line.Jump place) = action.Go place
+action_of failed s (line.JumpIfZero register place) = if int_eq (register_value s register) (pos 0) then action.Go place else action.Nothing
+action_of failed s (line.JumpIfFailed place) = if failed then action.Go place else action.Nothing
 
--- the line, executed: the place moves on
-abbrev pub executed : Option Line → ScriptState → Step × ScriptState
-executed None s = (step.End, s)
-executed (Some l) s = (step_of l, record s { place = s.place + 1 })
+-- the step that it gives, if it gives one
+abbrev pub step_given : Action → Option Step
+step_given (action.Step step) = Some step
+step_given _ = None
 
--- the next step after the last reply, and the state behind it; past the last line the thread ends
+-- the state behind it
+abbrev pub performed : Action → ScriptState → ScriptState
+performed (action.Step step) s = s
+performed (action.Set register n) s = record s { numbers = slice_set s.numbers register n }
+performed (action.SetBytes register text) s = record s { bytes = slice_set s.bytes register text }
+performed (action.Go place) s = record s { place = place }
+performed action.Nothing s = s
+
+-- the state past a line, before what it does
+abbrev pub past : ScriptState → ScriptState
+past s = record s { place = s.place + 1; executed = s.executed + 1 }
+
+-- the state behind a line
+abbrev pub behind : Bool → ScriptState → Line → ScriptState
+behind failed s l = performed (action_of failed s l) (past s)
+
+-- past the last line the thread ends
+abbrev pub end_or : Option Line → ScriptState → (Line → Step × ScriptState) → Step × ScriptState
+end_or None s more = (step.End, s)
+end_or (Some l) s more = more l
+
+-- the step of this line, or that of those behind it
+abbrev pub given_or : Option Step → ScriptState → Step × ScriptState → Step × ScriptState
+given_or (Some step) s more = (step, s)
+given_or None s more = more
+
+-- the next step where at most n more lines are executed: lines are executed up to one that gives a step
+unfoldable pub next_within : Bool → ℕ → ScriptState → Step × ScriptState
+next_within failed zero s = (step.End, s)
+next_within failed (suc n) s = end_or (slice_get s.script s.place) s (λ l. given_or (step_given (action_of failed s l)) (behind failed s l) (next_within failed n (behind failed s l)))
+
+-- how many more lines a thread may execute
+abbrev pub lines_left : ScriptState → ℕ
+lines_left s = EXECUTED_LINES - s.executed
+
+-- the next step after the last reply, which is stored first, and the state behind it
 abbrev pub next_of : Option Reply → ScriptState → Step × ScriptState
-next_of last s = executed (slice_get s.script s.place) s
-
--- a script before its first line
-abbrev pub start_of : List Line → ScriptState
-start_of script = record { script = script; place = 0 }
+next_of last s = next_within (is_failure last) (lines_left s) (stored last s)

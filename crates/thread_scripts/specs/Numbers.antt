@@ -1,5 +1,5 @@
--- Decimal numbers.
-use Rattle.std.specs.Prelude.{ℕ, ◌+◌, ◌-◌, ◌*◌, ◌^◌, Bool, ◌&&◌, List, [], ◌∷◌, length, nat_le, ◌==◌, if◌then◌else◌, ℤ, pos, neg_ℤ, Option, Some, None, option_map}
+-- Decimal numbers, and the numbers of registers.
+use Rattle.std.specs.Prelude.{ℕ, ◌+◌, ◌-◌, ◌*◌, ◌^◌, Bool, not, ◌&&◌, ◌||◌, List, [], ◌∷◌, length, slice_index, nat_le, ◌==◌, if◌then◌else◌, ℤ, pos, neg_ℤ, Option, Some, None, option_map}
 
 -- `0` to `9`
 abbrev pub is_digit : ℕ → Bool
@@ -28,3 +28,20 @@ number_of [] = None
 number_of (b ∷ digits) =
     if b == 45 then option_map minus (up_to (2 ^ 63) (natural_of digits))
     else option_map pos (up_to (2 ^ 63 - 1) (natural_of (b ∷ digits)))
+
+-- the value of digits without a leading zero, but for `0` itself
+abbrev pub index_of : List ℕ → Option ℕ
+index_of digits = if length digits == 1 || not (slice_index digits 0 == 48) then natural_of digits else None
+
+-- the number of a register: its letter and at most this number
+abbrev pub register_named : ℕ → ℕ → List ℕ → Option ℕ
+register_named letter greatest [] = None
+register_named letter greatest (b ∷ digits) = if b == letter then up_to greatest (index_of digits) else None
+
+-- `r0` to `r15`
+unfoldable pub register_of : List ℕ → Option ℕ
+register_of word = register_named 114 15 word
+
+-- `b0` to `b3`
+unfoldable pub byte_register_of : List ℕ → Option ℕ
+byte_register_of word = register_named 98 3 word

@@ -4,23 +4,31 @@ ghost use Rattle.thread_scripts.specs.Faults.{Reads};
 
 use crate::fault::LineFault;
 use crate::line::{CallLine, Data, Number};
-use crate::numbers::number;
+use crate::numbers::{byte_register, number, register};
 use crate::texts::{access, byte_text, flags, path, whence};
 use posix_terms::CallKind;
 use std::alloc::Global;
 
-/// An operand that is a number.
-fn number_operand(word: &[u8]) -> Result<Number, LineFault>
+/// An operand that is a number: a register's or its own.
+#[tactic(auto, unfolding(crate::specs::Calls::number_operand))]
+pub(crate) fn number_operand(word: &[u8]) -> Result<Number, LineFault>
     ensures { Reads result (number_operand word.now) }
 {
+    if let Some(register) = register(word) {
+        return Ok(Number::Register(register));
+    }
     let value = number(word).ok_or(LineFault::Bad)?;
     Ok(Number::Value(value))
 }
 
-/// An operand that is bytes.
-fn data_operand(alloc: Global, word: &[u8]) -> Result<Data, LineFault>
+/// An operand that is bytes: a byte register's or its own.
+#[tactic(auto, unfolding(crate::specs::Calls::data_operand))]
+pub(crate) fn data_operand(alloc: Global, word: &[u8]) -> Result<Data, LineFault>
     ensures { Reads result (data_operand word.now) }
 {
+    if let Some(register) = byte_register(word) {
+        return Ok(Data::Register(register));
+    }
     Ok(Data::Text(byte_text(alloc, word)?))
 }
 

@@ -1,4 +1,4 @@
-ghost use Rattle.thread_scripts.specs.Laws.{AcceptedExactly, BadLineIsFirst, ScriptStays, StepsTakeWhatRemains, TooLongIsCounted};
+ghost use Rattle.thread_scripts.specs.Laws.{AcceptedExactly, BadLineIsFirst, JumpsLeadToLabels, RunsEnd, ScriptStays, TooLongIsCounted};
 
 /// The law of texts that are too long: those with more than 1,000 lines, whatever these are.
 pub fn too_long_is_counted()
@@ -16,10 +16,14 @@ pub fn accepted_exactly()
     ensures { AcceptedExactly }
 {}
 
-/// The law of a script's run: each call takes the first one that remains, and the end comes where
-/// none does.
-pub fn steps_take_what_remains()
-    ensures { StepsTakeWhatRemains }
+/// The law of jumps: in a script that was read, each leads to a label's line.
+pub fn jumps_lead_to_labels()
+    ensures { JumpsLeadToLabels }
+{}
+
+/// The law of runs: each step but the end leaves fewer lines to be executed.
+pub fn runs_end()
+    ensures { RunsEnd }
 {}
 
 /// The law of a script's state: its script never changes.

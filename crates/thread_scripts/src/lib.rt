@@ -6,10 +6,13 @@ mod actor;
 mod calls;
 mod fault;
 mod grammar;
+mod labels;
 mod laws;
 mod line;
+mod lines;
 mod numbers;
 mod script;
+mod state;
 #[cfg(test)]
 mod tests;
 mod texts;
@@ -19,8 +22,8 @@ pub use actor::{Actor, ScriptActor, ScriptState, Step};
 pub use fault::{Memory, ScriptFault};
 pub use grammar::parse;
 pub use laws::{
-    accepted_exactly, bad_line_is_the_first, script_stays, steps_take_what_remains,
+    accepted_exactly, bad_line_is_the_first, jumps_lead_to_labels, runs_end, script_stays,
     too_long_is_counted,
 };
-pub use line::{CallLine, Data, Line, Number};
+pub use line::{ByteRegister, CallLine, Data, Line, Number, NumberRegister, Register};
 pub use script::Script;

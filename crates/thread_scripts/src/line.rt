@@ -1,15 +1,59 @@
+ghost use Rattle.std.specs.Prelude.{◌≡◌, ◌<◌, ◌≤◌, ℕ, IfSome, IsSome};
+
 use posix_terms::{Access, Bytes, OpenFlags, Whence};
+use std::marker::Model;
+
+/// One of so many registers. Contracts see its number.
+#[derive(Clone, Copy, Debug, PartialEq, Eq)]
+pub struct Register<const COUNT: usize> {
+    index: usize,
+}
+
+impl<const COUNT: usize> Model for Register<COUNT> {
+    ghost Value = { ℕ };
+
+    ghost view = { λ r. r.index };
+
+    ghost invariant = { λ r. r.index < COUNT };
+
+    ghost inverse = { λ n. record { index = n } };
+}
+
+impl<const COUNT: usize> Register<COUNT> {
+    /// The register of this number.
+    pub fn new(index: usize) -> Register<COUNT>
+        requires { index < COUNT }
+        ensures { result ≡ index }
+    {
+        Register { index }
+    }
+
+    pub fn index(self) -> usize
+        ensures value { result ≡ self.entry }
+        ensures below { result < COUNT }
+    {
+        self.index
+    }
+}
+
+/// A number register, `r0` to `r15`.
+pub type NumberRegister = Register<16>;
+
+/// A byte register, `b0` to `b3`.
+pub type ByteRegister = Register<4>;
 
 /// A number as a line gives it.
 #[derive(Clone, Copy, Debug, PartialEq, Eq)]
 pub enum Number {
     Value(i64),
+    Register(NumberRegister),
 }
 
 /// Bytes as a line gives them.
 #[derive(Debug, PartialEq, Eq, Drop)]
 pub enum Data {
     Text(Bytes),
+    Register(ByteRegister),
 }
 
 /// A call as a line gives it: its numbers and bytes are found when the line is executed.
@@ -38,8 +82,37 @@ pub enum CallLine {
     },
 }
 
-/// A line of a script that does something.
+/// A line of a script that does something. A jump has the place of its label's line: how many lines
+/// lie before that.
 #[derive(Debug, PartialEq, Eq, Drop)]
 pub enum Line {
     Call(CallLine),
+    /// Work of so many units of the thread's clock.
+    Work(u64),
+    End,
+    Set {
+        register: NumberRegister,
+        value: Number,
+    },
+    /// Adds to the register, modulo 2^64.
+    Add {
+        register: NumberRegister,
+        value: Number,
+    },
+    SetBytes {
+        register: ByteRegister,
+        value: Data,
+    },
+    Label,
+    Jump {
+        place: usize,
+    },
+    JumpIfZero {
+        register: NumberRegister,
+        place: usize,
+    },
+    /// Jumps where there is a last reply, and it is a failure.
+    JumpIfFailed {
+        place: usize,
+    },
 }

@@ -1,10 +1,13 @@
-ghost use Rattle.std.specs.Prelude.{◌≡◌, ◌≤◌, ◌^◌};
-ghost use Rattle.thread_scripts.specs.Numbers.{natural_of, number_of, up_to};
+ghost use Rattle.std.specs.Prelude.{◌≡◌, ◌≤◌, ◌^◌, IfSome};
+ghost use Rattle.thread_scripts.specs.Numbers.{byte_register_of, index_of, natural_of, number_of, register_named, register_of, up_to};
+
+use crate::line::{ByteRegister, NumberRegister};
 
 /// The value of a text of digits, if it is at most `limit`.
 #[tactic(auto, using(crate::proofs::Digits::too_great))]
 pub(crate) fn natural(text: &[u8], limit: u64) -> Option<u64>
-    ensures { result ≡ up_to limit (natural_of text.now) }
+    ensures value { result ≡ up_to limit (natural_of text.now) }
+    ensures bound { IfSome result (λ n. n ≤ limit) }
 {
     if text.is_empty() {
         return None;
@@ -35,4 +38,37 @@ pub(crate) fn number(text: &[u8]) -> Option<i64>
         let size = natural(text, i64::MAX as u64)?;
         Some(size as i64)
     }
+}
+
+/// The number of a register with this letter, if it is at most `greatest`.
+fn register_named(letter: u8, greatest: u64, word: &[u8]) -> Option<u64>
+    ensures value { result ≡ register_named letter greatest word.now }
+    ensures bound { IfSome result (λ n. n ≤ greatest) }
+{
+    let (first, digits) = word.split_first()?;
+    if *first != letter {
+        return None;
+    }
+    if digits.len() != 1 && (digits.is_empty() || digits[0] == b'0') {
+        return None;
+    }
+    natural(digits, greatest)
+}
+
+/// The register that a word names.
+#[tactic(auto, unfolding(crate::specs::Numbers::register_of))]
+pub(crate) fn register(word: &[u8]) -> Option<NumberRegister>
+    ensures { result ≡ register_of word.now }
+{
+    let index = register_named(b'r', 15, word)?;
+    Some(NumberRegister::new(index as usize))
+}
+
+/// The byte register that a word names.
+#[tactic(auto, unfolding(crate::specs::Numbers::byte_register_of))]
+pub(crate) fn byte_register(word: &[u8]) -> Option<ByteRegister>
+    ensures { result ≡ byte_register_of word.now }
+{
+    let index = register_named(b'b', 3, word)?;
+    Some(ByteRegister::new(index as usize))
 }

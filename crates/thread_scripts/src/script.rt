@@ -2,6 +2,7 @@ ghost use Rattle.std.specs.Prelude.{◌≡◌, List};
 ghost use Rattle.thread_scripts.specs.declared.line.Line.{Line};
 
 use crate::line::Line;
+use std::alloc::Global;
 use std::marker::Model;
 
 /// A script. Contracts see the list of its lines, without empty lines and comments.
@@ -22,6 +23,11 @@ impl Script {
         ensures { result ≡ lines.items }
     {
         Script { lines }
+    }
+
+    /// What the script's memory comes from.
+    pub(crate) fn allocator(&self) -> Global {
+        *self.lines.allocator()
     }
 
     /// The lines, in order.

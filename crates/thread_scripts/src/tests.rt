@@ -1,8 +1,9 @@
 use crate::{
-    Actor, Memory, Script, ScriptActor, ScriptFault, Step, accepted_exactly, bad_line_is_the_first,
-    parse, script_stays, steps_take_what_remains, too_long_is_counted,
+    Actor, ByteRegister, Line, Memory, Number, NumberRegister, ScriptActor, ScriptFault, Step,
+    accepted_exactly, bad_line_is_the_first, jumps_lead_to_labels, parse, runs_end, script_stays,
+    too_long_is_counted,
 };
-use posix_terms::{Access, Bytes, Call, OpenFlags, Reply, Whence};
+use posix_terms::{Access, Bytes, Call, Errno, ObjectKind, OpenFlags, Reply, Whence};
 use std::alloc::{AllocError, Global};
 use std::test::Fail;
 
@@ -112,48 +113,49 @@ fn reads_every_operand(rt: HostRuntime) -> Result<(), Fail> {
     Ok(())
 }
 
+/// Texts with the number of their first bad line.
+const BAD_LINES: [(&[u8], usize); 35] = [
+    (b"close 0\n# x\n\nclose\nopen", 4),
+    (b"fly 1", 1),
+    (b"Close 1", 1),
+    (b"close", 1),
+    (b"close 1 2", 1),
+    (b"close +1", 1),
+    (b"close -", 1),
+    (b"close --1", 1),
+    (b"close 1-", 1),
+    (b"close 1_000", 1),
+    (b"close 0x1", 1),
+    (b"close 9223372036854775808", 1),
+    (b"close -9223372036854775809", 1),
+    (b"close 340282366920938463463374607431768211456", 1),
+    (b"close\t1", 1),
+    (b"close 1\r", 1),
+    (b" # x", 1),
+    (b"close 1 # x", 1),
+    (b"# \x80", 1),
+    (b"read 0", 1),
+    (b"read 0 1 2", 1),
+    (b"write 0", 1),
+    (b"write 0 61", 1),
+    (b"write 0 X61", 1),
+    (b"write 0 x6", 1),
+    (b"write 0 x6g", 1),
+    (b"write 0 r0", 1),
+    (b"lseek 0 0", 1),
+    (b"lseek 0 0 SET", 1),
+    (b"open /a", 1),
+    (b"open /a wr", 1),
+    (b"open /a rw create create", 1),
+    (b"open /a rw creat", 1),
+    (b"open /\x01 rw", 1),
+    (b"open /\x7f rw", 1),
+];
+
 #[test]
 fn tells_the_first_bad_line(rt: HostRuntime) {
     let alloc = rt.alloc();
-    let cases: [(&[u8], usize); 36] = [
-        (b"close 0\n# x\n\nclose\nopen", 4),
-        (b"fly 1", 1),
-        (b"Close 1", 1),
-        (b"close", 1),
-        (b"close 1 2", 1),
-        (b"close +1", 1),
-        (b"close -", 1),
-        (b"close --1", 1),
-        (b"close 1-", 1),
-        (b"close 1_000", 1),
-        (b"close 0x1", 1),
-        (b"close r0", 1),
-        (b"close 9223372036854775808", 1),
-        (b"close -9223372036854775809", 1),
-        (b"close 340282366920938463463374607431768211456", 1),
-        (b"close\t1", 1),
-        (b"close 1\r", 1),
-        (b" # x", 1),
-        (b"close 1 # x", 1),
-        (b"# \x80", 1),
-        (b"read 0", 1),
-        (b"read 0 1 2", 1),
-        (b"write 0", 1),
-        (b"write 0 61", 1),
-        (b"write 0 X61", 1),
-        (b"write 0 x6", 1),
-        (b"write 0 x6g", 1),
-        (b"write 0 b0", 1),
-        (b"lseek 0 0", 1),
-        (b"lseek 0 0 SET", 1),
-        (b"open /a", 1),
-        (b"open /a wr", 1),
-        (b"open /a rw create create", 1),
-        (b"open /a rw creat", 1),
-        (b"open /\x01 rw", 1),
-        (b"open /\x7f rw", 1),
-    ];
-    for (text, line) in cases {
+    for (text, line) in BAD_LINES {
         assert_eq!(rt;
             parse(alloc, text).err(),
             Some(ScriptFault::BadLine(line)),
@@ -213,11 +215,233 @@ fn prints_faults(rt: HostRuntime) -> Result<(), Fail> {
     Ok(())
 }
 
+/// Texts that misuse registers, jumps or labels, with the number of their first bad line.
+const BAD_REGISTERS_AND_LABELS: [(&str, usize); 43] = [
+    ("close r16", 1),
+    ("close r01", 1),
+    ("close R1", 1),
+    ("close r", 1),
+    ("close b0", 1),
+    ("write 0 b4", 1),
+    ("write 0 b00", 1),
+    ("work", 1),
+    ("work -0", 1),
+    ("work +1", 1),
+    ("work r0", 1),
+    ("work 1000001", 1),
+    ("work 1 1", 1),
+    ("end 0", 1),
+    ("set r16 0", 1),
+    ("set b0 0", 1),
+    ("set r0", 1),
+    ("set r0 x61", 1),
+    ("set r0 b0", 1),
+    ("set 0 0", 1),
+    ("add r0", 1),
+    ("add r0 9223372036854775808", 1),
+    ("setb b4 x", 1),
+    ("setb r0 x", 1),
+    ("setb b0 r0", 1),
+    ("setb b0", 1),
+    ("label", 1),
+    ("label A", 1),
+    ("label a-b", 1),
+    ("label abcdefghijklmno", 1),
+    ("label a b\njump a", 1),
+    ("jump", 1),
+    ("jump a", 1),
+    ("jump a b\nlabel a", 1),
+    ("label a\n# label a\nlabel a", 3),
+    ("label b\nlabel a\njump b\nlabel a\njump c", 4),
+    ("jump a\nfly\nlabel a", 2),
+    ("jump a\nlabel a x", 1),
+    ("jump a\nlabel A", 1),
+    ("jzero r0 b\nlabel a", 1),
+    ("jzero r16 a\nlabel a", 1),
+    ("label a\njzero a", 2),
+    ("label a\njfail a a", 2),
+];
+
+#[test]
+fn tells_bad_registers_and_labels(rt: HostRuntime) {
+    let alloc = rt.alloc();
+    for (text, line) in BAD_REGISTERS_AND_LABELS {
+        assert_eq!(rt;
+            parse(alloc, text.as_bytes()).err(),
+            Some(ScriptFault::BadLine(line)),
+            "in {text}"
+        );
+    }
+}
+
+/// The second step of a script whose first is a call, with this reply to it.
+fn second_step(alloc: Global, text: &str, reply: &Reply) -> Result<Step, Fail> {
+    let mut actor = ScriptActor::new(parse(alloc, text.as_bytes())?);
+    actor.next(None)?;
+    Ok(actor.next(Some(reply))?)
+}
+
+fn seek(descriptor: i64, offset: i64) -> Step {
+    Step::Call(Call::Lseek {
+        descriptor,
+        offset,
+        whence: Whence::Set,
+    })
+}
+
+#[test]
+fn fills_registers_from_replies(rt: HostRuntime) -> Result<(), Fail> {
+    let alloc = rt.alloc();
+    let stat = Reply::Stat {
+        kind: ObjectKind::File,
+        number: 9,
+        links: 2,
+    };
+    let great = Reply::Stat {
+        kind: ObjectKind::Listener,
+        number: 1 << 63,
+        links: u64::MAX,
+    };
+    let cases = [
+        (Reply::Count(5), 5, 7),
+        (Reply::Count(u64::MAX), -1, 7),
+        (Reply::Data(Bytes::from_slice(alloc, b"abc")?), 3, 7),
+        (Reply::Number(-4), -4, 7),
+        (Reply::Pair(3, 4), 3, 4),
+        (stat, 9, 2),
+        (great, i64::MIN, -1),
+        (Reply::Done, 0, 7),
+        (Reply::Fail(Errno::EIO), -9, 7),
+    ];
+    for (reply, first, second) in &cases {
+        let step = second_step(alloc, "set r0 8\nset r1 7\nclose 0\nlseek r0 r1 set", reply)?;
+        assert_eq!(rt; step, seek(*first, *second), "after {reply:?}");
+    }
+    let data = Reply::Data(Bytes::from_slice(alloc, b"abc")?);
+    let text = "setb b0 x6869\nread 0 3\nwrite 1 b0";
+    assert_eq!(rt; second_step(alloc, text, &data)?, write(alloc, 1, b"abc")?);
+    assert_eq!(rt;
+        second_step(alloc, text, &Reply::Done)?,
+        write(alloc, 1, b"hi")?
+    );
+    Ok(())
+}
+
+#[test]
+fn counts_modulo_two_to_the_64(rt: HostRuntime) -> Result<(), Fail> {
+    let alloc = rt.alloc();
+    let up = "set r5 9223372036854775807\nadd r5 1\nset r15 r5\nadd r15 r5\nlseek r5 r15 set";
+    assert_eq!(rt; first_step(alloc, up)?, seek(i64::MIN, 0));
+    let down = "set r6 -9223372036854775808\nadd r6 -1\nset r7 r6\nadd r7 r6\nlseek r6 r7 set";
+    assert_eq!(rt; first_step(alloc, down)?, seek(i64::MAX, -2));
+    assert_eq!(rt; first_step(alloc, "lseek r0 r15 set")?, seek(0, 0));
+    let bytes = "setb b3 x6869\nsetb b2 b3\nsetb b3 x\nwrite 0 b2";
+    assert_eq!(rt; first_step(alloc, bytes)?, write(alloc, 0, b"hi")?);
+    assert_eq!(rt; first_step(alloc, "write 0 b1")?, write(alloc, 0, b"")?);
+    Ok(())
+}
+
+#[test]
+fn loops_as_often_as_it_counts(rt: HostRuntime) -> Result<(), Fail> {
+    let alloc = rt.alloc();
+    let text =
+        "set r2 -2\nlabel a\nopen /a r\njfail b\nend\nlabel b\nadd r2 1\njzero r2 c\njump a\nlabel c";
+    let failed = Reply::Fail(Errno::ENOENT);
+    let mut actor = ScriptActor::new(parse(alloc, text.as_bytes())?);
+    assert_eq!(rt;
+        actor.next(None)?,
+        open(alloc, b"/a", Access::ReadOnly, NO_FLAGS)?
+    );
+    assert_eq!(rt;
+        actor.next(Some(&failed))?,
+        open(alloc, b"/a", Access::ReadOnly, NO_FLAGS)?
+    );
+    assert_eq!(rt; actor.next(Some(&failed))?, Step::End);
+    assert_eq!(rt; actor.next(None)?, Step::End);
+    assert_eq!(rt; second_step(alloc, text, &Reply::Number(0))?, Step::End);
+    Ok(())
+}
+
+#[test]
+fn jumps_and_works(rt: HostRuntime) -> Result<(), Fail> {
+    let alloc = rt.alloc();
+    let close = Step::Call(Call::Close { descriptor: 3 });
+    let over = "jump abcdefghij0123\n# x\n\nend\nlabel abcdefghij0123\nclose 3";
+    assert_eq!(rt; first_step(alloc, over)?, close);
+    let late = "close 0\nset r1 1\njfail a\nend\nlabel a\njfail b\nend\nlabel b\nclose 3";
+    assert_eq!(rt;
+        second_step(alloc, late, &Reply::Fail(Errno::EBADF))?,
+        close
+    );
+    assert_eq!(rt;
+        first_step(alloc, "jfail a\nend\nlabel a\nclose 3")?,
+        Step::End
+    );
+    assert_eq!(rt;
+        first_step(alloc, "work 0001000000")?,
+        Step::Work(1_000_000)
+    );
+    let script = parse(alloc, b"close 0\nwork 7\njfail a\nend\nlabel a\nclose 3")?;
+    let mut actor = ScriptActor::new(script);
+    assert_eq!(rt;
+        actor.next(None)?,
+        Step::Call(Call::Close { descriptor: 0 })
+    );
+    assert_eq!(rt;
+        actor.next(Some(&Reply::Fail(Errno::EBADF)))?,
+        Step::Work(7)
+    );
+    assert_eq!(rt; actor.next(None)?, Step::End);
+    Ok(())
+}
+
+/// How many calls a script makes, with this reply to each.
+fn count_calls(alloc: Global, text: &str, reply: &Reply) -> Result<usize, Fail> {
+    let mut actor = ScriptActor::new(parse(alloc, text.as_bytes())?);
+    for count in 0..20_000 {
+        if actor.next(Some(reply))? == Step::End {
+            return Ok(count);
+        }
+    }
+    Ok(20_000)
+}
+
+#[test]
+fn ends_after_ten_thousand_lines(rt: HostRuntime) -> Result<(), Fail> {
+    let alloc = rt.alloc();
+    assert_eq!(rt; first_step(alloc, "label a\njump a\nclose 0")?, Step::End);
+    assert_eq!(rt;
+        count_calls(alloc, "label a\nclose 0\njump a", &Reply::Done)?,
+        3_333
+    );
+    assert_eq!(rt; count_calls(alloc, "end\nclose 0", &Reply::Done)?, 0);
+    // the last line that is executed is a call
+    let text = "set r9 1\n# x\nset r9 1\nlabel a\nclose 0\njump a";
+    assert_eq!(rt; count_calls(alloc, text, &Reply::Done)?, 3_333);
+    let text = "set r9 1\nset r9 1\nset r9 1\nlabel a\nclose 0\njump a";
+    assert_eq!(rt; count_calls(alloc, text, &Reply::Done)?, 3_332);
+    Ok(())
+}
+
+#[test]
+fn names_registers(rt: HostRuntime) -> Result<(), Fail> {
+    let script = parse(rt.alloc(), b"set r15 r0\nsetb b3 b0")?;
+    let wanted = Line::Set {
+        register: NumberRegister::new(15),
+        value: Number::Register(NumberRegister::new(0)),
+    };
+    assert_eq!(rt; script.lines().first(), Some(&wanted));
+    assert_eq!(rt; NumberRegister::new(15).index(), 15);
+    assert_eq!(rt; ByteRegister::new(3).index(), 3);
+    Ok(())
+}
+
 #[test]
 fn states_the_laws() {
     too_long_is_counted();
     bad_line_is_the_first();
     accepted_exactly();
-    steps_take_what_remains();
+    jumps_lead_to_labels();
+    runs_end();
     script_stays();
 }

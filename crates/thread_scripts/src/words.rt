@@ -1,14 +1,36 @@
-ghost use Rattle.std.specs.Prelude.{◌≡◌, IfOk, map};
-ghost use Rattle.thread_scripts.specs.Words.{lines_of, words_of};
+ghost use Rattle.std.specs.Prelude.{◌≡◌, IfOk, map, option_map};
+ghost use Rattle.thread_scripts.specs.Words.{is_ascii, is_comment, lines_of, words_of};
 
 use posix_terms::{pieces, split};
 use std::alloc::{AllocError, Global};
 
-/// The words of a line.
-pub(crate) fn words<'a>(alloc: Global, line: &'a [u8]) -> Result<Vec<&'a [u8]>, AllocError>
-    ensures { IfOk result (λ words. map (λ w. w.now) words.items ≡ words_of line.now) }
+fn is_ascii(text: &[u8]) -> bool
+    ensures { result ≡ is_ascii text.now }
 {
-    pieces(alloc, line, b' ')
+    text.iter().all(|byte| *byte < 128)
+}
+
+fn is_comment(text: &[u8]) -> bool
+    ensures { result ≡ is_comment text.now }
+{
+    match text {
+        [] => false,
+        [first, ..] => *first == b'#',
+    }
+}
+
+/// The words of a line, if it is ASCII text; a comment has none.
+#[tactic(auto, unfolding(crate::specs::Words::words_of))]
+pub(crate) fn words<'a>(alloc: Global, text: &'a [u8]) -> Result<Option<Vec<&'a [u8]>>, AllocError>
+    ensures { IfOk result (λ words. option_map (λ v. map (λ w. w.now) v.items) words ≡ words_of text.now) }
+{
+    if !is_ascii(text) {
+        return Ok(None);
+    }
+    if is_comment(text) {
+        return Ok(Some(Vec::new(alloc)));
+    }
+    Ok(Some(pieces(alloc, text, b' ')?))
 }
 
 /// The lines of a text.

@@ -1,12 +1,27 @@
-use Rattle.std.proofs.Common.{refl, sym, subst}
-use Rattle.posix_terms.specs.Legal.{IsLegal}
-use Rattle.posix_terms.specs.Object.{empty_state}
-use Rattle.thread_scripts.specs.Laws.{calls_of}
-use Rattle.call_machine.specs.declared.plain.Plain.{Plain}
-use Rattle.call_machine.proofs.Legality.{rows_are_legal}
+use Rattle.std.proofs.Common.{◌≡◌, true}
+use Rattle.call_machine.specs.Driven.{Ends}
+use Rattle.call_machine.specs.Plain.{are_settings, are_threads}
+use Rattle.call_machine.specs.Setup.{Inputs}
+use Rattle.call_machine.specs.Shows.{whole_of}
+use Rattle.call_machine.proofs.Concluding.{ends_of, plain_legal, plain_rising, plain_run_is}
 use Rattle.call_machine.proofs.run.plain_run.Goals as goal
+
+pub returns-clause-run : goal.returns-clause-run
+returns-clause-run c =
+    let input : Inputs = record { scripts = c.args.scripts.items; outcomes = c.args.outcomes.items; settings = c.args.settings } in
+    let e : Ends input (whole_of c.run.new.self) = ends_of input (whole_of c.in_ok-machine.machine) (whole_of c.run.new.self) c.in_ok-machine.ensures c.in_ok-run.ensures in
+    let threads : are_threads input ≡ true = cc in
+    let settings : are_settings input.settings ≡ true = cc in
+    plain_run_is input (whole_of c.run.new.self) c.in_ok-finish.field-0 e c.in_ok-finish.ensures threads settings
 
 pub returns-clause-legal : goal.returns-clause-legal
 returns-clause-legal c =
-    let P : Plain → Type 0 = λ plain. IsLegal c.args.settings plain.history.rows in
-    subst P (sym (c.in_ok-run_script.ensures c.args.settings)) (rows_are_legal c.args.settings 0 empty_state (λ _. 0) (calls_of c.remove-script.result) (λ _. refl))
+    let input : Inputs = record { scripts = c.args.scripts.items; outcomes = c.args.outcomes.items; settings = c.args.settings } in
+    let e : Ends input (whole_of c.run.new.self) = ends_of input (whole_of c.in_ok-machine.machine) (whole_of c.run.new.self) c.in_ok-machine.ensures c.in_ok-run.ensures in
+    plain_legal input (whole_of c.run.new.self) c.in_ok-finish.field-0 e c.in_ok-finish.ensures
+
+pub returns-clause-rising : goal.returns-clause-rising
+returns-clause-rising c =
+    let input : Inputs = record { scripts = c.args.scripts.items; outcomes = c.args.outcomes.items; settings = c.args.settings } in
+    let e : Ends input (whole_of c.run.new.self) = ends_of input (whole_of c.in_ok-machine.machine) (whole_of c.run.new.self) c.in_ok-machine.ensures c.in_ok-run.ensures in
+    plain_rising input (whole_of c.run.new.self) c.in_ok-finish.field-0 e c.in_ok-finish.ensures

@@ -1,4 +1,4 @@
-use Rattle.std.proofs.Common.{◌≡◌, ◌≤◌, length, sym, arith, subst, List, ℕ, vec_len}
+use Rattle.std.proofs.Common.{◌≡◌, ◌≤◌, length, sym, arith, subst, List, ℕ}
 use Rattle.std.specs.Prelude.{IfSome}
 use Rattle.detio_cmd.proofs.Whole.{read_whole}
 use Rattle.detio_cmd.proofs.source.read_text.Goals as goal

@@ -3,4 +3,4 @@ use Rattle.detio_cmd.specs.Transcripts.{transcripts_text}
 use Rattle.detio_cmd.proofs.transcripts.transcripts_text.Given as goal
 
 abbrev pub invariant-loop-thread : goal.invariant-loop-thread
-invariant-loop-thread l = string_bytes l.text ++ transcripts_text l.thread (drop l.thread l.transcripts) ≡ transcripts_text 0 l.transcripts
+invariant-loop-thread l = string_bytes l.text ++ transcripts_text l.turns l.thread (drop l.thread l.transcripts) ≡ transcripts_text l.turns 0 l.transcripts

@@ -1,0 +1,30 @@
+-- What a thread's next step makes of it.
+use Rattle.std.specs.Prelude.{◌≡◌, ℕ, ◌+◌, ◌<◌, ◌≤◌, ◌^◌, [], ◌∷◌, ◌++◌, None, Bool, true, false}
+use Rattle.posix_terms.specs.declared.call.Call.{Call}
+use Rattle.thread_scripts.specs.Meaning.{next_of}
+use Rattle.thread_scripts.specs.declared.actor.Step.{Step}
+use Rattle.thread_scripts.specs.declared.actor.Step.TheVariants as step
+use Rattle.call_machine.specs.declared.thread.Phase.TheVariants as phase
+use Rattle.call_machine.specs.declared.thread.Thread.{Thread}
+
+abbrev pub worked : ℕ → Thread → Thread
+worked n t = record t { clock = t.clock + n; asked = t.asked ++ step.Work n ∷ []; last = None }
+
+abbrev pub Works : Bool → ℕ → Thread → Thread → Type 0
+Works true n old new = (old.clock + n ≤ 2 ^ 62) × (new ≡ worked n old)
+Works false n old new = (2 ^ 62 < old.clock + n) × (new ≡ record old { phase = phase.Stuck })
+
+abbrev pub after_want : Call → Thread → Thread
+after_want call t = record t { phase = phase.WantsTable call; asked = t.asked ++ step.Call call ∷ [] }
+
+abbrev pub after_end : Thread → Thread
+after_end t = record t { phase = phase.Ended; asked = t.asked ++ step.End ∷ [] }
+
+-- by the step, whose script stands then in this state
+abbrev pub AsksStep : Bool → Step → Thread → Thread → Type 0
+AsksStep moved (step.Work n) old new = Works moved n old new
+AsksStep moved (step.Call call) old new = (moved ≡ true) × (new ≡ after_want call old)
+AsksStep moved step.End old new = (moved ≡ true) × (new ≡ after_end old)
+
+abbrev pub Asks : Bool → Thread → Thread → Type 0
+Asks moved old new = let next = next_of old.last old.actor in AsksStep moved next.0 (record old { actor = next.1 }) new

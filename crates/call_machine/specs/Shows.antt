@@ -1,0 +1,93 @@
+-- How the data of a run stand for a state of the lock machine.
+use Rattle.std.specs.Prelude.{◌≡◌, ℕ, suc, ◌≤◌, ◌^◌, List, [], ◌∷◌, ◌++◌, length, map, get_or, slice_get, Option, Some, None, Bool}
+use Rattle.posix_terms.specs.Step.{nothing_carried, step}
+use Rattle.posix_terms.specs.declared.reply.Reply.{Reply}
+use Rattle.posix_terms.specs.declared.transcript.HistoryRow.{HistoryRow}
+use Rattle.det_mutex.specs.declared.lock.DetLock.{DetLock}
+use Rattle.lock_model.specs.CallTable.Answer.{Gives}
+use Rattle.lock_model.specs.CallTable.Plan.{No_object}
+use Rattle.lock_model.specs.Held.{row_of}
+use Rattle.lock_model.specs.Machine.{advance, attempt, can_advance, can_attempt, moves}
+use Rattle.lock_model.specs.RealCalls.{answer_in}
+use Rattle.lock_model.specs.Runs.{Arises, calls_in}
+use Rattle.lock_model.specs.ScriptPrograms.{at_start, reached_after}
+use Rattle.lock_model.specs.State as lock
+use Rattle.lock_model.specs.State.{Job, Row, State, thread_of}
+use Rattle.lock_model.specs.State.Phase.{Working, WantsTable, Granted, Ended}
+use Rattle.lock_model.specs.Terms.{World}
+use Rattle.call_machine.specs.Rows.{shown}
+use Rattle.call_machine.specs.Setup.{Inputs, setup_of, first_state, script_of}
+use Rattle.call_machine.specs.View.{state_of}
+use Rattle.call_machine.specs.Views.{lock_of, no_thread}
+use Rattle.call_machine.specs.declared.machine.Machine.{Machine}
+use Rattle.call_machine.specs.declared.thread.Phase.{Phase}
+use Rattle.call_machine.specs.declared.thread.Phase.TheVariants as phase
+use Rattle.call_machine.specs.declared.thread.Thread.{Thread}
+
+-- ## Threads
+
+-- out of a call, the script has come to where the actor stands, with the last reply
+pub record IsBetween (input : Inputs) (i : ℕ) (t : Thread) (u : lock.Thread) : Type 0 where
+  pub even : length u.replies ≡ calls_in u.asked
+  pub reached : reached_after (at_start (script_of input i)) u.asked u.replies ≡ record { last = t.last; state = t.actor }
+
+-- in a call, it comes there with the reply to it
+pub record IsInCall (input : Inputs) (i : ℕ) (t : Thread) (u : lock.Thread) : Type 0 where
+  pub even : suc (length u.replies) ≡ calls_in u.asked
+  pub reached : (r : Reply) → reached_after (at_start (script_of input i)) u.asked (u.replies ++ r ∷ []) ≡ record { last = Some r; state = t.actor }
+
+-- the call that a thread was granted, with the row of its place and the reply that waits
+pub record IsGranted (input : Inputs) (i : ℕ) (rows : List Row) (place : ℕ) (last : Option Reply) (job : Job) : Type 0 where
+  pub plan : job.plan ≡ No_object
+  pub thread : job.turn.thread ≡ i
+  pub reply : Reply
+  pub waits : last ≡ Some reply
+  pub answers : answer_in (step input.settings job.found job.call job.outcome job.carried) ≡ Gives reply
+  pub row : slice_get rows place ≡ Some (row_of job)
+
+abbrev pub PhaseShows : Inputs → ℕ → List Row → Thread → lock.Thread → Phase → Type 0
+PhaseShows input i rows t u phase.Working = (u.phase ≡ Working) × IsBetween input i t u
+PhaseShows input i rows t u (phase.WantsTable call) = (u.phase ≡ WantsTable call nothing_carried) × IsInCall input i t u
+PhaseShows input i rows t u (phase.Granted place) = (job : Job) × ((u.phase ≡ Granted job) × IsInCall input i t u × IsGranted input i rows place t.last job)
+PhaseShows input i rows t u phase.Stuck = (u.phase ≡ Working) × (moves (setup_of input) i u ≡ None)
+PhaseShows input i rows t u phase.Ended = u.phase ≡ Ended
+
+pub record ThreadShows (input : Inputs) (i : ℕ) (rows : List Row) (t : Thread) (u : lock.Thread) : Type 0 where
+  pub clock : u.clock ≡ t.clock
+  pub in_time : t.clock ≤ 2 ^ 62
+  pub asked : u.asked ≡ t.asked
+  pub phase : PhaseShows input i rows t u t.phase
+
+-- ## The whole
+
+-- the threads of a run, the lock of the table, what the table holds, and the rows
+pub record Whole : Type 0 where
+  pub threads : List Thread
+  pub lock : DetLock
+  pub table : World
+  pub rows : List HistoryRow
+
+abbrev pub whole_of : Machine → Whole
+whole_of m = record { threads = m.threads.items; lock = lock_of m.lock; table = state_of m.table; rows = m.rows.items }
+
+abbrev pub thread_at : Whole → ℕ → Thread
+thread_at w k = get_or w.threads k no_thread
+
+pub record Shows (input : Inputs) (w : Whole) (s : State) : Type 0 where
+  pub count : length s.threads ≡ length w.threads
+  pub threads : (k : ℕ) → ThreadShows input k s.rows (thread_at w k) (thread_of s k)
+  pub table : s.table ≡ w.lock
+  pub world : s.world ≡ w.table
+  pub rows : map shown s.rows ≡ w.rows
+
+-- thread i makes its event that needs no turn, just where it can
+abbrev pub Advances : Bool → ℕ → Whole → Whole → Type 0
+Advances moved i old new =
+    (input : Inputs) (s : State) → Arises (setup_of input) (first_state input) s → Shows input old s
+    → (can_advance (setup_of input) s i ≡ moved) × Shows input new (advance (setup_of input) i s)
+
+-- thread i makes its attempt, just where it can
+abbrev pub Attempts : Bool → ℕ → Whole → Whole → Type 0
+Attempts made i old new =
+    (input : Inputs) (s : State) → Arises (setup_of input) (first_state input) s → Shows input old s
+    → (can_attempt (setup_of input) s i ≡ made) × Shows input new (attempt (setup_of input) i s)

@@ -1,0 +1,37 @@
+-- A run at its start, and what it comes to.
+use Rattle.std.specs.Prelude.{List, [], length, map, None, Bool, true, false}
+use Rattle.posix_terms.specs.Object.{empty_state}
+use Rattle.thread_scripts.specs.Meaning.{start_of}
+use Rattle.thread_scripts.specs.declared.line.Line.{Line}
+use Rattle.det_mutex.specs.Attempt.{new_lock}
+use Rattle.call_machine.specs.History.{transcripts_of}
+use Rattle.call_machine.specs.Plain.{stop_of}
+use Rattle.call_machine.specs.Shows.{Whole}
+use Rattle.call_machine.specs.declared.plain.Plain.{Plain}
+use Rattle.call_machine.specs.declared.thread.Phase.{Phase}
+use Rattle.call_machine.specs.declared.thread.Phase.TheVariants as phase
+use Rattle.call_machine.specs.declared.thread.Thread.{Thread}
+
+-- a thread before its script's first line
+abbrev pub first_thread : List Line → Thread
+first_thread script = record { phase = phase.Working; clock = 1; asked = []; actor = start_of script; last = None }
+
+abbrev pub first_whole : List (List Line) → Whole
+first_whole scripts = record { threads = map first_thread scripts; lock = new_lock; table = empty_state; rows = [] }
+
+abbrev pub is_ended : Phase → Bool
+is_ended phase.Ended = true
+is_ended phase.Working = false
+is_ended (phase.WantsTable call) = false
+is_ended (phase.Granted row) = false
+is_ended phase.Stuck = false
+
+-- what a run that is over tells
+abbrev pub told : Whole → Plain
+told w =
+    record {
+      transcripts = transcripts_of (length w.threads) w.rows;
+      history = record { rows = w.rows; asked = map (λ (t : Thread). t.asked) w.threads };
+      log = [];
+      stop = stop_of (map (λ (t : Thread). is_ended t.phase) w.threads);
+    }

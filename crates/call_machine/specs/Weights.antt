@@ -1,0 +1,25 @@
+-- How much a thread can still do: a number that falls with each of its events.
+use Rattle.std.specs.Prelude.{ℕ, ◌+◌, ◌-◌, ◌*◌, ◌^◌, ◌<◌, ◌≤◌, List, [], ◌∷◌, Bool, true, false}
+use Rattle.thread_scripts.specs.Meaning.{lines_left}
+use Rattle.call_machine.specs.declared.thread.Phase.{Phase}
+use Rattle.call_machine.specs.declared.thread.Phase.TheVariants as phase
+use Rattle.call_machine.specs.declared.thread.Thread.{Thread}
+
+abbrev pub left_in : Phase → ℕ → ℕ
+left_in phase.Working lines = 2 * lines + 1
+left_in (phase.WantsTable call) lines = 2 * lines + 2
+left_in (phase.Granted row) lines = 2 * lines + 2
+left_in phase.Stuck lines = 0
+left_in phase.Ended lines = 0
+
+unfoldable pub weight : Thread → ℕ
+weight t = 2 * (2 ^ 62 - t.clock) + left_in t.phase (lines_left t.actor)
+
+abbrev pub total : List Thread → ℕ
+total [] = 0
+total (t ∷ threads) = weight t + total threads
+
+-- an event that is made lowers it
+abbrev pub Falls : Bool → List Thread → List Thread → Type 0
+Falls true old new = total new < total old
+Falls false old new = total new ≤ total old

@@ -1,0 +1,94 @@
+ghost use Rattle.std.specs.Prelude.{◌≡◌, ℕ, List, IfOk, map};
+ghost use Rattle.call_machine.specs.History.{transcript_of, transcripts_of};
+ghost use Rattle.call_machine.specs.Plain.{stop_of};
+ghost use Rattle.call_machine.specs.Shows.{whole_of};
+ghost use Rattle.call_machine.specs.Starting.{is_ended, told};
+ghost use Rattle.call_machine.specs.declared.thread.Thread.{Thread};
+
+use crate::fault::Stop;
+use crate::history::{History, Steps};
+use crate::machine::Machine;
+use crate::plain::Plain;
+use crate::thread::{Phase, Thread};
+use posix_terms::{Answer, Bytes, HistoryRow, Row, Transcript, Transcripts};
+use std::alloc::{AllocError, Global};
+
+impl Machine {
+    // What a run that is over tells.
+    pub fn finish(self, alloc: Global) -> Result<Plain, AllocError>
+        ensures { IfOk result (λ plain. plain ≡ told (whole_of self)) }
+    {
+        let stop = stop(&self.threads);
+        let transcripts = transcripts(alloc, self.threads.len(), &self.rows)?;
+        let asked = asked(alloc, self.threads)?;
+        Ok(Plain {
+            transcripts: Transcripts::from_vec(transcripts),
+            history: History::new(self.rows, asked),
+            log: Bytes::from_vec(Vec::new(alloc)),
+            stop,
+        })
+    }
+}
+
+// Why a run ended before all threads had.
+fn stop(threads: &[Thread]) -> Option<Stop>
+    ensures { result ≡ stop_of (map (λ (t : Thread). is_ended t.phase) threads.now) }
+{
+    for thread in threads {
+        if !has_ended(thread) {
+            return Some(Stop::ClockFull);
+        }
+    }
+    None
+}
+
+fn has_ended(thread: &Thread) -> bool
+    ensures { result ≡ is_ended thread.now.phase }
+{
+    match thread.phase {
+        Phase::Ended => true,
+        _ => false,
+    }
+}
+
+fn asked(alloc: Global, threads: Vec<Thread>) -> Result<Vec<Steps>, AllocError>
+    ensures { IfOk result (λ asked. asked.items ≡ map (λ (t : Thread). t.asked) threads.items) }
+{
+    let mut asked = Vec::new(alloc);
+    for thread in threads {
+        asked.push(thread.asked)?;
+    }
+    Ok(asked)
+}
+
+// What each of the first threads saw.
+fn transcripts(
+    alloc: Global,
+    threads: usize,
+    rows: &[HistoryRow],
+) -> Result<Vec<Transcript>, AllocError>
+    ensures { IfOk result (λ transcripts. transcripts.items ≡ transcripts_of threads rows.now) }
+{
+    let mut transcripts = Vec::new(alloc);
+    for thread in 0..threads {
+        transcripts.push(transcript(alloc, thread, rows)?)?;
+    }
+    Ok(transcripts)
+}
+
+// What one thread saw.
+fn transcript(alloc: Global, thread: usize, rows: &[HistoryRow]) -> Result<Transcript, AllocError>
+    ensures { IfOk result (λ transcript. transcript ≡ transcript_of thread rows.now) }
+{
+    let mut transcript = Transcript::new(alloc);
+    for row in rows {
+        if let (true, Some(Answer::Reply(reply))) = (row.turn.thread == thread, &row.answer) {
+            transcript.push(Row {
+                call: row.call.try_clone()?,
+                turn: row.turn,
+                reply: reply.try_clone()?,
+            })?;
+        }
+    }
+    Ok(transcript)
+}
