@@ -19,7 +19,7 @@ use Rattle.call_machine.specs.Setup.{Inputs, script_of, setup_of}
 use Rattle.call_machine.specs.Shows.{IsBetween, PhaseShows, ThreadShows}
 use Rattle.call_machine.specs.declared.thread.Phase.{Phase}
 use Rattle.call_machine.specs.declared.thread.Phase.TheVariants as phase
-use Rattle.call_machine.specs.declared.thread.Thread.{Thread}
+use Rattle.call_machine.specs.Threads.{Thread}
 use Rattle.call_machine.proofs.ShownThreads.{Moving}
 
 moves_at : (input : Inputs) (i : ℕ) (u : lock.Thread) (x : Step) → u.phase ≡ Working → next_at (reached_after (at_start (script_of input i)) u.asked u.replies) ≡ x

@@ -1,33 +1,43 @@
 -- An attempt at the lock of the table is that of the lock machine.
-use Rattle.std.proofs.Common.{◌≡◌, ℕ, ◌+◌, ◌<◌, ◌≤◌, ◌^◌, List, [], ◌∷◌, ◌++◌, length, map, set, get_or, slice_get, Option, Some, None, Bool, true, false, sym, refl, ap, ap₂, ◌∙◌, subst, arith, ⊎_elim}
-use Rattle.std.proofs.lemmas.Bool.{cases_Bool, cond-true, cond-false, false≢true, le-leb, lt-leb, ltb-true, ltb-false}
+use Rattle.std.proofs.Common.{◌≡◌, ℕ, ◌+◌, ◌<◌, ◌≤◌, ◌^◌, List, [], ◌∷◌, ◌++◌, length, map, set, get_or, slice_get, Option, Some, None, Bool, true, false, sym, refl, ap, ap₂, ◌∙◌, subst, ⊎_elim}
+use Rattle.std.proofs.lemmas.Bool.{cases_Bool, cond-true, cond-false, false≢true, le-leb, leb-true, leb-false, lt-leb}
 use Rattle.std.proofs.lemmas.List.{get_or-set_same, length-map, length-set, map-append}
-use Rattle.std.specs.Prelude.{nat_le, nat_lt}
+use Rattle.std.specs.Prelude.{IfSome, nat_le}
+use Rattle.posix_terms.specs.Locked.{locked_object}
+use Rattle.posix_terms.specs.Object as posix
 use Rattle.posix_terms.specs.Step.{Stepped, nothing_carried, step}
 use Rattle.posix_terms.specs.declared.call.Call.{Call}
+use Rattle.posix_terms.specs.declared.limits.TheConstants.Limits as limit
 use Rattle.posix_terms.specs.declared.reply.Reply.{Reply}
 use Rattle.posix_terms.specs.declared.transcript.HistoryRow.{HistoryRow}
+use Rattle.posix_terms.specs.declared.transcript.Turn.{Turn}
 use Rattle.det_mutex.specs.Attempt.{held, takes}
-use Rattle.lock_model.specs.CallTable.Plan.{No_object}
+use Rattle.det_mutex.specs.declared.lock.DetLock.{DetLock}
+use Rattle.logical_clocks.specs.TurnOrder.{has_turn}
+use Rattle.lock_model.specs.CallTable.Plan.{No_object, Object}
+use Rattle.lock_model.specs.CallTable.Way.{Inside}
 use Rattle.lock_model.specs.Held.{row_of}
 use Rattle.lock_model.specs.Machine.{attempt, can_attempt, failed, granted, new_job, planned, tried, tries, wants}
-use Rattle.lock_model.specs.RealCalls.{answer_in, real_calls}
+use Rattle.lock_model.specs.Numbers.{world_with}
+use Rattle.lock_model.specs.RealCalls.{answer_in, numbered, plan_of, real_calls}
 use Rattle.lock_model.specs.State as lock
 use Rattle.lock_model.specs.State.{Job, Row, State, live_clocks, nobody, thread_of}
-use Rattle.lock_model.specs.State.Phase.{Ended, Granted, WantsTable, Working}
+use Rattle.lock_model.specs.State.Phase.{WantsObject, WantsTable}
 use Rattle.lock_model.specs.Terms.{World}
-use Rattle.logical_clocks.specs.TurnOrder.{has_turn}
 use Rattle.lock_model.proofs.Arising.{slice_get-prefix, slice_get-push}
 use Rattle.lock_model.proofs.Attempt.{attempt_can, attempt_not, can_in, can_out}
-use Rattle.call_machine.specs.Events.{Grants, Parts, RepliesWith, Tries, TriesIn, TriesInTime, TriesLock, granted_row, parts}
+use Rattle.call_machine.specs.Dense.{IsDense, world_of}
+use Rattle.call_machine.specs.Events.{Grants, Parts, PlansTo, RepliesWith, Tries, TriesIn, TriesInTime, TriesLock, granted_row, in_time, later, parts}
+use Rattle.lock_model.specs.Rows.{shown}
 use Rattle.call_machine.specs.Setup.{Inputs, setup_of}
-use Rattle.call_machine.specs.Rows.{shown}
 use Rattle.call_machine.specs.Shows.{IsGranted, IsInCall, PhaseShows, Shows, ThreadShows, Whole, thread_at}
+use Rattle.call_machine.specs.Threads.{Thread}
 use Rattle.call_machine.specs.Views.{no_thread}
 use Rattle.call_machine.specs.declared.thread.Phase.{Phase}
 use Rattle.call_machine.specs.declared.thread.Phase.TheVariants as phase
-use Rattle.call_machine.specs.declared.thread.Thread.{Thread}
-use Rattle.call_machine.proofs.ShownThreads.{set_same, thread_rows, threads_set}
+use Rattle.call_machine.proofs.Lists.{set_same}
+use Rattle.call_machine.proofs.Numbering.{number_is_key, world_grows}
+use Rattle.call_machine.proofs.ShownThreads.{thread_rows, threads_set}
 
 -- ## Attempts that can't be made
 
@@ -41,29 +51,116 @@ wants_none input s i h = not_true (can_attempt (setup_of input) s i) (λ can. fa
 turn_none : (input : Inputs) (s : State) (i : ℕ) → has_turn (live_clocks s) i ≡ false → can_attempt (setup_of input) s i ≡ false
 turn_none input s i h = not_true (can_attempt (setup_of input) s i) (λ can. false≢true (sym h ∙ (can_out (setup_of input) s i can).turn))
 
-abbrev pub Attempted : Inputs → Whole → State → ℕ → Bool → Parts → Type 0
-Attempted input w s i made new =
-    (can_attempt (setup_of input) s i ≡ made) × Shows input (record { threads = set w.threads i new.thread; lock = new.lock; table = new.table; rows = new.rows }) (attempt (setup_of input) i s)
+abbrev pub Attempted : Inputs → State → ℕ → Bool → Whole → Type 0
+Attempted input s i made z = (can_attempt (setup_of input) s i ≡ made) × Shows input z (attempt (setup_of input) i s)
+
+-- as an attempt at the table leaves it
+abbrev pub table_tried : Whole → ℕ → Parts → Whole
+table_tried w i new = record { threads = set w.threads i new.thread; lock = new.lock; objects = w.objects; table = new.table; rows = new.rows }
+
+abbrev pub table_parts : Whole → ℕ → Parts
+table_parts w i = parts (thread_at w i) w.lock w.table w.rows
 
 pub whole_same : (input : Inputs) (w : Whole) (s : State) → Shows input w s → (i : ℕ) → i < length w.threads → Shows input (record w { threads = set w.threads i (thread_at w i) }) s
 whole_same input w s h i inside =
     let P : List Thread → Type 0 = λ ts. Shows input (record w { threads = ts }) s in subst P (sym (set_same w.threads i no_thread inside)) h
 
-attempted_no : (input : Inputs) (w : Whole) (s : State) (i : ℕ) → i < length w.threads → Shows input w s → can_attempt (setup_of input) s i ≡ false → Attempted input w s i false (parts (thread_at w i) w.lock w.table w.rows)
+pub attempted_no : (input : Inputs) (w : Whole) (s : State) (i : ℕ) → i < length w.threads → Shows input w s → can_attempt (setup_of input) s i ≡ false → Attempted input s i false (record w { threads = set w.threads i (thread_at w i) })
 attempted_no input w s i inside h off =
     let P : State → Type 0 = Shows input (record w { threads = set w.threads i (thread_at w i) }) in (off, subst P (sym (attempt_not (setup_of input) i s off)) (whole_same input w s h i inside))
 
 -- the attempt leaves this state, in which the thread's clock is this
-attempted_yes : (input : Inputs) (w : Whole) (s z : State) (i : ℕ) (call : Call) (new : Parts) → (thread_of s i).phase ≡ WantsTable call nothing_carried → has_turn (live_clocks s) i ≡ true → tried (setup_of input) s i ≡ z
-    → (thread_of z i).clock ≤ 2 ^ 62
-    → Shows input (record { threads = set w.threads i new.thread; lock = new.lock; table = new.table; rows = new.rows }) z
-    → Attempted input w s i true new
-attempted_yes input w s z i call new wanting turn is room shows =
+pub attempted_yes : (input : Inputs) (s z : State) (i : ℕ) (v : Whole) → wants (thread_of s i).phase ≡ true → has_turn (live_clocks s) i ≡ true → tried (setup_of input) s i ≡ z → (thread_of z i).clock ≤ 2 ^ 62 → Shows input v z
+    → Attempted input s i true v
+attempted_yes input s z i v wanting turn is room shows =
     let setup = setup_of input in
     let fits : nat_le (thread_of (tried setup s i) i).clock (2 ^ 62) ≡ true = ap (λ (x : State). nat_le (thread_of x i).clock (2 ^ 62)) is ∙ le-leb (thread_of z i).clock (2 ^ 62) room in
-    let can : can_attempt setup s i ≡ true = can_in setup s i (record { wanting = ap wants wanting; turn = turn; room = fits }) in
-    let P : State → Type 0 = Shows input (record { threads = set w.threads i new.thread; lock = new.lock; table = new.table; rows = new.rows }) in
+    let can : can_attempt setup s i ≡ true = can_in setup s i (record { wanting = wanting; turn = turn; room = fits }) in
+    let P : State → Type 0 = Shows input v in
     (can, subst P (sym (attempt_can setup i s can ∙ is)) shows)
+
+-- the attempt would leave a clock past the limit
+pub attempted_full : (input : Inputs) (s : State) (i n : ℕ) → (thread_of (tried (setup_of input) s i) i).clock ≡ n → 2 ^ 62 < n → can_attempt (setup_of input) s i ≡ false
+attempted_full input s i n clock past =
+    let no_room : nat_le (thread_of (tried (setup_of input) s i) i).clock (2 ^ 62) ≡ false = ap (λ (c : ℕ). nat_le c (2 ^ 62)) clock ∙ lt-leb n (2 ^ 62) past in
+    not_true (can_attempt (setup_of input) s i) (λ can. false≢true (sym no_room ∙ (can_out (setup_of input) s i can).room))
+
+-- ## Grants
+
+slice_get-more : {A : Type 0} (xs ys : List A) (n : ℕ) (x : A) → slice_get xs n ≡ Some x → slice_get (xs ++ ys) n ≡ Some x
+slice_get-more xs ys n x h = slice_get-prefix xs (xs ++ ys) n x (ys, refl) h
+
+unfoldable pub job_of : State → Turn → Call → Option ℕ → Job
+job_of s turn call object = new_job call nothing_carried turn (plan_of object) s.world
+
+-- the rows once it is granted
+abbrev pub rows_with : State → Job → List Row
+rows_with s job = s.rows ++ row_of job ∷ []
+
+granted_by : (input : Inputs) (w : Whole) (s : State) (turn : Turn) (call : Call) (object : Option ℕ) (last o : Option Reply) (table : posix.State) → s.world ≡ world_of w.table → map shown s.rows ≡ w.rows
+    → IfSome object (λ n. n < limit.OBJECTS) → last ≡ o → RepliesWith w.table call o table
+    → IsGranted input turn.thread (rows_with s (job_of s turn call object)) (length w.rows) object last (job_of s turn call object) × ((step input.settings w.table call None nothing_carried).after ≡ table)
+unfolding job_of
+granted_by input w s turn call object last None table world rows few waits h = absurd h
+granted_by input w s turn call object last (Some reply) table world rows few waits h =
+    let done = h input.settings in
+    let place : length w.rows ≡ length s.rows = ap length (sym rows) ∙ length-map s.rows shown in (
+      record {
+        plan = refl;
+        in_range = few;
+        thread = refl;
+        reply = reply;
+        waits = waits;
+        answers = ap (λ (x : World). answer_in (step input.settings x.object call None nothing_carried)) world ∙ ap answer_in done;
+        row = ap (slice_get (rows_with s (job_of s turn call object))) place ∙ slice_get-push s.rows (row_of (job_of s turn call object));
+      },
+      ap (λ (x : Stepped). x.after) done,
+    )
+
+world_granted : (input : Inputs) (w : Whole) (s : State) (call : Call) (table : posix.State) → s.world ≡ world_of w.table → (step input.settings w.table call None nothing_carried).after ≡ table → IsDense table → w.table.next_object ≤ table.next_object
+    → world_with s.world (step input.settings s.world.object call None nothing_carried).after ≡ world_of table
+world_granted input w s call table world done dense grows =
+    ap (λ (x : World). world_with x (step input.settings x.object call None nothing_carried).after) world
+    ∙ ap (world_with (world_of w.table)) done
+    ∙ world_grows w.table table dense grows
+
+-- what a grant makes of the thread, of the world and of the rows
+pub record Granted_now (input : Inputs) (w : Whole) (s : State) (turn : Turn) (call : Call) (object : Option ℕ) (cost : ℕ) (new : Parts) : Type 0 where
+  pub thread : ThreadShows input turn.thread (rows_with s (job_of s turn call object)) new.thread (granted (thread_of s turn.thread) ((thread_of s turn.thread).clock + cost) (job_of s turn call object) false)
+  pub world : world_with s.world (step input.settings s.world.object call None nothing_carried).after ≡ world_of new.table
+  pub rows : map shown (rows_with s (job_of s turn call object)) ≡ new.rows
+
+pub grant_shows : (input : Inputs) (w : Whole) (s : State) (turn : Turn) (call : Call) (object : Option ℕ) (cost : ℕ) (l : DetLock) (new : Parts) → Shows input w s → IsInCall input turn.thread (thread_at w turn.thread) (thread_of s turn.thread)
+    → IfSome object (λ n. n < limit.OBJECTS) → (thread_at w turn.thread).clock + cost ≤ 2 ^ 62 → Grants turn call object (record (later (table_parts w turn.thread) cost) { lock = l }) new → Granted_now input w s turn call object cost new
+unfolding job_of
+grant_shows input w s turn call object cost l new h in_call few room g =
+    let i = turn.thread in
+    let t = thread_at w i in
+    let u = thread_of s i in
+    let job = job_of s turn call object in
+    let both = granted_by input w s turn call object new.thread.last new.thread.last new.table h.world h.rows few refl g.replies in
+    let x : Thread = record t { phase = phase.Granted (length w.rows) object; clock = t.clock + cost; last = new.thread.last } in
+    let y : lock.Thread = granted u (u.clock + cost) job false in
+    let P : Thread → Type 0 = λ v. ThreadShows input i (rows_with s job) v y in
+    let here : ThreadShows input i (rows_with s job) x y =
+    record {
+      clock = ap (λ (c : ℕ). c + cost) (h.threads i).clock;
+      in_time = room;
+      asked = (h.threads i).asked;
+      phase = (job, (refl, record { even = in_call.even; reached = in_call.reached }, both.0));
+    } in
+    record {
+      thread = subst P (sym g.thread) here;
+      world = world_granted input w s call new.table h.world both.1 g.dense g.grows;
+      rows = map-append shown s.rows (row_of job ∷ []) ∙ ap (λ (rs : List HistoryRow). rs ++ granted_row turn call ∷ []) h.rows ∙ sym g.rows;
+    }
+
+-- the other threads see only that there is a row more
+pub others_granted : (input : Inputs) (w : Whole) (s : State) (i : ℕ) (job : Job) (t : Thread) (u : lock.Thread) → i < length w.threads → Shows input w s → ThreadShows input i (rows_with s job) t u
+    → (k : ℕ) → ThreadShows input k (rows_with s job) (get_or (set w.threads i t) k no_thread) (get_or (set s.threads i u) k nobody)
+others_granted input w s i job t u inside h now =
+    threads_set input (rows_with s job) w.threads s.threads i t u inside h.count now
+    (λ k apart. thread_rows input k s.rows (rows_with s job) (get_or w.threads k no_thread) (thread_of s k) (λ place other mine at. slice_get-more s.rows (row_of job ∷ []) place (row_of other) at) (h.threads k))
 
 -- ## Attempts that fail, and attempts that succeed
 
@@ -76,163 +173,186 @@ record Trying (input : Inputs) (w : Whole) (s : State) (i : ℕ) (call : Call) :
   phase : (thread_of s i).phase ≡ WantsTable call nothing_carried
   call_is : IsInCall input i (thread_at w i) (thread_of s i)
 
+abbrev turn_of : State → ℕ → Turn
+turn_of s i = record { clock = (thread_of s i).clock; thread = i }
+
 tried_took : (input : Inputs) (s : State) (i : ℕ) (call : Call) → (thread_of s i).phase ≡ WantsTable call nothing_carried → takes s.table (thread_of s i).clock ≡ true
-    → tried (setup_of input) s i ≡ planned (real_calls input.settings) s i (thread_of s i) call nothing_carried (record { clock = (thread_of s i).clock; thread = i }) No_object s.world
+    → tried (setup_of input) s i ≡ planned (real_calls input.settings) s i (thread_of s i) call nothing_carried (turn_of s i) (plan_of (numbered s.world (locked_object s.world.object call))) s.world
 tried_took input s i call e h = ap (tries (real_calls input.settings) s i (thread_of s i)) e ∙ cond-true _ _ _ h
 
 tried_failed : (input : Inputs) (s : State) (i : ℕ) (call : Call) → (thread_of s i).phase ≡ WantsTable call nothing_carried → takes s.table (thread_of s i).clock ≡ false → tried (setup_of input) s i ≡ failed s i (thread_of s i)
 tried_failed input s i call e h = ap (tries (real_calls input.settings) s i (thread_of s i)) e ∙ cond-false _ _ _ h
 
-next_le : (c : ℕ) → c < 2 ^ 62 → c + 1 ≤ 2 ^ 62
-next_le c h = omega arith
+planned_by : (input : Inputs) (s : State) (i : ℕ) (call : Call) (o : Option ℕ) → (thread_of s i).phase ≡ WantsTable call nothing_carried → takes s.table (thread_of s i).clock ≡ true → numbered s.world (locked_object s.world.object call) ≡ o
+    → tried (setup_of input) s i ≡ planned (real_calls input.settings) s i (thread_of s i) call nothing_carried (turn_of s i) (plan_of o) s.world
+planned_by input s i call o e h is = tried_took input s i call e h ∙ ap (λ (x : Option ℕ). planned (real_calls input.settings) s i (thread_of s i) call nothing_carried (turn_of s i) (plan_of x) s.world) is
 
-within_threads : (input : Inputs) (w : Whole) (s : State) (i : ℕ) → i < length w.threads → Shows input w s → i < length s.threads
+-- the number of the object is its key
+object_numbered : (w : Whole) (s : State) (call : Call) (o : Option ℕ) → s.world ≡ world_of w.table → IsDense w.table → locked_object w.table call ≡ o → IfSome o (λ n. n ≤ w.table.next_object) → numbered s.world (locked_object s.world.object call) ≡ o
+object_numbered w s call None world dense is within = ap (λ (x : World). numbered x (locked_object x.object call)) world ∙ ap (numbered (world_of w.table)) is
+object_numbered w s call (Some n) world dense is within =
+    ap (λ (x : World). numbered x (locked_object x.object call)) world ∙ ap (numbered (world_of w.table)) is ∙ ap Some (number_is_key w.table n dense within)
+
+pub within_threads : (input : Inputs) (w : Whole) (s : State) (i : ℕ) → i < length w.threads → Shows input w s → i < length s.threads
 within_threads input w s i inside h = subst (λ (n : ℕ). i < n) (sym h.count) inside
 
-attempt_fails : (input : Inputs) (w : Whole) (s : State) (i : ℕ) (call : Call) → Trying input w s i call → (thread_at w i).clock < 2 ^ 62 → takes s.table (thread_of s i).clock ≡ false
-    → Attempted input w s i true (record (parts (thread_at w i) w.lock w.table w.rows) { thread = record (thread_at w i) { clock = (thread_at w i).clock + 1 } })
-attempt_fails input w s i call a room shut =
+-- a thread that has failed stands where it stood, 1 later
+pub fail_shows : (input : Inputs) (w : Whole) (s : State) (i : ℕ) → i < length w.threads → Shows input w s → (thread_at w i).clock + 1 ≤ 2 ^ 62
+    → ((rows : List Row) → PhaseShows input i rows (thread_at w i) (thread_of s i) (thread_at w i).phase → PhaseShows input i rows (record (thread_at w i) { clock = (thread_at w i).clock + 1 }) (record (thread_of s i) { clock = (thread_of s i).clock + 1 }) (thread_at w i).phase)
+    → Shows input (record w { threads = set w.threads i (record (thread_at w i) { clock = (thread_at w i).clock + 1 }) }) (failed s i (thread_of s i))
+fail_shows input w s i inside h room phase_on =
     let t = thread_at w i in
     let u = thread_of s i in
-    let h = a.shows.threads i in
     let x : Thread = record t { clock = t.clock + 1 } in
     let y : lock.Thread = record u { clock = u.clock + 1 } in
-    let P : Phase → Type 0 = λ p. PhaseShows input i s.rows x y p in
-    let now : ThreadShows input i s.rows x y =
+    let now : ThreadShows input i s.rows x y = record { clock = ap (λ (c : ℕ). c + 1) (h.threads i).clock; in_time = room; asked = (h.threads i).asked; phase = phase_on s.rows (h.threads i).phase } in
     record {
-      clock = ap (λ (c : ℕ). c + 1) h.clock;
-      in_time = next_le t.clock room;
-      asked = h.asked;
-      phase = subst P (sym a.wanting) (a.phase, record { even = a.call_is.even; reached = a.call_is.reached });
-    } in
-    let fits : u.clock + 1 ≤ 2 ^ 62 = subst (λ (c : ℕ). c + 1 ≤ 2 ^ 62) (sym h.clock) (next_le t.clock room) in
-    let own : thread_of (failed s i u) i ≡ y = get_or-set_same s.threads i y nobody (within_threads input w s i a.inside a.shows) in
-    attempted_yes input w s (failed s i u) i call (record (parts t w.lock w.table w.rows) { thread = x }) a.phase a.turn (tried_failed input s i call a.phase shut)
-    (subst (λ (v : lock.Thread). v.clock ≤ 2 ^ 62) (sym own) fits)
-    (record {
-      count = length-set s.threads i y ∙ a.shows.count ∙ sym (length-set w.threads i x);
-      threads = threads_set input s.rows w.threads s.threads i x y a.inside a.shows.count now (λ k apart. a.shows.threads k);
-      table = a.shows.table;
-      world = a.shows.world;
-      rows = a.shows.rows;
-    })
+      count = length-set s.threads i y ∙ h.count ∙ sym (length-set w.threads i x);
+      threads = threads_set input s.rows w.threads s.threads i x y inside h.count now (λ k apart. h.threads k);
+      table = h.table;
+      objects = h.objects;
+      object_count = h.object_count;
+      dense = h.dense;
+      world = h.world;
+      rows = h.rows;
+    }
 
-slice_get-more : {A : Type 0} (xs ys : List A) (n : ℕ) (x : A) → slice_get xs n ≡ Some x → slice_get (xs ++ ys) n ≡ Some x
-slice_get-more xs ys n x h = slice_get-prefix xs (xs ++ ys) n x (ys, refl) h
+-- the clock of the thread in a state in which it was set to this
+pub clock_set : (input : Inputs) (w : Whole) (s : State) (i : ℕ) (y : lock.Thread) → i < length w.threads → Shows input w s → (let v : lock.Thread = get_or (set s.threads i y) i nobody in v.clock) ≡ y.clock
+clock_set input w s i y inside h = ap (λ (v : lock.Thread). v.clock) (get_or-set_same s.threads i y nobody (within_threads input w s i inside h))
 
-job_of : State → ℕ → Call → Job
-job_of s i call = new_job call nothing_carried (record { clock = (thread_of s i).clock; thread = i }) No_object s.world
+-- with so much more, it is within the limit as the clock that it stands for is
+pub clock_fits : (input : Inputs) (w : Whole) (s : State) (i cost : ℕ) → Shows input w s → (thread_at w i).clock + cost ≤ 2 ^ 62 → (thread_of s i).clock + cost ≤ 2 ^ 62
+clock_fits input w s i cost h room = subst (λ (c : ℕ). c + cost ≤ 2 ^ 62) (sym (h.threads i).clock) room
 
-granted_with : (input : Inputs) (w : Whole) (s : State) (i : ℕ) (call : Call) (new : Parts) (o : Option Reply) → s.world ≡ w.table → map shown s.rows ≡ w.rows → new.thread.last ≡ o → RepliesWith w.table call o new.table
-    → IsGranted input i (s.rows ++ row_of (job_of s i call) ∷ []) (length w.rows) new.thread.last (job_of s i call) × ((step input.settings s.world call None nothing_carried).after ≡ new.table)
-unfolding job_of
-granted_with input w s i call new None world rows last h = absurd h
-granted_with input w s i call new (Some reply) world rows last h =
-    let done = ap (λ (x : World). step input.settings x call None nothing_carried) world ∙ h input.settings in
-    let place : length w.rows ≡ length s.rows = ap length (sym rows) ∙ length-map s.rows shown in (
-      record {
-        plan = refl;
-        thread = refl;
-        reply = reply;
-        waits = last;
-        answers = ap answer_in done;
-        row = ap (slice_get (s.rows ++ row_of (job_of s i call) ∷ [])) place ∙ slice_get-push s.rows (row_of (job_of s i call));
-      },
-      ap (λ (x : Stepped). x.after) done,
-    )
-
-attempt_takes : (input : Inputs) (w : Whole) (s : State) (i : ℕ) (call : Call) (new : Parts) → Trying input w s i call → (thread_at w i).clock < 2 ^ 62 → takes s.table (thread_of s i).clock ≡ true
-    → Grants i call (parts (thread_at w i) w.lock w.table w.rows) new → Attempted input w s i true new
-unfolding job_of
-attempt_takes input w s i call new a room free g =
-    let t = thread_at w i in
+attempt_fails : (input : Inputs) (w : Whole) (s : State) (i : ℕ) (call : Call) → Trying input w s i call → (thread_at w i).clock + 1 ≤ 2 ^ 62 → takes s.table (thread_of s i).clock ≡ false
+    → Attempted input s i true (table_tried w i (later (table_parts w i) 1))
+attempt_fails input w s i call a room shut =
     let u = thread_of s i in
-    let h = a.shows.threads i in
-    let job = job_of s i call in
-    let more = s.rows ++ row_of job ∷ [] in
+    let t = thread_at w i in
+    let on : (rows : List Row) → PhaseShows input i rows t u t.phase → PhaseShows input i rows (record t { clock = t.clock + 1 }) (record u { clock = u.clock + 1 }) t.phase =
+    λ rows h. let P : Phase → Type 0 = λ p. PhaseShows input i rows (record t { clock = t.clock + 1 }) (record u { clock = u.clock + 1 }) p in subst P (sym a.wanting) (a.phase, record { even = a.call_is.even; reached = a.call_is.reached }) in
+    attempted_yes input s (failed s i u) i (table_tried w i (later (table_parts w i) 1)) (ap wants a.phase) a.turn (tried_failed input s i call a.phase shut)
+    (subst (λ (c : ℕ). c ≤ 2 ^ 62) (sym (clock_set input w s i (record u { clock = u.clock + 1 }) a.inside a.shows)) (clock_fits input w s i 1 a.shows room))
+    (fail_shows input w s i a.inside a.shows room on)
+
+-- the call is granted at once
+attempt_takes : (input : Inputs) (w : Whole) (s : State) (i : ℕ) (call : Call) (new : Parts) → Trying input w s i call → (thread_at w i).clock + 1 ≤ 2 ^ 62 → takes s.table (thread_of s i).clock ≡ true → locked_object w.table call ≡ None
+    → Grants (turn_of s i) call None (record (later (table_parts w i) 1) { lock = held i w.lock }) new → Attempted input s i true (table_tried w i new)
+unfolding job_of
+attempt_takes input w s i call new a room free none g =
+    let u = thread_of s i in
+    let job = job_of s (turn_of s i) call None in
     let y : lock.Thread = granted u (u.clock + 1) job false in
-    let z : State = planned (real_calls input.settings) s i u call nothing_carried (record { clock = u.clock; thread = i }) No_object s.world in
-    let both = granted_with input w s i call new new.thread.last a.shows.world a.shows.rows refl g.replies in
-    let x : Thread = record t { phase = phase.Granted (length w.rows); clock = t.clock + 1; last = new.thread.last } in
-    let P : Thread → Type 0 = λ v. ThreadShows input i more v y in
-    let here : ThreadShows input i more x y =
-    record {
-      clock = ap (λ (c : ℕ). c + 1) h.clock;
-      in_time = next_le t.clock room;
-      asked = h.asked;
-      phase = (job, (refl, record { even = a.call_is.even; reached = a.call_is.reached }, both.0));
-    } in
-    let now : ThreadShows input i more new.thread y = subst P (sym g.thread) here in
-    let fits : u.clock + 1 ≤ 2 ^ 62 = subst (λ (c : ℕ). c + 1 ≤ 2 ^ 62) (sym h.clock) (next_le t.clock room) in
-    let own : thread_of z i ≡ y = get_or-set_same s.threads i y nobody (within_threads input w s i a.inside a.shows) in
-    attempted_yes input w s z i call new a.phase a.turn (tried_took input s i call a.phase free)
-    (subst (λ (v : lock.Thread). v.clock ≤ 2 ^ 62) (sym own) fits)
+    let z : State = planned (real_calls input.settings) s i u call nothing_carried (turn_of s i) No_object s.world in
+    let now = grant_shows input w s (turn_of s i) call None 1 (held i w.lock) new a.shows a.call_is tt room g in
+    attempted_yes input s z i (table_tried w i new) (ap wants a.phase) a.turn (planned_by input s i call None a.phase free (object_numbered w s call None a.shows.world a.shows.dense none tt))
+    (subst (λ (c : ℕ). c ≤ 2 ^ 62) (sym (clock_set input w s i y a.inside a.shows)) (clock_fits input w s i 1 a.shows room))
     (record {
       count = length-set s.threads i y ∙ a.shows.count ∙ sym (length-set w.threads i new.thread);
-      threads = threads_set input more w.threads s.threads i new.thread y a.inside a.shows.count now
-          (λ k apart. thread_rows input k s.rows more (get_or w.threads k no_thread) (thread_of s k) (λ place other mine at. slice_get-more s.rows (row_of job ∷ []) place (row_of other) at) (a.shows.threads k));
+      threads = others_granted input w s i job new.thread y a.inside a.shows now.thread;
       table = ap (held i) a.shows.table ∙ sym g.lock;
-      world = both.1;
-      rows = map-append shown s.rows (row_of job ∷ []) ∙ ap₂ (λ (rs : List HistoryRow) (c : ℕ). rs ++ granted_row i c call ∷ []) a.shows.rows h.clock ∙ sym g.rows;
+      objects = a.shows.objects;
+      object_count = a.shows.object_count;
+      dense = g.dense;
+      world = now.world;
+      rows = now.rows;
+    })
+
+-- the call wants an object
+attempt_plans : (input : Inputs) (w : Whole) (s : State) (i n : ℕ) (call : Call) → Trying input w s i call → (thread_at w i).clock + 1 ≤ 2 ^ 62 → takes s.table (thread_of s i).clock ≡ true → locked_object w.table call ≡ Some n
+    → n < limit.OBJECTS → n ≤ w.table.next_object
+    → Attempted input s i true (table_tried w i (parts (record (thread_at w i) { phase = phase.WantsObject call (thread_of s i).clock n; clock = (thread_at w i).clock + 1 }) (held i w.lock) w.table w.rows))
+attempt_plans input w s i n call a room free is few within =
+    let t = thread_at w i in
+    let u = thread_of s i in
+    let h = a.shows in
+    let x : Thread = record t { phase = phase.WantsObject call u.clock n; clock = t.clock + 1 } in
+    let y : lock.Thread = record u { phase = WantsObject call nothing_carried u.clock n Inside; clock = u.clock + 1 } in
+    let now : ThreadShows input i s.rows x y =
+    record { clock = ap (λ (c : ℕ). c + 1) (h.threads i).clock; in_time = room; asked = (h.threads i).asked; phase = (refl, record { even = a.call_is.even; reached = a.call_is.reached }, few) } in
+    let z : State = planned (real_calls input.settings) s i u call nothing_carried (turn_of s i) (Object n Inside) s.world in
+    attempted_yes input s z i (table_tried w i (parts x (held i w.lock) w.table w.rows)) (ap wants a.phase) a.turn
+    (planned_by input s i call (Some n) a.phase free (object_numbered w s call (Some n) h.world h.dense is within))
+    (subst (λ (c : ℕ). c ≤ 2 ^ 62) (sym (clock_set input w s i y a.inside h)) (clock_fits input w s i 1 h room))
+    (record {
+      count = length-set s.threads i y ∙ h.count ∙ sym (length-set w.threads i x);
+      threads = threads_set input s.rows w.threads s.threads i x y a.inside h.count now (λ k apart. h.threads k);
+      table = ap (held i) h.table;
+      objects = h.objects;
+      object_count = h.object_count;
+      dense = h.dense;
+      world = h.world;
+      rows = h.rows;
     })
 
 -- ## By the phase of the thread
 
-attempt_full : (input : Inputs) (w : Whole) (s : State) (i : ℕ) (call : Call) → Trying input w s i call → 2 ^ 62 ≤ (thread_at w i).clock → can_attempt (setup_of input) s i ≡ false
+planned_clock : (input : Inputs) (w : Whole) (s : State) (i : ℕ) (call : Call) (o : Option ℕ) → i < length w.threads → Shows input w s
+    → (thread_of (planned (real_calls input.settings) s i (thread_of s i) call nothing_carried (turn_of s i) (plan_of o) s.world) i).clock ≡ (thread_of s i).clock + 1
+planned_clock input w s i call None inside h = clock_set input w s i (granted (thread_of s i) ((thread_of s i).clock + 1) (new_job call nothing_carried (turn_of s i) No_object s.world) false) inside h
+planned_clock input w s i call (Some n) inside h = clock_set input w s i (record (thread_of s i) { phase = WantsObject call nothing_carried (thread_of s i).clock n Inside; clock = (thread_of s i).clock + 1 }) inside h
+
+attempt_full : (input : Inputs) (w : Whole) (s : State) (i : ℕ) (call : Call) → Trying input w s i call → 2 ^ 62 < (thread_at w i).clock + 1 → can_attempt (setup_of input) s i ≡ false
 attempt_full input w s i call a full =
     let u = thread_of s i in
     let h = a.shows.threads i in
-    let within = within_threads input w s i a.inside a.shows in
-    let past : 2 ^ 62 < u.clock + 1 = subst (λ (c : ℕ). 2 ^ 62 < c + 1) (sym h.clock) (next_lt (thread_at w i).clock full) in
-    let clock : (thread_of (tried (setup_of input) s i) i).clock ≡ u.clock + 1 =
-    ⊎_elim
+    let past : 2 ^ 62 < u.clock + 1 = subst (λ (c : ℕ). 2 ^ 62 < c + 1) (sym h.clock) full in
+    attempted_full input s i (u.clock + 1)
+    (⊎_elim
     (λ (free : takes s.table u.clock ≡ true).
-    ap (λ (x : State). (thread_of x i).clock) (tried_took input s i call a.phase free) ∙ ap (λ (v : lock.Thread). v.clock) (get_or-set_same s.threads i (granted u (u.clock + 1) (new_job call nothing_carried (record { clock = u.clock; thread = i }) No_object s.world) false) nobody within))
+    ap (λ (x : State). (thread_of x i).clock) (tried_took input s i call a.phase free) ∙ planned_clock input w s i call (numbered s.world (locked_object s.world.object call)) a.inside a.shows)
     (λ (shut : takes s.table u.clock ≡ false).
-    ap (λ (x : State). (thread_of x i).clock) (tried_failed input s i call a.phase shut) ∙ ap (λ (v : lock.Thread). v.clock) (get_or-set_same s.threads i (record u { clock = u.clock + 1 }) nobody within))
-    (cases_Bool (takes s.table u.clock)) in
-    let no_room : nat_le (thread_of (tried (setup_of input) s i) i).clock (2 ^ 62) ≡ false = ap (λ (c : ℕ). nat_le c (2 ^ 62)) clock ∙ lt-leb (u.clock + 1) (2 ^ 62) past in
-    not_true (can_attempt (setup_of input) s i) (λ can. false≢true (sym no_room ∙ (can_out (setup_of input) s i can).room))
-  where
-    next_lt : (c : ℕ) → 2 ^ 62 ≤ c → 2 ^ 62 < c + 1
-    next_lt c h = omega arith
+    ap (λ (x : State). (thread_of x i).clock) (tried_failed input s i call a.phase shut) ∙ clock_set input w s i (record u { clock = u.clock + 1 }) a.inside a.shows)
+    (cases_Bool (takes s.table u.clock)))
+    past
 
-lock_tried : (input : Inputs) (w : Whole) (s : State) (i : ℕ) (call : Call) (new : Parts) (b : Bool) → Trying input w s i call → (thread_at w i).clock < 2 ^ 62 → takes w.lock (thread_at w i).clock ≡ b
-    → TriesLock b i call (parts (thread_at w i) w.lock w.table w.rows) new → Attempted input w s i true new
+plan_tried : (input : Inputs) (w : Whole) (s : State) (i : ℕ) (call : Call) (new : Parts) (o : Option ℕ) → Trying input w s i call → (thread_at w i).clock + 1 ≤ 2 ^ 62 → takes s.table (thread_of s i).clock ≡ true → locked_object w.table call ≡ o
+    → PlansTo o (turn_of s i) call (record (later (table_parts w i) 1) { lock = held i w.lock }) new → Attempted input s i true (table_tried w i new)
+plan_tried input w s i call new None a room free is g = attempt_takes input w s i call new a room free is g
+plan_tried input w s i call new (Some n) a room free is (few, within, e) =
+    let P : Parts → Type 0 = λ p. Attempted input s i true (table_tried w i p) in subst P (sym e) (attempt_plans input w s i n call a room free is few within)
+
+lock_tried : (input : Inputs) (w : Whole) (s : State) (i : ℕ) (call : Call) (new : Parts) (b : Bool) → Trying input w s i call → (thread_at w i).clock + 1 ≤ 2 ^ 62 → takes w.lock (thread_at w i).clock ≡ b
+    → TriesLock b i call (table_parts w i) new → Attempted input s i true (table_tried w i new)
 lock_tried input w s i call new true a room free g =
-    attempt_takes input w s i call new a room (ap₂ takes a.shows.table (a.shows.threads i).clock ∙ free) g
+    let P : ℕ → Type 0 = λ clock. PlansTo (locked_object w.table call) (record { clock = clock; thread = i }) call (record (later (table_parts w i) 1) { lock = held i w.lock }) new in
+    plan_tried input w s i call new (locked_object w.table call) a room (ap₂ takes a.shows.table (a.shows.threads i).clock ∙ free) refl (subst P (sym (a.shows.threads i).clock) g)
 lock_tried input w s i call new false a room shut g =
-    let P : Parts → Type 0 = Attempted input w s i true in subst P (sym g) (attempt_fails input w s i call a room (ap₂ takes a.shows.table (a.shows.threads i).clock ∙ shut))
+    let P : Parts → Type 0 = λ p. Attempted input s i true (table_tried w i p) in
+    subst P (sym g) (attempt_fails input w s i call a room (ap₂ takes a.shows.table (a.shows.threads i).clock ∙ shut))
 
 not_made : (input : Inputs) (w : Whole) (s : State) (i : ℕ) (made : Bool) (new : Parts) → i < length w.threads → Shows input w s → can_attempt (setup_of input) s i ≡ false
-    → (made ≡ false) × (new ≡ parts (thread_at w i) w.lock w.table w.rows) → Attempted input w s i made new
+    → (made ≡ false) × (new ≡ table_parts w i) → Attempted input s i made (table_tried w i new)
 not_made input w s i made new inside h off g =
-    let P : Bool → Type 0 = λ b. Attempted input w s i b new in
-    let Q : Parts → Type 0 = Attempted input w s i false in
+    let P : Bool → Type 0 = λ b. Attempted input s i b (table_tried w i new) in
+    let Q : Parts → Type 0 = λ p. Attempted input s i false (table_tried w i p) in
     subst P (sym g.0) (subst Q (sym g.1) (attempted_no input w s i inside h off))
 
-time_tried : (input : Inputs) (w : Whole) (s : State) (i : ℕ) (call : Call) (made : Bool) (new : Parts) (b : Bool) → Trying input w s i call → nat_lt (thread_at w i).clock (2 ^ 62) ≡ b
-    → TriesInTime b made i call (parts (thread_at w i) w.lock w.table w.rows) new → Attempted input w s i made new
+time_tried : (input : Inputs) (w : Whole) (s : State) (i : ℕ) (call : Call) (made : Bool) (new : Parts) (b : Bool) → Trying input w s i call → in_time (table_parts w i) 1 ≡ b
+    → TriesInTime b made i call (table_parts w i) new → Attempted input s i made (table_tried w i new)
 time_tried input w s i call made new true a room h =
-    let P : Bool → Type 0 = λ b. Attempted input w s i b new in
-    subst P (sym h.0) (lock_tried input w s i call new (takes w.lock (thread_at w i).clock) a (ltb-true (thread_at w i).clock (2 ^ 62) room) refl h.1)
-time_tried input w s i call made new false a full h = not_made input w s i made new a.inside a.shows (attempt_full input w s i call a (ltb-false (thread_at w i).clock (2 ^ 62) full)) h
+    let P : Bool → Type 0 = λ b. Attempted input s i b (table_tried w i new) in
+    subst P (sym h.0) (lock_tried input w s i call new (takes w.lock (thread_at w i).clock) a (leb-true ((thread_at w i).clock + 1) (2 ^ 62) room) refl h.1)
+time_tried input w s i call made new false a full h = not_made input w s i made new a.inside a.shows (attempt_full input w s i call a (leb-false ((thread_at w i).clock + 1) (2 ^ 62) full)) h
 
-phase_tried : (input : Inputs) (w : Whole) (s : State) (i : ℕ) (made : Bool) (new : Parts) (p : Phase) → i < length w.threads → Shows input w s → has_turn (live_clocks s) i ≡ true → (thread_at w i).phase ≡ p
-    → PhaseShows input i s.rows (thread_at w i) (thread_of s i) p → TriesIn p made i (parts (thread_at w i) w.lock w.table w.rows) new → Attempted input w s i made new
-phase_tried input w s i made new (phase.WantsTable call) inside h turn is g tries =
-    time_tried input w s i call made new (nat_lt (thread_at w i).clock (2 ^ 62)) (record { inside = inside; shows = h; turn = turn; wanting = is; phase = g.0; call_is = g.1 }) refl tries
-phase_tried input w s i made new phase.Working inside h turn is g tries = not_made input w s i made new inside h (wants_none input s i (ap wants g.0)) tries
-phase_tried input w s i made new (phase.Granted place) inside h turn is g tries = not_made input w s i made new inside h (wants_none input s i (ap wants g.1.0)) tries
-phase_tried input w s i made new phase.Stuck inside h turn is g tries = not_made input w s i made new inside h (wants_none input s i (ap wants g.0)) tries
-phase_tried input w s i made new phase.Ended inside h turn is g tries = not_made input w s i made new inside h (wants_none input s i (ap wants g)) tries
+-- only a thread that wants the table makes this attempt
+pub attempt_whole : (input : Inputs) (w : Whole) (s : State) (i : ℕ) (call : Call) (made : Bool) (new : Parts) → i < length w.threads → Shows input w s → has_turn (live_clocks s) i ≡ true → (thread_at w i).phase ≡ phase.WantsTable call
+    → Tries made i (table_parts w i) new → Attempted input s i made (table_tried w i new)
+attempt_whole input w s i call made new inside h turn is tries =
+    let P : Phase → Type 0 = λ p. PhaseShows input i s.rows (thread_at w i) (thread_of s i) p in
+    let Q : Phase → Type 0 = λ p. TriesIn p made i (table_parts w i) new in
+    let g = subst P is (h.threads i).phase in
+    time_tried input w s i call made new (in_time (table_parts w i) 1) (record { inside = inside; shows = h; turn = turn; wanting = is; phase = g.0; call_is = g.1 }) refl (subst Q is tries)
 
-pub attempt_whole : (input : Inputs) (w : Whole) (s : State) (i : ℕ) (made : Bool) (new : Parts) → i < length w.threads → Shows input w s → has_turn (live_clocks s) i ≡ true
-    → Tries made i (parts (thread_at w i) w.lock w.table w.rows) new → Attempted input w s i made new
-attempt_whole input w s i made new inside h turn tries = phase_tried input w s i made new (thread_at w i).phase inside h turn refl (h.threads i).phase tries
-
--- without the turn there is shut attempt
+-- without the turn there is no attempt
 pub attempt_waits : (input : Inputs) (w : Whole) (s : State) (i : ℕ) → Shows input w s → has_turn (live_clocks s) i ≡ false → (can_attempt (setup_of input) s i ≡ false) × Shows input w (attempt (setup_of input) i s)
 attempt_waits input w s i h shut =
     let off = turn_none input s i shut in
+    let P : State → Type 0 = Shows input w in (off, subst P (sym (attempt_not (setup_of input) i s off)) h)
+
+-- nor in a phase that wants nothing
+pub attempt_idle : (input : Inputs) (w : Whole) (s : State) (i : ℕ) → Shows input w s → wants (thread_of s i).phase ≡ false → (can_attempt (setup_of input) s i ≡ false) × Shows input w (attempt (setup_of input) i s)
+attempt_idle input w s i h idle =
+    let off = wants_none input s i idle in
     let P : State → Type 0 = Shows input w in (off, subst P (sym (attempt_not (setup_of input) i s off)) h)

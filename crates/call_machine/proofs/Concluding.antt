@@ -1,10 +1,9 @@
 -- What is told of a run that has come to its end.
-use Rattle.std.proofs.Common.{◌≡◌, length, None, true, refl, sym, ◌∙◌, subst}
+use Rattle.std.proofs.Common.{◌≡◌, length, true, sym, ◌∙◌, subst}
 use Rattle.posix_terms.specs.Legal.{IsLegal}
-use Rattle.posix_terms.specs.Object.{empty_state}
-use Rattle.posix_terms.specs.Step.{nothing_carried}
 use Rattle.posix_terms.specs.declared.limits.TheConstants.Limits as limit
-use Rattle.lock_model.proofs.Arising.{legal_arisen}
+use Rattle.lock_model.specs.Numbers.{first_world}
+use Rattle.lock_model.proofs.RealLaws.{real_legal_arisen}
 use Rattle.lock_model.proofs.Rising.{rising_arisen}
 use Rattle.call_machine.specs.Driven.{Ends}
 use Rattle.call_machine.specs.History.{AreRising}
@@ -13,7 +12,7 @@ use Rattle.call_machine.specs.Setup.{Inputs, first_state, setup_of}
 use Rattle.call_machine.specs.Shows.{Shows, Whole}
 use Rattle.call_machine.specs.Starting.{first_whole, told}
 use Rattle.call_machine.specs.declared.plain.Plain.{Plain}
-use Rattle.call_machine.proofs.Legality.{legal_shown, rising_shown}
+use Rattle.call_machine.proofs.Legality.{rising_shown}
 use Rattle.call_machine.proofs.Told.{first_shows, told_shown}
 
 -- a run that was made is one to its end, of what stood at the start
@@ -28,11 +27,10 @@ plain_run_is input w plain e is threads settings = record { threads = threads; s
 
 pub plain_legal : (input : Inputs) (w : Whole) (plain : Plain) → Ends input w → plain ≡ told w → IsLegal input.settings plain.history.rows
 plain_legal input w plain e is =
-    let legal = legal_arisen (setup_of input) (length input.scripts) limit.OBJECTS empty_state e.last e.arises (λ k. None) in
     let P : Plain → Type 0 = λ p. IsLegal input.settings p.history.rows in
-    subst P (sym (plain_is input w plain e is)) (legal_shown input.settings (λ k. None) 0 empty_state (λ i. nothing_carried) (λ i. nothing_carried) e.last.rows (λ i. refl) (λ i. refl) legal)
+    subst P (sym (plain_is input w plain e is)) (real_legal_arisen input.settings (setup_of input).supply (length input.scripts) e.last e.arises)
 
 pub plain_rising : (input : Inputs) (w : Whole) (plain : Plain) → Ends input w → plain ≡ told w → AreRising plain.history.rows
 plain_rising input w plain e is =
     let P : Plain → Type 0 = λ p. AreRising p.history.rows in
-    subst P (sym (plain_is input w plain e is)) (rising_shown e.last.rows (rising_arisen (setup_of input) (length input.scripts) limit.OBJECTS empty_state e.last e.arises))
+    subst P (sym (plain_is input w plain e is)) (rising_shown e.last.rows (rising_arisen (setup_of input) (length input.scripts) limit.OBJECTS first_world e.last e.arises))

@@ -1,7 +1,7 @@
 -- Each event lowers what its thread can still do.
-use Rattle.std.proofs.Common.{◌≡◌, ℕ, zero, suc, ◌+◌, ◌-◌, ◌*◌, ◌<◌, ◌≤◌, ◌^◌, ◌⊎◌, List, [], ◌∷◌, length, set, get_or, slice_get, Option, Some, None, Bool, true, false, sym, refl, ap, ◌∙◌, subst, arith, ⊎_elim}
-use Rattle.std.proofs.lemmas.Bool.{ltb-true}
-use Rattle.std.specs.Prelude.{nat_lt}
+use Rattle.std.proofs.Common.{◌≡◌, ℕ, zero, suc, ◌+◌, ◌-◌, ◌*◌, ◌<◌, ◌≤◌, ◌^◌, ◌⊎◌, List, [], ◌∷◌, length, set, get_or, slice_get, Option, Some, None, Bool, true, false, ◌&&◌, sym, refl, ap, ◌∙◌, subst, arith, ⊎_elim}
+use Rattle.std.proofs.lemmas.Bool.{and_parts, leb-true}
+use Rattle.std.specs.Prelude.{nat_le}
 use Rattle.posix_terms.specs.declared.call.Call.{Call}
 use Rattle.posix_terms.specs.declared.reply.Reply.{Reply}
 use Rattle.posix_terms.specs.declared.transcript.HistoryRow.{HistoryRow}
@@ -10,14 +10,18 @@ use Rattle.thread_scripts.specs.Meaning.{lines_left, next_of}
 use Rattle.thread_scripts.specs.declared.actor.ScriptState.{ScriptState}
 use Rattle.thread_scripts.specs.declared.actor.Step.{Step}
 use Rattle.thread_scripts.specs.declared.actor.Step.TheVariants as step
-use Rattle.det_mutex.specs.Attempt.{takes}
+use Rattle.posix_terms.specs.Locked.{locked_object}
+use Rattle.posix_terms.specs.declared.transcript.Turn.{Turn}
+use Rattle.det_mutex.specs.Attempt.{freed, held, takes}
+use Rattle.det_mutex.specs.declared.lock.DetLock.{DetLock}
+use Rattle.lock_model.specs.Machine.{is_number}
 use Rattle.call_machine.specs.Asking.{Asks, AsksStep, after_end, after_want, worked}
-use Rattle.call_machine.specs.Events.{Answers, AnswersIn, AnswersWith, Parts, Tries, TriesIn, TriesInTime, TriesLock, replied}
+use Rattle.call_machine.specs.Events.{Answers, AnswersIn, AnswersWith, Grants, ObjectInTime, Parts, PlansTo, Reaches, ReachesIn, Tries, TriesIn, TriesInTime, TriesLock, TriesObject, in_time, later, object_cost, replied, takes_object}
 use Rattle.call_machine.specs.Views.{no_thread}
 use Rattle.call_machine.specs.Weights.{Falls, left_in, total, weight}
 use Rattle.call_machine.specs.declared.thread.Phase.{Phase}
 use Rattle.call_machine.specs.declared.thread.Phase.TheVariants as phase
-use Rattle.call_machine.specs.declared.thread.Thread.{Thread}
+use Rattle.call_machine.specs.Threads.{Thread}
 
 -- ## Threads
 
@@ -67,49 +71,98 @@ one_less n = omega arith
 no_more : (n : ℕ) → n ≤ n + 1
 no_more n = omega arith
 
-replied_falls : (old : Parts) (place row : ℕ) (reply : Reply) (q : HistoryRow) → old.thread.phase ≡ phase.Granted place → old.thread.clock < 2 ^ 62 → weight (replied old row reply q).thread < weight old.thread
-replied_falls old place row reply q is room =
+room_for : (n clock : ℕ) → nat_le (clock + n) (2 ^ 62) ≡ true → clock + n ≤ 2 ^ 62
+room_for n clock h = leb-true (clock + n) (2 ^ 62) h
+
+one_room : (clock : ℕ) → nat_le (clock + 1) (2 ^ 62) ≡ true → clock < 2 ^ 62
+one_room clock h = let room = room_for 1 clock h in omega arith
+
+replied_falls : (old : Parts) (place : ℕ) (object : Option ℕ) (row : ℕ) (reply : Reply) (q : HistoryRow) → old.thread.phase ≡ phase.Granted place object → old.thread.clock < 2 ^ 62 → weight (replied old row reply q).thread < weight old.thread
+replied_falls old place object row reply q is room =
     let t = old.thread in
     spent_falls (2 ^ 62) t.clock (2 * lines_left t.actor + 1) (2 * lines_left t.actor + 2) (weight (replied old row reply q).thread) (weight t)
-    (weight_in (replied old row reply q).thread phase.Working refl) (weight_in t (phase.Granted place) is) room (one_less (lines_left t.actor))
+    (weight_in (replied old row reply q).thread phase.Working refl) (weight_in t (phase.Granted place object) is) room (one_less (lines_left t.actor))
 
-answer_with : (old new : Parts) (place row : ℕ) (o : Option Reply) (q : Option HistoryRow) → old.thread.phase ≡ phase.Granted place → old.thread.clock < 2 ^ 62 → AnswersWith true row o q old new → weight new.thread < weight old.thread
-answer_with old new place row (Some reply) (Some q) is room (moved, e) = subst (λ (p : Parts). weight p.thread < weight old.thread) (sym e) (replied_falls old place row reply q is room)
-answer_with old new place row (Some reply) None is room (moved, e) = cc
-answer_with old new place row None q is room (moved, e) = cc
+answer_with : (old new : Parts) (place : ℕ) (object : Option ℕ) (row : ℕ) (o : Option Reply) (q : Option HistoryRow) → old.thread.phase ≡ phase.Granted place object → old.thread.clock < 2 ^ 62 → AnswersWith true row o q old new → weight new.thread < weight old.thread
+answer_with old new place object row (Some reply) (Some q) is room (moved, e) = subst (λ (p : Parts). weight p.thread < weight old.thread) (sym e) (replied_falls old place object row reply q is room)
+answer_with old new place object row (Some reply) None is room (moved, e) = cc
+answer_with old new place object row None q is room (moved, e) = cc
 
-answer_in_time : (old new : Parts) (place row : ℕ) (b : Bool) → nat_lt old.thread.clock (2 ^ 62) ≡ b → old.thread.phase ≡ phase.Granted place → AnswersIn b true row old new → weight new.thread < weight old.thread
-answer_in_time old new place row true room is h = answer_with old new place row old.thread.last (slice_get old.rows row) is (ltb-true old.thread.clock (2 ^ 62) room) h
-answer_in_time old new place row false room is (moved, e) = cc
+answer_if : (old new : Parts) (i place : ℕ) (object : Option ℕ) (row : ℕ) (b : Bool) → (is_number old.lock.holder i && in_time old 1) ≡ b → old.thread.phase ≡ phase.Granted place object → AnswersIn b true row old new → weight new.thread < weight old.thread
+answer_if old new i place object row true can is h = answer_with old new place object row old.thread.last (slice_get old.rows row) is (one_room old.thread.clock (and_parts (is_number old.lock.holder i) (in_time old 1) can).1) h
+answer_if old new i place object row false can is (moved, e) = cc
 
-pub answer_falls : (old new : Parts) (place row : ℕ) → old.thread.phase ≡ phase.Granted place → Answers true row old new → weight new.thread < weight old.thread
-answer_falls old new place row is h = answer_in_time old new place row (nat_lt old.thread.clock (2 ^ 62)) refl is h
+pub answer_falls : (old new : Parts) (i place : ℕ) (object : Option ℕ) (row : ℕ) → old.thread.phase ≡ phase.Granted place object → Answers true i row old new → weight new.thread < weight old.thread
+answer_falls old new i place object row is h = answer_if old new i place object row (is_number old.lock.holder i && in_time old 1) refl is h
 
-lock_falls : (i : ℕ) (call : Call) (old new : Parts) (b : Bool) → old.thread.phase ≡ phase.WantsTable call → old.thread.clock < 2 ^ 62 → TriesLock b i call old new → weight new.thread < weight old.thread
+-- a thread after an attempt, with so much more on its clock, in a phase like this
+spent : (t u : Thread) (p : Phase) (cost : ℕ) → 1 ≤ cost → t.clock + cost ≤ 2 ^ 62 → t.phase ≡ p → left_in p (lines_left t.actor) ≡ 2 * lines_left t.actor + 2
+    → weight u ≡ 2 * (2 ^ 62 - (t.clock + cost)) + (2 * lines_left t.actor + 2) → weight u < weight t
+spent t u p cost some room is left after = less (2 ^ 62) t.clock cost (2 * lines_left t.actor + 2) (weight u) (weight t) some room after (weight_in t p is ∙ ap (λ (k : ℕ). 2 * (2 ^ 62 - t.clock) + k) left)
+  where
+    less : (limit clock cost left x y : ℕ) → 1 ≤ cost → clock + cost ≤ limit → x ≡ 2 * (limit - (clock + cost)) + left → y ≡ 2 * (limit - clock) + left → x < y
+    less limit clock cost left x y some room e f = omega arith
+
+-- the thread of these parts once the call is granted
+grant_weight : (turn : Turn) (call : Call) (object : Option ℕ) (old new : Parts) → Grants turn call object old new → weight new.thread ≡ 2 * (2 ^ 62 - old.thread.clock) + (2 * lines_left old.thread.actor + 2)
+grant_weight turn call object old new g =
+    let u : Thread = record old.thread { phase = phase.Granted (length old.rows) object; last = new.thread.last } in
+    ap weight g.thread ∙ weight_in u (phase.Granted (length old.rows) object) refl
+
+plan_weight : (o : Option ℕ) (turn : Turn) (call : Call) (old new : Parts) → PlansTo o turn call old new → weight new.thread ≡ 2 * (2 ^ 62 - old.thread.clock) + (2 * lines_left old.thread.actor + 2)
+plan_weight None turn call old new g = grant_weight turn call None old new g
+plan_weight (Some object) turn call old new (few, next, e) =
+    let u : Thread = record old.thread { phase = phase.WantsObject call turn.clock object } in
+    ap (λ (p : Parts). weight p.thread) e ∙ weight_in u (phase.WantsObject call turn.clock object) refl
+
+lock_falls : (i : ℕ) (call : Call) (old new : Parts) (b : Bool) → old.thread.phase ≡ phase.WantsTable call → old.thread.clock + 1 ≤ 2 ^ 62 → TriesLock b i call old new → weight new.thread < weight old.thread
 lock_falls i call old new true is room g =
-    let t = old.thread in
-    let u : Thread = record t { phase = phase.Granted (length old.rows); clock = t.clock + 1; last = new.thread.last } in
-    spent_falls (2 ^ 62) t.clock (2 * lines_left t.actor + 2) (2 * lines_left t.actor + 2) (weight new.thread) (weight t)
-    (ap weight g.thread ∙ weight_in u (phase.Granted (length old.rows)) refl) (weight_in t (phase.WantsTable call) is) room (no_more (2 * lines_left t.actor + 2))
+    spent old.thread new.thread (phase.WantsTable call) 1 (omega arith) room is refl
+    (plan_weight (locked_object old.table call) (record { clock = old.thread.clock; thread = i }) call (record (later old 1) { lock = held i old.lock }) new g)
 lock_falls i call old new false is room e =
-    let t = old.thread in
-    let u : Thread = record t { clock = t.clock + 1 } in
-    spent_falls (2 ^ 62) t.clock (2 * lines_left t.actor + 2) (2 * lines_left t.actor + 2) (weight new.thread) (weight t)
-    (ap (λ (p : Parts). weight p.thread) e ∙ weight_in u (phase.WantsTable call) is) (weight_in t (phase.WantsTable call) is) room (no_more (2 * lines_left t.actor + 2))
+    let u : Thread = record old.thread { clock = old.thread.clock + 1 } in
+    spent old.thread new.thread (phase.WantsTable call) 1 (omega arith) room is refl (ap (λ (p : Parts). weight p.thread) e ∙ weight_in u (phase.WantsTable call) is)
 
-try_in_time : (i : ℕ) (call : Call) (old new : Parts) (b : Bool) → nat_lt old.thread.clock (2 ^ 62) ≡ b → old.thread.phase ≡ phase.WantsTable call → TriesInTime b true i call old new → weight new.thread < weight old.thread
-try_in_time i call old new true room is (made, h) = lock_falls i call old new (takes old.lock old.thread.clock) is (ltb-true old.thread.clock (2 ^ 62) room) h
+try_in_time : (i : ℕ) (call : Call) (old new : Parts) (b : Bool) → in_time old 1 ≡ b → old.thread.phase ≡ phase.WantsTable call → TriesInTime b true i call old new → weight new.thread < weight old.thread
+try_in_time i call old new true room is (made, h) = lock_falls i call old new (takes old.lock old.thread.clock) is (room_for 1 old.thread.clock room) h
 try_in_time i call old new false room is (made, e) = cc
 
 try_in : (i : ℕ) (old new : Parts) (p : Phase) → old.thread.phase ≡ p → TriesIn p true i old new → weight new.thread < weight old.thread
-try_in i old new (phase.WantsTable call) is h = try_in_time i call old new (nat_lt old.thread.clock (2 ^ 62)) refl is h
+try_in i old new (phase.WantsTable call) is h = try_in_time i call old new (in_time old 1) refl is h
 try_in i old new phase.Working is (made, e) = cc
-try_in i old new (phase.Granted row) is (made, e) = cc
+try_in i old new (phase.WantsObject call clock object) is (made, e) = cc
+try_in i old new (phase.Granted row object) is (made, e) = cc
 try_in i old new phase.Stuck is (made, e) = cc
 try_in i old new phase.Ended is (made, e) = cc
 
 pub try_falls : (i : ℕ) (old new : Parts) → Tries true i old new → weight new.thread < weight old.thread
 try_falls i old new h = try_in i old new old.thread.phase refl h
+
+object_falls : (i : ℕ) (turn : Turn) (call : Call) (clock object : ℕ) (lock now : DetLock) (old new : Parts) (b : Bool) → old.thread.phase ≡ phase.WantsObject call clock object → old.thread.clock + object_cost b ≤ 2 ^ 62
+    → TriesObject b i turn call object lock now old new → weight new.thread < weight old.thread
+object_falls i turn call clock object lock now old new true is room (taken, g) =
+    spent old.thread new.thread (phase.WantsObject call clock object) 2 (omega arith) room is refl
+    (grant_weight turn call (Some object) (record (later old 2) { lock = freed (old.thread.clock + 1) }) new g)
+object_falls i turn call clock object lock now old new false is room (shut, e) =
+    let u : Thread = record old.thread { clock = old.thread.clock + 1 } in
+    spent old.thread new.thread (phase.WantsObject call clock object) 1 (omega arith) room is refl (ap (λ (p : Parts). weight p.thread) e ∙ weight_in u (phase.WantsObject call clock object) is)
+
+object_in_time : (i : ℕ) (turn : Turn) (call : Call) (clock object : ℕ) (lock now : DetLock) (old new : Parts) (taken b : Bool) → in_time old (object_cost taken) ≡ b → old.thread.phase ≡ phase.WantsObject call clock object
+    → ObjectInTime b taken true i turn call object lock now old new → weight new.thread < weight old.thread
+object_in_time i turn call clock object lock now old new taken true room is (made, h) = object_falls i turn call clock object lock now old new taken is (room_for (object_cost taken) old.thread.clock room) h
+object_in_time i turn call clock object lock now old new taken false room is (made, same, e) = cc
+
+reach_in : (i : ℕ) (lock now : DetLock) (old new : Parts) (p : Phase) → old.thread.phase ≡ p → ReachesIn p true i lock now old new → weight new.thread < weight old.thread
+reach_in i lock now old new (phase.WantsObject call clock object) is h =
+    let taken = takes_object i lock old in object_in_time i (record { clock = clock; thread = i }) call clock object lock now old new taken (in_time old (object_cost taken)) refl is h
+reach_in i lock now old new (phase.WantsTable call) is (made, same, e) = cc
+reach_in i lock now old new phase.Working is (made, same, e) = cc
+reach_in i lock now old new (phase.Granted row object) is (made, same, e) = cc
+reach_in i lock now old new phase.Stuck is (made, same, e) = cc
+reach_in i lock now old new phase.Ended is (made, same, e) = cc
+
+pub reach_falls : (i : ℕ) (lock now : DetLock) (old new : Parts) → Reaches true i lock now old new → weight new.thread < weight old.thread
+reach_falls i lock now old new h = reach_in i lock now old new old.thread.phase refl h
 
 -- ## All threads
 
@@ -157,19 +210,36 @@ answer_in_stays : (old new : Parts) (row : ℕ) (b : Bool) → AnswersIn b false
 answer_in_stays old new row true h = answer_with_stays old new row old.thread.last (slice_get old.rows row) h
 answer_in_stays old new row false (moved, e) = same_le old new e
 
-pub answer_stays : (old new : Parts) (row : ℕ) → Answers false row old new → weight new.thread ≤ weight old.thread
-answer_stays old new row h = answer_in_stays old new row (nat_lt old.thread.clock (2 ^ 62)) h
+pub answer_stays : (old new : Parts) (i row : ℕ) → Answers false i row old new → weight new.thread ≤ weight old.thread
+answer_stays old new i row h = answer_in_stays old new row (is_number old.lock.holder i && in_time old 1) h
 
 try_in_time_stays : (i : ℕ) (call : Call) (old new : Parts) (b : Bool) → TriesInTime b false i call old new → weight new.thread ≤ weight old.thread
 try_in_time_stays i call old new true (made, h) = cc
 try_in_time_stays i call old new false (made, e) = same_le old new e
 
 try_in_stays : (i : ℕ) (old new : Parts) (p : Phase) → TriesIn p false i old new → weight new.thread ≤ weight old.thread
-try_in_stays i old new (phase.WantsTable call) h = try_in_time_stays i call old new (nat_lt old.thread.clock (2 ^ 62)) h
+try_in_stays i old new (phase.WantsTable call) h = try_in_time_stays i call old new (in_time old 1) h
 try_in_stays i old new phase.Working (made, e) = same_le old new e
-try_in_stays i old new (phase.Granted row) (made, e) = same_le old new e
+try_in_stays i old new (phase.WantsObject call clock object) (made, e) = same_le old new e
+try_in_stays i old new (phase.Granted row object) (made, e) = same_le old new e
 try_in_stays i old new phase.Stuck (made, e) = same_le old new e
 try_in_stays i old new phase.Ended (made, e) = same_le old new e
 
 pub try_stays : (i : ℕ) (old new : Parts) → Tries false i old new → weight new.thread ≤ weight old.thread
 try_stays i old new h = try_in_stays i old new old.thread.phase h
+
+object_in_time_stays : (i : ℕ) (turn : Turn) (call : Call) (object : ℕ) (lock now : DetLock) (old new : Parts) (taken b : Bool) → ObjectInTime b taken false i turn call object lock now old new → weight new.thread ≤ weight old.thread
+object_in_time_stays i turn call object lock now old new taken true (made, h) = cc
+object_in_time_stays i turn call object lock now old new taken false (made, same, e) = same_le old new e
+
+reach_in_stays : (i : ℕ) (lock now : DetLock) (old new : Parts) (p : Phase) → ReachesIn p false i lock now old new → weight new.thread ≤ weight old.thread
+reach_in_stays i lock now old new (phase.WantsObject call clock object) h =
+    let taken = takes_object i lock old in object_in_time_stays i (record { clock = clock; thread = i }) call object lock now old new taken (in_time old (object_cost taken)) h
+reach_in_stays i lock now old new (phase.WantsTable call) (made, same, e) = same_le old new e
+reach_in_stays i lock now old new phase.Working (made, same, e) = same_le old new e
+reach_in_stays i lock now old new (phase.Granted row object) (made, same, e) = same_le old new e
+reach_in_stays i lock now old new phase.Stuck (made, same, e) = same_le old new e
+reach_in_stays i lock now old new phase.Ended (made, same, e) = same_le old new e
+
+pub reach_stays : (i : ℕ) (lock now : DetLock) (old new : Parts) → Reaches false i lock now old new → weight new.thread ≤ weight old.thread
+reach_stays i lock now old new h = reach_in_stays i lock now old new old.thread.phase h

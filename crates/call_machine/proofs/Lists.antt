@@ -1,5 +1,5 @@
 -- Lists whose items agree, place by place.
-use Rattle.std.proofs.Common.{◌≡◌, ℕ, zero, suc, ◌<◌, List, [], ◌∷◌, length, map, get_or, refl, ap₂, sym, ◌∙◌, arith}
+use Rattle.std.proofs.Common.{◌≡◌, ℕ, zero, suc, ◌<◌, List, [], ◌∷◌, length, map, get_or, set, refl, ap, ap₂, sym, ◌∙◌, arith}
 
 pub maps_agree : {A B C : Type 0} (f : A → C) (g : B → C) (xs : List A) (ys : List B) (d : A) (e : B) → length xs ≡ length ys → ((k : ℕ) → f (get_or xs k d) ≡ g (get_or ys k e)) → map f xs ≡ map g ys
 maps_agree f g [] [] d e same h = refl
@@ -14,3 +14,8 @@ item_is xs i x d inside h = any_default xs i d x inside ∙ sym h
     any_default [] i d e h = absurd (omega arith)
     any_default (x ∷ xs) zero d e h = refl
     any_default (x ∷ xs) (suc i) d e h = any_default xs i d e (omega arith)
+
+pub set_same : {A : Type 0} (xs : List A) (i : ℕ) (d : A) → i < length xs → set xs i (get_or xs i d) ≡ xs
+set_same [] i d h = absurd (omega arith)
+set_same (x ∷ xs) zero d h = refl
+set_same (x ∷ xs) (suc i) d h = ap (λ (l : List _). x ∷ l) (set_same xs i d (omega arith))

@@ -1,14 +1,15 @@
 -- The events of the plain schedule.
 use Rattle.std.proofs.Common.{◌≡◌, ℕ, suc, ◌+◌, ◌<◌, length, Option, Some, None, Bool, true, false, sym, refl, ap, ◌∙◌, subst, arith}
 use Rattle.std.proofs.lemmas.Bool.{cond-true, cond-false}
-use Rattle.posix_terms.specs.Object.{empty_state}
 use Rattle.posix_terms.specs.declared.limits.TheConstants.Limits as limit
 use Rattle.lock_model.specs.Machine.{can_advance, can_attempt, happens}
+use Rattle.lock_model.specs.Numbers.{first_world}
 use Rattle.lock_model.specs.Machine.Event.{Advances, Attempts}
 use Rattle.lock_model.specs.Runs.{Arises}
 use Rattle.lock_model.specs.Schedule.{advance_by, attempt_by, next_event, plain_run}
 use Rattle.lock_model.specs.State.{State, live_clocks}
 use Rattle.logical_clocks.specs.TurnOrder.{first_below, first_or, turn_holder}
+use Rattle.logical_clocks.proofs.TurnLemmas.{first_below_found}
 use Rattle.lock_model.proofs.Arising.{arises_event, arises_start}
 use Rattle.lock_model.proofs.Ends.{one_more}
 use Rattle.lock_model.proofs.Diamond.{not_allowed}
@@ -17,7 +18,6 @@ use Rattle.call_machine.specs.Setup.{Inputs, first_state, setup_of}
 use Rattle.call_machine.specs.Shows as shows
 use Rattle.call_machine.specs.Shows.{Shows, Whole}
 use Rattle.call_machine.specs.Views.{clocks_of}
-use Rattle.call_machine.proofs.Below.{first_at}
 use Rattle.call_machine.proofs.Turning.{clocks_shown}
 
 -- the first threads, so many, can't make an event without the turn
@@ -52,7 +52,7 @@ advanced_next i old now new inside h moved input s arises old_shows =
     let so_far = h.holds input s arises old_shows in
     let next = moved input s arises so_far.1 in
     let within : i < length s.threads = subst (λ (n : ℕ). i < n) (sym old_shows.count) inside in
-    (Advances i, (ap (advance_by (setup_of input) s) (first_at (length s.threads) i (can_advance (setup_of input) s) within so_far.0 next.0), next.1))
+    (Advances i, (ap (advance_by (setup_of input) s) (first_below_found (length s.threads) i (can_advance (setup_of input) s) within so_far.0 next.0), next.1))
 
 none_advances : (n : ℕ) (old now : Whole) → n ≡ length old.threads → NoneMoves n old now → (input : Inputs) (s : State) → Arises (setup_of input) (first_state input) s → Shows input old s
     → (next_event (setup_of input) s ≡ attempt_by (setup_of input) s (turn_holder (live_clocks s))) × Shows input now s
@@ -87,7 +87,7 @@ attempted_next n i false old now new whole h holder made input s arises old_show
 pub at_the_start : (input : Inputs) (w : Whole) → Shows input w (first_state input) → ComesTo input w
 unfolding plain_run
 at_the_start input w h =
-    record { state = first_state input; count = 0; reached = refl; arises = arises_start (setup_of input) (length input.scripts) limit.OBJECTS empty_state; shows = h }
+    record { state = first_state input; count = 0; reached = refl; arises = arises_start (setup_of input) (length input.scripts) limit.OBJECTS first_world; shows = h }
 
 pub comes_on : (input : Inputs) (old new : Whole) → ComesTo input old → Plainly true old new → ComesTo input new
 comes_on input old new h next =

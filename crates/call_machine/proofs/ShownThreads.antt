@@ -1,7 +1,7 @@
 -- A thread of a run stands for one of the lock machine: how that lasts.
-use Rattle.std.proofs.Common.{◌≡◌, ℕ, zero, suc, arith, ◌<◌, List, length, map, get_or, set, slice_get, Option, Some, None, Bool, true, false, is_some, is_none, ◌==◌, sym, refl, ap, ap₂, ◌∙◌, [], ◌∷◌, subst, ⊎_elim}
+use Rattle.std.proofs.Common.{◌≡◌, ℕ, ◌<◌, List, length, map, get_or, set, slice_get, Option, Some, None, Bool, true, false, is_some, is_none, ◌==◌, sym, refl, ap, ap₂, ◌∙◌, [], ◌∷◌, subst, ⊎_elim}
 use Rattle.std.proofs.lemmas.Bool.{cases_eq, cases_Bool, and_parts}
-use Rattle.std.proofs.lemmas.List.{get_or-set_same, get_or-set_other, length-set}
+use Rattle.std.proofs.lemmas.List.{get_or-set_same, get_or-set_other, length-map, length-set}
 use Rattle.std.proofs.lemmas.Option.{slice_get-map}
 use Rattle.std.specs.Prelude.{option_map}
 use Rattle.posix_terms.specs.declared.outcome.Outcome.{Outcome}
@@ -14,12 +14,13 @@ use Rattle.lock_model.specs.State.{Job, Row, State, nobody, thread_of}
 use Rattle.lock_model.specs.Terms.{World}
 use Rattle.lock_model.proofs.Commute.{advance_move, lock_mine, lock_other, row_closed, row_open, row_other, world_mine, world_other}
 use Rattle.call_machine.specs.Setup.{Inputs, setup_of}
-use Rattle.call_machine.specs.Rows.{shown}
+use Rattle.lock_model.specs.Rows.{shown}
 use Rattle.call_machine.specs.Shows.{IsGranted, PhaseShows, Shows, ThreadShows, Whole}
 use Rattle.call_machine.specs.Views.{no_thread}
+use Rattle.call_machine.specs.Threads.{Thread}
 use Rattle.call_machine.specs.declared.thread.Phase.{Phase}
 use Rattle.call_machine.specs.declared.thread.Phase.TheVariants as phase
-use Rattle.call_machine.specs.declared.thread.Thread.{Thread}
+use Rattle.call_machine.proofs.Lists.{set_same}
 
 -- ## Other rows
 
@@ -30,8 +31,9 @@ KeepsRows k rows more = (place : ℕ) (job : Job) → job.turn.thread ≡ k → 
 phase_rows : (input : Inputs) (k : ℕ) (rows more : List Row) (t : Thread) (u : lock.Thread) (p : Phase) → KeepsRows k rows more → PhaseShows input k rows t u p → PhaseShows input k more t u p
 phase_rows input k rows more t u phase.Working keeps h = h
 phase_rows input k rows more t u (phase.WantsTable call) keeps h = h
-phase_rows input k rows more t u (phase.Granted place) keeps (job, h) =
-    let g : IsGranted input k rows place t.last job = h.2 in (job, (h.0, h.1, record { plan = g.plan; thread = g.thread; reply = g.reply; waits = g.waits; answers = g.answers; row = keeps place job g.thread g.row }))
+phase_rows input k rows more t u (phase.WantsObject call clock object) keeps h = h
+phase_rows input k rows more t u (phase.Granted place object) keeps (job, h) =
+    let g : IsGranted input k rows place object t.last job = h.2 in (job, (h.0, h.1, record { plan = g.plan; in_range = g.in_range; thread = g.thread; reply = g.reply; waits = g.waits; answers = g.answers; row = keeps place job g.thread g.row }))
 phase_rows input k rows more t u phase.Stuck keeps h = h
 phase_rows input k rows more t u phase.Ended keeps h = h
 
@@ -72,14 +74,14 @@ world_keeps : (i : ℕ) (l : DetLock) (w : World) → world_after i l None w ≡
 world_keeps i l w = ⊎_elim (λ (h : is_number l.holder i ≡ true). world_mine i l None w h) (λ (h : is_number l.holder i ≡ false). world_other i l None w h) (cases_Bool (is_number l.holder i))
 
 -- thread i makes its event: this is what the others and the shared parts see of it
-pub whole_moved : (input : Inputs) (w : Whole) (s : State) (i : ℕ) (t : Thread) (m : Moved) (l : DetLock) (rows : List HistoryRow)
+pub whole_moved : (input : Inputs) (w : Whole) (s : State) (i : ℕ) (t : Thread) (m : Moved) (l : DetLock) (ls : List DetLock) (rows : List HistoryRow)
     → i < length w.threads → Shows input w s → moves (setup_of input) i (thread_of s i) ≡ Some m
     → ThreadShows input i (map (row_after i m.effect) s.rows) t m.thread
-    → lock_after i m.effect.table_freed s.table ≡ l → m.effect.world ≡ None → map shown (map (row_after i m.effect) s.rows) ≡ rows
-    → (can_advance (setup_of input) s i ≡ true) × Shows input (record { threads = set w.threads i t; lock = l; table = w.table; rows = rows }) (advance (setup_of input) i s)
-whole_moved input w s i t m l rows inside h is shows lock_is world_is rows_is =
+    → lock_after i m.effect.table_freed s.table ≡ l → map (lock_after i m.effect.object_freed) s.objects ≡ ls → m.effect.world ≡ None → map shown (map (row_after i m.effect) s.rows) ≡ rows
+    → (can_advance (setup_of input) s i ≡ true) × Shows input (record { threads = set w.threads i t; lock = l; objects = ls; table = w.table; rows = rows }) (advance (setup_of input) i s)
+whole_moved input w s i t m l ls rows inside h is shows lock_is objects_is world_is rows_is =
     let next : advance (setup_of input) i s ≡ move i (Some m) s = advance_move (setup_of input) i s ∙ ap (λ (o : Option Moved). move i o s) is in
-    let P : State → Type 0 = Shows input (record { threads = set w.threads i t; lock = l; table = w.table; rows = rows }) in (
+    let P : State → Type 0 = Shows input (record { threads = set w.threads i t; lock = l; objects = ls; table = w.table; rows = rows }) in (
       ap is_some is,
       subst P (sym next)
           (record {
@@ -87,6 +89,9 @@ whole_moved input w s i t m l rows inside h is shows lock_is world_is rows_is =
             threads = threads_set input (map (row_after i m.effect) s.rows) w.threads s.threads i t m.thread inside h.count shows
                 (λ k apart. thread_rows input k s.rows (map (row_after i m.effect) s.rows) (get_or w.threads k no_thread) (thread_of s k) (keeps_other i k m.effect s.rows apart) (h.threads k));
             table = lock_is;
+            objects = objects_is;
+            object_count = ap length (sym objects_is) ∙ length-map s.objects (lock_after i m.effect.object_freed) ∙ ap length h.objects ∙ h.object_count;
+            dense = h.dense;
             world = ap (λ (o : Option World). world_after i s.table o s.world) world_is ∙ world_keeps i s.table s.world ∙ h.world;
             rows = rows_is;
           }),
@@ -119,15 +124,14 @@ rows_quiet i (r ∷ rows) = ap₂ ◌∷◌ (row_quiet i r) (rows_quiet i rows)
 lock_quiet : (i : ℕ) (l : DetLock) → lock_after i None l ≡ l
 lock_quiet i l = ⊎_elim (λ (h : is_number l.holder i ≡ true). lock_mine i None l h) (λ (h : is_number l.holder i ≡ false). lock_other i None l h) (cases_Bool (is_number l.holder i))
 
+locks_quiet : (i : ℕ) (ls : List DetLock) → map (lock_after i None) ls ≡ ls
+locks_quiet i [] = refl
+locks_quiet i (l ∷ ls) = ap₂ ◌∷◌ (lock_quiet i l) (locks_quiet i ls)
+
 -- a thread after its event, or one that can make none
 abbrev pub Moving : Inputs → ℕ → List Row → Bool → Thread → lock.Thread → Type 0
 Moving input i rows true t u = (m : Moved) × ((moves (setup_of input) i u ≡ Some m) × (m.effect ≡ quiet) × ThreadShows input i rows t m.thread)
 Moving input i rows false t u = (moves (setup_of input) i u ≡ None) × ThreadShows input i rows t u
-
-pub set_same : {A : Type 0} (xs : List A) (i : ℕ) (d : A) → i < length xs → set xs i (get_or xs i d) ≡ xs
-set_same [] i d h = absurd (omega arith)
-set_same (x ∷ xs) zero d h = refl
-set_same (x ∷ xs) (suc i) d h = ap (λ (l : List _). x ∷ l) (set_same xs i d (omega arith))
 
 -- where it can make none, nothing changes but what stands for it
 pub whole_still : (input : Inputs) (w : Whole) (s : State) (i : ℕ) (t : Thread) → i < length w.threads → Shows input w s → moves (setup_of input) i (thread_of s i) ≡ None
@@ -144,6 +148,9 @@ whole_still input w s i t inside h is shows =
             count = h.count ∙ sym (length-set w.threads i t);
             threads = subst R (set_same s.threads i nobody within) (threads_set input s.rows w.threads s.threads i t (thread_of s i) inside h.count shows (λ k apart. h.threads k));
             table = h.table;
+            objects = h.objects;
+            object_count = h.object_count;
+            dense = h.dense;
             world = h.world;
             rows = h.rows;
           }),
@@ -154,8 +161,9 @@ pub whole_quiet : (input : Inputs) (w : Whole) (s : State) (i : ℕ) (moved : Bo
 whole_quiet input w s i true t inside h (m, g) =
     let P : Effect → Type 0 = λ e. ThreadShows input i (map (row_after i e) s.rows) t m.thread in
     let Q : List Row → Type 0 = λ rows. ThreadShows input i rows t m.thread in
-    whole_moved input w s i t m w.lock w.rows inside h g.0 (subst P (sym g.1) (subst Q (sym (rows_quiet i s.rows)) g.2))
+    whole_moved input w s i t m w.lock w.objects w.rows inside h g.0 (subst P (sym g.1) (subst Q (sym (rows_quiet i s.rows)) g.2))
     (ap (λ (e : Effect). lock_after i e.table_freed s.table) g.1 ∙ lock_quiet i s.table ∙ h.table)
+    (ap (λ (e : Effect). map (lock_after i e.object_freed) s.objects) g.1 ∙ locks_quiet i s.objects ∙ h.objects)
     (ap (λ (e : Effect). e.world) g.1)
     (ap (λ (e : Effect). map shown (map (row_after i e) s.rows)) g.1 ∙ ap (map shown) (rows_quiet i s.rows) ∙ h.rows)
 whole_quiet input w s i false t inside h g = whole_still input w s i t inside h g.0 g.1

@@ -1,5 +1,5 @@
 -- The table at its start.
-use Rattle.std.proofs.Common.{◌≡◌, ℕ, List, [], map, get_or, slice_get, Option, Some, None, refl, ap, ◌∙◌}
+use Rattle.std.proofs.Common.{◌≡◌, ℕ, ◌≤◌, List, [], map, get_or, slice_get, Option, Some, None, refl, ap, ◌∙◌, arith}
 use Rattle.std.specs.FinMap as fin
 use Rattle.std.specs.FinMap.{len-empty}
 use Rattle.posix_terms.specs.Object.{State, Node, path_cmp, empty_state}
@@ -49,3 +49,6 @@ starts_empty ds descs files m n none no_descs no_files is_m is_n i =
       next_description = is_m i;
       next_object = is_n i;
     }
+
+pub few_none : (n : ℕ) → n ≡ 0 → n ≤ 48
+few_none n e = omega arith

@@ -1,7 +1,12 @@
 -- What a run shows at its start, and tells at its end.
-use Rattle.std.proofs.Common.{◌≡◌, ℕ, zero, suc, ◌<◌, ◌≤◌, List, [], length, map, replicate, get_or, sym, refl, ap, ap₂, ◌∙◌, subst, arith, ⊎_elim, lit≤}
-use Rattle.std.proofs.lemmas.Bool.{cases_lt}
+use Rattle.std.proofs.Common.{◌≡◌, ℕ, zero, suc, ◌<◌, ◌≤◌, List, [], length, map, replicate, get_or, false, sym, refl, ap, ap₂, ◌∙◌, subst, arith, ⊎_elim, lit≤}
+use Rattle.std.proofs.lemmas.Bool.{cases_lt, le-ltb}
 use Rattle.std.proofs.lemmas.List.{get_or-map, get_or_past, length-map}
+use Rattle.std.specs.FinMap as fin
+use Rattle.std.specs.Ordering.{nat_cmp}
+use Rattle.std.specs.Prelude.{is_some, nat_lt}
+use Rattle.det_mutex.specs.Attempt.{new_lock}
+use Rattle.posix_terms.specs.declared.limits.TheConstants.Limits as limit
 use Rattle.lock_model.specs.State as lock
 use Rattle.lock_model.specs.State.{Row, State, nobody, thread_of}
 use Rattle.lock_model.specs.State.Phase.{Ended, Granted, WantsTable, Working}
@@ -14,8 +19,9 @@ use Rattle.call_machine.specs.Starting.{first_thread, first_whole, is_ended, tol
 use Rattle.call_machine.specs.Views.{no_thread}
 use Rattle.call_machine.specs.declared.thread.Phase.{Phase}
 use Rattle.call_machine.specs.declared.thread.Phase.TheVariants as phase
-use Rattle.call_machine.specs.declared.thread.Thread.{Thread}
+use Rattle.call_machine.specs.Threads.{Thread}
 use Rattle.call_machine.proofs.Lists.{maps_agree}
+use Rattle.call_machine.proofs.Numbering.{world_first}
 use Rattle.call_machine.proofs.ShownThreads.{thread_along}
 
 -- ## At the start
@@ -53,6 +59,9 @@ first_threads input k =
     (shown_past input k))
     (cases_lt k n)
 
+not_below : (n : ℕ) → nat_lt n 0 ≡ false
+not_below n = le-ltb n 0 (omega arith)
+
 pub first_shows : (input : Inputs) → Shows input (first_whole input.scripts) (first_state input)
 unfolding new_thread
 first_shows input =
@@ -60,7 +69,10 @@ first_shows input =
       count = length_replicate (length input.scripts) new_thread ∙ sym (length-map input.scripts first_thread);
       threads = first_threads input;
       table = refl;
-      world = refl;
+      objects = refl;
+      object_count = length_replicate limit.OBJECTS new_lock;
+      dense = record { there = λ object. ap is_some (fin.get-empty nat_cmp object) ∙ sym (not_below object); few = lit≤ tt };
+      world = world_first;
       rows = refl;
     }
 
@@ -69,7 +81,8 @@ first_shows input =
 ended_phase : (input : Inputs) (i : ℕ) (rows : List Row) (t : Thread) (u : lock.Thread) (p : Phase) → PhaseShows input i rows t u p → has_ended u.phase ≡ is_ended p
 ended_phase input i rows t u phase.Working h = ap has_ended h.0
 ended_phase input i rows t u (phase.WantsTable call) h = ap has_ended h.0
-ended_phase input i rows t u (phase.Granted place) h = ap has_ended h.1.0
+ended_phase input i rows t u (phase.WantsObject call clock object) h = ap has_ended h.0
+ended_phase input i rows t u (phase.Granted place object) h = ap has_ended h.1.0
 ended_phase input i rows t u phase.Stuck h = ap has_ended h.0
 ended_phase input i rows t u phase.Ended h = ap has_ended h
 

@@ -5,7 +5,7 @@ use Rattle.thread_scripts.specs.Meaning.{next_of}
 use Rattle.thread_scripts.specs.declared.actor.Step.{Step}
 use Rattle.thread_scripts.specs.declared.actor.Step.TheVariants as step
 use Rattle.call_machine.specs.declared.thread.Phase.TheVariants as phase
-use Rattle.call_machine.specs.declared.thread.Thread.{Thread}
+use Rattle.call_machine.specs.Threads.{Thread}
 
 abbrev pub worked : ℕ → Thread → Thread
 worked n t = record t { clock = t.clock + n; asked = t.asked ++ step.Work n ∷ []; last = None }

@@ -1,5 +1,5 @@
 -- What a part of a call may do, beside what the sequential object does. Without memory it changes nothing.
-use Rattle.std.specs.Prelude.{◌≡◌, ℕ, None, Result, Ok, Err}
+use Rattle.std.specs.Prelude.{◌≡◌, ℕ, Option, Some, None, Result, Ok, Err}
 use Rattle.posix_terms.specs.Effects.{Effect, Completes}
 use Rattle.posix_terms.specs.Object.{State, Description}
 use Rattle.posix_terms.specs.Step.{nothing_carried, step}
@@ -43,3 +43,18 @@ refused_of (Err e) = Err (refusal.Errno e)
 -- a turn of a call was answered with this reply, and left this state
 abbrev pub Replies : State → Call → Reply → State → Type 0
 Replies old call reply new = (settings : Settings) → step settings old call None nothing_carried ≡ record { after = new; answer = answer.Reply reply; carried = nothing_carried }
+
+-- a part that finds the file whose lock a call takes, and may want memory
+abbrev pub Locks : Result ℕ Refusal → Result (Option ℕ) Errno → Type 0
+Locks (Ok file) meaning = meaning ≡ Ok (Some file)
+Locks (Err (refusal.Errno e)) meaning = meaning ≡ Err e
+Locks (Err refusal.Memory) meaning = Unit {0}
+
+-- one that takes no memory
+abbrev pub LocksAtOnce : Result ℕ Errno → Result (Option ℕ) Errno → Type 0
+LocksAtOnce (Ok file) meaning = meaning ≡ Ok (Some file)
+LocksAtOnce (Err e) meaning = meaning ≡ Err e
+
+abbrev pub at_once : Result ℕ Errno → Result ℕ Refusal
+at_once (Ok file) = Ok file
+at_once (Err e) = Err (refusal.Errno e)

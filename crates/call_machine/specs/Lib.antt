@@ -3,11 +3,13 @@ pub mod Lists
 pub mod View
 pub mod Does
 pub mod History
+pub mod Lives
+pub mod Threads
 pub mod Views
+pub mod Dense
 pub mod Asking
 pub mod Events
 pub mod Setup
-pub mod Rows
 pub mod Shows
 pub mod Weights
 pub mod Driven

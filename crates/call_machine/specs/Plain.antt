@@ -7,7 +7,7 @@ use Rattle.lock_model.specs.State as lock
 use Rattle.lock_model.specs.State.{Phase, State}
 use Rattle.lock_model.specs.State.Phase.{Ended}
 use Rattle.call_machine.specs.History.{transcripts_of}
-use Rattle.call_machine.specs.Rows.{shown}
+use Rattle.lock_model.specs.Rows.{shown}
 use Rattle.call_machine.specs.Setup.{Inputs, first_state, setup_of}
 use Rattle.call_machine.specs.declared.fault.PlainFault.{PlainFault}
 use Rattle.call_machine.specs.declared.fault.PlainFault.TheVariants as plain_fault

@@ -1,28 +1,31 @@
 -- How the data of a run stand for a state of the lock machine.
-use Rattle.std.specs.Prelude.{◌≡◌, ℕ, suc, ◌≤◌, ◌^◌, List, [], ◌∷◌, ◌++◌, length, map, get_or, slice_get, Option, Some, None, Bool}
+use Rattle.std.specs.Prelude.{◌≡◌, ℕ, suc, ◌<◌, ◌≤◌, ◌^◌, List, [], ◌∷◌, ◌++◌, length, map, get_or, slice_get, Option, Some, None, IfSome, Bool}
+use Rattle.posix_terms.specs.Object as posix
 use Rattle.posix_terms.specs.Step.{nothing_carried, step}
+use Rattle.posix_terms.specs.declared.limits.TheConstants.Limits as limit
 use Rattle.posix_terms.specs.declared.reply.Reply.{Reply}
 use Rattle.posix_terms.specs.declared.transcript.HistoryRow.{HistoryRow}
 use Rattle.det_mutex.specs.declared.lock.DetLock.{DetLock}
 use Rattle.lock_model.specs.CallTable.Answer.{Gives}
-use Rattle.lock_model.specs.CallTable.Plan.{No_object}
+use Rattle.lock_model.specs.CallTable.Way.{Inside}
 use Rattle.lock_model.specs.Held.{row_of}
 use Rattle.lock_model.specs.Machine.{advance, attempt, can_advance, can_attempt, moves}
-use Rattle.lock_model.specs.RealCalls.{answer_in}
+use Rattle.lock_model.specs.RealCalls.{answer_in, plan_of}
 use Rattle.lock_model.specs.Runs.{Arises, calls_in}
 use Rattle.lock_model.specs.ScriptPrograms.{at_start, reached_after}
 use Rattle.lock_model.specs.State as lock
 use Rattle.lock_model.specs.State.{Job, Row, State, thread_of}
-use Rattle.lock_model.specs.State.Phase.{Working, WantsTable, Granted, Ended}
-use Rattle.lock_model.specs.Terms.{World}
-use Rattle.call_machine.specs.Rows.{shown}
+use Rattle.lock_model.specs.State.Phase.{Working, WantsTable, WantsObject, Granted, Ended}
+use Rattle.call_machine.specs.Dense.{IsDense, world_of}
+use Rattle.lock_model.specs.Rows.{shown}
 use Rattle.call_machine.specs.Setup.{Inputs, setup_of, first_state, script_of}
 use Rattle.call_machine.specs.View.{state_of}
-use Rattle.call_machine.specs.Views.{lock_of, no_thread}
+use Rattle.call_machine.specs.Views.{no_item, no_thread}
+use Rattle.call_machine.specs.declared.thread.Thread as declared
 use Rattle.call_machine.specs.declared.machine.Machine.{Machine}
 use Rattle.call_machine.specs.declared.thread.Phase.{Phase}
 use Rattle.call_machine.specs.declared.thread.Phase.TheVariants as phase
-use Rattle.call_machine.specs.declared.thread.Thread.{Thread}
+use Rattle.call_machine.specs.Threads.{Thread, joined}
 
 -- ## Threads
 
@@ -37,18 +40,20 @@ pub record IsInCall (input : Inputs) (i : ℕ) (t : Thread) (u : lock.Thread) : 
   pub reached : (r : Reply) → reached_after (at_start (script_of input i)) u.asked (u.replies ++ r ∷ []) ≡ record { last = Some r; state = t.actor }
 
 -- the call that a thread was granted, with the row of its place and the reply that waits
-pub record IsGranted (input : Inputs) (i : ℕ) (rows : List Row) (place : ℕ) (last : Option Reply) (job : Job) : Type 0 where
-  pub plan : job.plan ≡ No_object
+pub record IsGranted (input : Inputs) (i : ℕ) (rows : List Row) (place : ℕ) (object : Option ℕ) (last : Option Reply) (job : Job) : Type 0 where
+  pub plan : job.plan ≡ plan_of object
+  pub in_range : IfSome object (λ n. n < limit.OBJECTS)
   pub thread : job.turn.thread ≡ i
   pub reply : Reply
   pub waits : last ≡ Some reply
-  pub answers : answer_in (step input.settings job.found job.call job.outcome job.carried) ≡ Gives reply
+  pub answers : answer_in (step input.settings job.found.object job.call job.outcome job.carried) ≡ Gives reply
   pub row : slice_get rows place ≡ Some (row_of job)
 
 abbrev pub PhaseShows : Inputs → ℕ → List Row → Thread → lock.Thread → Phase → Type 0
 PhaseShows input i rows t u phase.Working = (u.phase ≡ Working) × IsBetween input i t u
 PhaseShows input i rows t u (phase.WantsTable call) = (u.phase ≡ WantsTable call nothing_carried) × IsInCall input i t u
-PhaseShows input i rows t u (phase.Granted place) = (job : Job) × ((u.phase ≡ Granted job) × IsInCall input i t u × IsGranted input i rows place t.last job)
+PhaseShows input i rows t u (phase.WantsObject call clock object) = (u.phase ≡ WantsObject call nothing_carried clock object Inside) × IsInCall input i t u × (object < limit.OBJECTS)
+PhaseShows input i rows t u (phase.Granted place object) = (job : Job) × ((u.phase ≡ Granted job) × IsInCall input i t u × IsGranted input i rows place object t.last job)
 PhaseShows input i rows t u phase.Stuck = (u.phase ≡ Working) × (moves (setup_of input) i u ≡ None)
 PhaseShows input i rows t u phase.Ended = u.phase ≡ Ended
 
@@ -60,15 +65,23 @@ pub record ThreadShows (input : Inputs) (i : ℕ) (rows : List Row) (t : Thread)
 
 -- ## The whole
 
--- the threads of a run, the lock of the table, what the table holds, and the rows
+-- the threads of a run, the locks of the table and of the object numbers, what the table holds, and the rows
 pub record Whole : Type 0 where
   pub threads : List Thread
   pub lock : DetLock
-  pub table : World
+  pub objects : List DetLock
+  pub table : posix.State
   pub rows : List HistoryRow
 
 abbrev pub whole_of : Machine → Whole
-whole_of m = record { threads = m.threads.items; lock = lock_of m.lock; table = state_of m.table; rows = m.rows.items }
+whole_of m =
+    record {
+      threads = joined m.threads.items m.clocks;
+      lock = m.shared.lock;
+      objects = m.objects.items;
+      table = state_of m.shared.table;
+      rows = m.shared.rows.items;
+    }
 
 abbrev pub thread_at : Whole → ℕ → Thread
 thread_at w k = get_or w.threads k no_thread
@@ -77,8 +90,30 @@ pub record Shows (input : Inputs) (w : Whole) (s : State) : Type 0 where
   pub count : length s.threads ≡ length w.threads
   pub threads : (k : ℕ) → ThreadShows input k s.rows (thread_at w k) (thread_of s k)
   pub table : s.table ≡ w.lock
-  pub world : s.world ≡ w.table
+  pub objects : s.objects ≡ w.objects
+  pub object_count : length w.objects ≡ limit.OBJECTS
+  pub dense : IsDense w.table
+  pub world : s.world ≡ world_of w.table
   pub rows : map shown s.rows ≡ w.rows
+
+-- ## Phases
+
+abbrev pub item_at : List declared.Thread → ℕ → declared.Thread
+item_at threads i = get_or threads i no_item
+
+-- thread i is in a call with this row and object
+abbrev pub IsGrantedAt : List declared.Thread → ℕ → ℕ → Option ℕ → Type 0
+IsGrantedAt threads i row object = (let t : declared.Thread = item_at threads i in t.phase) ≡ phase.Granted row object
+
+abbrev pub WantsIn : Phase → ℕ → Type 0
+WantsIn (phase.WantsObject call clock object) other = object ≡ other
+WantsIn p other = ⊥
+
+-- thread i wants this object
+abbrev pub WantsAt : List declared.Thread → ℕ → ℕ → Type 0
+WantsAt threads i object = let t : declared.Thread = item_at threads i in WantsIn t.phase object
+
+-- ## Events
 
 -- thread i makes its event that needs no turn, just where it can
 abbrev pub Advances : Bool → ℕ → Whole → Whole → Type 0

@@ -1,6 +1,7 @@
 -- A run at its start, and what it comes to.
-use Rattle.std.specs.Prelude.{List, [], length, map, None, Bool, true, false}
+use Rattle.std.specs.Prelude.{List, [], length, map, replicate, None, Bool, true, false}
 use Rattle.posix_terms.specs.Object.{empty_state}
+use Rattle.posix_terms.specs.declared.limits.TheConstants.Limits as limit
 use Rattle.thread_scripts.specs.Meaning.{start_of}
 use Rattle.thread_scripts.specs.declared.line.Line.{Line}
 use Rattle.det_mutex.specs.Attempt.{new_lock}
@@ -10,21 +11,22 @@ use Rattle.call_machine.specs.Shows.{Whole}
 use Rattle.call_machine.specs.declared.plain.Plain.{Plain}
 use Rattle.call_machine.specs.declared.thread.Phase.{Phase}
 use Rattle.call_machine.specs.declared.thread.Phase.TheVariants as phase
-use Rattle.call_machine.specs.declared.thread.Thread.{Thread}
+use Rattle.call_machine.specs.Threads.{Thread}
+use Rattle.call_machine.specs.declared.thread.Thread as declared
 
--- a thread before its script's first line
+-- a thread before its script's first line, without its clock
+abbrev pub first_item : List Line → declared.Thread
+first_item script = record { phase = phase.Working; asked = []; actor = start_of script; last = None }
+
 abbrev pub first_thread : List Line → Thread
 first_thread script = record { phase = phase.Working; clock = 1; asked = []; actor = start_of script; last = None }
 
 abbrev pub first_whole : List (List Line) → Whole
-first_whole scripts = record { threads = map first_thread scripts; lock = new_lock; table = empty_state; rows = [] }
+first_whole scripts = record { threads = map first_thread scripts; lock = new_lock; objects = replicate limit.OBJECTS new_lock; table = empty_state; rows = [] }
 
 abbrev pub is_ended : Phase → Bool
 is_ended phase.Ended = true
-is_ended phase.Working = false
-is_ended (phase.WantsTable call) = false
-is_ended (phase.Granted row) = false
-is_ended phase.Stuck = false
+is_ended p = false
 
 -- what a run that is over tells
 abbrev pub told : Whole → Plain

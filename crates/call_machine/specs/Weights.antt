@@ -3,12 +3,14 @@ use Rattle.std.specs.Prelude.{ℕ, ◌+◌, ◌-◌, ◌*◌, ◌^◌, ◌<◌, 
 use Rattle.thread_scripts.specs.Meaning.{lines_left}
 use Rattle.call_machine.specs.declared.thread.Phase.{Phase}
 use Rattle.call_machine.specs.declared.thread.Phase.TheVariants as phase
-use Rattle.call_machine.specs.declared.thread.Thread.{Thread}
+use Rattle.call_machine.specs.Shows.{Whole}
+use Rattle.call_machine.specs.Threads.{Thread}
 
 abbrev pub left_in : Phase → ℕ → ℕ
 left_in phase.Working lines = 2 * lines + 1
 left_in (phase.WantsTable call) lines = 2 * lines + 2
-left_in (phase.Granted row) lines = 2 * lines + 2
+left_in (phase.WantsObject call clock object) lines = 2 * lines + 2
+left_in (phase.Granted row object) lines = 2 * lines + 2
 left_in phase.Stuck lines = 0
 left_in phase.Ended lines = 0
 
@@ -23,3 +25,6 @@ total (t ∷ threads) = weight t + total threads
 abbrev pub Falls : Bool → List Thread → List Thread → Type 0
 Falls true old new = total new < total old
 Falls false old new = total new ≤ total old
+
+abbrev pub Lowers : Bool → Whole → Whole → Type 0
+Lowers moved old new = Falls moved old.threads new.threads

@@ -1,61 +1,64 @@
-ghost use Rattle.std.specs.Prelude.{◌≡◌, IfOk, true};
-ghost use Rattle.call_machine.specs.Views.{live_clock_of};
+ghost use Rattle.std.specs.Prelude.{◌≡◌, ◌<◌, ℕ, true, IfOk, length};
+ghost use Rattle.logical_clocks.specs.ThreadClocks.{clock_at};
 ghost use Rattle.call_machine.specs.Asking.{Asks, Works, after_end, after_want};
+ghost use Rattle.call_machine.specs.Lives.{is_live};
+ghost use Rattle.call_machine.specs.Threads.{KeepsOthers, timed};
 
 use crate::thread::{Phase, Thread};
-use posix_terms::{Call, Limits};
+use logical_clocks::Clocks;
+use posix_terms::Call;
 use std::alloc::AllocError;
 use thread_scripts::{Actor, Step};
 
 impl Thread {
-    // Its clock, unless it has ended.
-    pub fn live_clock(&self) -> Option<u64>
-        ensures { result ≡ live_clock_of self.now }
-    {
-        match self.phase {
-            Phase::Ended => None,
-            _ => Some(self.clock),
-        }
-    }
-
-    // Asks the next step of a thread that works; and tells whether its clock has room for that.
-    pub fn ask(&mut self) -> Result<bool, AllocError>
-        ensures { IfOk result (λ moved. Asks moved self.old self.new) }
+    // Asks the next step of thread i, which works; and tells whether its clock has room for that.
+    pub fn ask(&mut self, clocks: &mut Clocks, i: usize) -> Result<bool, AllocError>
+        requires inside { i < length clocks.old }
+        requires live { is_live self.old.phase ≡ true }
+        ensures event { IfOk result (λ moved. Asks moved (timed self.old (clock_at clocks.old i)) (timed self.new (clock_at clocks.new i))) }
+        ensures others { KeepsOthers i self.old clocks.old self.new clocks.new }
     {
         match self.actor.next(self.last.as_ref()) {
-            Ok(Step::Work(amount)) => self.work(amount),
+            Ok(Step::Work(amount)) => self.work(clocks, i, amount),
             Ok(Step::Call(call)) => self.want(call),
-            Ok(Step::End) => self.end(),
+            Ok(Step::End) => self.end(clocks, i),
             Err(_) => Err(AllocError),
         }
     }
 
-    fn work(&mut self, amount: u64) -> Result<bool, AllocError>
-        ensures { IfOk result (λ moved. Works moved amount self.old self.new) }
+    fn work(&mut self, clocks: &mut Clocks, i: usize, amount: u64) -> Result<bool, AllocError>
+        requires inside { i < length clocks.old }
+        requires live { is_live self.old.phase ≡ true }
+        ensures event { IfOk result (λ moved. Works moved amount (timed self.old (clock_at clocks.old i)) (timed self.new (clock_at clocks.new i))) }
+        ensures others { KeepsOthers i self.old clocks.old self.new clocks.new }
     {
-        if self.clock > Limits::CLOCK || amount > Limits::CLOCK - self.clock {
+        if clocks.add(i, amount).is_err() {
             self.phase = Phase::Stuck;
             return Ok(false);
         }
         self.asked.push(Step::Work(amount))?;
-        self.clock += amount;
         self.last = None;
         Ok(true)
     }
 
     fn want(&mut self, call: Call) -> Result<bool, AllocError>
-        ensures { IfOk result (λ moved. (moved ≡ true) × (self.new ≡ after_want call self.old)) }
+        ensures event { IfOk result (λ moved. (moved ≡ true) × ((clock : ℕ) → timed self.new clock ≡ after_want call (timed self.old clock))) }
+        ensures live { is_live self.old.phase ≡ true → is_live self.new.phase ≡ true }
     {
         self.asked.push(Step::Call(call.try_clone()?))?;
         self.phase = Phase::WantsTable(call);
         Ok(true)
     }
 
-    fn end(&mut self) -> Result<bool, AllocError>
-        ensures { IfOk result (λ moved. (moved ≡ true) × (self.new ≡ after_end self.old)) }
+    fn end(&mut self, clocks: &mut Clocks, i: usize) -> Result<bool, AllocError>
+        requires inside { i < length clocks.old }
+        requires live { is_live self.old.phase ≡ true }
+        ensures event { IfOk result (λ moved. (moved ≡ true) × (timed self.new (clock_at clocks.new i) ≡ after_end (timed self.old (clock_at clocks.old i)))) }
+        ensures others { KeepsOthers i self.old clocks.old self.new clocks.new }
     {
         self.asked.push(Step::End)?;
         self.phase = Phase::Ended;
+        clocks.end(i);
         Ok(true)
     }
 }

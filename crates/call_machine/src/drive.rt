@@ -2,10 +2,9 @@ ghost use Rattle.std.specs.Prelude.{◌≡◌, IfOk, length};
 ghost use Rattle.call_machine.specs.Driven.{Ends, Plainly};
 ghost use Rattle.call_machine.specs.Setup.{Inputs, first_state};
 ghost use Rattle.call_machine.specs.Shows.{Shows, whole_of};
-ghost use Rattle.call_machine.specs.Weights.{Falls};
+ghost use Rattle.call_machine.specs.Weights.{Lowers};
 
 use crate::machine::Machine;
-use crate::turns::turn_holder;
 use std::alloc::{AllocError, Global};
 
 impl Machine {
@@ -22,14 +21,14 @@ impl Machine {
     // its attempt.
     fn step(&mut self, alloc: Global) -> Result<bool, AllocError>
         ensures event { IfOk result (λ more. Plainly more (whole_of self.old) (whole_of self.new)) }
-        ensures falls { IfOk result (λ more. Falls more self.old.threads.items self.new.threads.items) }
+        ensures falls { IfOk result (λ more. Lowers more (whole_of self.old) (whole_of self.new)) }
     {
         for i in 0..self.threads.len() {
             if self.advance(i)? {
                 return Ok(true);
             }
         }
-        let Some(i) = turn_holder(&self.threads) else {
+        let Some(i) = self.clocks.turn_holder() else {
             return Ok(false);
         };
         self.attempt(alloc, i)

@@ -1,27 +1,37 @@
-ghost use Rattle.std.specs.Prelude.{◌≡◌, IfOk, true};
+ghost use Rattle.std.specs.Prelude.{◌≡◌, ◌<◌, ◌&&◌, ℕ, true, IfOk, length};
 ghost use Rattle.det_mutex.specs.Attempt.{takes};
-ghost use Rattle.call_machine.specs.Events.{Answers, TriesIn, TriesLock, Tries, Grants, parts, in_time};
+ghost use Rattle.lock_model.specs.Machine.{is_number};
+ghost use Rattle.logical_clocks.specs.ThreadClocks.{clock_at};
+ghost use Rattle.posix_terms.specs.Locked.{locked_object};
 ghost use Rattle.posix_terms.specs.Object.{State};
+ghost use Rattle.call_machine.specs.Events.{Answers, Grants, PlansTo, Reaches, Tries, object_taken, parts};
+ghost use Rattle.call_machine.specs.Lives.{is_live};
+ghost use Rattle.call_machine.specs.Threads.{KeepsOthers, timed};
 ghost use Rattle.call_machine.specs.View.{state_of};
-ghost use Rattle.call_machine.specs.Views.{lock_of};
 
-use crate::lock::TableLock;
-use crate::table::Table;
+use crate::machine::Shared;
 use crate::thread::{Phase, Thread};
-use posix_terms::{Answer, Call, HistoryRow, Limits, Turn};
+use det_mutex::DetLock;
+use logical_clocks::Clocks;
+use posix_terms::{Answer, Call, HistoryRow, Turn};
 use std::alloc::{AllocError, Global};
 use std::mem;
 
-// `answer`: the call of a thread has its reply, and the table is free.
+// `answer`: the call of thread i has its reply, and the lock that it holds is free.
 pub fn answer(
+    i: usize,
     thread: &mut Thread,
+    clocks: &mut Clocks,
     row: usize,
-    lock: &mut TableLock,
+    lock: &mut DetLock,
     rows: &mut Vec<HistoryRow>,
 ) -> Result<bool, AllocError>
-    ensures { IfOk result (λ moved. (table : State) → Answers moved row (parts thread.old (lock_of lock.old) table rows.old.items) (parts thread.new (lock_of lock.new) table rows.new.items)) }
+    requires inside { i < length clocks.old }
+    requires live { is_live thread.old.phase ≡ true }
+    ensures event { IfOk result (λ moved. (table : State) → Answers moved i row (parts (timed thread.old (clock_at clocks.old i)) lock.old table rows.old.items) (parts (timed thread.new (clock_at clocks.new i)) lock.new table rows.new.items)) }
+    ensures others { KeepsOthers i thread.old clocks.old thread.new clocks.new }
 {
-    if thread.clock >= Limits::CLOCK {
+    if !holds(*lock, i) {
         return Ok(false);
     }
     let Some(last) = thread.last.as_ref() else {
@@ -31,35 +41,50 @@ pub fn answer(
     let Some(row) = rows.get_mut(row) else {
         return Ok(false);
     };
+    let clock = clocks.clock(i);
+    if clocks.add(i, 1).is_err() {
+        return Ok(false);
+    }
     row.answer = Some(answer);
-    lock.holder = None;
-    lock.released = thread.clock;
+    lock.free(i, clock);
     thread.phase = Phase::Working;
-    thread.clock += 1;
     Ok(true)
 }
 
-// `try_table`, by a thread that has the turn: takes the lock where it can, for 1 either way.
+// Whether thread i holds a lock.
+fn holds(lock: DetLock, i: usize) -> bool
+    ensures { result ≡ is_number lock.holder i }
+{
+    match lock.holder {
+        Some(holder) => holder == i,
+        None => false,
+    }
+}
+
+// `try_table`, by a thread that has the turn: takes the table where it can, for 1 either way. A call that
+// takes no object is granted at once.
 pub fn try_table(
     alloc: Global,
     i: usize,
     thread: &mut Thread,
-    lock: &mut TableLock,
-    table: &mut Table,
-    rows: &mut Vec<HistoryRow>,
+    clocks: &mut Clocks,
+    shared: &mut Shared,
 ) -> Result<bool, AllocError>
-    ensures { IfOk result (λ made. Tries made i (parts thread.old (lock_of lock.old) (state_of table.old) rows.old.items) (parts thread.new (lock_of lock.new) (state_of table.new) rows.new.items)) }
+    requires { i < length clocks.old }
+    ensures event { IfOk result (λ made. Tries made i (parts (timed thread.old (clock_at clocks.old i)) shared.old.lock (state_of shared.old.table) shared.old.rows.items) (parts (timed thread.new (clock_at clocks.new i)) shared.new.lock (state_of shared.new.table) shared.new.rows.items)) }
+    ensures others { KeepsOthers i thread.old clocks.old thread.new clocks.new }
 {
-    if thread.clock >= Limits::CLOCK {
-        return Ok(false);
-    }
     match mem::replace(&mut thread.phase, Phase::Stuck) {
         Phase::WantsTable(call) => {
-            if lock.takes(thread.clock) {
-                grant(alloc, i, call, thread, lock, table, rows)?;
+            let clock = clocks.clock(i);
+            if clocks.add(i, 1).is_err() {
+                thread.phase = Phase::WantsTable(call);
+                return Ok(false);
+            }
+            if shared.lock.attempt(i, clock) {
+                plan(alloc, Turn { clock, thread: i }, call, thread, shared)?;
             } else {
                 thread.phase = Phase::WantsTable(call);
-                thread.clock += 1;
             }
             Ok(true)
         }
@@ -70,33 +95,124 @@ pub fn try_table(
     }
 }
 
-// The call of thread i gets its turn and a row of the history, and is made.
-fn grant(
+// What a call takes beside the table: the lock of an object, or it is granted.
+fn plan(
     alloc: Global,
-    i: usize,
+    turn: Turn,
     call: Call,
     thread: &mut Thread,
-    lock: &mut TableLock,
-    table: &mut Table,
-    rows: &mut Vec<HistoryRow>,
+    shared: &mut Shared,
 ) -> Result<(), AllocError>
-    requires { in_time (parts thread.old (lock_of lock.old) (state_of table.old) rows.old.items) ≡ true }
-    ensures { IfOk result (λ _. Grants i call (parts thread.old (lock_of lock.old) (state_of table.old) rows.old.items) (parts thread.new (lock_of lock.new) (state_of table.new) rows.new.items)) }
+    ensures event { IfOk result (λ _. (clock : ℕ) → PlansTo (locked_object (state_of shared.old.table) call) turn call (parts (timed thread.old clock) shared.old.lock (state_of shared.old.table) shared.old.rows.items) (parts (timed thread.new clock) shared.new.lock (state_of shared.new.table) shared.new.rows.items)) }
+    ensures live { is_live thread.old.phase ≡ true → is_live thread.new.phase ≡ true }
 {
-    let reply = table.step(alloc, &call)?;
+    match shared.table.locked(alloc, &call)? {
+        None => grant(alloc, turn, call, None, thread, shared),
+        Some(object) => {
+            thread.phase = Phase::WantsObject {
+                call,
+                clock: turn.clock,
+                object,
+            };
+            Ok(())
+        }
+    }
+}
+
+// `try_object`, by a thread that has the turn: takes the object where it can, for 1 either way. Then the table
+// is free, for 1 more, and the call is granted.
+pub fn try_object(
+    alloc: Global,
+    i: usize,
+    thread: &mut Thread,
+    clocks: &mut Clocks,
+    lock: &mut DetLock,
+    shared: &mut Shared,
+) -> Result<bool, AllocError>
+    requires { i < length clocks.old }
+    ensures event { IfOk result (λ made. Reaches made i lock.old lock.new (parts (timed thread.old (clock_at clocks.old i)) shared.old.lock (state_of shared.old.table) shared.old.rows.items) (parts (timed thread.new (clock_at clocks.new i)) shared.new.lock (state_of shared.new.table) shared.new.rows.items)) }
+    ensures others { KeepsOthers i thread.old clocks.old thread.new clocks.new }
+{
+    match mem::replace(&mut thread.phase, Phase::Stuck) {
+        Phase::WantsObject {
+            call,
+            clock,
+            object,
+        } => {
+            let now = clocks.clock(i);
+            let taken = taken_object(shared.lock, *lock, i, now);
+            let cost = if taken.is_some() { 2 } else { 1 };
+            if clocks.add(i, cost).is_err() {
+                thread.phase = Phase::WantsObject {
+                    call,
+                    clock,
+                    object,
+                };
+                return Ok(false);
+            }
+            let Some(taken) = taken else {
+                thread.phase = Phase::WantsObject {
+                    call,
+                    clock,
+                    object,
+                };
+                return Ok(true);
+            };
+            *lock = taken;
+            shared.lock.free(i, now + 1);
+            grant(
+                alloc,
+                Turn { clock, thread: i },
+                call,
+                Some(object),
+                thread,
+                shared,
+            )?;
+            Ok(true)
+        }
+        phase => {
+            thread.phase = phase;
+            Ok(false)
+        }
+    }
+}
+
+// The lock of an object once thread i, which holds the table, has taken it at this clock, if it can.
+#[tactic(auto, unfolding(det_mutex::specs::Attempt::takes))]
+fn taken_object(table: DetLock, object: DetLock, i: usize, clock: u64) -> Option<DetLock>
+    ensures { result ≡ object_taken (is_number table.holder i && takes object clock) i object }
+{
+    let mut object = object;
+    if holds(table, i) && object.attempt(i, clock) {
+        Some(object)
+    } else {
+        None
+    }
+}
+
+// A call gets its turn and a row of the history, and is made.
+fn grant(
+    alloc: Global,
+    turn: Turn,
+    call: Call,
+    object: Option<usize>,
+    thread: &mut Thread,
+    shared: &mut Shared,
+) -> Result<(), AllocError>
+    ensures event { IfOk result (λ _. (clock : ℕ) → Grants turn call object (parts (timed thread.old clock) shared.old.lock (state_of shared.old.table) shared.old.rows.items) (parts (timed thread.new clock) shared.new.lock (state_of shared.new.table) shared.new.rows.items)) }
+    ensures live { is_live thread.old.phase ≡ true → is_live thread.new.phase ≡ true }
+{
+    let reply = shared.table.step(alloc, &call)?;
     thread.last = Some(reply);
-    thread.phase = Phase::Granted(rows.len());
-    lock.holder = Some(i);
-    let turn = Turn {
-        clock: thread.clock,
-        thread: i,
+    thread.phase = Phase::Granted {
+        row: shared.rows.len(),
+        object,
     };
-    rows.push(HistoryRow {
+    shared.rows.push(HistoryRow {
         call,
         turn,
         outcome: None,
         answer: None,
     })?;
-    thread.clock += 1;
     Ok(())
 }

@@ -15,15 +15,22 @@ use std::alloc::{AllocError, Global};
 
 impl Machine {
     // What a run that is over tells.
+    #[tactic(auto, using(crate::proofs::Joining::joining))]
     pub fn finish(self, alloc: Global) -> Result<Plain, AllocError>
         ensures { IfOk result (λ plain. plain ≡ told (whole_of self)) }
     {
-        let stop = stop(&self.threads);
-        let transcripts = transcripts(alloc, self.threads.len(), &self.rows)?;
-        let asked = asked(alloc, self.threads)?;
+        let Machine {
+            threads,
+            shared,
+            ..
+        } = self;
+        let rows = shared.rows;
+        let stop = stop(&threads);
+        let transcripts = transcripts(alloc, threads.len(), &rows)?;
+        let asked = asked(alloc, threads)?;
         Ok(Plain {
             transcripts: Transcripts::from_vec(transcripts),
-            history: History::new(self.rows, asked),
+            history: History::new(rows, asked),
             log: Bytes::from_vec(Vec::new(alloc)),
             stop,
         })

@@ -8,7 +8,7 @@ mod events;
 mod fault;
 mod finish;
 mod history;
-mod lock;
+mod locked;
 mod lookup;
 mod machine;
 mod new_table;
@@ -24,7 +24,6 @@ mod table;
 mod tests;
 mod thread;
 mod transfer;
-mod turns;
 
 pub use fault::{PlainFault, Stop};
 pub use history::{History, Steps};

@@ -1,14 +1,29 @@
-use crate::lock::TableLock;
+ghost use Rattle.std.specs.Prelude.{◌≡◌};
+ghost use Rattle.call_machine.specs.Lives.{Agree};
+
 use crate::table::Table;
 use crate::thread::Thread;
+use det_mutex::DetLock;
+use logical_clocks::Clocks;
 use posix_terms::HistoryRow;
 
-// The threads of a run, with what they share: the table and its lock, and the rows of what was granted
-// so far.
+// The table with its lock, and the rows of what was granted so far.
+#[derive(Drop)]
+pub struct Shared {
+    pub lock: DetLock,
+    pub table: Table,
+    pub rows: Vec<HistoryRow>,
+}
+
+// The threads of a run with their clocks, what they share, and the lock of each object number. A number that
+// is used again keeps its lock.
 #[derive(Drop)]
 pub struct Machine {
     pub threads: Vec<Thread>,
-    pub lock: TableLock,
-    pub table: Table,
-    pub rows: Vec<HistoryRow>,
+    pub clocks: Clocks,
+    pub shared: Shared,
+    pub objects: Vec<DetLock>,
+
+    // a thread is live in its clock just until its phase is that it has ended
+    ghost agree: { Agree threads.items clocks },
 }

@@ -1,4 +1,4 @@
-ghost use Rattle.std.specs.Prelude.{◌≡◌, pos, ◌+◌, ◌<◌, [], ◌∷◌, vec_len, vec_capacity, slice_index_or};
+ghost use Rattle.std.specs.Prelude.{◌≡◌, pos, ◌+◌, ◌<◌, ◌≤◌, [], ◌∷◌, vec_len, vec_capacity, slice_index_or};
 ghost use Rattle.std.specs.FinMap as fin;
 ghost use Rattle.posix_terms.specs.Descriptors.{open_result, open_node, open_there, open_new, opened, close_result, freed, released};
 ghost use Rattle.posix_terms.specs.Object.{FileNode, File};
@@ -25,7 +25,8 @@ impl Table {
         access: Access,
         flags: OpenFlags,
     ) -> Result<Reply, Refusal>
-        ensures { Does result (state_of self.old) (state_of self.new) (open_result (state_of self.old) path.now access flags) }
+        ensures state { Does result (state_of self.old) (state_of self.new) (open_result (state_of self.old) path.now access flags) }
+        ensures grows { vec_len self.old.files ≤ vec_len self.new.files }
     {
         if flags.truncate && !access.can_write() {
             return Err(Refusal::Errno(Errno::EINVAL));
@@ -47,7 +48,8 @@ impl Table {
         access: Access,
         flags: OpenFlags,
     ) -> Result<Reply, Refusal>
-        ensures { Does result (state_of self.old) (state_of self.new) (open_node (state_of self.old) (name.now ∷ []) (fin.get (paths_of self.old.files.items) (name.now ∷ [])) access flags) }
+        ensures state { Does result (state_of self.old) (state_of self.new) (open_node (state_of self.old) (name.now ∷ []) (fin.get (paths_of self.old.files.items) (name.now ∷ [])) access flags) }
+        ensures grows { vec_len self.old.files ≤ vec_len self.new.files }
     {
         match find_file(&self.files, name) {
             None => self.open_new(alloc, name, access, flags),
@@ -59,7 +61,8 @@ impl Table {
     // `open` of a file that is there.
     fn open_file(&mut self, file: usize, access: Access, flags: OpenFlags) -> Result<Reply, Refusal>
         requires { file < vec_len self.old.files }
-        ensures { Does result (state_of self.old) (state_of self.new) (open_there (state_of self.old) (FileNode file) access flags) }
+        ensures state { Does result (state_of self.old) (state_of self.new) (open_there (state_of self.old) (FileNode file) access flags) }
+        ensures grows { vec_len self.old.files ≤ vec_len self.new.files }
     {
         self.descriptions.reserve(1)?;
         let number = self.lowest_free().ok_or(Errno::EMFILE)?;
@@ -79,7 +82,8 @@ impl Table {
         flags: OpenFlags,
     ) -> Result<Reply, Refusal>
         requires { fin.get (paths_of self.old.files.items) (name.now ∷ []) ≡ None }
-        ensures { Does result (state_of self.old) (state_of self.new) (open_new (state_of self.old) (name.now ∷ []) access flags) }
+        ensures state { Does result (state_of self.old) (state_of self.new) (open_new (state_of self.old) (name.now ∷ []) access flags) }
+        ensures grows { vec_len self.old.files ≤ vec_len self.new.files }
     {
         if !flags.create {
             return Err(Refusal::Errno(Errno::ENOENT));
@@ -105,7 +109,8 @@ impl Table {
         requires file { description.file < vec_len self.old.files }
         requires offset { description.offset ≡ 0 }
         requires room { vec_len self.old.descriptions < vec_capacity self.old.descriptions }
-        ensures { state_of self.new ≡ opened (state_of self.old) number description.file description.access description.append description.nonblock }
+        ensures state { state_of self.new ≡ opened (state_of self.old) number description.file description.access description.append description.nonblock }
+        ensures grows { vec_len self.old.files ≤ vec_len self.new.files }
     {
         let place = self.descriptions.len();
         self.descriptions.push(Some(description)).unwrap();
@@ -115,7 +120,8 @@ impl Table {
     // POSIX.1-2017, `close`.
     #[tactic(auto, unfolding(posix_terms::specs::Descriptors::close_result))]
     pub fn close(&mut self, descriptor: i64) -> Result<Reply, Errno>
-        ensures { Changes result (state_of self.old) (state_of self.new) (close_result (state_of self.old) descriptor) }
+        ensures state { Changes result (state_of self.old) (state_of self.new) (close_result (state_of self.old) descriptor) }
+        ensures grows { vec_len self.old.files ≤ vec_len self.new.files }
     {
         let found = self.described(descriptor)?;
         self.remove(found);
@@ -129,7 +135,8 @@ impl Table {
         requires place { found.place < vec_len self.old.descriptions }
         requires refers { slice_index_or self.old.descriptors.items found.number None ≡ Some found.place }
         requires here { slice_index_or self.old.descriptions.items found.place None ≡ Some found.description }
-        ensures { state_of self.new ≡ released (freed (state_of self.old) (pos found.number)) found.place (description_of found.description) }
+        ensures state { state_of self.new ≡ released (freed (state_of self.old) (pos found.number)) found.place (description_of found.description) }
+        ensures grows { vec_len self.old.files ≤ vec_len self.new.files }
     {
         self.descriptors[found.number] = None;
         self.descriptions[found.place] = None;

@@ -1,4 +1,4 @@
-ghost use Rattle.std.specs.Prelude.{◌≡◌, IfOk, OnErr};
+ghost use Rattle.std.specs.Prelude.{◌≡◌, ◌≤◌, vec_len, IfOk, OnErr};
 ghost use Rattle.posix_terms.specs.Step.{effect_of};
 ghost use Rattle.call_machine.specs.Does.{Does, Replies, refused_of};
 ghost use Rattle.call_machine.specs.View.{state_of};
@@ -13,6 +13,8 @@ impl Table {
     pub fn step(&mut self, alloc: Global, call: &Call) -> Result<Reply, AllocError>
         ensures ok { IfOk result (λ reply. Replies (state_of self.old) call.now reply (state_of self.new)) }
         ensures err { OnErr result (state_of self.new ≡ state_of self.old) }
+        ensures grows { vec_len self.old.files ≤ vec_len self.new.files }
+        ensures few { vec_len self.new.files ≤ 48 }
     {
         match self.effect(alloc, call) {
             Ok(reply) => Ok(reply),
@@ -23,7 +25,8 @@ impl Table {
 
     // What a call does where it is not refused.
     fn effect(&mut self, alloc: Global, call: &Call) -> Result<Reply, Refusal>
-        ensures { Does result (state_of self.old) (state_of self.new) (effect_of (state_of self.old) call.now 0) }
+        ensures state { Does result (state_of self.old) (state_of self.new) (effect_of (state_of self.old) call.now 0) }
+        ensures grows { vec_len self.old.files ≤ vec_len self.new.files }
     {
         match call {
             Call::Open {

@@ -1,4 +1,4 @@
-ghost use Rattle.std.specs.Prelude.{◌≡◌, ℕ, ◌<◌, ◌^◌, vec_len, slice_index_or};
+ghost use Rattle.std.specs.Prelude.{◌≡◌, ℕ, ◌<◌, ◌≤◌, ◌^◌, vec_len, slice_index_or};
 ghost use Rattle.std.specs.Prelude.{Some, None};
 ghost use Rattle.std.specs.FinMap as map;
 ghost use Rattle.call_machine.specs.Lists.{paths_of, IsFoundByName};
@@ -33,6 +33,8 @@ pub struct Table {
     pub files: Vec<NamedFile>,
 
     ghost numbers: { vec_len descriptors ≡ 32 },
+
+    ghost few: { vec_len files ≤ 48 },
 
     // each description refers to a file, at an offset that a number of the calls can tell
     ghost in_range: { (k : ℕ) (d : OpenDescription) → slice_index_or descriptions.items k None ≡ Some d → (d.file < vec_len files) × (d.offset < 2 ^ 63) },

@@ -65,12 +65,9 @@ fn keeps_the_history(rt: HostRuntime) -> Result<(), Fail> {
     };
     let rows = plain.history.rows();
     assert_eq!(rt; rows.len(), 3);
-    let mut clock = 1u64;
-    for row in rows {
-        assert_eq!(rt; row.turn.clock, clock);
-        assert_eq!(rt; row.turn.thread, 0);
+    for (row, clock) in rows.iter().zip([1, 5, 9]) {
+        assert_eq!(rt; row.turn, Turn { clock, thread: 0 });
         assert_eq!(rt; row.outcome, None);
-        clock = clock.saturating_add(2);
     }
     let asked = plain.history.asked();
     assert_eq!(rt; asked.len(), 1);
@@ -92,7 +89,19 @@ fn rows_stand_in_the_order_of_their_turns(rt: HostRuntime) -> Result<(), Fail> {
     };
     let rows = plain.history.rows();
     assert_eq!(rt; rows.len(), 2);
-    assert_eq!(rt; rows[0].turn, Turn { clock: 1, thread: 1 });
-    assert_eq!(rt; rows[1].turn, Turn { clock: 4, thread: 0 });
+    assert_eq!(rt;
+        rows[0].turn,
+        Turn {
+            clock: 1,
+            thread: 1
+        }
+    );
+    assert_eq!(rt;
+        rows[1].turn,
+        Turn {
+            clock: 4,
+            thread: 0
+        }
+    );
     Ok(())
 }

@@ -7,8 +7,17 @@ use thread_scripts::ScriptActor;
 pub enum Phase {
     Working,
     WantsTable(Call),
-    // in a call that has this row of the history
-    Granted(usize),
+    // holds the table, which it took at this clock, and wants the lock of the object with this number
+    WantsObject {
+        call: Call,
+        clock: u64,
+        object: usize,
+    },
+    // in a call that has this row of the history; it holds the lock of its object or, without one, the table
+    Granted {
+        row: usize,
+        object: Option<usize>,
+    },
     // its next step would bring its clock past the limit
     Stuck,
     Ended,
@@ -19,7 +28,6 @@ pub enum Phase {
 #[derive(Drop)]
 pub struct Thread {
     pub phase: Phase,
-    pub clock: u64,
     pub asked: Steps,
     pub actor: ScriptActor,
     pub last: Option<Reply>,

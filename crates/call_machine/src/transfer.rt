@@ -18,7 +18,8 @@ impl Table {
     // POSIX.1-2017, `read`.
     #[tactic(auto, using(crate::proofs::PlaceLemmas::places, crate::proofs::FileLemmas::files), unfolding(posix_terms::specs::Transfers::read_result))]
     pub fn read(&mut self, alloc: Global, descriptor: i64, count: i64) -> Result<Reply, Refusal>
-        ensures { Does result (state_of self.old) (state_of self.new) (read_result (state_of self.old) descriptor count) }
+        ensures state { Does result (state_of self.old) (state_of self.new) (read_result (state_of self.old) descriptor count) }
+        ensures grows { vec_len self.old.files ≤ vec_len self.new.files }
     {
         let Found {
             place,
@@ -44,7 +45,8 @@ impl Table {
     // POSIX.1-2017, `write`.
     #[tactic(auto, using(crate::proofs::PlaceLemmas::places, crate::proofs::FileLemmas::files), unfolding(posix_terms::specs::Transfers::write_result))]
     pub fn write(&mut self, descriptor: i64, bytes: &[u8]) -> Result<Reply, Errno>
-        ensures { Changes result (state_of self.old) (state_of self.new) (write_result (state_of self.old) descriptor bytes.now) }
+        ensures state { Changes result (state_of self.old) (state_of self.new) (write_result (state_of self.old) descriptor bytes.now) }
+        ensures grows { vec_len self.old.files ≤ vec_len self.new.files }
     {
         let Found {
             place,
@@ -69,7 +71,8 @@ impl Table {
     // POSIX.1-2017, `lseek`.
     #[tactic(auto, using(crate::proofs::PlaceLemmas::places, crate::proofs::FileLemmas::files), unfolding(posix_terms::specs::Transfers::lseek_result))]
     pub fn lseek(&mut self, descriptor: i64, offset: i64, whence: Whence) -> Result<Reply, Errno>
-        ensures { Changes result (state_of self.old) (state_of self.new) (lseek_result (state_of self.old) descriptor offset whence) }
+        ensures state { Changes result (state_of self.old) (state_of self.new) (lseek_result (state_of self.old) descriptor offset whence) }
+        ensures grows { vec_len self.old.files ≤ vec_len self.new.files }
     {
         let Found {
             place,
@@ -116,7 +119,8 @@ impl Table {
         requires here { slice_index_or self.old.descriptions.items place None ≡ Some description }
         requires within { place < vec_len self.old.descriptions }
         requires offset { offset < 2 ^ 63 }
-        ensures { state_of self.new ≡ with_offset (state_of self.old) place (description_of description) offset }
+        ensures state { state_of self.new ≡ with_offset (state_of self.old) place (description_of description) offset }
+        ensures grows { vec_len self.old.files ≤ vec_len self.new.files }
     {
         self.descriptions[place] = Some(OpenDescription {
             offset,

@@ -327,7 +327,8 @@ fn faults_of_settings(rt: HostRuntime) -> Result<(), Fail> {
     Ok(())
 }
 
-// Two threads that open one file, one that works before it opens, and a loop that counts.
+// Two threads that open one file, one that works before it opens, a loop that counts, a file by itself, and one
+// thread that closes what the other has open.
 #[test]
 fn turns(rt: HostRuntime) -> Result<(), Fail> {
     let alloc = rt.alloc();
@@ -335,6 +336,11 @@ fn turns(rt: HostRuntime) -> Result<(), Fail> {
     let worker = b"work 3\nopen /a rw create\n".as_slice();
     let counter =
         b"set r2 -2\nlabel a\nopen /a r\njfail b\nend\nlabel b\nadd r2 1\njzero r2 c\njump a\nlabel c\n".as_slice();
+    let first = b"open /a rw create\nwrite 0 x68656c6c6f\nlseek 0 0 set\nread 0 9\nclose 0\n".as_slice();
+    let writer = b"open /a rw create\nwrite 0 x61\n".as_slice();
+    let reopener = b"work 6\nclose 0\nopen /a r\nread 0 1\n".as_slice();
+    let files = [first];
+    let reopeners = [writer, reopener];
     let openers = [opener, opener];
     let workers = [worker, opener];
     let counters = [counter];
@@ -342,7 +348,7 @@ fn turns(rt: HostRuntime) -> Result<(), Fail> {
         (
             true,
             openers.as_slice(),
-            "0 0 1 open number 0\n1 0 3 open number 1\nend\n",
+            "0 0 1 open number 0\n1 0 4 open number 1\nend\n",
         ),
         (
             false,
@@ -365,6 +371,16 @@ fn turns(rt: HostRuntime) -> Result<(), Fail> {
             "0 0 1 open fail ENOENT\n0 1 3 open fail ENOENT\nend\n",
         ),
         (
+            true,
+            files.as_slice(),
+            "0 0 1 open number 0\n0 1 5 write count 5\n0 2 9 lseek number 0\n0 3 13 read data 68656c6c6f\n0 4 17 close done\nend\n",
+        ),
+        (
+            true,
+            reopeners.as_slice(),
+            "0 0 1 open number 0\n0 1 5 write count 1\n1 0 8 close done\n1 1 12 open number 0\n1 2 16 read data 61\nend\n",
+        ),
+        (
             false,
             counters.as_slice(),
             "0 0 open fail ENOENT\n0 1 open fail ENOENT\nend\n",
@@ -376,14 +392,15 @@ fn turns(rt: HostRuntime) -> Result<(), Fail> {
     Ok(())
 }
 
-// Eight threads take their turns by number, each two steps of the clock after the one before.
+// Eight threads take their turns by number, each three steps of the clock after the one before: an attempt at the
+// file, one that frees the table, and the first at which the table is open to the next.
 #[test]
 fn eight_threads(rt: HostRuntime) -> Result<(), Fail> {
     let alloc = rt.alloc();
     let script = b"open /a rw create\n".as_slice();
     let mut wanted = String::new(alloc);
     for thread in 0u32..8 {
-        let clock = 2 * thread + 1;
+        let clock = 3 * thread + 1;
         let row = format!(in alloc; "{thread} 0 {clock} open number {thread}\n")?;
         wanted.push_str(row.as_str())?;
     }

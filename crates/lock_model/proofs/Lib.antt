@@ -16,3 +16,5 @@ pub mod Held
 pub mod OwnRows
 pub mod Holder
 pub mod ScriptProgress
+pub mod RealLegal
+pub mod RealLaws

@@ -11,6 +11,9 @@ pub mod Legal
 pub mod Rising
 pub mod Held
 pub mod Laws
+pub mod Numbers
 pub mod RealCalls
+pub mod Rows
+pub mod RealLaws
 pub mod ScriptPrograms
 pub mod Example

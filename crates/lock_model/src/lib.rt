@@ -9,6 +9,7 @@ ghost use Rattle.lock_model.specs.CallTable.Plan.{No_object, Object};
 ghost use Rattle.lock_model.specs.CallTable.Way.{Door, Inside, Keeps_table};
 ghost use Rattle.lock_model.specs.Example.{Words, alone, blocked_call, one_call, replied_at, three_calls, turn, turns, two};
 ghost use Rattle.lock_model.specs.Laws.{ArisesAtStart, ArisesByEvent, ArisesByRun, EachEventLowers, EndedOrTurn, EndsHere, EndsNext, HolderHasTurn, LegalLaw, LegalOfArisen, LocksOfArisen, OneEventMore, OneTurn, OverLaw, OwnFinite, PlainIsRun, PrefixLaw, PrefixLawOfCame, PrefixLawOfFollowed, PrefixLawOfOwn, RisingLaw, RisingOfArisen, RowsOfArisen, RunFollows, SomeEnd, SomeTurn, StuckLaw, UniqueEnd};
+ghost use Rattle.lock_model.specs.RealLaws.{RealEnd, RealLegal, RealLegalOfArisen, RealPrefix, RealRising};
 ghost use Rattle.lock_model.specs.Schedule.{IsOver, plain_run};
 ghost use Rattle.lock_model.specs.ScriptPrograms.{NeverLacks};
 ghost use Rattle.lock_model.specs.Transcripts.{transcript};
@@ -80,6 +81,18 @@ pub fn arising_states()
     ensures rising { RisingOfArisen }
     ensures locks { LocksOfArisen }
     ensures rows { RowsOfArisen }
+{}
+
+/// The same for the real calls, in the words of files and descriptors. Whatever the order of events, each answer is what
+/// the sequential descriptor object of `posix_terms` gives when it takes the calls one granted turn at a time
+/// (`legal`), the turns rise (`rising`), and each thread sees a beginning of what it sees in the plain run (`prefix`),
+/// which comes to an end where the programs do (`ends`).
+pub fn real_runs()
+    ensures legal { RealLegal }
+    ensures arisen { RealLegalOfArisen }
+    ensures rising { RealRising }
+    ensures prefix { RealPrefix }
+    ensures ends { RealEnd }
 {}
 
 /// Runs worked out by hand, from the rules: a table attempt costs 1; an object attempt costs 1, and 1 more where it

@@ -9,5 +9,6 @@ pub mod Refusals
 pub mod Paths
 pub mod Descriptors
 pub mod Transfers
+pub mod Locked
 pub mod Step
 pub mod Legal

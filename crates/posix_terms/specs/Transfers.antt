@@ -27,11 +27,17 @@ read_content s key d count (File file) =
     let bytes = bytes_at file d.offset count in
     Ok (Completes (with_offset s key d (d.offset + length bytes)) (reply.Data bytes))
 
+-- the description of a descriptor that is open for reading
+abbrev pub readable : State → ℤ → Result (ℕ × Description) Errno
+readable s descriptor = do
+  found ← described s descriptor
+  _ ← refuse_if (not (can_read found.1.access)) EBADF
+  Ok found
+
 -- `read`
 unfoldable pub read_result : State → ℤ → ℤ → Result Effect Errno
 read_result s descriptor count = do
-  found ← described s descriptor
-  _ ← refuse_if (not (can_read found.1.access)) EBADF
+  found ← readable s descriptor
   n ← count_of count
   read_content s found.0 found.1 n (content_of s found.1.object)
 
@@ -44,12 +50,18 @@ write_content s key d bytes (File file) = do
   w ← written file (start_of d file) bytes
   Ok (Completes (with_content (with_offset s key d (start_of d file + w.1)) d.object (File w.0)) (reply.Count w.1))
 
--- `write`; of no bytes it does nothing, and with O_APPEND too leaves the offset
-unfoldable pub write_result : State → ℤ → List ℕ → Result Effect Errno
-write_result s descriptor bytes = do
+-- the description of a descriptor that is open for writing, where a call can write these bytes
+abbrev pub writable : State → ℤ → List ℕ → Result (ℕ × Description) Errno
+writable s descriptor bytes = do
   found ← described s descriptor
   _ ← refuse_if (not (can_write found.1.access)) EBADF
   _ ← refuse_if (nat_lt limit.COUNT (length bytes)) EINVAL
+  Ok found
+
+-- `write`; of no bytes it does nothing, and with O_APPEND too leaves the offset
+unfoldable pub write_result : State → ℤ → List ℕ → Result Effect Errno
+write_result s descriptor bytes = do
+  found ← writable s descriptor bytes
   if length bytes == 0 then Ok (Completes s (reply.Count 0)) else write_content s found.0 found.1 bytes (content_of s found.1.object)
 
 -- an offset is a number below 2^63

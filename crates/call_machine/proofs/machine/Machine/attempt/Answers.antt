@@ -1,24 +1,40 @@
-use Rattle.std.proofs.Common.{◌≡◌, List, true, false, ap, sym, ◌∙◌}
+use Rattle.std.proofs.Common.{◌≡◌, true, false, arith, rules}
+use Rattle.logical_clocks.specs.ThreadClocks.{live_clocks}
 use Rattle.logical_clocks.specs.TurnOrder.{has_turn}
-use Rattle.call_machine.specs.Shows.{whole_of}
 use Rattle.call_machine.specs.View.{state_of}
-use Rattle.call_machine.specs.Views.{clocks_of, lock_of}
-use Rattle.call_machine.specs.declared.thread.Thread.{Thread}
-use Rattle.call_machine.proofs.EventShows.{no_attempt_event, try_item, try_total}
+use Rattle.call_machine.specs.declared.thread.Phase.TheVariants as phase
+use Rattle.call_machine.proofs.EventShows.{idle_done, item_agrees, item_of, no_turn, same_phase, try_done, try_lowers}
 use Rattle.call_machine.proofs.machine.Machine.attempt.Goals as goal
 
-pub returns-then-not-has_turn-clause-event : goal.returns-then-not-has_turn-clause-event
-returns-then-not-has_turn-clause-event c =
-    let late : has_turn (clocks_of c.args.self.now.threads.items) c.args.i ≡ false = ap (λ (ts : List Thread). has_turn (clocks_of ts) c.args.i) (sym c.deref.ensures.value) ∙ sym c.has_turn.ensures ∙ c.if-not-has_turn.true in
-    no_attempt_event (whole_of c.args.self.now) c.args.i late
+pub returns-then-not-is_turn-clause-event : goal.returns-then-not-is_turn-clause-event
+returns-then-not-is_turn-clause-event c =
+    let m = c.args.self.now in
+    let late : has_turn (live_clocks m.clocks) c.args.i ≡ false = search rules in
+    no_turn m.threads.items m.clocks m.shared.lock m.objects.items (state_of m.shared.table) m.shared.rows.items c.args.i m.agree late
 
-pub returns-clause-event : goal.returns-clause-event
-returns-clause-event c =
-    let turn : has_turn (clocks_of c.args.self.now.threads.items) c.args.i ≡ true = ap (λ (ts : List Thread). has_turn (clocks_of ts) c.args.i) (sym c.deref.ensures.value) ∙ sym c.has_turn.ensures ∙ c.if-not-has_turn.false in
-    try_item (whole_of c.args.self.now) c.args.i c.index_mut.result.now c.try_table.new.thread (lock_of c.try_table.new.lock) (state_of c.try_table.new.table) c.try_table.new.rows.items c.try_table.result
-    c.requires c.index_mut.ensures.value turn c.try_table.ensures
+pub invariant_of-self : goal.invariant_of-self
+invariant_of-self c =
+    let m = c.args.self.now in
+    record { agree = item_agrees m.threads.items m.clocks c.args.i c.index_mut.result.now c.try_table.new.thread c.try_table.new.clocks m.agree (item_of m.threads.items m.clocks c.args.i c.index_mut.result.now c.try_table.new.thread c.try_table.new.clocks m.agree c.requires c.index_mut.ensures.value c.try_table.ensures.others) }
 
-pub returns-clause-falls : goal.returns-clause-falls
-returns-clause-falls c =
-    try_total (whole_of c.args.self.now) c.args.i c.index_mut.result.now c.try_table.new.thread (lock_of c.try_table.new.lock) (state_of c.try_table.new.table) c.try_table.new.rows.items c.try_table.result
-    c.requires c.index_mut.ensures.value c.try_table.ensures
+pub returns-in-WantsTable-clause-event : goal.returns-in-WantsTable-clause-event
+returns-in-WantsTable-clause-event c =
+    let m = c.args.self.now in
+    let turn : has_turn (live_clocks m.clocks) c.args.i ≡ true = search rules in
+    try_done m.threads.items m.clocks c.try_table.new.clocks m.shared.lock m.objects.items (state_of m.shared.table) m.shared.rows.items c.args.i c.in-WantsTable.field-0 c.index_mut.result.now c.try_table.new.thread c.try_table.new.shared.lock (state_of c.try_table.new.shared.table) c.try_table.new.shared.rows.items c.try_table.result
+    (item_of m.threads.items m.clocks c.args.i c.index_mut.result.now c.try_table.new.thread c.try_table.new.clocks m.agree c.requires c.index_mut.ensures.value c.try_table.ensures.others)
+    m.agree turn (same_phase m.threads.items c.args.i c.index_mut.result.now c.index.result.now (phase.WantsTable c.in-WantsTable.field-0) c.requires c.index_mut.ensures.value c.index.ensures c.in-WantsTable.is) c.try_table.ensures.event
+
+pub returns-in-WantsTable-clause-falls : goal.returns-in-WantsTable-clause-falls
+returns-in-WantsTable-clause-falls c =
+    let m = c.args.self.now in
+    try_lowers m.threads.items m.clocks c.try_table.new.clocks m.shared.lock (state_of m.shared.table) m.shared.rows.items c.args.i c.index_mut.result.now c.try_table.new.thread c.try_table.new.shared.lock (state_of c.try_table.new.shared.table) c.try_table.new.shared.rows.items c.try_table.result
+    (item_of m.threads.items m.clocks c.args.i c.index_mut.result.now c.try_table.new.thread c.try_table.new.clocks m.agree c.requires c.index_mut.ensures.value c.try_table.ensures.others) c.try_table.ensures.event
+
+pub returns-in_default : goal.returns-in_default
+returns-in_default c =
+    let m = c.args.self.now in
+    record {
+      event = idle_done m.threads.items m.clocks m.shared.lock m.objects.items (state_of m.shared.table) m.shared.rows.items c.args.i c.index.result.now c.requires c.index.ensures c.in_default.not-WantsTable c.in_default.not-WantsObject;
+      falls = omega arith;
+    }

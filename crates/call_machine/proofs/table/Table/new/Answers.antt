@@ -1,5 +1,5 @@
 use Rattle.std.proofs.Common.{sym, ◌∙◌}
-use Rattle.call_machine.proofs.Starting.{counted_none, no_file_in, nothing_at, nothing_in, starts_empty}
+use Rattle.call_machine.proofs.Starting.{counted_none, few_none, no_file_in, nothing_at, nothing_in, starts_empty}
 use Rattle.call_machine.proofs.table.Table.new.Goals as goal
 
 pub invariant_of-result : goal.invariant_of-result
@@ -7,6 +7,7 @@ invariant_of-result c =
     let descriptors = c.in_ok-no_descriptors.field-0.items in
     record {
       numbers = c.in_ok-no_descriptors.ensures.len;
+      few = few_none c.new-2.result.len c.new-2.ensures.len;
       in_range = λ k d is. absurd (nothing_in c.new.result.items k d c.new.ensures.items is);
       referring = λ k n is. absurd (nothing_at descriptors k n (c.in_ok-no_descriptors.ensures.none k) is);
       single = λ j k n is _. absurd (nothing_at descriptors j n (c.in_ok-no_descriptors.ensures.none j) is);
