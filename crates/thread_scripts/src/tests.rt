@@ -219,7 +219,7 @@ fn prints_faults(rt: HostRuntime) -> Result<(), Fail> {
 const BAD_REGISTERS_AND_LABELS: [(&str, usize); 43] = [
     ("close r16", 1),
     ("close r01", 1),
-    ("close R1", 1),
+    ("close R0", 1),
     ("close r", 1),
     ("close b0", 1),
     ("write 0 b4", 1),
