@@ -56,9 +56,9 @@ pub record IsPlainRun (input : Inputs) (plain : Plain) : Type 0 where
   pub ends : EndsIn (setup_of input) (first_state input) last
   pub shows : plain ≡ plain_of last
 
--- a run was made, or there is none; where memory was lacking nothing is said
+-- a run was made, or there is none: for the number of scripts or of lists, then for the settings, and only then for want of memory
 abbrev pub Runs : Result Plain PlainFault → Inputs → Type 0
 Runs (Ok plain) input = IsPlainRun input plain
 Runs (Err plain_fault.Threads) input = are_threads input ≡ false
 Runs (Err plain_fault.Settings) input = (are_threads input ≡ true) × (are_settings input.settings ≡ false)
-Runs (Err plain_fault.Memory) input = Unit {0}
+Runs (Err plain_fault.Memory) input = (are_threads input ≡ true) × (are_settings input.settings ≡ true)

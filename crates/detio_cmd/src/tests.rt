@@ -132,6 +132,9 @@ fn refusals_on_a_file(rt: HostRuntime) -> Result<(), Fail> {
             "{line}"
         );
     }
+    let script = "open /a rw create\nread 0 -1";
+    let printed = "0 0 open number 0\n0 1 read fail EINVAL\nend\n";
+    assert!(rt; prints(rt.alloc(), script, printed)?);
     Ok(())
 }
 
@@ -336,7 +339,8 @@ fn turns(rt: HostRuntime) -> Result<(), Fail> {
     let worker = b"work 3\nopen /a rw create\n".as_slice();
     let counter =
         b"set r2 -2\nlabel a\nopen /a r\njfail b\nend\nlabel b\nadd r2 1\njzero r2 c\njump a\nlabel c\n".as_slice();
-    let first = b"open /a rw create\nwrite 0 x68656c6c6f\nlseek 0 0 set\nread 0 9\nclose 0\n".as_slice();
+    let first =
+        b"open /a rw create\nwrite 0 x68656c6c6f\nlseek 0 0 set\nread 0 9\nclose 0\n".as_slice();
     let writer = b"open /a rw create\nwrite 0 x61\n".as_slice();
     let reopener = b"work 6\nclose 0\nopen /a r\nread 0 1\n".as_slice();
     let files = [first];

@@ -24,7 +24,7 @@ real_start threads = start threads limit.OBJECTS first_world
 abbrev pub real_run : Settings → Supply → ℕ → List Event → State
 real_run settings supply threads events = run (real_setup settings supply) events (real_start threads)
 
--- whatever the order of events: each answer is what the sequential descriptor object answers when it takes the calls one granted turn at a time
+-- whatever the order of events: the object of posix_terms, given the calls in the order of the rows, gives each answer that a thread got
 abbrev pub RealLegal : Type 0
 RealLegal = (settings : Settings) (supply : Supply) (threads : ℕ) (events : List Event) → posix.IsLegal settings (map shown (real_run settings supply threads events).rows)
 

@@ -83,10 +83,10 @@ pub fn arising_states()
     ensures rows { RowsOfArisen }
 {}
 
-/// The same for the real calls, in the words of files and descriptors. Whatever the order of events, each answer is what
-/// the sequential descriptor object of `posix_terms` gives when it takes the calls one granted turn at a time
-/// (`legal`), the turns rise (`rising`), and each thread sees a beginning of what it sees in the plain run (`prefix`),
-/// which comes to an end where the programs do (`ends`).
+/// The same for the real calls, in the words of files and descriptors. Whatever the order of events, the object of
+/// `posix_terms`, given the calls in the order of the rows, gives each answer that a thread got (`legal`; `arisen`: of
+/// any state that arises), the turns rise (`rising`), and each thread sees a beginning of what it sees in the plain
+/// run (`prefix`), which comes to an end where the programs do (`ends`).
 pub fn real_runs()
     ensures legal { RealLegal }
     ensures arisen { RealLegalOfArisen }
