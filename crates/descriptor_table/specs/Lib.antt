@@ -1,0 +1,5 @@
+pub mod Table
+pub mod TableCode
+pub mod Plans
+pub mod Changes
+pub mod Agreement
