@@ -60,7 +60,6 @@ impl Descriptions {
         ensures free { IfSome result (λ key. map.get self.old.by_key key ≡ None) }
         ensures made { IfSome result (λ key. self.new ≡ with_new self.old key (new_description node end access flags self.old.made)) }
         ensures full { IfNone result (self.new ≡ self.old) }
-        ensures sound { AreSound self.old }
     {
         if self.slots.len() >= Limits::DESCRIPTORS {
             return None;
