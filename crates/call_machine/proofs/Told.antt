@@ -12,7 +12,8 @@ use Rattle.lock_model.specs.State.{Row, State, nobody, thread_of}
 use Rattle.lock_model.specs.State.Phase.{Ended, Granted, WantsTable, Working}
 use Rattle.posix_terms.specs.declared.transcript.HistoryRow.{HistoryRow}
 use Rattle.call_machine.specs.History.{transcripts_of}
-use Rattle.call_machine.specs.Plain.{has_ended, plain_of, stop_of}
+use Rattle.input_log.specs.Format.{text_of}
+use Rattle.call_machine.specs.Plain.{has_ended, header_of, log_of, plain_of, stop_of}
 use Rattle.call_machine.specs.Setup.{Inputs, first_state, script_of}
 use Rattle.call_machine.specs.Shows.{PhaseShows, Shows, ThreadShows, Whole, thread_at}
 use Rattle.call_machine.specs.Starting.{first_thread, first_whole, is_ended, told}
@@ -86,12 +87,17 @@ ended_phase input i rows t u (phase.Granted place object) h = ap has_ended h.1.0
 ended_phase input i rows t u phase.Stuck h = ap has_ended h.0
 ended_phase input i rows t u phase.Ended h = ap has_ended h
 
-pub told_shown : (input : Inputs) (w : Whole) (last : State) → Shows input w last → told w ≡ plain_of last
+-- the same threads have ended in both
+ended_shown : (input : Inputs) (w : Whole) (last : State) → Shows input w last → map (λ (t : Thread). is_ended t.phase) w.threads ≡ map (λ (u : lock.Thread). has_ended u.phase) last.threads
+ended_shown input w last h =
+    sym (maps_agree (λ (u : lock.Thread). has_ended u.phase) (λ (t : Thread). is_ended t.phase) last.threads w.threads nobody no_thread h.count
+    (λ i. ended_phase input i last.rows (thread_at w i) (thread_of last i) (thread_at w i).phase (h.threads i).phase))
+
+pub told_shown : (input : Inputs) (w : Whole) (last : State) → Shows input w last → told (header_of input) w ≡ plain_of input last
 told_shown input w last h k =
     record {
       transcripts = (ap₂ (λ (n : ℕ) (rows : List HistoryRow). transcripts_of n rows) (sym h.count) (sym h.rows)) k;
       history = record { rows = sym h.rows k; asked = sym (maps_agree (λ (u : lock.Thread). u.asked) (λ (t : Thread). t.asked) last.threads w.threads nobody no_thread h.count (λ i. (h.threads i).asked)) k };
-      log = [];
-      stop = ap stop_of (sym (maps_agree (λ (u : lock.Thread). has_ended u.phase) (λ (t : Thread). is_ended t.phase) last.threads w.threads nobody no_thread h.count
-          (λ i. ended_phase input i last.rows (thread_at w i) (thread_of last i) (thread_at w i).phase (h.threads i).phase))) k;
+      log = ap (λ ended. text_of (log_of (header_of input) ended)) (ended_shown input w last h) k;
+      stop = ap stop_of (ended_shown input w last h) k;
     }

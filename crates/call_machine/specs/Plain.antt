@@ -2,6 +2,9 @@
 use Rattle.std.specs.Prelude.{◌≡◌, ℕ, List, [], ◌∷◌, length, map, Option, Some, None, Bool, true, false, ◌&&◌, ◌==◌, nat_le, if◌then◌else◌, Result, Ok, Err}
 use Rattle.posix_terms.specs.declared.limits.TheConstants.Limits as limit
 use Rattle.posix_terms.specs.declared.transcript.Settings.{Settings}
+use Rattle.input_log.specs.Format.{text_of}
+use Rattle.input_log.specs.declared.log.Header.{Header}
+use Rattle.input_log.specs.declared.log.LogText.{LogText}
 use Rattle.lock_model.specs.Schedule.{EndsIn}
 use Rattle.lock_model.specs.State as lock
 use Rattle.lock_model.specs.State.{Phase, State}
@@ -27,15 +30,24 @@ all_true (b ∷ bs) = b && all_true bs
 abbrev pub stop_of : List Bool → Option Stop
 stop_of ended = if all_true ended then None else Some stop.ClockFull
 
--- what the last state of a plain run shows. So far nothing goes into the log
-abbrev pub plain_of : State → Plain
-plain_of last =
+-- the header of a run's log: the number of its threads, and its settings
+abbrev pub header_of : Inputs → Header
+header_of input = record { threads = length input.scripts; patience = input.settings.patience; door_cost = input.settings.door_cost }
+
+-- the log of a run with this header: its end stands where all threads ended. So far nothing comes from outside
+abbrev pub log_of : Header → List Bool → LogText
+log_of header ended = record { header = header; records = []; closed = all_true ended }
+
+-- what the last state of a plain run shows
+abbrev pub plain_of : Inputs → State → Plain
+plain_of input last =
     let rows = map shown last.rows in
+    let ended = map (λ (t : lock.Thread). has_ended t.phase) last.threads in
     record {
       transcripts = transcripts_of (length last.threads) rows;
       history = record { rows = rows; asked = map (λ (t : lock.Thread). t.asked) last.threads };
-      log = [];
-      stop = stop_of (map (λ (t : lock.Thread). has_ended t.phase) last.threads);
+      log = text_of (log_of (header_of input) ended);
+      stop = stop_of ended;
     }
 
 -- 1 to 8 scripts, with as many lists of outcomes
@@ -54,7 +66,7 @@ pub record IsPlainRun (input : Inputs) (plain : Plain) : Type 0 where
   pub settings : are_settings input.settings ≡ true
   pub last : State
   pub ends : EndsIn (setup_of input) (first_state input) last
-  pub shows : plain ≡ plain_of last
+  pub shows : plain ≡ plain_of input last
 
 -- a run was made, or there is none: for the number of scripts or of lists, then for the settings, and only then for want of memory
 abbrev pub Runs : Result Plain PlainFault → Inputs → Type 0

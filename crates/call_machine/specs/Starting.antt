@@ -1,12 +1,14 @@
 -- A run at its start, and what it comes to.
 use Rattle.std.specs.Prelude.{List, [], length, map, replicate, None, Bool, true, false}
+use Rattle.input_log.specs.Format.{text_of}
+use Rattle.input_log.specs.declared.log.Header.{Header}
 use Rattle.posix_terms.specs.Object.{empty_state}
 use Rattle.posix_terms.specs.declared.limits.TheConstants.Limits as limit
 use Rattle.thread_scripts.specs.Meaning.{start_of}
 use Rattle.thread_scripts.specs.declared.line.Line.{Line}
 use Rattle.det_mutex.specs.Attempt.{new_lock}
 use Rattle.call_machine.specs.History.{transcripts_of}
-use Rattle.call_machine.specs.Plain.{stop_of}
+use Rattle.call_machine.specs.Plain.{log_of, stop_of}
 use Rattle.call_machine.specs.Shows.{Whole}
 use Rattle.call_machine.specs.declared.plain.Plain.{Plain}
 use Rattle.call_machine.specs.declared.thread.Phase.{Phase}
@@ -28,12 +30,13 @@ abbrev pub is_ended : Phase → Bool
 is_ended phase.Ended = true
 is_ended p = false
 
--- what a run that is over tells
-abbrev pub told : Whole → Plain
-told w =
+-- what a run that is over tells, whose log has this header
+abbrev pub told : Header → Whole → Plain
+told header w =
+    let ended = map (λ (t : Thread). is_ended t.phase) w.threads in
     record {
       transcripts = transcripts_of (length w.threads) w.rows;
       history = record { rows = w.rows; asked = map (λ (t : Thread). t.asked) w.threads };
-      log = [];
-      stop = stop_of (map (λ (t : Thread). is_ended t.phase) w.threads);
+      log = text_of (log_of header ended);
+      stop = stop_of ended;
     }

@@ -1,23 +1,25 @@
 ghost use Rattle.std.specs.Prelude.{◌≡◌, ℕ, List, IfOk, map};
 ghost use Rattle.call_machine.specs.History.{transcript_of, transcripts_of};
-ghost use Rattle.call_machine.specs.Plain.{stop_of};
+ghost use Rattle.call_machine.specs.Plain.{all_true};
 ghost use Rattle.call_machine.specs.Shows.{whole_of};
 ghost use Rattle.call_machine.specs.Starting.{is_ended, told};
 ghost use Rattle.call_machine.specs.declared.thread.Thread.{Thread};
 
 use crate::fault::Stop;
 use crate::history::{History, Steps};
+use crate::log::log_text;
 use crate::machine::Machine;
 use crate::plain::Plain;
 use crate::thread::{Phase, Thread};
-use posix_terms::{Answer, Bytes, HistoryRow, Row, Transcript, Transcripts};
+use input_log::Header;
+use posix_terms::{Answer, HistoryRow, Row, Transcript, Transcripts};
 use std::alloc::{AllocError, Global};
 
 impl Machine {
-    // What a run that is over tells.
+    // What a run that is over tells, whose log has this header.
     #[tactic(auto, using(crate::proofs::Joining::joining))]
-    pub fn finish(self, alloc: Global) -> Result<Plain, AllocError>
-        ensures { IfOk result (λ plain. plain ≡ told (whole_of self)) }
+    pub fn finish(self, alloc: Global, header: Header) -> Result<Plain, AllocError>
+        ensures { IfOk result (λ plain. plain ≡ told header (whole_of self)) }
     {
         let Machine {
             threads,
@@ -25,28 +27,27 @@ impl Machine {
             ..
         } = self;
         let rows = shared.rows;
-        let stop = stop(&threads);
+        let ended = have_ended(&threads);
         let transcripts = transcripts(alloc, threads.len(), &rows)?;
         let asked = asked(alloc, threads)?;
         Ok(Plain {
             transcripts: Transcripts::from_vec(transcripts),
             history: History::new(rows, asked),
-            log: Bytes::from_vec(Vec::new(alloc)),
-            stop,
+            log: log_text(alloc, header, ended)?,
+            stop: if ended { None } else { Some(Stop::ClockFull) },
         })
     }
 }
 
-// Why a run ended before all threads had.
-fn stop(threads: &[Thread]) -> Option<Stop>
-    ensures { result ≡ stop_of (map (λ (t : Thread). is_ended t.phase) threads.now) }
+fn have_ended(threads: &[Thread]) -> bool
+    ensures { result ≡ all_true (map (λ (t : Thread). is_ended t.phase) threads.now) }
 {
     for thread in threads {
         if !has_ended(thread) {
-            return Some(Stop::ClockFull);
+            return false;
         }
     }
-    None
+    true
 }
 
 fn has_ended(thread: &Thread) -> bool

@@ -9,6 +9,7 @@ mod fault;
 mod finish;
 mod history;
 mod locked;
+mod log;
 mod lookup;
 mod machine;
 mod new_table;

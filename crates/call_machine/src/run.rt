@@ -6,6 +6,7 @@ ghost use Rattle.call_machine.specs.Plain.{Runs, are_settings, counts_fit};
 use crate::fault::PlainFault;
 use crate::machine::Machine;
 use crate::plain::Plain;
+use input_log::Header;
 use posix_terms::{Limits, Outcomes, Settings};
 use std::alloc::Global;
 use thread_scripts::Script;
@@ -15,7 +16,8 @@ use thread_scripts::Script;
 ///
 /// While some thread can make an event that needs no turn, the least such thread makes it; otherwise the
 /// thread that has the turn makes its attempt. The run ends when all threads have ended, or when a logical
-/// clock is full. Its history is legal, and its turns rise.
+/// clock is full. Its history is legal, and its turns rise. Its log is a header and, where all threads ended,
+/// the end; so far nothing comes from outside.
 pub fn plain_run(
     alloc: Global,
     scripts: Vec<Script>,
@@ -32,9 +34,14 @@ pub fn plain_run(
     if !are_in_range(settings) {
         return Err(PlainFault::Settings);
     }
+    let header = Header {
+        threads: scripts.len() as u16,
+        patience: settings.patience,
+        door_cost: settings.door_cost,
+    };
     let mut machine = Machine::new(alloc, scripts)?;
     machine.run(alloc)?;
-    Ok(machine.finish(alloc)?)
+    Ok(machine.finish(alloc, header)?)
 }
 
 fn counts_fit(scripts: usize, outcomes: usize) -> bool

@@ -74,8 +74,36 @@ fn keeps_the_history(rt: HostRuntime) -> Result<(), Fail> {
     assert_eq!(rt; asked[0].as_slice().last(), Some(&Step::End));
     assert_eq!(rt; asked[0].as_slice().len(), 4);
     assert_eq!(rt; plain.transcripts.threads().len(), 1);
-    assert!(rt; plain.log.as_slice().is_empty());
     assert_eq!(rt; plain.stop, None);
+    Ok(())
+}
+
+// A header with the number of threads and the settings, and an end without records.
+#[test]
+fn writes_the_log(rt: HostRuntime) -> Result<(), Fail> {
+    let alone = [
+        0x44, 0x49, 0x4f, 0x4c, 0, 1, 0, 1, 0, 0, 0x03, 0xe8, 0, 0, 0, 0x64, 0x45, 0, 0, 0, 0,
+    ];
+    match run(rt.alloc(), &[""], 1, DEFAULTS) {
+        Err(PlainFault::Memory) => {}
+        run => assert_eq!(rt; run?.log.as_slice(), alone.as_slice()),
+    }
+    let three = [
+        0x44, 0x49, 0x4f, 0x4c, 0, 1, 0, 3, 0, 0, 0, 7, 0, 0x0f, 0x42, 0x40, 0x45, 0, 0, 0, 0,
+    ];
+    let settings = Settings {
+        patience: 7,
+        door_cost: 1_000_000,
+    };
+    match run(
+        rt.alloc(),
+        &["open /a rw create", "", "close 0"],
+        3,
+        settings,
+    ) {
+        Err(PlainFault::Memory) => {}
+        run => assert_eq!(rt; run?.log.as_slice(), three.as_slice()),
+    }
     Ok(())
 }
 

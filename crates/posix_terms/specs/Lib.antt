@@ -10,5 +10,6 @@ pub mod Paths
 pub mod Descriptors
 pub mod Transfers
 pub mod Locked
+pub mod Outcomes
 pub mod Step
 pub mod Legal

@@ -1,4 +1,5 @@
 ghost use Rattle.std.specs.Prelude.{◌≡◌, List, IfOk};
+ghost use Rattle.posix_terms.specs.Outcomes.{fits};
 ghost use Rattle.posix_terms.specs.declared.outcome.Given.{Given};
 
 use crate::bytes::Bytes;
@@ -28,6 +29,32 @@ pub enum Outcome {
 }
 
 impl Outcome {
+    /// Whether the outcome answers a request of this kind that asks this: for a read and a write the count
+    /// of bytes, for a listener the port, or 0 for any port, and for the other kinds 0. Every failure fits.
+    #[tactic(auto, unfolding(crate::specs::Outcomes::fits))]
+    pub fn fits(&self, kind: OutKind, asked: u64) -> bool
+        ensures { result ≡ fits kind asked self.now }
+    {
+        let Outcome::Ok { value, bytes } = self else {
+            return true;
+        };
+        let value = *value;
+        let bytes = bytes.as_slice();
+        match kind {
+            OutKind::Read => value == bytes.len() as u64 && value <= asked,
+            OutKind::Write => value <= asked && bytes.is_empty(),
+            OutKind::Seek => value <= i64::MAX as u64 && bytes.is_empty(),
+            OutKind::Listen => {
+                (1..=65_535).contains(&value) && (asked == 0 || value == asked) && bytes.is_empty()
+            }
+            OutKind::Open
+            | OutKind::Connect
+            | OutKind::Accept
+            | OutKind::Shutdown
+            | OutKind::Close => value == 0 && bytes.is_empty(),
+        }
+    }
+
     /// A copy of the outcome.
     pub fn try_clone(&self) -> Result<Outcome, AllocError>
         ensures { IfOk result (λ outcome. outcome ≡ self.now) }

@@ -181,3 +181,34 @@ fn texts_in_pieces(rt: HostRuntime) -> Result<(), Fail> {
     assert!(rt; parts[0] == b"a".as_slice() && parts[1] == b"b".as_slice());
     Ok(())
 }
+
+#[test]
+fn outcomes_fit_their_requests(rt: HostRuntime) -> Result<(), Fail> {
+    let alloc = rt.alloc();
+    let three = Outcome::Ok {
+        value: 3,
+        bytes: Bytes::from_slice(alloc, b"")?,
+    };
+    for (kind, asked, wanted) in [
+        (OutKind::Write, 8, true),
+        (OutKind::Write, 3, true),
+        (OutKind::Write, 2, false),
+        (OutKind::Read, 8, false),
+        (OutKind::Seek, 0, true),
+        (OutKind::Listen, 0, true),
+        (OutKind::Listen, 3, true),
+        (OutKind::Listen, 4, false),
+        (OutKind::Open, 0, false),
+    ] {
+        assert_eq!(rt; three.fits(kind, asked), wanted, "{asked}");
+    }
+    let data = Outcome::Ok {
+        value: 2,
+        bytes: Bytes::from_slice(alloc, b"hi")?,
+    };
+    assert!(rt; data.fits(OutKind::Read, 2));
+    assert!(rt; !data.fits(OutKind::Read, 1));
+    assert!(rt; !data.fits(OutKind::Write, 2));
+    assert!(rt; Outcome::Fail(Errno::EIO).fits(OutKind::Open, 0));
+    Ok(())
+}
