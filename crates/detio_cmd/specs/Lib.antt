@@ -1,3 +1,5 @@
 pub mod Transcripts
 pub mod Commands
 pub mod FirstFaults
+pub mod LogTexts
+pub mod Shows

@@ -18,7 +18,7 @@ prints
   end
 
 Exit statuses:
-  0  the run came to its end
+  0  the run came to its end, or the log was printed
   1  a difference, a divergence or the end of a log
   2  wrong usage
   3  a bad script or log
@@ -68,6 +68,33 @@ prints
   1 0 1 open number 0
   end";
 
+const SHOW_ABOUT: &str = "Prints a log";
+
+const SHOW_LONG_ABOUT: &str = "Prints a log.
+
+The first line tells what the log was written under. A line for each record follows, in order: thread,
+number among the records of that thread, kind of the request and outcome. The outcome is ok, a value and
+the bytes that were read in hexadecimal, - for none, or fail and the name of the error. The last line is
+end and the number of records, or open and that number where the log is not closed.
+
+What is no log has one line on standard error, for its first fault:
+  log: bad magic
+  log: bad version
+  log: bad record at PLACE
+  log: torn at PLACE after COUNT records
+
+A place is counted in bytes from 0. Where a log is torn behind its header, the first line and the lines of
+the records before the tear are printed on standard output. A file of more than 16777216 bytes cannot be
+read.";
+
+const SHOW_AFTER_HELP: &str = "Example:
+  printf 'DIOL\\0\\1\\0\\1\\0\\0\\3\\350\\0\\0\\0\\144E\\0\\0\\0\\0' > empty.log
+  detio show --log empty.log
+
+prints
+  version 1 threads 1 patience 1000 door cost 100
+  end 0";
+
 /// The command line of the program.
 pub fn command<'a>(alloc: Global) -> Result<Command<'a>, AllocError> {
     Ok(
@@ -79,7 +106,8 @@ pub fn command<'a>(alloc: Global) -> Result<Command<'a>, AllocError> {
             .subcommand_required(true)
             .arg_required_else_help(true)
             .disable_help_subcommand(true)
-            .subcommand(plain(alloc)?)?,
+            .subcommand(plain(alloc)?)?
+            .subcommand(show(alloc)?)?,
     )
 }
 
@@ -113,4 +141,17 @@ fn plain<'a>(alloc: Global) -> Result<Command<'a>, AllocError> {
         .arg(door_cost)?
         .arg(turns)?
         .arg(scripts)
+}
+
+fn show<'a>(alloc: Global) -> Result<Command<'a>, AllocError> {
+    let log = Arg::new(alloc, "log")
+        .long("log")
+        .value_name("FILE")
+        .required(true)
+        .help("The log to print; /dev/stdin is standard input");
+    Command::new(alloc, "show")
+        .about(SHOW_ABOUT)
+        .long_about(SHOW_LONG_ABOUT)
+        .after_help(SHOW_AFTER_HELP)
+        .arg(log)
 }

@@ -4,8 +4,8 @@ use std::fs::File;
 use std::io::{Read, Stdin};
 use std::{fs, io};
 
-// Where a script comes from. One that could not be opened fails when it is read, so that the faults of
-// all scripts are found in one order.
+// Where a text comes from. One that could not be opened fails when it is read, so that the faults of all
+// scripts are found in one order.
 #[derive(Drop)]
 pub enum Input {
     Stdin(Stdin),
@@ -23,23 +23,28 @@ impl Read for Input {
     }
 }
 
-// The scripts at these paths. Standard input is read as such, since opening its path again is refused
-// where another user made the pipe behind it.
+// The scripts at these paths.
 pub fn open_scripts<'a>(
     rt: &HostRuntime,
     paths: &[&'a str],
 ) -> Result<Vec<Source<'a, Input>>, AllocError> {
     let mut sources = Vec::new(rt.alloc());
     for path in paths {
-        let reader = if *path == "/dev/stdin" {
-            Input::Stdin(rt.stdin())
-        } else {
-            match fs::open(rt, *path) {
-                Ok(file) => Input::File(file),
-                Err(_) => Input::Unreadable,
-            }
-        };
-        sources.push(Source { path, reader })?;
+        sources.push(open_source(rt, path))?;
     }
     Ok(sources)
+}
+
+// The text at this path. Standard input is read as such, since opening its path again is refused where
+// another user made the pipe behind it.
+pub fn open_source<'a>(rt: &HostRuntime, path: &'a str) -> Source<'a, Input> {
+    let reader = if path == "/dev/stdin" {
+        Input::Stdin(rt.stdin())
+    } else {
+        match fs::open(rt, path) {
+            Ok(file) => Input::File(file),
+            Err(_) => Input::Unreadable,
+        }
+    };
+    Source { path, reader }
 }

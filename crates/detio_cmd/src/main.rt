@@ -4,8 +4,10 @@
 mod command;
 mod first_fault;
 mod input;
+mod log_text;
 mod plain;
 mod printed;
+mod show;
 mod source;
 #[cfg(test)]
 mod tests;
@@ -14,9 +16,11 @@ mod transcripts;
 use clap::ArgMatches;
 use clap::error::ErrorKind;
 use command::command;
-use input::open_scripts;
-use plain::{cannot_write, no_memory, plain_over};
+use input::{open_scripts, open_source};
+use plain::plain_over;
 use posix_terms::Settings;
+use printed::{cannot_write, no_memory};
+use show::show_over;
 use std::alloc::AllocError;
 use std::io;
 use std::process::ExitCode;
@@ -40,6 +44,7 @@ fn run(rt: &HostRuntime) -> Result<u8, AllocError> {
     match command(alloc)?.try_get_matches_from(words.as_slice()) {
         Ok(matches) => match matches.subcommand() {
             Some(("plain", matches)) => run_plain(rt, matches),
+            Some(("show", matches)) => Ok(run_show(rt, matches)),
             _ => Ok(2),
         },
         Err(error) => other_usage(rt, error),
@@ -85,4 +90,13 @@ fn run_plain(rt: &HostRuntime, matches: &ArgMatches<'_>) -> Result<u8, AllocErro
         &mut rt.stderr(),
     );
     Ok(status.unwrap_or(4))
+}
+
+// `detio show`, as the command line has it.
+fn run_show(rt: &HostRuntime, matches: &ArgMatches<'_>) -> u8 {
+    let Some(path) = matches.get_str("log") else {
+        return 2;
+    };
+    let source = open_source(rt, path);
+    show_over(rt.alloc(), source, &mut rt.stdout(), &mut rt.stderr()).unwrap_or(4)
 }

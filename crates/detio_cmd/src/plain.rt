@@ -1,13 +1,12 @@
-ghost use Rattle.std.specs.Prelude.{◌≡◌, ◌⊎◌, MatchResult, ◌∷◌, [], length, map, IfOk, codes, replicate, true};
-ghost use Rattle.std.specs.Io.KnownBytes.{Appends};
+ghost use Rattle.std.specs.Prelude.{◌≡◌, MatchResult, ◌∷◌, [], length, map, IfOk, replicate, true};
 ghost use Rattle.thread_scripts.specs.Faults.{bad_line, too_long};
 ghost use Rattle.thread_scripts.specs.Grammar.{script_of};
 ghost use Rattle.call_machine.specs.Plain.{are_settings, counts_fit};
-ghost use Rattle.detio_cmd.specs.Commands.{IsCut, IsPrinted, PlainPrints, Prints, RunPrints, ScriptsPrint, cannot_read, fault_printed, inputs_of, run_printed, script_fault, scripts_from};
+ghost use Rattle.detio_cmd.specs.Commands.{PlainPrints, Prints, RunPrints, ScriptsPrint, inputs_of, run_printed, script_fault, scripts_from};
 ghost use Rattle.detio_cmd.specs.FirstFaults.{IsFirst, IsScript};
 
 use crate::first_fault::FirstFault;
-use crate::printed::Printed;
+use crate::printed::{Printed, cannot_read, fault, no_memory, print};
 use crate::source::{Source, Unread, read_all};
 use crate::transcripts::{end_status, end_text, transcripts_text};
 use call_machine::{Plain, PlainFault, plain_run};
@@ -162,51 +161,4 @@ fn too_long(alloc: Global, script: usize) -> Result<Printed, AllocError>
 {
     let text = format!(in alloc; "script {script}: too long\n")?;
     fault(alloc, 3, text.as_str())
-}
-
-fn cannot_read(alloc: Global, path: &str) -> Result<Printed, AllocError>
-    ensures { IfOk result (λ printed. printed ≡ cannot_read path.now) }
-{
-    let text = format!(in alloc; "cannot read {path}\n")?;
-    fault(alloc, 4, text.as_str())
-}
-
-// A line on standard error, and a status.
-fn fault(alloc: Global, status: u8, line: &str) -> Result<Printed, AllocError>
-    ensures { IfOk result (λ printed. printed ≡ fault_printed status line.now) }
-{
-    Ok(Printed {
-        status,
-        output: Bytes::from_vec(Vec::new(alloc)),
-        errors: Bytes::from_slice(alloc, line.as_bytes())?,
-    })
-}
-
-// Writes what is to be printed, and answers the status.
-fn print<W: Write, E: Write>(printed: &Printed, output: &mut W, errors: &mut E) -> io::Result<u8>
-    ensures { IfOk result (λ status. IsPrinted printed.now status (W.contents output.old) (W.contents output.new) (E.contents errors.old) (E.contents errors.new) ⊎ IsCut status (E.contents errors.old) (E.contents errors.new)) }
-{
-    match output.write_all(printed.output.as_slice()) {
-        Ok(()) => {
-            errors.write_all(printed.errors.as_slice())?;
-            Ok(printed.status)
-        }
-        Err(_) => cannot_write(errors),
-    }
-}
-
-/// Says that standard output could not be written, and answers the status.
-pub fn cannot_write<E: Write>(errors: &mut E) -> io::Result<u8>
-    ensures { IfOk result (λ status. IsCut status (E.contents errors.old) (E.contents errors.new)) }
-{
-    errors.write_all(b"cannot write -\n")?;
-    Ok(4)
-}
-
-/// Says that there is no memory, and answers the status.
-pub fn no_memory<E: Write>(errors: &mut E) -> io::Result<u8>
-    ensures { IfOk result (λ status. (status ≡ 4) × Appends (E.contents errors.old) (E.contents errors.new) (codes "no memory\n")) }
-{
-    errors.write_all(b"no memory\n")?;
-    Ok(4)
 }

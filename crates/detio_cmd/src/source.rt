@@ -7,7 +7,7 @@ use posix_terms::Bytes;
 use std::alloc::{AllocFailed, Global};
 use std::io::{ErrorKind, Read};
 
-/// A script to be read: the path that messages name, and where its text comes from.
+/// A text to be read: the path that messages name, and where the text comes from.
 #[derive(Drop)]
 pub struct Source<'a, R: Drop> {
     pub path: &'a str,

@@ -1,4 +1,5 @@
 use crate::plain::plain_over;
+use crate::show::show_over;
 use crate::source::Source;
 use posix_terms::Settings;
 use std::alloc::Global;
@@ -573,6 +574,158 @@ fn full_device(rt: HostRuntime) -> Result<(), Fail> {
     let mut errors: Vec<u8> = Vec::new(alloc);
     let mut full = Device::Broken;
     let status = plain_over(alloc, DEFAULTS, false, sources, &mut full, &mut errors)?;
+    assert_eq!(rt; status, 4);
+    assert!(rt; errors.as_slice() == b"cannot write -\n".as_slice());
+    Ok(())
+}
+
+// What `show` says of a device: the status, standard output and standard error.
+fn shown(alloc: Global, device: Device) -> io::Result<(u8, Vec<u8>, Vec<u8>)> {
+    let source = Source {
+        path: "a.log",
+        reader: device,
+    };
+    let mut output: Vec<u8> = Vec::new(alloc);
+    let mut errors: Vec<u8> = Vec::new(alloc);
+    let status = show_over(alloc, source, &mut output, &mut errors)?;
+    Ok((status, output, errors))
+}
+
+// Whether `show` says this of a log, unless memory is wanted.
+fn shows(
+    alloc: Global,
+    log: &'static [u8],
+    status: u8,
+    output: &str,
+    errors: &str,
+) -> io::Result<bool> {
+    let (found, printed, told) = shown(alloc, Device::Text(log))?;
+    if found == 4 && told.as_slice() == b"no memory\n".as_slice() {
+        return Ok(printed.is_empty());
+    }
+    Ok(
+        found == status
+            && printed.as_slice() == output.as_bytes()
+            && told.as_slice() == errors.as_bytes(),
+    )
+}
+
+// A header and three records: a file is opened, three bytes are written, a second write fails.
+const THREE_RECORDS: &[u8] = b"DIOL\0\x01\0\x01\0\0\x03\xe8\0\0\0\x64\
+    R\0\0\0\0\0\0\x01\0\0\0\0\0\0\0\0\0\0\0\
+    R\0\0\0\0\0\x01\x03\0\0\0\0\0\0\0\0\x03\0\0\
+    R\0\0\0\0\0\x02\x03\x09\0\0\0\0\0\0\0\0\0\0\
+    E\0\0\0\x03";
+
+const HEADER_LINE: &str = "version 1 threads 1 patience 1000 door cost 100\n";
+
+// A log whole, cut at the end of an item, and cut inside each.
+#[test]
+fn logs(rt: HostRuntime) -> Result<(), Fail> {
+    let alloc = rt.alloc();
+    let rows = "version 1 threads 1 patience 1000 door cost 100
+0 0 open ok 0 -
+0 1 write ok 3 -
+0 2 write fail EIO
+";
+    let three = "version 1 threads 1 patience 1000 door cost 100
+0 0 open ok 0 -
+0 1 write ok 3 -
+0 2 write fail EIO
+end 3
+";
+    let one = "version 1 threads 1 patience 1000 door cost 100\n0 0 open ok 0 -\n";
+    let open = "version 1 threads 1 patience 1000 door cost 100\n0 0 open ok 0 -\nopen 1\n";
+    let none = "version 1 threads 1 patience 1000 door cost 100\nopen 0\n";
+    let cases = [
+        (78usize, 0u8, three, ""),
+        (77, 3, rows, "log: torn at 73 after 3 records\n"),
+        (42, 3, one, "log: torn at 35 after 1 records\n"),
+        (35, 0, open, ""),
+        (17, 3, HEADER_LINE, "log: torn at 16 after 0 records\n"),
+        (16, 0, none, ""),
+        (15, 3, "", "log: torn at 0 after 0 records\n"),
+        (8, 3, "", "log: torn at 0 after 0 records\n"),
+        (0, 3, "", "log: torn at 0 after 0 records\n"),
+    ];
+    for (length, status, output, errors) in cases {
+        assert!(rt;
+            shows(alloc, &THREE_RECORDS[..length], status, output, errors)?,
+            "{length}"
+        );
+    }
+    Ok(())
+}
+
+// An empty log, each kind of request, bytes that were read, and two threads.
+#[test]
+fn lines_of_records(rt: HostRuntime) -> Result<(), Fail> {
+    let alloc = rt.alloc();
+    let empty = b"DIOL\0\x01\0\x01\0\0\x03\xe8\0\0\0\x64E\0\0\0\0".as_slice();
+    let wanted = "version 1 threads 1 patience 1000 door cost 100\nend 0\n";
+    assert!(rt; shows(alloc, empty, 0, wanted, "")?);
+    let kinds = b"DIOL\0\x01\0\x02\0\0\0\x07\0\0\0\x09\
+        R\0\x01\0\0\0\0\x02\0\0\0\0\0\0\0\0\x03\0\x03\xab\x00\x1f\
+        R\0\x01\0\0\0\x01\x04\0\0\0\0\0\0\0\x01\0\0\0\
+        R\0\0\0\0\0\0\x05\0\0\0\0\0\0\0\x1f\x90\0\0\
+        R\0\0\0\0\0\x01\x06\x17\0\0\0\0\0\0\0\0\0\0\
+        R\0\x01\0\0\0\x02\x07\0\0\0\0\0\0\0\0\0\0\0\
+        R\0\0\0\0\0\x02\x08\0\0\0\0\0\0\0\0\0\0\0\
+        R\0\0\0\0\0\x03\x09\x01\0\0\0\0\0\0\0\0\0\0"
+        .as_slice();
+    let wanted = "version 1 threads 2 patience 7 door cost 9
+1 0 read ok 3 ab001f
+1 1 seek ok 256 -
+0 0 listen ok 8080 -
+0 1 connect fail ECONNREFUSED
+1 2 accept ok 0 -
+0 2 shutdown ok 0 -
+0 3 close fail EBADF
+open 7
+";
+    assert!(rt; shows(alloc, kinds, 0, wanted, "")?);
+    Ok(())
+}
+
+// Faults of logs print nothing on standard output.
+#[test]
+fn faults_of_logs(rt: HostRuntime) -> Result<(), Fail> {
+    let alloc = rt.alloc();
+    let longer = b"DIOL\0\x01\0\x01\0\0\x03\xe8\0\0\0\x64\
+        R\0\0\0\0\0\0\x01\0\0\0\0\0\0\0\0\0\0\0\
+        R\0\0\0\0\0\x01\x03\0\0\0\0\0\0\0\0\x03\0\0\
+        R\0\0\0\0\0\x02\x03\x09\0\0\0\0\0\0\0\0\0\0\
+        E\0\0\0\x03\0";
+    let cases = [
+        (b"XIOL".as_slice(), "log: bad magic\n"),
+        (b"DIOL\0\x03".as_slice(), "log: bad version\n"),
+        (
+            b"DIOL\0\x01\0\0\0\0\x03\xe8\0\0\0\x64".as_slice(),
+            "log: bad record at 0\n",
+        ),
+        (longer.as_slice(), "log: bad record at 78\n"),
+    ];
+    for (log, line) in cases {
+        assert!(rt; shows(alloc, log, 3, "", line)?, "{line}");
+    }
+    Ok(())
+}
+
+// A log that cannot be read, and an output that cannot be written.
+#[test]
+fn failing_devices_of_logs(rt: HostRuntime) -> Result<(), Fail> {
+    let alloc = rt.alloc();
+    for device in [Device::Broken, Device::Endless] {
+        let (status, output, errors) = shown(alloc, device)?;
+        assert_eq!(rt; status, 4);
+        assert!(rt; output.is_empty() && errors.as_slice() == b"cannot read a.log\n".as_slice());
+    }
+    let source = Source {
+        path: "a.log",
+        reader: THREE_RECORDS,
+    };
+    let mut errors: Vec<u8> = Vec::new(alloc);
+    let status = show_over(alloc, source, &mut Device::Broken, &mut errors)?;
     assert_eq!(rt; status, 4);
     assert!(rt; errors.as_slice() == b"cannot write -\n".as_slice());
     Ok(())

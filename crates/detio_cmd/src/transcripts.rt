@@ -80,7 +80,8 @@ fn reply_text(alloc: Global, reply: &Reply) -> Result<String, AllocError>
     }
 }
 
-fn data_text(alloc: Global, bytes: &[u8]) -> Result<String, AllocError>
+// Bytes as hexadecimal digits, and `-` for none.
+pub fn data_text(alloc: Global, bytes: &[u8]) -> Result<String, AllocError>
     ensures { IfOk result (λ text. string_bytes text ≡ data_text bytes.now) }
 {
     if bytes.is_empty() {
