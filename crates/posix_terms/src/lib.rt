@@ -10,6 +10,7 @@ mod laws;
 mod limits;
 mod outcome;
 mod reply;
+mod request;
 #[cfg(test)]
 mod tests;
 mod text;
@@ -23,5 +24,6 @@ pub use laws::failed_calls_change_nothing;
 pub use limits::Limits;
 pub use outcome::{Given, OutKind, Outcome, Outcomes};
 pub use reply::{Answer, ObjectKind, Reply};
+pub use request::Request;
 pub use text::{pieces, split};
 pub use transcript::{HistoryRow, Row, Settings, Transcript, Transcripts, Turn};

@@ -1,7 +1,7 @@
 use crate::{
     Access, Answer, Bytes, Call, CallKind, Errno, Given, HistoryRow, ObjectKind, OpenFlags,
-    OutKind, Outcome, Outcomes, Reply, Row, Transcript, Transcripts, Turn, Whence, errno_name,
-    pieces, split,
+    OutKind, Outcome, Outcomes, Reply, Request, Row, Transcript, Transcripts, Turn, Whence,
+    errno_name, pieces, split,
 };
 use std::alloc::{AllocError, Global};
 use std::test::Fail;
@@ -179,6 +179,15 @@ fn copies_equal_their_sources(rt: HostRuntime) -> Result<(), Fail> {
         Outcome::Fail(Errno::EIO).try_clone()?,
         Outcome::Fail(Errno::EIO)
     );
+    let request = Request {
+        kind: OutKind::Read,
+        asked: 2,
+        call: Call::Read {
+            descriptor: 0,
+            count: 2,
+        },
+    };
+    assert_eq!(rt; request.try_clone()?, request);
     Ok(())
 }
 
