@@ -1,7 +1,6 @@
 //! Runs calls of threads against one shared table of descriptors.
 #![tactic(auto)]
 
-mod acts;
 mod advance;
 mod ask;
 mod drive;
@@ -9,15 +8,23 @@ mod events;
 mod fault;
 mod finish;
 mod history;
+mod locked;
 mod log;
+mod lookup;
 mod machine;
+mod new_table;
+mod open;
+mod paths;
 mod plain;
+mod refusal;
 mod run;
 mod start;
-mod store;
+mod step;
+mod table;
 #[cfg(test)]
 mod tests;
 mod thread;
+mod transfer;
 
 pub use fault::{PlainFault, Stop};
 pub use history::{History, Steps};

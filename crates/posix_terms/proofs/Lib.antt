@@ -1,4 +1,1 @@
 pub mod Refused
-pub mod Listed
-pub mod Chains
-pub mod Rows

@@ -5,12 +5,10 @@
 mod bytes;
 mod call;
 mod errno;
-mod examples;
 mod laws;
 mod limits;
 mod outcome;
 mod reply;
-mod request;
 #[cfg(test)]
 mod tests;
 mod text;
@@ -19,11 +17,9 @@ mod transcript;
 pub use bytes::Bytes;
 pub use call::{Access, Call, CallKind, OpenFlags, Whence};
 pub use errno::{Errno, codes_lead_back, errno_name};
-pub use examples::worked_examples;
 pub use laws::failed_calls_change_nothing;
 pub use limits::Limits;
 pub use outcome::{Given, OutKind, Outcome, Outcomes};
 pub use reply::{Answer, ObjectKind, Reply};
-pub use request::Request;
 pub use text::{pieces, split};
 pub use transcript::{HistoryRow, Row, Settings, Transcript, Transcripts, Turn};

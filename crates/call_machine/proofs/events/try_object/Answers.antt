@@ -3,6 +3,7 @@ use Rattle.det_mutex.specs.Attempt.{freed}
 use Rattle.logical_clocks.specs.ThreadClocks.{clock_at}
 use Rattle.call_machine.specs.Events.{Parts, in_time, object_taken, parts, takes_object}
 use Rattle.call_machine.specs.Threads.{timed}
+use Rattle.call_machine.specs.View.{state_of}
 use Rattle.call_machine.specs.declared.thread.Phase.TheVariants as phase
 use Rattle.call_machine.proofs.Granting.{reached_granted, taken_some}
 use Rattle.call_machine.proofs.events.try_object.Goals as goal
@@ -13,8 +14,8 @@ returns-in_ok-grant-in-WantsObject-clause-event c =
     let want = c.in-WantsObject in
     let start = clock_at c.args.clocks.now c.args.i in
     let now = clock_at c.add.new.self c.args.i in
-    let old : Parts = parts (timed c.args.thread.now start) shared.lock shared.store shared.rows.items in
-    let new : Parts = parts (timed c.grant.new.thread now) c.grant.new.shared.lock c.grant.new.shared.store c.grant.new.shared.rows.items in
+    let old : Parts = parts (timed c.args.thread.now start) shared.lock (state_of shared.table) shared.rows.items in
+    let new : Parts = parts (timed c.grant.new.thread now) c.grant.new.shared.lock (state_of c.grant.new.shared.table) c.grant.new.shared.rows.items in
     let is : c.args.thread.now.phase ≡ phase.WantsObject want.call want.clock want.object = search rules in
     let tried : object_taken (takes_object c.args.i c.args.lock.now old) c.args.i c.args.lock.now ≡ Some c.in-Some.taken = search rules in
     let taken = taken_some (takes_object c.args.i c.args.lock.now old) c.args.i c.args.lock.now c.in-Some.taken tried in

@@ -1,3 +1,0 @@
-pub mod ComponentLemmas
-pub mod EntryLemmas
-pub mod NameLemmas

@@ -1,3 +1,0 @@
-pub mod Lookup
-pub mod Entries
-pub mod NameCode
