@@ -8,11 +8,19 @@
 #include <stdlib.h>
 #include <string.h>
 #include <time.h>
+#include <sys/stat.h>
 #include <unistd.h>
 
 enum { ROUNDS = 30, MOST_THREADS = 8, MOST_TRIPS = 10000 };
 
-static char kind;
+enum { OPEN, READ, WRITE, LSEEK, PREAD, PWRITE, FSTAT, GETFL, DUP, LINK, MKDIR, KINDS };
+static const char *const words_of[KINDS] = {
+    [OPEN] = "open, close", [READ] = "read",         [WRITE] = "write",       [LSEEK] = "lseek",
+    [PREAD] = "pread",      [PWRITE] = "pwrite",     [FSTAT] = "fstat",       [GETFL] = "getfl",
+    [DUP] = "dup, close",   [LINK] = "link, unlink", [MKDIR] = "mkdir, rmdir",
+};
+
+static int kind;
 static int threads, trips;
 static long spent[ROUNDS][MOST_THREADS];
 static pthread_barrier_t start;
@@ -30,20 +38,30 @@ static void must(int good) {
   }
 }
 
-static void two_calls(int fd, const char *path) {
+// `other` names nothing, and lies beside the file.
+static void two_calls(int fd, const char *path, const char *other) {
   char bytes[8] = {0};
+  struct stat found;
   switch (kind) {
-  case 'o': fd = open(path, O_RDWR), must(fd >= 0 && close(fd) == 0); break;
-  case 'r': must(read(fd, bytes, 8) == 8 && read(fd, bytes, 8) == 8); break;
-  case 'w': must(write(fd, bytes, 8) == 8 && write(fd, bytes, 8) == 8); break;
-  case 'l': must(lseek(fd, 8, SEEK_SET) == 8 && lseek(fd, 8, SEEK_SET) == 8); break;
+  case OPEN: fd = open(path, O_RDWR), must(fd >= 0 && close(fd) == 0); break;
+  case READ: must(read(fd, bytes, 8) == 8 && read(fd, bytes, 8) == 8); break;
+  case WRITE: must(write(fd, bytes, 8) == 8 && write(fd, bytes, 8) == 8); break;
+  case LSEEK: must(lseek(fd, 8, SEEK_SET) == 8 && lseek(fd, 8, SEEK_SET) == 8); break;
+  case PREAD: must(pread(fd, bytes, 8, 0) == 8 && pread(fd, bytes, 8, 0) == 8); break;
+  case PWRITE: must(pwrite(fd, bytes, 8, 0) == 8 && pwrite(fd, bytes, 8, 0) == 8); break;
+  case FSTAT: must(fstat(fd, &found) == 0 && fstat(fd, &found) == 0); break;
+  case GETFL: must(fcntl(fd, F_GETFL) >= 0 && fcntl(fd, F_GETFL) >= 0); break;
+  case DUP: fd = dup(fd), must(fd >= 0 && close(fd) == 0); break;
+  case LINK: must(link(path, other) == 0 && unlink(other) == 0); break;
+  case MKDIR: must(mkdir(other, 0700) == 0 && rmdir(other) == 0); break;
   }
 }
 
 static void *thread(void *number) {
   long i = (long)number;
-  char path[64];
+  char path[64], other[64];
   snprintf(path, sizeof path, "/dev/shm/detio-bench-%d-%ld", (int)getpid(), i);
+  snprintf(other, sizeof other, "/dev/shm/detio-bench-%d-%ld-other", (int)getpid(), i);
   int fd = open(path, O_RDWR | O_CREAT | O_EXCL, 0600);
   must(fd >= 0);
   char *bytes = calloc(16, trips);
@@ -57,7 +75,7 @@ static void *thread(void *number) {
     must(lseek(fd, 0, SEEK_SET) == 0);
     pthread_barrier_wait(&start);
     long before = now();
-    for (int t = 0; t < trips; t++) two_calls(fd, path);
+    for (int t = 0; t < trips; t++) two_calls(fd, path, other);
     spent[round][i] = now() - before - reading;
   }
   free(bytes);
@@ -67,8 +85,9 @@ static void *thread(void *number) {
 
 int main(int count, char **words) {
   if (count != 4) return 2;
-  kind = words[1][0], threads = atoi(words[2]), trips = atoi(words[3]);
-  if (!strchr("orwl", kind) || threads < 1 || threads > MOST_THREADS || trips < 1 || trips > MOST_TRIPS) return 2;
+  while (kind < KINDS && strcmp(words[1], words_of[kind]) != 0) kind++;
+  threads = atoi(words[2]), trips = atoi(words[3]);
+  if (kind == KINDS || threads < 1 || threads > MOST_THREADS || trips < 1 || trips > MOST_TRIPS) return 2;
   pthread_t ids[MOST_THREADS];
   pthread_barrier_init(&start, NULL, threads);
   for (long i = 0; i < threads; i++) must(pthread_create(&ids[i], NULL, thread, (void *)i) == 0);

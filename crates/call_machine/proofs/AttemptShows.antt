@@ -4,10 +4,10 @@ use Rattle.std.proofs.lemmas.Bool.{cases_Bool, cond-true, cond-false, false≢tr
 use Rattle.std.proofs.lemmas.List.{get_or-set_same, length-map, length-set, map-append}
 use Rattle.std.specs.Prelude.{IfSome, nat_le}
 use Rattle.posix_terms.specs.Locked.{locked_object}
-use Rattle.posix_terms.specs.Object as posix
-use Rattle.posix_terms.specs.Step.{Stepped, nothing_carried, step}
+use Rattle.posix_terms.specs.Step.{nothing_carried, step}
 use Rattle.posix_terms.specs.declared.call.Call.{Call}
 use Rattle.posix_terms.specs.declared.limits.TheConstants.Limits as limit
+use Rattle.posix_terms.specs.declared.reply.Answer.{Answer}
 use Rattle.posix_terms.specs.declared.reply.Reply.{Reply}
 use Rattle.posix_terms.specs.declared.transcript.HistoryRow.{HistoryRow}
 use Rattle.posix_terms.specs.declared.transcript.Turn.{Turn}
@@ -19,14 +19,13 @@ use Rattle.lock_model.specs.CallTable.Way.{Inside}
 use Rattle.lock_model.specs.Held.{row_of}
 use Rattle.lock_model.specs.Machine.{attempt, can_attempt, failed, granted, new_job, planned, tried, tries, wants}
 use Rattle.lock_model.specs.Numbers.{world_with}
-use Rattle.lock_model.specs.RealCalls.{answer_in, numbered, plan_of, real_calls}
+use Rattle.lock_model.specs.RealCalls.{answered_with, numbered, plan_of, real_calls}
 use Rattle.lock_model.specs.State as lock
 use Rattle.lock_model.specs.State.{Job, Row, State, live_clocks, nobody, thread_of}
 use Rattle.lock_model.specs.State.Phase.{WantsObject, WantsTable}
-use Rattle.lock_model.specs.Terms.{World}
 use Rattle.lock_model.proofs.Arising.{slice_get-prefix, slice_get-push}
 use Rattle.lock_model.proofs.Attempt.{attempt_can, attempt_not, can_in, can_out}
-use Rattle.call_machine.specs.Dense.{IsDense, world_of}
+use Rattle.call_machine.specs.Store.{Stands, Stored, number_locked}
 use Rattle.call_machine.specs.Events.{Grants, Parts, PlansTo, RepliesWith, Tries, TriesIn, TriesInTime, TriesLock, granted_row, in_time, later, parts}
 use Rattle.lock_model.specs.Rows.{shown}
 use Rattle.call_machine.specs.Setup.{Inputs, setup_of}
@@ -36,7 +35,7 @@ use Rattle.call_machine.specs.Views.{no_thread}
 use Rattle.call_machine.specs.declared.thread.Phase.{Phase}
 use Rattle.call_machine.specs.declared.thread.Phase.TheVariants as phase
 use Rattle.call_machine.proofs.Lists.{set_same}
-use Rattle.call_machine.proofs.Numbering.{number_is_key, world_grows}
+use Rattle.call_machine.proofs.Standing.{number_known}
 use Rattle.call_machine.proofs.ShownThreads.{thread_rows, threads_set}
 
 -- ## Attempts that can't be made
@@ -97,13 +96,13 @@ job_of s turn call object = new_job call nothing_carried turn (plan_of object) s
 abbrev pub rows_with : State → Job → List Row
 rows_with s job = s.rows ++ row_of job ∷ []
 
-granted_by : (input : Inputs) (w : Whole) (s : State) (turn : Turn) (call : Call) (object : Option ℕ) (last o : Option Reply) (table : posix.State) → s.world ≡ world_of w.table → map shown s.rows ≡ w.rows
+granted_by : (input : Inputs) (w : Whole) (s : State) (turn : Turn) (call : Call) (object : Option ℕ) (last o : Option Reply) (table : Stored) → Stands w.table s.world → map shown s.rows ≡ w.rows
     → IfSome object (λ n. n < limit.OBJECTS) → last ≡ o → RepliesWith w.table call o table
-    → IsGranted input turn.thread (rows_with s (job_of s turn call object)) (length w.rows) object last (job_of s turn call object) × ((step input.settings w.table call None nothing_carried).after ≡ table)
+    → IsGranted input turn.thread (rows_with s (job_of s turn call object)) (length w.rows) object last (job_of s turn call object) × Stands table (world_with s.world (step input.settings s.world.object call None nothing_carried).after)
 unfolding job_of
 granted_by input w s turn call object last None table world rows few waits h = absurd h
 granted_by input w s turn call object last (Some reply) table world rows few waits h =
-    let done = h input.settings in
+    let done = h input.settings s.world world in
     let place : length w.rows ≡ length s.rows = ap length (sym rows) ∙ length-map s.rows shown in (
       record {
         plan = refl;
@@ -111,23 +110,16 @@ granted_by input w s turn call object last (Some reply) table world rows few wai
         thread = refl;
         reply = reply;
         waits = waits;
-        answers = ap (λ (x : World). answer_in (step input.settings x.object call None nothing_carried)) world ∙ ap answer_in done;
+        answers = ap (λ (a : Answer). answered_with a (step input.settings s.world.object call None nothing_carried).carried) done.0;
         row = ap (slice_get (rows_with s (job_of s turn call object))) place ∙ slice_get-push s.rows (row_of (job_of s turn call object));
       },
-      ap (λ (x : Stepped). x.after) done,
+      done.1,
     )
-
-world_granted : (input : Inputs) (w : Whole) (s : State) (call : Call) (table : posix.State) → s.world ≡ world_of w.table → (step input.settings w.table call None nothing_carried).after ≡ table → IsDense table → w.table.next_object ≤ table.next_object
-    → world_with s.world (step input.settings s.world.object call None nothing_carried).after ≡ world_of table
-world_granted input w s call table world done dense grows =
-    ap (λ (x : World). world_with x (step input.settings x.object call None nothing_carried).after) world
-    ∙ ap (world_with (world_of w.table)) done
-    ∙ world_grows w.table table dense grows
 
 -- what a grant makes of the thread, of the world and of the rows
 pub record Granted_now (input : Inputs) (w : Whole) (s : State) (turn : Turn) (call : Call) (object : Option ℕ) (cost : ℕ) (new : Parts) : Type 0 where
   pub thread : ThreadShows input turn.thread (rows_with s (job_of s turn call object)) new.thread (granted (thread_of s turn.thread) ((thread_of s turn.thread).clock + cost) (job_of s turn call object) false)
-  pub world : world_with s.world (step input.settings s.world.object call None nothing_carried).after ≡ world_of new.table
+  pub world : Stands new.table (world_with s.world (step input.settings s.world.object call None nothing_carried).after)
   pub rows : map shown (rows_with s (job_of s turn call object)) ≡ new.rows
 
 pub grant_shows : (input : Inputs) (w : Whole) (s : State) (turn : Turn) (call : Call) (object : Option ℕ) (cost : ℕ) (l : DetLock) (new : Parts) → Shows input w s → IsInCall input turn.thread (thread_at w turn.thread) (thread_of s turn.thread)
@@ -151,7 +143,7 @@ grant_shows input w s turn call object cost l new h in_call few room g =
     } in
     record {
       thread = subst P (sym g.thread) here;
-      world = world_granted input w s call new.table h.world both.1 g.dense g.grows;
+      world = both.1;
       rows = map-append shown s.rows (row_of job ∷ []) ∙ ap (λ (rs : List HistoryRow). rs ++ granted_row turn call ∷ []) h.rows ∙ sym g.rows;
     }
 
@@ -187,12 +179,6 @@ planned_by : (input : Inputs) (s : State) (i : ℕ) (call : Call) (o : Option �
     → tried (setup_of input) s i ≡ planned (real_calls input.settings) s i (thread_of s i) call nothing_carried (turn_of s i) (plan_of o) s.world
 planned_by input s i call o e h is = tried_took input s i call e h ∙ ap (λ (x : Option ℕ). planned (real_calls input.settings) s i (thread_of s i) call nothing_carried (turn_of s i) (plan_of x) s.world) is
 
--- the number of the object is its key
-object_numbered : (w : Whole) (s : State) (call : Call) (o : Option ℕ) → s.world ≡ world_of w.table → IsDense w.table → locked_object w.table call ≡ o → IfSome o (λ n. n ≤ w.table.next_object) → numbered s.world (locked_object s.world.object call) ≡ o
-object_numbered w s call None world dense is within = ap (λ (x : World). numbered x (locked_object x.object call)) world ∙ ap (numbered (world_of w.table)) is
-object_numbered w s call (Some n) world dense is within =
-    ap (λ (x : World). numbered x (locked_object x.object call)) world ∙ ap (numbered (world_of w.table)) is ∙ ap Some (number_is_key w.table n dense within)
-
 pub within_threads : (input : Inputs) (w : Whole) (s : State) (i : ℕ) → i < length w.threads → Shows input w s → i < length s.threads
 within_threads input w s i inside h = subst (λ (n : ℕ). i < n) (sym h.count) inside
 
@@ -212,7 +198,6 @@ fail_shows input w s i inside h room phase_on =
       table = h.table;
       objects = h.objects;
       object_count = h.object_count;
-      dense = h.dense;
       world = h.world;
       rows = h.rows;
     }
@@ -237,7 +222,7 @@ attempt_fails input w s i call a room shut =
     (fail_shows input w s i a.inside a.shows room on)
 
 -- the call is granted at once
-attempt_takes : (input : Inputs) (w : Whole) (s : State) (i : ℕ) (call : Call) (new : Parts) → Trying input w s i call → (thread_at w i).clock + 1 ≤ 2 ^ 62 → takes s.table (thread_of s i).clock ≡ true → locked_object w.table call ≡ None
+attempt_takes : (input : Inputs) (w : Whole) (s : State) (i : ℕ) (call : Call) (new : Parts) → Trying input w s i call → (thread_at w i).clock + 1 ≤ 2 ^ 62 → takes s.table (thread_of s i).clock ≡ true → number_locked w.table call ≡ None
     → Grants (turn_of s i) call None (record (later (table_parts w i) 1) { lock = held i w.lock }) new → Attempted input s i true (table_tried w i new)
 unfolding job_of
 attempt_takes input w s i call new a room free none g =
@@ -246,7 +231,7 @@ attempt_takes input w s i call new a room free none g =
     let y : lock.Thread = granted u (u.clock + 1) job false in
     let z : State = planned (real_calls input.settings) s i u call nothing_carried (turn_of s i) No_object s.world in
     let now = grant_shows input w s (turn_of s i) call None 1 (held i w.lock) new a.shows a.call_is tt room g in
-    attempted_yes input s z i (table_tried w i new) (ap wants a.phase) a.turn (planned_by input s i call None a.phase free (object_numbered w s call None a.shows.world a.shows.dense none tt))
+    attempted_yes input s z i (table_tried w i new) (ap wants a.phase) a.turn (planned_by input s i call None a.phase free (number_known w.table s.world call a.shows.world ∙ none))
     (subst (λ (c : ℕ). c ≤ 2 ^ 62) (sym (clock_set input w s i y a.inside a.shows)) (clock_fits input w s i 1 a.shows room))
     (record {
       count = length-set s.threads i y ∙ a.shows.count ∙ sym (length-set w.threads i new.thread);
@@ -254,16 +239,15 @@ attempt_takes input w s i call new a room free none g =
       table = ap (held i) a.shows.table ∙ sym g.lock;
       objects = a.shows.objects;
       object_count = a.shows.object_count;
-      dense = g.dense;
       world = now.world;
       rows = now.rows;
     })
 
 -- the call wants an object
-attempt_plans : (input : Inputs) (w : Whole) (s : State) (i n : ℕ) (call : Call) → Trying input w s i call → (thread_at w i).clock + 1 ≤ 2 ^ 62 → takes s.table (thread_of s i).clock ≡ true → locked_object w.table call ≡ Some n
-    → n < limit.OBJECTS → n ≤ w.table.next_object
+attempt_plans : (input : Inputs) (w : Whole) (s : State) (i n : ℕ) (call : Call) → Trying input w s i call → (thread_at w i).clock + 1 ≤ 2 ^ 62 → takes s.table (thread_of s i).clock ≡ true → number_locked w.table call ≡ Some n
+    → n < limit.OBJECTS
     → Attempted input s i true (table_tried w i (parts (record (thread_at w i) { phase = phase.WantsObject call (thread_of s i).clock n; clock = (thread_at w i).clock + 1 }) (held i w.lock) w.table w.rows))
-attempt_plans input w s i n call a room free is few within =
+attempt_plans input w s i n call a room free is few =
     let t = thread_at w i in
     let u = thread_of s i in
     let h = a.shows in
@@ -273,7 +257,7 @@ attempt_plans input w s i n call a room free is few within =
     record { clock = ap (λ (c : ℕ). c + 1) (h.threads i).clock; in_time = room; asked = (h.threads i).asked; phase = (refl, record { even = a.call_is.even; reached = a.call_is.reached }, few) } in
     let z : State = planned (real_calls input.settings) s i u call nothing_carried (turn_of s i) (Object n Inside) s.world in
     attempted_yes input s z i (table_tried w i (parts x (held i w.lock) w.table w.rows)) (ap wants a.phase) a.turn
-    (planned_by input s i call (Some n) a.phase free (object_numbered w s call (Some n) h.world h.dense is within))
+    (planned_by input s i call (Some n) a.phase free (number_known w.table s.world call h.world ∙ is))
     (subst (λ (c : ℕ). c ≤ 2 ^ 62) (sym (clock_set input w s i y a.inside h)) (clock_fits input w s i 1 h room))
     (record {
       count = length-set s.threads i y ∙ h.count ∙ sym (length-set w.threads i x);
@@ -281,7 +265,6 @@ attempt_plans input w s i n call a room free is few within =
       table = ap (held i) h.table;
       objects = h.objects;
       object_count = h.object_count;
-      dense = h.dense;
       world = h.world;
       rows = h.rows;
     })
@@ -307,17 +290,17 @@ attempt_full input w s i call a full =
     (cases_Bool (takes s.table u.clock)))
     past
 
-plan_tried : (input : Inputs) (w : Whole) (s : State) (i : ℕ) (call : Call) (new : Parts) (o : Option ℕ) → Trying input w s i call → (thread_at w i).clock + 1 ≤ 2 ^ 62 → takes s.table (thread_of s i).clock ≡ true → locked_object w.table call ≡ o
+plan_tried : (input : Inputs) (w : Whole) (s : State) (i : ℕ) (call : Call) (new : Parts) (o : Option ℕ) → Trying input w s i call → (thread_at w i).clock + 1 ≤ 2 ^ 62 → takes s.table (thread_of s i).clock ≡ true → number_locked w.table call ≡ o
     → PlansTo o (turn_of s i) call (record (later (table_parts w i) 1) { lock = held i w.lock }) new → Attempted input s i true (table_tried w i new)
 plan_tried input w s i call new None a room free is g = attempt_takes input w s i call new a room free is g
-plan_tried input w s i call new (Some n) a room free is (few, within, e) =
-    let P : Parts → Type 0 = λ p. Attempted input s i true (table_tried w i p) in subst P (sym e) (attempt_plans input w s i n call a room free is few within)
+plan_tried input w s i call new (Some n) a room free is (few, e) =
+    let P : Parts → Type 0 = λ p. Attempted input s i true (table_tried w i p) in subst P (sym e) (attempt_plans input w s i n call a room free is few)
 
 lock_tried : (input : Inputs) (w : Whole) (s : State) (i : ℕ) (call : Call) (new : Parts) (b : Bool) → Trying input w s i call → (thread_at w i).clock + 1 ≤ 2 ^ 62 → takes w.lock (thread_at w i).clock ≡ b
     → TriesLock b i call (table_parts w i) new → Attempted input s i true (table_tried w i new)
 lock_tried input w s i call new true a room free g =
-    let P : ℕ → Type 0 = λ clock. PlansTo (locked_object w.table call) (record { clock = clock; thread = i }) call (record (later (table_parts w i) 1) { lock = held i w.lock }) new in
-    plan_tried input w s i call new (locked_object w.table call) a room (ap₂ takes a.shows.table (a.shows.threads i).clock ∙ free) refl (subst P (sym (a.shows.threads i).clock) g)
+    let P : ℕ → Type 0 = λ clock. PlansTo (number_locked w.table call) (record { clock = clock; thread = i }) call (record (later (table_parts w i) 1) { lock = held i w.lock }) new in
+    plan_tried input w s i call new (number_locked w.table call) a room (ap₂ takes a.shows.table (a.shows.threads i).clock ∙ free) refl (subst P (sym (a.shows.threads i).clock) g)
 lock_tried input w s i call new false a room shut g =
     let P : Parts → Type 0 = λ p. Attempted input s i true (table_tried w i p) in
     subst P (sym g) (attempt_fails input w s i call a room (ap₂ takes a.shows.table (a.shows.threads i).clock ∙ shut))

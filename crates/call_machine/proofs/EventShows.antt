@@ -4,7 +4,6 @@ use Rattle.std.proofs.lemmas.List.{length-map}
 use Rattle.std.proofs.lemmas.Option.{none-some, same_Some}
 use Rattle.std.specs.Prelude.{IfOk, Result, Ok, Err}
 use Rattle.std.specs.declared.alloc.AllocError.{AllocError}
-use Rattle.posix_terms.specs.Object as posix
 use Rattle.posix_terms.specs.declared.call.Call.{Call}
 use Rattle.posix_terms.specs.declared.limits.TheConstants.Limits as limit
 use Rattle.posix_terms.specs.declared.transcript.HistoryRow.{HistoryRow}
@@ -28,6 +27,7 @@ use Rattle.call_machine.specs.Asking.{Asks, AsksStep, after_want}
 use Rattle.call_machine.specs.Events.{Answers, Reaches, Tries, parts}
 use Rattle.call_machine.specs.Lives.{Agree}
 use Rattle.call_machine.specs.Setup.{Inputs, setup_of}
+use Rattle.call_machine.specs.Store.{Stored}
 use Rattle.call_machine.specs.Shows.{Advances, Attempts, PhaseShows, Shows, WantsIn, Whole, item_at, thread_at}
 use Rattle.call_machine.specs.Threads.{KeepsOthers, Thread, joined, timed}
 use Rattle.call_machine.specs.Views.{clocks_of, no_item, no_thread}
@@ -93,12 +93,12 @@ answer_past w i place n is past input s arises h =
     too_far : (n m : ℕ) → n < limit.OBJECTS → m ≡ limit.OBJECTS → m ≤ n → ⊥
     too_far n m few e past = omega arith
 
-pub table_event : (w : Whole) (i : ℕ) (call : Call) (made : Bool) (v : Thread) (l : DetLock) (table : posix.State) (rows : List HistoryRow) → i < length w.threads → has_turn (clocks_of w.threads) i ≡ true → (thread_at w i).phase ≡ phase.WantsTable call
+pub table_event : (w : Whole) (i : ℕ) (call : Call) (made : Bool) (v : Thread) (l : DetLock) (table : Stored) (rows : List HistoryRow) → i < length w.threads → has_turn (clocks_of w.threads) i ≡ true → (thread_at w i).phase ≡ phase.WantsTable call
     → Tries made i (table_parts w i) (parts v l table rows) → Attempts made i w (table_tried w i (parts v l table rows))
 table_event w i call made v l table rows inside turn is tries input s arises h =
     attempt_whole input w s i call made (parts v l table rows) inside h (ap (λ cs. has_turn cs i) (clocks_shown input w s h) ∙ turn) is tries
 
-pub object_event : (w : Whole) (i n clock : ℕ) (call : Call) (made : Bool) (now : DetLock) (v : Thread) (l : DetLock) (table : posix.State) (rows : List HistoryRow) → i < length w.threads → has_turn (clocks_of w.threads) i ≡ true
+pub object_event : (w : Whole) (i n clock : ℕ) (call : Call) (made : Bool) (now : DetLock) (v : Thread) (l : DetLock) (table : Stored) (rows : List HistoryRow) → i < length w.threads → has_turn (clocks_of w.threads) i ≡ true
     → (thread_at w i).phase ≡ phase.WantsObject call clock n
     → Reaches made i (lock_at w n) now (table_parts w i) (parts v l table rows) → Attempts made i w (object_tried w i n now (parts v l table rows))
 object_event w i n clock call made now v l table rows inside turn is tries input s arises h =
@@ -171,7 +171,7 @@ total_item ts cs ds i moved x v h falls stays =
     (total_of (joined ts cs) i moved (timed v (clock_at ds i)) (joined_inside ts cs i h.inside) (λ made. subst L (sym at) (falls made)) (λ made. subst M (sym at) (stays made)))
 
 -- what a run has, in its threads and clocks and in what they share
-abbrev pub whole : List declared.Thread → List ThreadClock → DetLock → List DetLock → posix.State → List HistoryRow → Whole
+abbrev pub whole : List declared.Thread → List ThreadClock → DetLock → List DetLock → Stored → List HistoryRow → Whole
 whole ts cs lock objects table rows = record { threads = joined ts cs; lock = lock; objects = objects; table = table; rows = rows }
 
 pub item_of : (ts : List declared.Thread) (cs : List ThreadClock) (i : ℕ) (x v : declared.Thread) (ds : List ThreadClock) → Agree ts cs → i < length ts → x ≡ get_or ts i x → KeepsOthers i x cs v ds → Item ts cs i x v ds
@@ -181,7 +181,7 @@ item_of ts cs i x v ds agree inside at kept =
 pub item_agrees : (ts : List declared.Thread) (cs : List ThreadClock) (i : ℕ) (x v : declared.Thread) (ds : List ThreadClock) → Agree ts cs → Item ts cs i x v ds → Agree (set ts i v) ds
 item_agrees ts cs i x v ds agree h = agree-kept ts cs ds i x v agree h.inside h.item h.kept
 
-pub ask_done : (ts : List declared.Thread) (cs ds : List ThreadClock) (lock : DetLock) (objects : List DetLock) (table : posix.State) (rows : List HistoryRow) (i : ℕ) (x v : declared.Thread) (r : Result Bool AllocError) → Item ts cs i x v ds → x.phase ≡ phase.Working
+pub ask_done : (ts : List declared.Thread) (cs ds : List ThreadClock) (lock : DetLock) (objects : List DetLock) (table : Stored) (rows : List HistoryRow) (i : ℕ) (x v : declared.Thread) (r : Result Bool AllocError) → Item ts cs i x v ds → x.phase ≡ phase.Working
     → IfOk r (λ moved. Asks moved (timed x (clock_at cs i)) (timed v (clock_at ds i))) → IfOk r (λ moved. Advances moved i (whole ts cs lock objects table rows) (whole (set ts i v) ds lock objects table rows))
 ask_done ts cs ds lock objects table rows i x v r h works asked =
     let w = whole ts cs lock objects table rows in
@@ -202,13 +202,13 @@ ask_lowers ts cs ds i x v r h works asked =
     (λ made. let R : Bool → Type 0 = λ b. Asks b (timed x (clock_at cs i)) (timed v (clock_at ds i)) in ask_falls (timed x (clock_at cs i)) (timed v (clock_at ds i)) works (subst R made a))
     (λ made. let R : Bool → Type 0 = λ b. Asks b (timed x (clock_at cs i)) (timed v (clock_at ds i)) in ask_stays (timed x (clock_at cs i)) (timed v (clock_at ds i)) (subst R made a))) asked
 
-pub answer_done : (ts : List declared.Thread) (cs ds : List ThreadClock) (lock : DetLock) (objects : List DetLock) (table : posix.State) (rows rows_now : List HistoryRow) (i place : ℕ) (object : Option ℕ) (x v : declared.Thread) (own l : DetLock) (r : Result Bool AllocError)
+pub answer_done : (ts : List declared.Thread) (cs ds : List ThreadClock) (lock : DetLock) (objects : List DetLock) (table : Stored) (rows rows_now : List HistoryRow) (i place : ℕ) (object : Option ℕ) (x v : declared.Thread) (own l : DetLock) (r : Result Bool AllocError)
     → Item ts cs i x v ds → x.phase ≡ phase.Granted place object → own ≡ lock_held (whole ts cs lock objects table rows) object
-    → IfOk r (λ moved. (table : posix.State) → Answers moved i place (parts (timed x (clock_at cs i)) own table rows) (parts (timed v (clock_at ds i)) l table rows_now))
+    → IfOk r (λ moved. (table : Stored) → Answers moved i place (parts (timed x (clock_at cs i)) own table rows) (parts (timed v (clock_at ds i)) l table rows_now))
     → IfOk r (λ moved. Advances moved i (whole ts cs lock objects table rows) (with_lock (whole ts cs lock objects table rows) object l (joined (set ts i v) ds) rows_now))
 answer_done ts cs ds lock objects table rows rows_now i place object x v own l r h is own_is answered =
     let w = whole ts cs lock objects table rows in
-    let P : Bool → Type 0 = λ moved. (table : posix.State) → Answers moved i place (parts (timed x (clock_at cs i)) own table rows) (parts (timed v (clock_at ds i)) l table rows_now) in
+    let P : Bool → Type 0 = λ moved. (table : Stored) → Answers moved i place (parts (timed x (clock_at cs i)) own table rows) (parts (timed v (clock_at ds i)) l table rows_now) in
     let Q : Bool → Type 0 = λ moved. Advances moved i w (with_lock w object l (joined (set ts i v) ds) rows_now) in
     if_ok r P Q (λ moved a.
     let R : Thread → Type 0 = λ t. Answers moved i place (parts t (lock_held w object) table rows) (parts (timed v (clock_at ds i)) l table rows_now) in
@@ -216,14 +216,14 @@ answer_done ts cs ds lock objects table rows rows_now i place object x v own l r
     subst T (sym (joined-kept ts cs ds i x v h.clocked h.kept))
     (answer_event w i place object moved (timed v (clock_at ds i)) l rows_now (joined_inside ts cs i h.inside) (item_phase ts cs i x (phase.Granted place object) h.inside h.item is) (subst R (sym (item_thread ts cs i x h.inside h.item)) (subst (λ (k : DetLock). Answers moved i place (parts (timed x (clock_at cs i)) k table rows) (parts (timed v (clock_at ds i)) l table rows_now)) own_is (a table))))) answered
 
-pub answer_lowers : (ts : List declared.Thread) (cs ds : List ThreadClock) (table : posix.State) (rows rows_now : List HistoryRow) (i place : ℕ) (object : Option ℕ) (x v : declared.Thread) (lock l : DetLock) (r : Result Bool AllocError)
+pub answer_lowers : (ts : List declared.Thread) (cs ds : List ThreadClock) (table : Stored) (rows rows_now : List HistoryRow) (i place : ℕ) (object : Option ℕ) (x v : declared.Thread) (lock l : DetLock) (r : Result Bool AllocError)
     → Item ts cs i x v ds → x.phase ≡ phase.Granted place object
-    → IfOk r (λ moved. (table : posix.State) → Answers moved i place (parts (timed x (clock_at cs i)) lock table rows) (parts (timed v (clock_at ds i)) l table rows_now))
+    → IfOk r (λ moved. (table : Stored) → Answers moved i place (parts (timed x (clock_at cs i)) lock table rows) (parts (timed v (clock_at ds i)) l table rows_now))
     → IfOk r (λ moved. Falls moved (joined ts cs) (joined (set ts i v) ds))
 answer_lowers ts cs ds table rows rows_now i place object x v lock l r h is answered =
     let old = parts (timed x (clock_at cs i)) lock table rows in
     let new = parts (timed v (clock_at ds i)) l table rows_now in
-    let P : Bool → Type 0 = λ moved. (table : posix.State) → Answers moved i place (parts (timed x (clock_at cs i)) lock table rows) (parts (timed v (clock_at ds i)) l table rows_now) in
+    let P : Bool → Type 0 = λ moved. (table : Stored) → Answers moved i place (parts (timed x (clock_at cs i)) lock table rows) (parts (timed v (clock_at ds i)) l table rows_now) in
     let Q : Bool → Type 0 = λ moved. Falls moved (joined ts cs) (joined (set ts i v) ds) in
     if_ok r P Q (λ moved a. total_item ts cs ds i moved x v h
     (λ made. let R : Bool → Type 0 = λ b. Answers b i place old new in answer_falls old new i place object place is (subst R made (a table)))
@@ -232,7 +232,7 @@ answer_lowers ts cs ds table rows rows_now i place object x v lock l r h is answ
 pub turn_shown : (ts : List declared.Thread) (cs : List ThreadClock) (i : ℕ) (b : Bool) → Agree ts cs → has_turn (live_clocks cs) i ≡ b → has_turn (clocks_of (joined ts cs)) i ≡ b
 turn_shown ts cs i b agree h = ap (λ (l : List (Option ℕ)). has_turn l i) (sym (live-joined ts cs agree)) ∙ h
 
-pub try_done : (ts : List declared.Thread) (cs ds : List ThreadClock) (lock : DetLock) (objects : List DetLock) (table : posix.State) (rows : List HistoryRow) (i : ℕ) (call : Call) (x v : declared.Thread) (l : DetLock) (later : posix.State) (rows_now : List HistoryRow) (r : Result Bool AllocError)
+pub try_done : (ts : List declared.Thread) (cs ds : List ThreadClock) (lock : DetLock) (objects : List DetLock) (table : Stored) (rows : List HistoryRow) (i : ℕ) (call : Call) (x v : declared.Thread) (l : DetLock) (later : Stored) (rows_now : List HistoryRow) (r : Result Bool AllocError)
     → Item ts cs i x v ds → Agree ts cs → has_turn (live_clocks cs) i ≡ true → x.phase ≡ phase.WantsTable call
     → IfOk r (λ made. Tries made i (parts (timed x (clock_at cs i)) lock table rows) (parts (timed v (clock_at ds i)) l later rows_now))
     → IfOk r (λ made. Attempts made i (whole ts cs lock objects table rows) (whole (set ts i v) ds l objects later rows_now))
@@ -248,7 +248,7 @@ try_done ts cs ds lock objects table rows i call x v l later rows_now r h agree 
     (table_event w i call made (timed v (clock_at ds i)) l later rows_now (joined_inside ts cs i h.inside) (turn_shown ts cs i true agree turn) (item_phase ts cs i x (phase.WantsTable call) h.inside h.item is)
     (subst R (sym (item_thread ts cs i x h.inside h.item)) a))) tried
 
-pub try_lowers : (ts : List declared.Thread) (cs ds : List ThreadClock) (lock : DetLock) (table : posix.State) (rows : List HistoryRow) (i : ℕ) (x v : declared.Thread) (l : DetLock) (later : posix.State) (rows_now : List HistoryRow) (r : Result Bool AllocError)
+pub try_lowers : (ts : List declared.Thread) (cs ds : List ThreadClock) (lock : DetLock) (table : Stored) (rows : List HistoryRow) (i : ℕ) (x v : declared.Thread) (l : DetLock) (later : Stored) (rows_now : List HistoryRow) (r : Result Bool AllocError)
     → Item ts cs i x v ds
     → IfOk r (λ made. Tries made i (parts (timed x (clock_at cs i)) lock table rows) (parts (timed v (clock_at ds i)) l later rows_now))
     → IfOk r (λ made. Falls made (joined ts cs) (joined (set ts i v) ds))
@@ -272,7 +272,7 @@ wants_phase (phase.Granted place object) n h = absurd h
 wants_phase phase.Stuck n h = absurd h
 wants_phase phase.Ended n h = absurd h
 
-pub reach_done : (ts : List declared.Thread) (cs ds : List ThreadClock) (lock : DetLock) (objects : List DetLock) (table : posix.State) (rows : List HistoryRow) (i n : ℕ) (x v : declared.Thread) (l before own : DetLock) (later : posix.State) (rows_now : List HistoryRow) (r : Result Bool AllocError)
+pub reach_done : (ts : List declared.Thread) (cs ds : List ThreadClock) (lock : DetLock) (objects : List DetLock) (table : Stored) (rows : List HistoryRow) (i n : ℕ) (x v : declared.Thread) (l before own : DetLock) (later : Stored) (rows_now : List HistoryRow) (r : Result Bool AllocError)
     → Item ts cs i x v ds → Agree ts cs → has_turn (live_clocks cs) i ≡ true → WantsIn x.phase n → before ≡ get_or objects n new_lock
     → IfOk r (λ made. Reaches made i before own (parts (timed x (clock_at cs i)) lock table rows) (parts (timed v (clock_at ds i)) l later rows_now))
     → IfOk r (λ made. Attempts made i (whole ts cs lock objects table rows) (whole (set ts i v) ds l (set objects n own) later rows_now))
@@ -289,7 +289,7 @@ reach_done ts cs ds lock objects table rows i n x v l before own later rows_now 
     (object_event w i n found.1 found.0 made own (timed v (clock_at ds i)) l later rows_now (joined_inside ts cs i h.inside) (turn_shown ts cs i true agree turn) (item_phase ts cs i x (phase.WantsObject found.0 found.1 n) h.inside h.item found.2)
     (subst R (sym (item_thread ts cs i x h.inside h.item)) (subst (λ (k : DetLock). Reaches made i k own (parts (timed x (clock_at cs i)) lock table rows) new) before_is a)))) tried
 
-pub reach_lowers : (ts : List declared.Thread) (cs ds : List ThreadClock) (lock : DetLock) (table : posix.State) (rows : List HistoryRow) (i : ℕ) (x v : declared.Thread) (l before own : DetLock) (later : posix.State) (rows_now : List HistoryRow) (r : Result Bool AllocError)
+pub reach_lowers : (ts : List declared.Thread) (cs ds : List ThreadClock) (lock : DetLock) (table : Stored) (rows : List HistoryRow) (i : ℕ) (x v : declared.Thread) (l before own : DetLock) (later : Stored) (rows_now : List HistoryRow) (r : Result Bool AllocError)
     → Item ts cs i x v ds
     → IfOk r (λ made. Reaches made i before own (parts (timed x (clock_at cs i)) lock table rows) (parts (timed v (clock_at ds i)) l later rows_now))
     → IfOk r (λ made. Falls made (joined ts cs) (joined (set ts i v) ds))
@@ -312,7 +312,7 @@ waiting (phase.Granted place object) works grants = grants place object refl
 waiting phase.Stuck works grants = tt
 waiting phase.Ended works grants = tt
 
-pub wait_done : (ts : List declared.Thread) (cs : List ThreadClock) (lock : DetLock) (objects : List DetLock) (table : posix.State) (rows : List HistoryRow) (i : ℕ) (x : declared.Thread) → i < length ts → x ≡ get_or ts i x → (x.phase ≡ phase.Working → ⊥) → ((place : ℕ) (object : Option ℕ) → x.phase ≡ phase.Granted place object → ⊥)
+pub wait_done : (ts : List declared.Thread) (cs : List ThreadClock) (lock : DetLock) (objects : List DetLock) (table : Stored) (rows : List HistoryRow) (i : ℕ) (x : declared.Thread) → i < length ts → x ≡ get_or ts i x → (x.phase ≡ phase.Working → ⊥) → ((place : ℕ) (object : Option ℕ) → x.phase ≡ phase.Granted place object → ⊥)
     → Advances false i (whole ts cs lock objects table rows) (whole ts cs lock objects table rows)
 wait_done ts cs lock objects table rows i x inside at works grants =
     let w = whole ts cs lock objects table rows in
@@ -326,7 +326,7 @@ idling (phase.Granted place object) tables objects = tt
 idling phase.Stuck tables objects = tt
 idling phase.Ended tables objects = tt
 
-pub idle_done : (ts : List declared.Thread) (cs : List ThreadClock) (lock : DetLock) (objects : List DetLock) (table : posix.State) (rows : List HistoryRow) (i : ℕ) (x : declared.Thread) → i < length ts → x ≡ get_or ts i x
+pub idle_done : (ts : List declared.Thread) (cs : List ThreadClock) (lock : DetLock) (objects : List DetLock) (table : Stored) (rows : List HistoryRow) (i : ℕ) (x : declared.Thread) → i < length ts → x ≡ get_or ts i x
     → ((call : Call) → x.phase ≡ phase.WantsTable call → ⊥) → ((call : Call) (clock object : ℕ) → x.phase ≡ phase.WantsObject call clock object → ⊥)
     → Attempts false i (whole ts cs lock objects table rows) (whole ts cs lock objects table rows)
 idle_done ts cs lock objects table rows i x inside at no_table no_object =
@@ -347,19 +347,19 @@ pub wants_at : (ts : List declared.Thread) (i n : ℕ) (x : declared.Thread) →
 wants_at ts i n x inside at h = let P : declared.Thread → Type 0 = λ t. WantsIn t.phase n in subst P (item_is ts i x no_item inside at) h
 
 -- a call past the last number of objects
-pub answer_none : (ts : List declared.Thread) (cs : List ThreadClock) (lock : DetLock) (objects : List DetLock) (table : posix.State) (rows : List HistoryRow) (i place n : ℕ) → i < length ts → (let t : declared.Thread = item_at ts i in t.phase) ≡ phase.Granted place (Some n) → length objects ≤ n
+pub answer_none : (ts : List declared.Thread) (cs : List ThreadClock) (lock : DetLock) (objects : List DetLock) (table : Stored) (rows : List HistoryRow) (i place n : ℕ) → i < length ts → (let t : declared.Thread = item_at ts i in t.phase) ≡ phase.Granted place (Some n) → length objects ≤ n
     → Advances false i (whole ts cs lock objects table rows) (whole ts cs lock objects table rows)
 answer_none ts cs lock objects table rows i place n inside is past =
     answer_past (whole ts cs lock objects table rows) i place n (item_phase ts cs i (item_at ts i) (phase.Granted place (Some n)) inside refl is) past
 
-pub reach_none : (ts : List declared.Thread) (cs : List ThreadClock) (lock : DetLock) (objects : List DetLock) (table : posix.State) (rows : List HistoryRow) (i n : ℕ) → i < length ts → (let t : declared.Thread = item_at ts i in WantsIn t.phase n) → length objects ≤ n
+pub reach_none : (ts : List declared.Thread) (cs : List ThreadClock) (lock : DetLock) (objects : List DetLock) (table : Stored) (rows : List HistoryRow) (i n : ℕ) → i < length ts → (let t : declared.Thread = item_at ts i in WantsIn t.phase n) → length objects ≤ n
     → Attempts false i (whole ts cs lock objects table rows) (whole ts cs lock objects table rows)
 reach_none ts cs lock objects table rows i n inside wanting past =
     let x = item_at ts i in
     let found = wants_phase x.phase n wanting in
     object_past (whole ts cs lock objects table rows) i n found.1 found.0 (item_phase ts cs i x (phase.WantsObject found.0 found.1 n) inside refl found.2) past
 
-pub no_turn : (ts : List declared.Thread) (cs : List ThreadClock) (lock : DetLock) (objects : List DetLock) (table : posix.State) (rows : List HistoryRow) (i : ℕ) → Agree ts cs → has_turn (live_clocks cs) i ≡ false
+pub no_turn : (ts : List declared.Thread) (cs : List ThreadClock) (lock : DetLock) (objects : List DetLock) (table : Stored) (rows : List HistoryRow) (i : ℕ) → Agree ts cs → has_turn (live_clocks cs) i ≡ false
     → Attempts false i (whole ts cs lock objects table rows) (whole ts cs lock objects table rows)
 no_turn ts cs lock objects table rows i agree late = no_attempt_event (whole ts cs lock objects table rows) i (turn_shown ts cs i false agree late)
 

@@ -10,7 +10,7 @@ use Rattle.thread_scripts.specs.Meaning.{lines_left, next_of}
 use Rattle.thread_scripts.specs.declared.actor.ScriptState.{ScriptState}
 use Rattle.thread_scripts.specs.declared.actor.Step.{Step}
 use Rattle.thread_scripts.specs.declared.actor.Step.TheVariants as step
-use Rattle.posix_terms.specs.Locked.{locked_object}
+use Rattle.call_machine.specs.Store.{number_locked}
 use Rattle.posix_terms.specs.declared.transcript.Turn.{Turn}
 use Rattle.det_mutex.specs.Attempt.{freed, held, takes}
 use Rattle.det_mutex.specs.declared.lock.DetLock.{DetLock}
@@ -111,14 +111,14 @@ grant_weight turn call object old new g =
 
 plan_weight : (o : Option ℕ) (turn : Turn) (call : Call) (old new : Parts) → PlansTo o turn call old new → weight new.thread ≡ 2 * (2 ^ 62 - old.thread.clock) + (2 * lines_left old.thread.actor + 2)
 plan_weight None turn call old new g = grant_weight turn call None old new g
-plan_weight (Some object) turn call old new (few, next, e) =
+plan_weight (Some object) turn call old new (few, e) =
     let u : Thread = record old.thread { phase = phase.WantsObject call turn.clock object } in
     ap (λ (p : Parts). weight p.thread) e ∙ weight_in u (phase.WantsObject call turn.clock object) refl
 
 lock_falls : (i : ℕ) (call : Call) (old new : Parts) (b : Bool) → old.thread.phase ≡ phase.WantsTable call → old.thread.clock + 1 ≤ 2 ^ 62 → TriesLock b i call old new → weight new.thread < weight old.thread
 lock_falls i call old new true is room g =
     spent old.thread new.thread (phase.WantsTable call) 1 (omega arith) room is refl
-    (plan_weight (locked_object old.table call) (record { clock = old.thread.clock; thread = i }) call (record (later old 1) { lock = held i old.lock }) new g)
+    (plan_weight (number_locked old.table call) (record { clock = old.thread.clock; thread = i }) call (record (later old 1) { lock = held i old.lock }) new g)
 lock_falls i call old new false is room e =
     let u : Thread = record old.thread { clock = old.thread.clock + 1 } in
     spent old.thread new.thread (phase.WantsTable call) 1 (omega arith) room is refl (ap (λ (p : Parts). weight p.thread) e ∙ weight_in u (phase.WantsTable call) is)

@@ -100,7 +100,6 @@ reach_takes input w s i n clock call new a room free g =
       table = ap (λ (c : ℕ). freed (c + 1)) (a.shows.threads i).clock ∙ sym g.lock;
       objects = ap (λ (ls : List DetLock). set ls n (held i (get_or ls n new_lock))) a.shows.objects;
       object_count = length-set w.objects n (held i (lock_at w n)) ∙ a.shows.object_count;
-      dense = g.dense;
       world = now.world;
       rows = now.rows;
     })

@@ -15,6 +15,7 @@ use Rattle.lock_model.specs.Terms.{World}
 use Rattle.lock_model.proofs.Commute.{advance_move, lock_mine, lock_other, row_closed, row_open, row_other, world_mine, world_other}
 use Rattle.call_machine.specs.Setup.{Inputs, setup_of}
 use Rattle.lock_model.specs.Rows.{shown}
+use Rattle.call_machine.specs.Store.{Stands}
 use Rattle.call_machine.specs.Shows.{IsGranted, PhaseShows, Shows, ThreadShows, Whole}
 use Rattle.call_machine.specs.Views.{no_thread}
 use Rattle.call_machine.specs.Threads.{Thread}
@@ -91,8 +92,7 @@ whole_moved input w s i t m l ls rows inside h is shows lock_is objects_is world
             table = lock_is;
             objects = objects_is;
             object_count = ap length (sym objects_is) ∙ length-map s.objects (lock_after i m.effect.object_freed) ∙ ap length h.objects ∙ h.object_count;
-            dense = h.dense;
-            world = ap (λ (o : Option World). world_after i s.table o s.world) world_is ∙ world_keeps i s.table s.world ∙ h.world;
+            world = subst (Stands w.table) (sym (ap (λ (o : Option World). world_after i s.table o s.world) world_is ∙ world_keeps i s.table s.world)) h.world;
             rows = rows_is;
           }),
     )
@@ -150,7 +150,6 @@ whole_still input w s i t inside h is shows =
             table = h.table;
             objects = h.objects;
             object_count = h.object_count;
-            dense = h.dense;
             world = h.world;
             rows = h.rows;
           }),

@@ -1,10 +1,7 @@
 -- What a run shows at its start, and tells at its end.
-use Rattle.std.proofs.Common.{◌≡◌, ℕ, zero, suc, ◌<◌, ◌≤◌, List, [], length, map, replicate, get_or, false, sym, refl, ap, ap₂, ◌∙◌, subst, arith, ⊎_elim, lit≤}
-use Rattle.std.proofs.lemmas.Bool.{cases_lt, le-ltb}
+use Rattle.std.proofs.Common.{◌≡◌, ℕ, zero, suc, ◌<◌, ◌≤◌, List, [], length, map, replicate, get_or, sym, refl, ap, ap₂, ◌∙◌, subst, arith, ⊎_elim, lit≤}
+use Rattle.std.proofs.lemmas.Bool.{cases_lt}
 use Rattle.std.proofs.lemmas.List.{get_or-map, get_or_past, length-map}
-use Rattle.std.specs.FinMap as fin
-use Rattle.std.specs.Ordering.{nat_cmp}
-use Rattle.std.specs.Prelude.{is_some, nat_lt}
 use Rattle.det_mutex.specs.Attempt.{new_lock}
 use Rattle.posix_terms.specs.declared.limits.TheConstants.Limits as limit
 use Rattle.lock_model.specs.State as lock
@@ -22,12 +19,12 @@ use Rattle.call_machine.specs.declared.thread.Phase.{Phase}
 use Rattle.call_machine.specs.declared.thread.Phase.TheVariants as phase
 use Rattle.call_machine.specs.Threads.{Thread}
 use Rattle.call_machine.proofs.Lists.{maps_agree}
-use Rattle.call_machine.proofs.Numbering.{world_first}
+use Rattle.call_machine.proofs.Standing.{stands_first}
 use Rattle.call_machine.proofs.ShownThreads.{thread_along}
 
 -- ## At the start
 
-length_replicate : {A : Type 0} (n : ℕ) (x : A) → length (replicate n x) ≡ n
+pub length_replicate : {A : Type 0} (n : ℕ) (x : A) → length (replicate n x) ≡ n
 length_replicate zero x = refl
 length_replicate (suc n) x = ap suc (length_replicate n x)
 
@@ -60,9 +57,6 @@ first_threads input k =
     (shown_past input k))
     (cases_lt k n)
 
-not_below : (n : ℕ) → nat_lt n 0 ≡ false
-not_below n = le-ltb n 0 (omega arith)
-
 pub first_shows : (input : Inputs) → Shows input (first_whole input.scripts) (first_state input)
 unfolding new_thread
 first_shows input =
@@ -72,8 +66,7 @@ first_shows input =
       table = refl;
       objects = refl;
       object_count = length_replicate limit.OBJECTS new_lock;
-      dense = record { there = λ object. ap is_some (fin.get-empty nat_cmp object) ∙ sym (not_below object); few = lit≤ tt };
-      world = world_first;
+      world = stands_first;
       rows = refl;
     }
 

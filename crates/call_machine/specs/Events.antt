@@ -1,7 +1,5 @@
 -- What the events of a thread make of it and of what it shares.
-use Rattle.std.specs.Prelude.{◌≡◌, ℕ, ◌+◌, ◌<◌, ◌≤◌, ◌^◌, List, [], ◌∷◌, ◌++◌, length, Option, Some, None, Bool, true, false, ◌&&◌, nat_le, slice_get, slice_set}
-use Rattle.posix_terms.specs.Locked.{locked_object}
-use Rattle.posix_terms.specs.Object.{State}
+use Rattle.std.specs.Prelude.{◌≡◌, ℕ, ◌+◌, ◌<◌, ◌^◌, List, [], ◌∷◌, ◌++◌, length, Option, Some, None, Bool, true, false, ◌&&◌, nat_le, slice_get, slice_set}
 use Rattle.posix_terms.specs.declared.call.Call.{Call}
 use Rattle.posix_terms.specs.declared.limits.TheConstants.Limits as limit
 use Rattle.posix_terms.specs.declared.reply.Answer.TheVariants as answer
@@ -11,20 +9,19 @@ use Rattle.posix_terms.specs.declared.transcript.Turn.{Turn}
 use Rattle.det_mutex.specs.Attempt.{freed, held, takes}
 use Rattle.det_mutex.specs.declared.lock.DetLock.{DetLock}
 use Rattle.lock_model.specs.Machine.{is_number}
-use Rattle.call_machine.specs.Dense.{IsDense}
-use Rattle.call_machine.specs.Does.{Replies}
+use Rattle.call_machine.specs.Store.{Makes, Stored, number_locked}
 use Rattle.call_machine.specs.Threads.{Thread}
 use Rattle.call_machine.specs.declared.thread.Phase.{Phase}
 use Rattle.call_machine.specs.declared.thread.Phase.TheVariants as phase
 
--- a thread, with a lock, what the table holds, and the rows
+-- a thread, with a lock, the table with the bodies, and the rows
 pub record Parts : Type 0 where
   pub thread : Thread
   pub lock : DetLock
-  pub table : State
+  pub table : Stored
   pub rows : List HistoryRow
 
-abbrev pub parts : Thread → DetLock → State → List HistoryRow → Parts
+abbrev pub parts : Thread → DetLock → Stored → List HistoryRow → Parts
 parts thread lock table rows = record { thread = thread; lock = lock; table = table; rows = rows }
 
 -- the thread's clock has room for so much
@@ -59,8 +56,8 @@ Answers moved i row old new = AnswersIn (is_number old.lock.holder i && in_time 
 
 -- ## The grant
 
-abbrev pub RepliesWith : State → Call → Option Reply → State → Type 0
-RepliesWith old call (Some reply) new = Replies old call reply new
+abbrev pub RepliesWith : Stored → Call → Option Reply → Stored → Type 0
+RepliesWith old call (Some reply) new = Makes old call reply new
 RepliesWith old call None new = ⊥
 
 abbrev pub granted_row : Turn → Call → HistoryRow
@@ -69,22 +66,20 @@ granted_row turn call = record { call = call; turn = turn; outcome = None; answe
 -- the call is made, and its reply waits for the answer
 pub record Grants (turn : Turn) (call : Call) (object : Option ℕ) (old new : Parts) : Type 0 where
   pub replies : RepliesWith old.table call new.thread.last new.table
-  pub dense : IsDense new.table
-  pub grows : old.table.next_object ≤ new.table.next_object
   pub thread : new.thread ≡ record old.thread { phase = phase.Granted (length old.rows) object; last = new.thread.last }
   pub lock : new.lock ≡ old.lock
   pub rows : new.rows ≡ old.rows ++ granted_row turn call ∷ []
 
 -- ## `try_table`, with the lock of the table
 
--- the call takes the lock of this object, which is there or the next one, or of none
+-- the call takes the lock of the object with this number, or of none
 abbrev pub PlansTo : Option ℕ → Turn → Call → Parts → Parts → Type 0
 PlansTo None turn call old new = Grants turn call None old new
 PlansTo (Some object) turn call old new =
-    (object < limit.OBJECTS) × (object ≤ old.table.next_object) × (new ≡ record old { thread = record old.thread { phase = phase.WantsObject call turn.clock object } })
+    (object < limit.OBJECTS) × (new ≡ record old { thread = record old.thread { phase = phase.WantsObject call turn.clock object } })
 
 abbrev pub TriesLock : Bool → ℕ → Call → Parts → Parts → Type 0
-TriesLock true i call old new = PlansTo (locked_object old.table call) (record { clock = old.thread.clock; thread = i }) call (record (later old 1) { lock = held i old.lock }) new
+TriesLock true i call old new = PlansTo (number_locked old.table call) (record { clock = old.thread.clock; thread = i }) call (record (later old 1) { lock = held i old.lock }) new
 TriesLock false i call old new = new ≡ later old 1
 
 abbrev pub TriesInTime : Bool → Bool → ℕ → Call → Parts → Parts → Type 0
@@ -113,6 +108,11 @@ object_taken false i object = None
 abbrev pub object_cost : Bool → ℕ
 object_cost true = 2
 object_cost false = 1
+
+-- a call that wants an object is granted with it
+abbrev pub GrantsObject : Phase → ℕ → Parts → Parts → Type 0
+GrantsObject (phase.WantsObject call clock object) i old new = Grants (record { clock = clock; thread = i }) call (Some object) old new
+GrantsObject p i old new = new ≡ old
 
 abbrev pub TriesObject : Bool → ℕ → Turn → Call → ℕ → DetLock → DetLock → Parts → Parts → Type 0
 TriesObject true i turn call object lock now old new = (now ≡ held i lock) × Grants turn call (Some object) (record (later old 2) { lock = freed (old.thread.clock + 1) }) new

@@ -1,12 +1,10 @@
-pub mod Places
-pub mod Lists
-pub mod View
-pub mod Does
 pub mod History
 pub mod Lives
 pub mod Threads
 pub mod Views
-pub mod Dense
+pub mod Store
+pub mod StoreCode
+pub mod Acting
 pub mod Asking
 pub mod Events
 pub mod Setup

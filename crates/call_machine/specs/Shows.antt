@@ -1,6 +1,5 @@
 -- How the data of a run stand for a state of the lock machine.
 use Rattle.std.specs.Prelude.{◌≡◌, ℕ, suc, ◌<◌, ◌≤◌, ◌^◌, List, [], ◌∷◌, ◌++◌, length, map, get_or, slice_get, Option, Some, None, IfSome, Bool}
-use Rattle.posix_terms.specs.Object as posix
 use Rattle.posix_terms.specs.Step.{nothing_carried, step}
 use Rattle.posix_terms.specs.declared.limits.TheConstants.Limits as limit
 use Rattle.posix_terms.specs.declared.reply.Reply.{Reply}
@@ -16,10 +15,9 @@ use Rattle.lock_model.specs.ScriptPrograms.{at_start, reached_after}
 use Rattle.lock_model.specs.State as lock
 use Rattle.lock_model.specs.State.{Job, Row, State, thread_of}
 use Rattle.lock_model.specs.State.Phase.{Working, WantsTable, WantsObject, Granted, Ended}
-use Rattle.call_machine.specs.Dense.{IsDense, world_of}
 use Rattle.lock_model.specs.Rows.{shown}
 use Rattle.call_machine.specs.Setup.{Inputs, setup_of, first_state, script_of}
-use Rattle.call_machine.specs.View.{state_of}
+use Rattle.call_machine.specs.Store.{Stands, Stored}
 use Rattle.call_machine.specs.Views.{no_item, no_thread}
 use Rattle.call_machine.specs.declared.thread.Thread as declared
 use Rattle.call_machine.specs.declared.machine.Machine.{Machine}
@@ -70,7 +68,7 @@ pub record Whole : Type 0 where
   pub threads : List Thread
   pub lock : DetLock
   pub objects : List DetLock
-  pub table : posix.State
+  pub table : Stored
   pub rows : List HistoryRow
 
 abbrev pub whole_of : Machine → Whole
@@ -79,7 +77,7 @@ whole_of m =
       threads = joined m.threads.items m.clocks;
       lock = m.shared.lock;
       objects = m.objects.items;
-      table = state_of m.shared.table;
+      table = m.shared.store;
       rows = m.shared.rows.items;
     }
 
@@ -92,8 +90,7 @@ pub record Shows (input : Inputs) (w : Whole) (s : State) : Type 0 where
   pub table : s.table ≡ w.lock
   pub objects : s.objects ≡ w.objects
   pub object_count : length w.objects ≡ limit.OBJECTS
-  pub dense : IsDense w.table
-  pub world : s.world ≡ world_of w.table
+  pub world : Stands w.table s.world
   pub rows : map shown s.rows ≡ w.rows
 
 -- ## Phases

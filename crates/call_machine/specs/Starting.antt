@@ -2,7 +2,7 @@
 use Rattle.std.specs.Prelude.{List, [], length, map, replicate, None, Bool, true, false}
 use Rattle.input_log.specs.Format.{text_of}
 use Rattle.input_log.specs.declared.log.Header.{Header}
-use Rattle.posix_terms.specs.Object.{empty_state}
+use Rattle.call_machine.specs.Store.{first_stored}
 use Rattle.posix_terms.specs.declared.limits.TheConstants.Limits as limit
 use Rattle.thread_scripts.specs.Meaning.{start_of}
 use Rattle.thread_scripts.specs.declared.line.Line.{Line}
@@ -24,7 +24,7 @@ abbrev pub first_thread : List Line → Thread
 first_thread script = record { phase = phase.Working; clock = 1; asked = []; actor = start_of script; last = None }
 
 abbrev pub first_whole : List (List Line) → Whole
-first_whole scripts = record { threads = map first_thread scripts; lock = new_lock; objects = replicate limit.OBJECTS new_lock; table = empty_state; rows = [] }
+first_whole scripts = record { threads = map first_thread scripts; lock = new_lock; objects = replicate limit.OBJECTS new_lock; table = first_stored; rows = [] }
 
 abbrev pub is_ended : Phase → Bool
 is_ended phase.Ended = true

@@ -2,12 +2,10 @@ ghost use Rattle.std.specs.Prelude.{◌≡◌, ◌<◌, ◌&&◌, ℕ, true, IfO
 ghost use Rattle.det_mutex.specs.Attempt.{takes};
 ghost use Rattle.lock_model.specs.Machine.{is_number};
 ghost use Rattle.logical_clocks.specs.ThreadClocks.{clock_at};
-ghost use Rattle.posix_terms.specs.Locked.{locked_object};
-ghost use Rattle.posix_terms.specs.Object.{State};
-ghost use Rattle.call_machine.specs.Events.{Answers, Grants, PlansTo, Reaches, Tries, object_taken, parts};
+ghost use Rattle.call_machine.specs.Events.{Answers, Grants, GrantsObject, PlansTo, Reaches, Tries, object_taken, parts};
 ghost use Rattle.call_machine.specs.Lives.{is_live};
 ghost use Rattle.call_machine.specs.Threads.{KeepsOthers, timed};
-ghost use Rattle.call_machine.specs.View.{state_of};
+ghost use Rattle.call_machine.specs.Store.{Stored, number_locked};
 
 use crate::machine::Shared;
 use crate::thread::{Phase, Thread};
@@ -28,8 +26,9 @@ pub fn answer(
 ) -> Result<bool, AllocError>
     requires inside { i < length clocks.old }
     requires live { is_live thread.old.phase ≡ true }
-    ensures event { IfOk result (λ moved. (table : State) → Answers moved i row (parts (timed thread.old (clock_at clocks.old i)) lock.old table rows.old.items) (parts (timed thread.new (clock_at clocks.new i)) lock.new table rows.new.items)) }
+    ensures event { IfOk result (λ moved. (table : Stored) → Answers moved i row (parts (timed thread.old (clock_at clocks.old i)) lock.old table rows.old.items) (parts (timed thread.new (clock_at clocks.new i)) lock.new table rows.new.items)) }
     ensures others { KeepsOthers i thread.old clocks.old thread.new clocks.new }
+    ensures rows { length rows.new.items ≡ length rows.old.items }
 {
     if !holds(*lock, i) {
         return Ok(false);
@@ -71,7 +70,7 @@ pub fn try_table(
     shared: &mut Shared,
 ) -> Result<bool, AllocError>
     requires { i < length clocks.old }
-    ensures event { IfOk result (λ made. Tries made i (parts (timed thread.old (clock_at clocks.old i)) shared.old.lock (state_of shared.old.table) shared.old.rows.items) (parts (timed thread.new (clock_at clocks.new i)) shared.new.lock (state_of shared.new.table) shared.new.rows.items)) }
+    ensures event { IfOk result (λ made. Tries made i (parts (timed thread.old (clock_at clocks.old i)) shared.old.lock shared.old.store shared.old.rows.items) (parts (timed thread.new (clock_at clocks.new i)) shared.new.lock shared.new.store shared.new.rows.items)) }
     ensures others { KeepsOthers i thread.old clocks.old thread.new clocks.new }
 {
     match mem::replace(&mut thread.phase, Phase::Stuck) {
@@ -103,10 +102,10 @@ fn plan(
     thread: &mut Thread,
     shared: &mut Shared,
 ) -> Result<(), AllocError>
-    ensures event { IfOk result (λ _. (clock : ℕ) → PlansTo (locked_object (state_of shared.old.table) call) turn call (parts (timed thread.old clock) shared.old.lock (state_of shared.old.table) shared.old.rows.items) (parts (timed thread.new clock) shared.new.lock (state_of shared.new.table) shared.new.rows.items)) }
+    ensures event { IfOk result (λ _. (clock : ℕ) → PlansTo (number_locked shared.old.store call) turn call (parts (timed thread.old clock) shared.old.lock shared.old.store shared.old.rows.items) (parts (timed thread.new clock) shared.new.lock shared.new.store shared.new.rows.items)) }
     ensures live { is_live thread.old.phase ≡ true → is_live thread.new.phase ≡ true }
 {
-    match shared.table.locked(alloc, &call)? {
+    match shared.store.number_locked(&call) {
         None => grant(alloc, turn, call, None, thread, shared),
         Some(object) => {
             thread.phase = Phase::WantsObject {
@@ -130,49 +129,53 @@ pub fn try_object(
     shared: &mut Shared,
 ) -> Result<bool, AllocError>
     requires { i < length clocks.old }
-    ensures event { IfOk result (λ made. Reaches made i lock.old lock.new (parts (timed thread.old (clock_at clocks.old i)) shared.old.lock (state_of shared.old.table) shared.old.rows.items) (parts (timed thread.new (clock_at clocks.new i)) shared.new.lock (state_of shared.new.table) shared.new.rows.items)) }
+    ensures event { IfOk result (λ made. Reaches made i lock.old lock.new (parts (timed thread.old (clock_at clocks.old i)) shared.old.lock shared.old.store shared.old.rows.items) (parts (timed thread.new (clock_at clocks.new i)) shared.new.lock shared.new.store shared.new.rows.items)) }
     ensures others { KeepsOthers i thread.old clocks.old thread.new clocks.new }
+{
+    let Phase::WantsObject { .. } = thread.phase else {
+        return Ok(false);
+    };
+    let now = clocks.clock(i);
+    let taken = taken_object(shared.lock, *lock, i, now);
+    let cost = if taken.is_some() { 2 } else { 1 };
+    if clocks.add(i, cost).is_err() {
+        return Ok(false);
+    }
+    let Some(taken) = taken else {
+        return Ok(true);
+    };
+    *lock = taken;
+    shared.lock.free(i, now + 1);
+    grant_object(alloc, i, thread, shared)?;
+    Ok(true)
+}
+
+// Grants the call of thread i that wants an object.
+fn grant_object(
+    alloc: Global,
+    i: usize,
+    thread: &mut Thread,
+    shared: &mut Shared,
+) -> Result<(), AllocError>
+    ensures event { IfOk result (λ _. (clock : ℕ) → GrantsObject thread.old.phase i (parts (timed thread.old clock) shared.old.lock shared.old.store shared.old.rows.items) (parts (timed thread.new clock) shared.new.lock shared.new.store shared.new.rows.items)) }
+    ensures live { is_live thread.old.phase ≡ true → is_live thread.new.phase ≡ true }
 {
     match mem::replace(&mut thread.phase, Phase::Stuck) {
         Phase::WantsObject {
             call,
             clock,
             object,
-        } => {
-            let now = clocks.clock(i);
-            let taken = taken_object(shared.lock, *lock, i, now);
-            let cost = if taken.is_some() { 2 } else { 1 };
-            if clocks.add(i, cost).is_err() {
-                thread.phase = Phase::WantsObject {
-                    call,
-                    clock,
-                    object,
-                };
-                return Ok(false);
-            }
-            let Some(taken) = taken else {
-                thread.phase = Phase::WantsObject {
-                    call,
-                    clock,
-                    object,
-                };
-                return Ok(true);
-            };
-            *lock = taken;
-            shared.lock.free(i, now + 1);
-            grant(
-                alloc,
-                Turn { clock, thread: i },
-                call,
-                Some(object),
-                thread,
-                shared,
-            )?;
-            Ok(true)
-        }
+        } => grant(
+            alloc,
+            Turn { clock, thread: i },
+            call,
+            Some(object),
+            thread,
+            shared,
+        ),
         phase => {
             thread.phase = phase;
-            Ok(false)
+            Ok(())
         }
     }
 }
@@ -199,20 +202,24 @@ fn grant(
     thread: &mut Thread,
     shared: &mut Shared,
 ) -> Result<(), AllocError>
-    ensures event { IfOk result (λ _. (clock : ℕ) → Grants turn call object (parts (timed thread.old clock) shared.old.lock (state_of shared.old.table) shared.old.rows.items) (parts (timed thread.new clock) shared.new.lock (state_of shared.new.table) shared.new.rows.items)) }
+    ensures event { IfOk result (λ _. (clock : ℕ) → Grants turn call object (parts (timed thread.old clock) shared.old.lock shared.old.store shared.old.rows.items) (parts (timed thread.new clock) shared.new.lock shared.new.store shared.new.rows.items)) }
     ensures live { is_live thread.old.phase ≡ true → is_live thread.new.phase ≡ true }
 {
-    let reply = shared.table.step(alloc, &call)?;
+    shared.rows.reserve(1)?;
+    let reply = shared.store.make(alloc, &call)?;
     thread.last = Some(reply);
     thread.phase = Phase::Granted {
         row: shared.rows.len(),
         object,
     };
-    shared.rows.push(HistoryRow {
-        call,
-        turn,
-        outcome: None,
-        answer: None,
-    })?;
+    shared
+        .rows
+        .push(HistoryRow {
+            call,
+            turn,
+            outcome: None,
+            answer: None,
+        })
+        .unwrap();
     Ok(())
 }

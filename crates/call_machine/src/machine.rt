@@ -1,18 +1,22 @@
-ghost use Rattle.std.specs.Prelude.{◌≡◌};
+ghost use Rattle.std.specs.Prelude.{◌≡◌, ◌≤◌, length};
 ghost use Rattle.call_machine.specs.Lives.{Agree};
 
-use crate::table::Table;
+use crate::store::Store;
 use crate::thread::Thread;
 use det_mutex::DetLock;
 use logical_clocks::Clocks;
 use posix_terms::HistoryRow;
 
-// The table with its lock, and the rows of what was granted so far.
+// The table with its lock and the bodies of the files, and the rows of what was granted so far.
 #[derive(Drop)]
 pub struct Shared {
     pub lock: DetLock,
-    pub table: Table,
+    pub store: Store,
     pub rows: Vec<HistoryRow>,
+
+    // each call makes one description and one object at most
+    ghost descriptions: { store.table.descriptions.made ≤ length rows.items },
+    ghost objects: { store.table.made_objects ≤ length rows.items },
 }
 
 // The threads of a run with their clocks, what they share, and the lock of each object number. A number that

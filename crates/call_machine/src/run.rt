@@ -14,8 +14,8 @@ use thread_scripts::Script;
 /// Runs 1 to 8 scripts together on the plain schedule: the same order of calls each time, whatever the
 /// machine. There is a list of outcomes from outside for each script, which no call asks for so far.
 ///
-/// While some thread can make an event that needs no turn, the least such thread makes it; otherwise the
-/// thread that has the turn makes its attempt. The run ends when all threads have ended, or when a logical
+/// Events that need no turn come first, those of the thread with the least number before the others; when there is
+/// none, whoever has the turn attempts its call. The run ends when all threads have ended, or when a logical
 /// clock is full. Its history is legal, and its turns rise. Its log is a header and, where all threads ended,
 /// the end; so far nothing comes from outside.
 pub fn plain_run(

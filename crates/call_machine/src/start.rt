@@ -5,7 +5,7 @@ ghost use Rattle.call_machine.specs.Starting.{first_item, first_whole};
 
 use crate::history::Steps;
 use crate::machine::{Machine, Shared};
-use crate::table::Table;
+use crate::store::Store;
 use crate::thread::{Phase, Thread};
 use det_mutex::DetLock;
 use logical_clocks::Clocks;
@@ -26,7 +26,7 @@ impl Machine {
             clocks,
             shared: Shared {
                 lock: DetLock::new(),
-                table: Table::new(alloc)?,
+                store: Store::new(alloc)?,
                 rows: Vec::new(alloc),
             },
             objects: vec![in alloc; DetLock::new(); Limits::OBJECTS]?,

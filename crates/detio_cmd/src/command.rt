@@ -28,10 +28,10 @@ const PLAIN_ABOUT: &str = "Runs 1 to 8 scripts together and prints their transcr
 
 const PLAIN_LONG_ABOUT: &str = "Runs 1 to 8 scripts together and prints their transcripts.
 
-Each script is a thread, from 0 in the order given. All share one table of descriptors, and the thread
-whose logical clock is least has the turn; of two with the same clock, the one that was given first. A
-line is printed for each reply: thread, number of the row, with --turns the clock of the turn, call and
-reply. The first fault goes to standard error, on one line.
+Each script is a thread, from 0 in the order given. All share one table of descriptors and the files in
+memory, and the thread whose logical clock is least has the turn; of two with the same clock, the one
+that was given first. A line is printed for each reply: thread, number of the row, with --turns the clock
+of the turn, call and reply. The first fault goes to standard error, on one line.
 
 A script is ASCII text, one of these a line. Lines that are empty or start with # do nothing.
 
@@ -39,7 +39,20 @@ A script is ASCII text, one of these a line. Lines that are empty or start with 
   close NUM
   read NUM NUM                  descriptor and count
   write NUM BYTES               descriptor and what to write
+  pread NUM NUM NUM             descriptor, count and position
+  pwrite NUM BYTES NUM          descriptor, what to write and position
   lseek NUM NUM set|cur|end     descriptor and offset
+  ftruncate NUM NUM             descriptor and length
+  fstat NUM                     its reply: kind, length, number of names
+  dup NUM
+  dup_from NUM NUM              descriptor and least number for the new one
+  dup2 NUM NUM                  descriptor and number for the new one
+  getfl NUM                     its reply: 0 r, 1 w or 2 rw, plus 4 append, 8 nonblock
+  setfl NUM [append] [nonblock] sets both flags, each as it is named or not
+  link PATH PATH                a file and its new name
+  unlink PATH
+  mkdir PATH
+  rmdir PATH
   work N                        adds 0 to 1000000 to the clock
   set rA NUM                    puts a number in a register
   add rA NUM                    adds to it, modulo 2^64
@@ -53,8 +66,8 @@ A script is ASCII text, one of these a line. Lines that are empty or start with 
 NUM is a decimal number of 64 bits, as -1, or a register r0 to r15. BYTES are x and hexadecimal digits,
 as x6869, or a register b0 to b3. PATH has no spaces. NAME has 1 to 14 lower-case letters or digits.
 Registers start at 0, and b0 to b3 empty. A reply sets r0: the count, the length of the data, the
-number, 0 for done, or minus the code of the error; data go to b0. A thread also ends once it has
-executed 10000 lines.
+number, the length of fstat, 0 for done, or minus the code of the error. fstat sets r1 too, to the
+number of names; data go to b0. A thread also ends once it has executed 10000 lines.
 
 The path /dev/stdin reads a script from standard input.";
 

@@ -1,3 +1,6 @@
+mod limits;
+mod refusals;
+
 use crate::plain::plain_over;
 use crate::show::show_over;
 use crate::source::Source;
@@ -46,6 +49,55 @@ fn prints(alloc: Global, script: &str, wanted: &str) -> io::Result<bool> {
     print(alloc, false, &[script.as_bytes()], wanted)
 }
 
+// A script with what it is to print, to which calls are added.
+#[derive(Drop)]
+struct Expected {
+    script: String,
+    printed: String,
+    rows: u32,
+}
+
+impl Expected {
+    fn new(alloc: Global) -> Expected {
+        Expected {
+            script: String::new(alloc),
+            printed: String::new(alloc),
+            rows: 0,
+        }
+    }
+
+    // Adds a call and the word and reply that its row shows.
+    fn call(&mut self, alloc: Global, line: &str, reply: &str) -> io::Result<()> {
+        let text = format!(in alloc; "{line}\n")?;
+        self.script.push_str(text.as_str())?;
+        let row = self.rows;
+        let text = format!(in alloc; "0 {row} {reply}\n")?;
+        self.printed.push_str(text.as_str())?;
+        self.rows = row.wrapping_add(1);
+        Ok(())
+    }
+
+    fn calls(&mut self, alloc: Global, calls: &[(&str, &str)]) -> io::Result<()> {
+        for (line, reply) in calls {
+            self.call(alloc, line, reply)?;
+        }
+        Ok(())
+    }
+
+    // Whether the script prints what it is to print.
+    fn holds(&self, alloc: Global) -> io::Result<bool> {
+        let wanted = format!(in alloc; "{}end\n", self.printed)?;
+        prints(alloc, self.script.as_str(), wanted.as_str())
+    }
+}
+
+// Whether the calls of one script, a call a line, are printed with these words and replies.
+fn answers(alloc: Global, calls: &[(&str, &str)]) -> io::Result<bool> {
+    let mut expected = Expected::new(alloc);
+    expected.calls(alloc, calls)?;
+    expected.holds(alloc)
+}
+
 // Whether scripts end with this status and this line on standard error, and print nothing.
 fn refuse(
     alloc: Global,
@@ -74,68 +126,6 @@ fn worked_examples(rt: HostRuntime) -> Result<(), Fail> {
     for (script, wanted) in cases {
         assert!(rt; prints(rt.alloc(), script, wanted)?, "{script}");
     }
-    Ok(())
-}
-
-// The refusals of each call, in the order in which they are looked for.
-#[test]
-fn refusals(rt: HostRuntime) -> Result<(), Fail> {
-    let cases = [
-        ("open \"\" r trunc", "open fail EINVAL"),
-        ("open \"\" r", "open fail ENOENT"),
-        ("open /a/./abcdefghijklmno r", "open fail EINVAL"),
-        ("open .. r", "open fail EINVAL"),
-        ("open /a/ r", "open fail EINVAL"),
-        ("open /x/abcdefghijklmno r", "open fail ENAMETOOLONG"),
-        ("open /abcdefghijklmn r", "open fail ENOENT"),
-        ("open /x/y rw create", "open fail ENOENT"),
-        ("open // rw create excl", "open fail EEXIST"),
-        ("open / rw create", "open fail EISDIR"),
-        ("open /x w trunc", "open fail ENOENT"),
-        ("close 0", "close fail EBADF"),
-        ("close -1", "close fail EBADF"),
-        ("read 0 1", "read fail EBADF"),
-        ("write 31 x00", "write fail EBADF"),
-        ("lseek 32 0 set", "lseek fail EBADF"),
-    ];
-    for (line, wanted) in cases {
-        let printed = format!(in rt.alloc(); "0 0 {wanted}\nend\n")?;
-        assert!(rt; prints(rt.alloc(), line, printed.as_str())?, "{line}");
-    }
-    Ok(())
-}
-
-// The refusals of calls on an open file.
-#[test]
-fn refusals_on_a_file(rt: HostRuntime) -> Result<(), Fail> {
-    let cases = [
-        ("open a//b r", "open fail ENOTDIR"),
-        ("open a rw create excl", "open fail EEXIST"),
-        ("open //a r excl", "open number 1"),
-        ("read 0 -1", "read fail EBADF"),
-        ("write 0 x61", "write count 1"),
-        ("lseek 0 -1 set", "lseek fail EINVAL"),
-        (
-            "lseek 0 9223372036854775807 cur",
-            "lseek number 9223372036854775807",
-        ),
-        (
-            "lseek 0 9223372036854775807 end",
-            "lseek number 9223372036854775807",
-        ),
-        ("lseek 0 -1 end", "lseek fail EINVAL"),
-    ];
-    for (line, wanted) in cases {
-        let script = format!(in rt.alloc(); "open /a w create\n{line}")?;
-        let printed = format!(in rt.alloc(); "0 0 open number 0\n0 1 {wanted}\nend\n")?;
-        assert!(rt;
-            prints(rt.alloc(), script.as_str(), printed.as_str())?,
-            "{line}"
-        );
-    }
-    let script = "open /a rw create\nread 0 -1";
-    let printed = "0 0 open number 0\n0 1 read fail EINVAL\nend\n";
-    assert!(rt; prints(rt.alloc(), script, printed)?);
     Ok(())
 }
 
@@ -192,59 +182,6 @@ read 0 9
 end
 ";
     assert!(rt; prints(rt.alloc(), script, wanted)?);
-    Ok(())
-}
-
-// The 33rd descriptor, the 49th file, and paths of 255 and 256 bytes.
-#[test]
-fn limits(rt: HostRuntime) -> Result<(), Fail> {
-    let alloc = rt.alloc();
-    let mut script = String::new(alloc);
-    let mut wanted = String::new(alloc);
-    for i in 0u32..33 {
-        script.push_str("open /a rw create\n")?;
-        let reply = if i < 32 {
-            format!(in alloc; "number {i}")?
-        } else {
-            String::from_str(alloc, "fail EMFILE")?
-        };
-        let row = format!(in alloc; "0 {i} open {reply}\n")?;
-        wanted.push_str(row.as_str())?;
-    }
-    wanted.push_str("end\n")?;
-    assert!(rt; prints(alloc, script.as_str(), wanted.as_str())?);
-
-    let mut script = String::new(alloc);
-    let mut wanted = String::new(alloc);
-    for i in 0u32..49 {
-        let lines = format!(in alloc; "open /{i} w create\nclose 0\n")?;
-        script.push_str(lines.as_str())?;
-        let replies = if i < 48 {
-            ("number 0", "done")
-        } else {
-            ("fail ENOSPC", "fail EBADF")
-        };
-        let open = 2 * i;
-        let close = open + 1;
-        let opened = replies.0;
-        let closed = replies.1;
-        let rows = format!(in alloc; "0 {open} open {opened}\n0 {close} close {closed}\n")?;
-        wanted.push_str(rows.as_str())?;
-    }
-    wanted.push_str("end\n")?;
-    assert!(rt; prints(alloc, script.as_str(), wanted.as_str())?);
-
-    let mut script = String::from_str(alloc, "open ")?;
-    for _ in 0u32..255 {
-        script.push_str("/")?;
-    }
-    script.push_str(" r\nopen ")?;
-    for _ in 0u32..256 {
-        script.push_str("/")?;
-    }
-    script.push_str(" r\n")?;
-    let wanted = "0 0 open fail EISDIR\n0 1 open fail ENAMETOOLONG\nend\n";
-    assert!(rt; prints(alloc, script.as_str(), wanted)?);
     Ok(())
 }
 

@@ -60,6 +60,7 @@ impl Descriptions {
         ensures free { IfSome result (λ key. map.get self.old.by_key key ≡ None) }
         ensures made { IfSome result (λ key. self.new ≡ with_new self.old key (new_description node end access flags self.old.made)) }
         ensures full { IfNone result (self.new ≡ self.old) }
+        ensures sound { AreSound self.old }
     {
         if self.slots.len() >= Limits::DESCRIPTORS {
             return None;
@@ -79,7 +80,8 @@ impl Descriptions {
 
     /// How many descriptions were ever made.
     pub fn made(&self) -> u128
-        ensures { result ≡ self.now.made }
+        ensures made { result ≡ self.now.made }
+        ensures sound { AreSound self.now }
     {
         self.made
     }

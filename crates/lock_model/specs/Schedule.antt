@@ -13,7 +13,7 @@ abbrev pub advance_by : Setup → State → Option ℕ → Option Event
 advance_by setup s (Some i) = Some (Advances i)
 advance_by setup s None = attempt_by setup s (turn_holder (live_clocks s))
 
--- while some thread can make an event that needs no turn, the least such thread makes it; otherwise the thread that has the turn makes its attempt, if it can
+-- events that need no turn come first, in the order of the threads; when there is none, whoever has the turn attempts its call, where it can
 unfoldable pub next_event : Setup → State → Option Event
 next_event setup s = advance_by setup s (first_below (length s.threads) (can_advance setup s))
 

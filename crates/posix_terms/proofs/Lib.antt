@@ -1,1 +1,4 @@
 pub mod Refused
+pub mod Listed
+pub mod Chains
+pub mod Rows

@@ -2,10 +2,13 @@
 use Rattle.std.proofs.Common.{◌≡◌, ℕ, ℤ, List, Bool, true, false, Option, Result, Ok, Err, arith, refl}
 use Rattle.std.specs.Prelude.{IfOk}
 use Rattle.posix_terms.specs.Descriptors.{open_result, close_result}
+use Rattle.posix_terms.specs.Duplicates.{dup_result, dup_from_result, dup2_result}
 use Rattle.posix_terms.specs.Effects.{Effect, Completes}
+use Rattle.posix_terms.specs.Names.{link_result, unlink_result, mkdir_result, rmdir_result}
 use Rattle.posix_terms.specs.Object.{State}
+use Rattle.posix_terms.specs.Status.{fstat_result, getfl_result, setfl_result}
 use Rattle.posix_terms.specs.Step.{step, Carried, effect_of, concluded}
-use Rattle.posix_terms.specs.Transfers.{read_result, write_result, lseek_result}
+use Rattle.posix_terms.specs.Transfers.{read_result, write_result, pread_result, pwrite_result, lseek_result, ftruncate_result}
 use Rattle.posix_terms.specs.declared.call.Access.{Access}
 use Rattle.posix_terms.specs.declared.call.Call.{Call}
 use Rattle.posix_terms.specs.declared.call.Call.TheVariants as call
@@ -45,12 +48,77 @@ granted-lseek : (s : State) (descriptor offset : ℤ) (whence : Whence) → IfOk
 unfolding lseek_result
 granted-lseek s descriptor offset whence = grind arith
 
+granted-pread : (s : State) (descriptor count position : ℤ) → IfOk (pread_result s descriptor count position) IsGranted
+unfolding pread_result
+granted-pread s descriptor count position = grind arith
+
+granted-pwrite : (s : State) (descriptor : ℤ) (bytes : List ℕ) (position : ℤ) → IfOk (pwrite_result s descriptor bytes position) IsGranted
+unfolding pwrite_result
+granted-pwrite s descriptor bytes position = grind arith
+
+granted-ftruncate : (s : State) (descriptor size : ℤ) → IfOk (ftruncate_result s descriptor size) IsGranted
+unfolding ftruncate_result
+granted-ftruncate s descriptor size = grind arith
+
+granted-fstat : (s : State) (descriptor : ℤ) → IfOk (fstat_result s descriptor) IsGranted
+unfolding fstat_result
+granted-fstat s descriptor = grind arith
+
+granted-dup : (s : State) (descriptor : ℤ) → IfOk (dup_result s descriptor) IsGranted
+unfolding dup_result
+granted-dup s descriptor = grind arith
+
+granted-dup_from : (s : State) (descriptor least : ℤ) → IfOk (dup_from_result s descriptor least) IsGranted
+unfolding dup_from_result
+granted-dup_from s descriptor least = grind arith
+
+granted-dup2 : (s : State) (descriptor target : ℤ) → IfOk (dup2_result s descriptor target) IsGranted
+unfolding dup2_result
+granted-dup2 s descriptor target = grind arith
+
+granted-getfl : (s : State) (descriptor : ℤ) → IfOk (getfl_result s descriptor) IsGranted
+unfolding getfl_result
+granted-getfl s descriptor = grind arith
+
+granted-setfl : (s : State) (descriptor : ℤ) (append nonblock : Bool) → IfOk (setfl_result s descriptor append nonblock) IsGranted
+unfolding setfl_result
+granted-setfl s descriptor append nonblock = grind arith
+
+granted-link : (s : State) (old_path new_path : List ℕ) → IfOk (link_result s old_path new_path) IsGranted
+unfolding link_result
+granted-link s old_path new_path = grind arith
+
+granted-unlink : (s : State) (path : List ℕ) → IfOk (unlink_result s path) IsGranted
+unfolding unlink_result
+granted-unlink s path = grind arith
+
+granted-mkdir : (s : State) (path : List ℕ) → IfOk (mkdir_result s path) IsGranted
+unfolding mkdir_result
+granted-mkdir s path = grind arith
+
+granted-rmdir : (s : State) (path : List ℕ) → IfOk (rmdir_result s path) IsGranted
+unfolding rmdir_result
+granted-rmdir s path = grind arith
+
 granted : (s : State) (c : Call) (carried : Carried) → IfOk (effect_of s c carried) IsGranted
 granted s (call.Open path access flags) carried = granted-open s path access flags
 granted s (call.Close descriptor) carried = granted-close s descriptor
 granted s (call.Read descriptor count) carried = granted-read s descriptor count
 granted s (call.Write descriptor bytes) carried = granted-write s descriptor bytes
 granted s (call.Lseek descriptor offset whence) carried = granted-lseek s descriptor offset whence
+granted s (call.Pread descriptor count position) carried = granted-pread s descriptor count position
+granted s (call.Pwrite descriptor bytes position) carried = granted-pwrite s descriptor bytes position
+granted s (call.Ftruncate descriptor size) carried = granted-ftruncate s descriptor size
+granted s (call.Fstat descriptor) carried = granted-fstat s descriptor
+granted s (call.Dup descriptor) carried = granted-dup s descriptor
+granted s (call.DupFrom descriptor least) carried = granted-dup_from s descriptor least
+granted s (call.Dup2 descriptor target) carried = granted-dup2 s descriptor target
+granted s (call.Getfl descriptor) carried = granted-getfl s descriptor
+granted s (call.Setfl descriptor append nonblock) carried = granted-setfl s descriptor append nonblock
+granted s (call.Link old_path new_path) carried = granted-link s old_path new_path
+granted s (call.Unlink path) carried = granted-unlink s path
+granted s (call.Mkdir path) carried = granted-mkdir s path
+granted s (call.Rmdir path) carried = granted-rmdir s path
 
 left_alone : (settings : Settings) (s : State) (outcome : Option Outcome) (carried : Carried) (r : Result Effect Errno) (e : Errno) → IfOk r IsGranted
     → (concluded settings s outcome carried r).answer ≡ answer.Reply (reply.Fail e) → (concluded settings s outcome carried r).after ≡ s

@@ -5,7 +5,7 @@ use Rattle.std.specs.List.{list_any}
 use Rattle.std.specs.FinMap as map
 use Rattle.posix_terms.specs.Calls.{can_write}
 use Rattle.posix_terms.specs.Effects.{Effect, Completes}
-use Rattle.posix_terms.specs.Object.{State, Description, Content, File, Node, FileNode, Directory, any_below, with_content}
+use Rattle.posix_terms.specs.Object.{State, Description, File, Node, FileNode, Directory, any_below, with_content}
 use Rattle.posix_terms.specs.Paths.{node_at, resolved}
 use Rattle.posix_terms.specs.Refusals.{◌>>=◌, refuse_if, some_or}
 use Rattle.posix_terms.specs.declared.call.Access.{Access}

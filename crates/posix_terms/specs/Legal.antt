@@ -1,5 +1,5 @@
 -- When a history is legal: going over its rows in the order of their turns, the sequential object gives just their answers.
-use Rattle.std.specs.Prelude.{◌≡◌, ℕ, List, [], ◌∷◌, Option, Some, None, if◌then◌else◌, ◌==◌}
+use Rattle.std.specs.Prelude.{◌≡◌, ℕ, List, [], ◌∷◌, Some, None, if◌then◌else◌, ◌==◌}
 use Rattle.posix_terms.specs.Object.{State, empty_state}
 use Rattle.posix_terms.specs.Step.{Carried, Stepped, nothing_carried, step}
 use Rattle.posix_terms.specs.declared.reply.Answer.{Answer}

@@ -8,8 +8,12 @@ pub mod Effects
 pub mod Refusals
 pub mod Paths
 pub mod Descriptors
+pub mod Duplicates
 pub mod Transfers
+pub mod Names
+pub mod Status
+pub mod Step
 pub mod Locked
 pub mod Outcomes
-pub mod Step
 pub mod Legal
+pub mod Examples

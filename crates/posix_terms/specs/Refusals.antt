@@ -22,3 +22,8 @@ some_or None e = Err e
 abbrev pub count_of : ℤ → Result ℕ Errno
 count_of (pos n) = if nat_lt limit.COUNT n then Err EINVAL else Ok n
 count_of (negsuc n) = Err EINVAL
+
+-- a position in a file, which is not negative
+abbrev pub position_of : ℤ → Result ℕ Errno
+position_of (pos n) = Ok n
+position_of (negsuc n) = Err EINVAL

@@ -1,9 +1,12 @@
 -- What one call, taken alone, answers and leaves.
 use Rattle.std.specs.Prelude.{◌≡◌, ℕ, Result, Ok, Err, Option}
 use Rattle.posix_terms.specs.Descriptors.{open_result, close_result}
+use Rattle.posix_terms.specs.Duplicates.{dup_result, dup_from_result, dup2_result}
 use Rattle.posix_terms.specs.Effects.{Effect, Completes}
+use Rattle.posix_terms.specs.Names.{link_result, unlink_result, mkdir_result, rmdir_result}
 use Rattle.posix_terms.specs.Object.{State}
-use Rattle.posix_terms.specs.Transfers.{read_result, write_result, lseek_result}
+use Rattle.posix_terms.specs.Status.{fstat_result, getfl_result, setfl_result}
+use Rattle.posix_terms.specs.Transfers.{read_result, write_result, pread_result, pwrite_result, lseek_result, ftruncate_result}
 use Rattle.posix_terms.specs.declared.call.Call.{Call}
 use Rattle.posix_terms.specs.declared.call.Call.TheVariants as call
 use Rattle.posix_terms.specs.declared.errno.Errno.{Errno}
@@ -27,7 +30,20 @@ effect_of s (call.Open path access flags) carried = open_result s path access fl
 effect_of s (call.Close descriptor) carried = close_result s descriptor
 effect_of s (call.Read descriptor count) carried = read_result s descriptor count
 effect_of s (call.Write descriptor bytes) carried = write_result s descriptor bytes
+effect_of s (call.Pread descriptor count position) carried = pread_result s descriptor count position
+effect_of s (call.Pwrite descriptor bytes position) carried = pwrite_result s descriptor bytes position
 effect_of s (call.Lseek descriptor offset whence) carried = lseek_result s descriptor offset whence
+effect_of s (call.Ftruncate descriptor size) carried = ftruncate_result s descriptor size
+effect_of s (call.Fstat descriptor) carried = fstat_result s descriptor
+effect_of s (call.Dup descriptor) carried = dup_result s descriptor
+effect_of s (call.DupFrom descriptor least) carried = dup_from_result s descriptor least
+effect_of s (call.Dup2 descriptor target) carried = dup2_result s descriptor target
+effect_of s (call.Getfl descriptor) carried = getfl_result s descriptor
+effect_of s (call.Setfl descriptor append nonblock) carried = setfl_result s descriptor append nonblock
+effect_of s (call.Link old_path new_path) carried = link_result s old_path new_path
+effect_of s (call.Unlink path) carried = unlink_result s path
+effect_of s (call.Mkdir path) carried = mkdir_result s path
+effect_of s (call.Rmdir path) carried = rmdir_result s path
 
 -- the state after a turn of a call, how it was answered, and what the thread's next call turn carries
 pub record Stepped : Type 0 where

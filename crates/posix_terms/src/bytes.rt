@@ -32,6 +32,14 @@ impl Eq for Bytes {
     ghost laws = { nat_list_eq_equiv };
 }
 
+impl Clone for Bytes {
+    ghost is_clone = { λ b copy. copy ≡ b };
+
+    fn clone(&self) -> Result<Bytes, AllocError> {
+        self.try_clone()
+    }
+}
+
 impl Bytes {
     /// The bytes of `items`. It takes no memory.
     pub fn from_vec(items: Vec<u8>) -> Bytes

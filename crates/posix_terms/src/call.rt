@@ -46,9 +46,9 @@ pub enum Whence {
     End,
 }
 
-/// One call, with its arguments as the thread gave them. Descriptors, counts and offsets may be any
-/// numbers, and a path any bytes: what is wrong with them is told by the reply.
-#[derive(Debug, PartialEq, Eq, Drop)]
+/// One call, with its arguments as the thread gave them. Descriptors, counts, positions, sizes and
+/// offsets may be any numbers, and a path any bytes: what is wrong with them is told by the reply.
+#[derive(Clone, Debug, PartialEq, Eq, Drop)]
 pub enum Call {
     Open {
         path: Bytes,
@@ -66,10 +66,64 @@ pub enum Call {
         descriptor: i64,
         bytes: Bytes,
     },
+    /// A read at a position, whatever the offset is.
+    Pread {
+        descriptor: i64,
+        count: i64,
+        position: i64,
+    },
+    /// A write at a position, whatever the offset and the flags are.
+    Pwrite {
+        descriptor: i64,
+        bytes: Bytes,
+        position: i64,
+    },
     Lseek {
         descriptor: i64,
         offset: i64,
         whence: Whence,
+    },
+    Ftruncate {
+        descriptor: i64,
+        size: i64,
+    },
+    Fstat {
+        descriptor: i64,
+    },
+    Dup {
+        descriptor: i64,
+    },
+    /// `fcntl` with `F_DUPFD`: the new number is `least` or above.
+    DupFrom {
+        descriptor: i64,
+        least: i64,
+    },
+    Dup2 {
+        descriptor: i64,
+        target: i64,
+    },
+    /// `fcntl` with `F_GETFL`.
+    Getfl {
+        descriptor: i64,
+    },
+    /// `fcntl` with `F_SETFL`: both flags become as given.
+    Setfl {
+        descriptor: i64,
+        append: bool,
+        nonblock: bool,
+    },
+    Link {
+        old_path: Bytes,
+        new_path: Bytes,
+    },
+    Unlink {
+        path: Bytes,
+    },
+    Mkdir {
+        path: Bytes,
+    },
+    Rmdir {
+        path: Bytes,
     },
 }
 
@@ -80,7 +134,20 @@ pub enum CallKind {
     Close,
     Read,
     Write,
+    Pread,
+    Pwrite,
     Lseek,
+    Ftruncate,
+    Fstat,
+    Dup,
+    DupFrom,
+    Dup2,
+    Getfl,
+    Setfl,
+    Link,
+    Unlink,
+    Mkdir,
+    Rmdir,
 }
 
 impl Call {
@@ -93,7 +160,20 @@ impl Call {
             Call::Close { .. } => CallKind::Close,
             Call::Read { .. } => CallKind::Read,
             Call::Write { .. } => CallKind::Write,
+            Call::Pread { .. } => CallKind::Pread,
+            Call::Pwrite { .. } => CallKind::Pwrite,
             Call::Lseek { .. } => CallKind::Lseek,
+            Call::Ftruncate { .. } => CallKind::Ftruncate,
+            Call::Fstat { .. } => CallKind::Fstat,
+            Call::Dup { .. } => CallKind::Dup,
+            Call::DupFrom { .. } => CallKind::DupFrom,
+            Call::Dup2 { .. } => CallKind::Dup2,
+            Call::Getfl { .. } => CallKind::Getfl,
+            Call::Setfl { .. } => CallKind::Setfl,
+            Call::Link { .. } => CallKind::Link,
+            Call::Unlink { .. } => CallKind::Unlink,
+            Call::Mkdir { .. } => CallKind::Mkdir,
+            Call::Rmdir { .. } => CallKind::Rmdir,
         }
     }
 
@@ -101,41 +181,33 @@ impl Call {
     pub fn try_clone(&self) -> Result<Call, AllocError>
         ensures { IfOk result (λ call. call ≡ self.now) }
     {
-        Ok(match self {
-            Call::Open {
-                path,
-                access,
-                flags,
-            } => Call::Open {
-                path: path.try_clone()?,
-                access: *access,
-                flags: *flags,
-            },
-            Call::Close { descriptor } => Call::Close {
-                descriptor: *descriptor,
-            },
-            Call::Read { descriptor, count } => Call::Read {
-                descriptor: *descriptor,
-                count: *count,
-            },
-            Call::Write { descriptor, bytes } => Call::Write {
-                descriptor: *descriptor,
-                bytes: bytes.try_clone()?,
-            },
-            Call::Lseek {
-                descriptor,
-                offset,
-                whence,
-            } => Call::Lseek {
-                descriptor: *descriptor,
-                offset: *offset,
-                whence: *whence,
-            },
-        })
+        self.clone()
     }
 }
 
 impl CallKind {
+    /// All calls.
+    pub const ALL: [CallKind; 18] = [
+        CallKind::Open,
+        CallKind::Close,
+        CallKind::Read,
+        CallKind::Write,
+        CallKind::Pread,
+        CallKind::Pwrite,
+        CallKind::Lseek,
+        CallKind::Ftruncate,
+        CallKind::Fstat,
+        CallKind::Dup,
+        CallKind::DupFrom,
+        CallKind::Dup2,
+        CallKind::Getfl,
+        CallKind::Setfl,
+        CallKind::Link,
+        CallKind::Unlink,
+        CallKind::Mkdir,
+        CallKind::Rmdir,
+    ];
+
     /// The name of the call in scripts and in printed transcripts, for example `lseek`.
     pub fn word(self) -> &'static str
         ensures { result.now ≡ word_of self }
@@ -145,7 +217,20 @@ impl CallKind {
             CallKind::Close => "close",
             CallKind::Read => "read",
             CallKind::Write => "write",
+            CallKind::Pread => "pread",
+            CallKind::Pwrite => "pwrite",
             CallKind::Lseek => "lseek",
+            CallKind::Ftruncate => "ftruncate",
+            CallKind::Fstat => "fstat",
+            CallKind::Dup => "dup",
+            CallKind::DupFrom => "dup_from",
+            CallKind::Dup2 => "dup2",
+            CallKind::Getfl => "getfl",
+            CallKind::Setfl => "setfl",
+            CallKind::Link => "link",
+            CallKind::Unlink => "unlink",
+            CallKind::Mkdir => "mkdir",
+            CallKind::Rmdir => "rmdir",
         }
     }
 }

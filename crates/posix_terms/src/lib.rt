@@ -5,6 +5,7 @@
 mod bytes;
 mod call;
 mod errno;
+mod examples;
 mod laws;
 mod limits;
 mod outcome;
@@ -17,6 +18,7 @@ mod transcript;
 pub use bytes::Bytes;
 pub use call::{Access, Call, CallKind, OpenFlags, Whence};
 pub use errno::{Errno, codes_lead_back, errno_name};
+pub use examples::worked_examples;
 pub use laws::failed_calls_change_nothing;
 pub use limits::Limits;
 pub use outcome::{Given, OutKind, Outcome, Outcomes};

@@ -50,8 +50,62 @@ fn errors_have_their_numbers(rt: HostRuntime) -> Result<(), Fail> {
     Ok(())
 }
 
-fn calls(alloc: Global) -> Result<Vec<Call>, AllocError> {
-    Ok(vec![in alloc;
+fn transfers(alloc: Global) -> Result<[Call; 6], AllocError> {
+    Ok([
+        Call::Read {
+            descriptor: 0,
+            count: -1,
+        },
+        Call::Write {
+            descriptor: 1,
+            bytes: Bytes::from_slice(alloc, b"hi")?,
+        },
+        Call::Pread {
+            descriptor: 3,
+            count: 4,
+            position: 5,
+        },
+        Call::Pwrite {
+            descriptor: 4,
+            bytes: Bytes::from_slice(alloc, b"yo")?,
+            position: -6,
+        },
+        Call::Lseek {
+            descriptor: 2,
+            offset: -5,
+            whence: Whence::End,
+        },
+        Call::Ftruncate {
+            descriptor: 5,
+            size: 7,
+        },
+    ])
+}
+
+fn descriptor_calls() -> [Call; 7] {
+    [
+        Call::Close { descriptor: 3 },
+        Call::Fstat { descriptor: 6 },
+        Call::Dup { descriptor: 7 },
+        Call::DupFrom {
+            descriptor: 8,
+            least: 9,
+        },
+        Call::Dup2 {
+            descriptor: 10,
+            target: 11,
+        },
+        Call::Getfl { descriptor: 12 },
+        Call::Setfl {
+            descriptor: 13,
+            append: true,
+            nonblock: false,
+        },
+    ]
+}
+
+fn path_calls(alloc: Global) -> Result<[Call; 5], AllocError> {
+    Ok([
         Call::Open {
             path: Bytes::from_slice(alloc, b"/a")?,
             access: Access::ReadWrite,
@@ -60,24 +114,38 @@ fn calls(alloc: Global) -> Result<Vec<Call>, AllocError> {
                 exclusive: false,
                 truncate: true,
                 append: false,
-                nonblock: true
+                nonblock: true,
             },
         },
-        Call::Close { descriptor: 3 },
-        Call::Read {
-            descriptor: 0,
-            count: -1
+        Call::Link {
+            old_path: Bytes::from_slice(alloc, b"/a")?,
+            new_path: Bytes::from_slice(alloc, b"/b")?,
         },
-        Call::Write {
-            descriptor: 1,
-            bytes: Bytes::from_slice(alloc, b"hi")?
+        Call::Unlink {
+            path: Bytes::from_slice(alloc, b"/c")?,
         },
-        Call::Lseek {
-            descriptor: 2,
-            offset: -5,
-            whence: Whence::End
+        Call::Mkdir {
+            path: Bytes::from_slice(alloc, b"/d")?,
         },
-    ]?)
+        Call::Rmdir {
+            path: Bytes::from_slice(alloc, b"/e")?,
+        },
+    ])
+}
+
+/// One call of each kind.
+fn calls(alloc: Global) -> Result<Vec<Call>, AllocError> {
+    let mut calls = Vec::new(alloc);
+    for call in transfers(alloc)? {
+        calls.push(call)?;
+    }
+    for call in descriptor_calls() {
+        calls.push(call)?;
+    }
+    for call in path_calls(alloc)? {
+        calls.push(call)?;
+    }
+    Ok(calls)
 }
 
 #[test]
@@ -85,6 +153,7 @@ fn copies_equal_their_sources(rt: HostRuntime) -> Result<(), Fail> {
     let alloc = rt.alloc();
     for call in &calls(alloc)? {
         assert_eq!(rt; &call.try_clone()?, call);
+        assert_eq!(rt; &call.clone()?, call);
     }
     for reply in [
         Reply::Count(7),
@@ -117,13 +186,29 @@ fn copies_equal_their_sources(rt: HostRuntime) -> Result<(), Fail> {
 fn words_of_calls(rt: HostRuntime) -> Result<(), Fail> {
     let calls = calls(rt.alloc())?;
     let kinds = [
-        (CallKind::Open, "open"),
-        (CallKind::Close, "close"),
         (CallKind::Read, "read"),
         (CallKind::Write, "write"),
+        (CallKind::Pread, "pread"),
+        (CallKind::Pwrite, "pwrite"),
         (CallKind::Lseek, "lseek"),
+        (CallKind::Ftruncate, "ftruncate"),
+        (CallKind::Close, "close"),
+        (CallKind::Fstat, "fstat"),
+        (CallKind::Dup, "dup"),
+        (CallKind::DupFrom, "dup_from"),
+        (CallKind::Dup2, "dup2"),
+        (CallKind::Getfl, "getfl"),
+        (CallKind::Setfl, "setfl"),
+        (CallKind::Open, "open"),
+        (CallKind::Link, "link"),
+        (CallKind::Unlink, "unlink"),
+        (CallKind::Mkdir, "mkdir"),
+        (CallKind::Rmdir, "rmdir"),
     ];
+    assert_eq!(rt; calls.len(), kinds.len());
+    assert_eq!(rt; CallKind::ALL.len(), kinds.len());
     for (call, (kind, word)) in calls.iter().zip(kinds.iter()) {
+        assert!(rt; CallKind::ALL.contains(kind), "{word}");
         assert_eq!(rt; call.kind(), *kind);
         assert!(rt; kind.word() == *word, "{word}");
     }

@@ -1,8 +1,9 @@
 -- The lines that make a call, by its word and operands.
-use Rattle.std.specs.Prelude.{ℕ, List, [], ◌∷◌, if◌then◌else◌, ℤ, Option, Some, None, option_map, bytes_eq}
+use Rattle.std.specs.Prelude.{ℕ, ◌||◌, List, [], ◌∷◌, if◌then◌else◌, ℤ, Option, Some, None, option_map, bytes_eq}
 use Rattle.posix_terms.specs.Calls.{word_of}
 use Rattle.posix_terms.specs.declared.call.CallKind.{CallKind}
 use Rattle.posix_terms.specs.declared.call.CallKind.TheVariants as kind
+use Rattle.posix_terms.specs.declared.call.OpenFlags.{OpenFlags}
 use Rattle.thread_scripts.specs.Numbers.{byte_register_of, number_of, register_of}
 use Rattle.thread_scripts.specs.Texts.{access_of, bytes_of, no_flags, path_of, whence_of, with_flags}
 use Rattle.thread_scripts.specs.declared.line.Number.{Number}
@@ -11,6 +12,10 @@ use Rattle.thread_scripts.specs.declared.line.Data.{Data}
 use Rattle.thread_scripts.specs.declared.line.Data.TheVariants as bytes
 use Rattle.thread_scripts.specs.declared.line.CallLine.{CallLine}
 use Rattle.thread_scripts.specs.declared.line.CallLine.TheVariants as line
+use Rattle.thread_scripts.specs.declared.line.DescriptorLine.TheVariants as descriptor_line
+use Rattle.thread_scripts.specs.declared.line.PathLine.TheVariants as path_line
+use Rattle.thread_scripts.specs.declared.line.StatusLine.TheVariants as status_line
+use Rattle.thread_scripts.specs.declared.line.TransferLine.TheVariants as transfer_line
 
 infixl 10 ◌>>=◌
 abbrev pub ◌>>=◌ : {A B : Type 0} → Option A → (A → Option B) → Option B
@@ -33,15 +38,18 @@ register_or_bytes None value = option_map bytes.Text value
 unfoldable pub data_operand : List ℕ → Option Data
 data_operand word = register_or_bytes (byte_register_of word) (bytes_of word)
 
--- the call that a word names
+-- all calls
+abbrev pub kinds : List CallKind
+kinds =
+    kind.Open ∷ kind.Close ∷ kind.Read ∷ kind.Write ∷ kind.Pread ∷ kind.Pwrite ∷ kind.Lseek ∷ kind.Ftruncate ∷ kind.Fstat ∷ kind.Dup ∷ kind.DupFrom ∷ kind.Dup2 ∷ kind.Getfl ∷ kind.Setfl ∷ kind.Link ∷ kind.Unlink ∷ kind.Mkdir ∷ kind.Rmdir ∷ []
+
+-- the first call of these that a word names
+abbrev pub kind_among : List CallKind → List ℕ → Option CallKind
+kind_among [] word = None
+kind_among (k ∷ ks) word = if bytes_eq word (word_of k) then Some k else kind_among ks word
+
 abbrev pub kind_named : List ℕ → Option CallKind
-kind_named word =
-    if bytes_eq word (word_of kind.Open) then Some kind.Open
-    else if bytes_eq word (word_of kind.Close) then Some kind.Close
-    else if bytes_eq word (word_of kind.Read) then Some kind.Read
-    else if bytes_eq word (word_of kind.Write) then Some kind.Write
-    else if bytes_eq word (word_of kind.Lseek) then Some kind.Lseek
-    else None
+kind_named word = kind_among kinds word
 
 -- open PATH ACCESS FLAG..
 abbrev pub open_line : List (List ℕ) → Option CallLine
@@ -49,14 +57,14 @@ open_line (path ∷ access ∷ flags) = do
   p ← path_of path
   a ← access_of access
   f ← with_flags no_flags flags
-  Some (line.Open p a f)
+  Some (line.Path (path_line.Open p a f))
 open_line _ = None
 
 -- close DESCRIPTOR
 abbrev pub close_line : List (List ℕ) → Option CallLine
 close_line (descriptor ∷ []) = do
   d ← number_operand descriptor
-  Some (line.Close d)
+  Some (line.Descriptor (descriptor_line.Close d))
 close_line _ = None
 
 -- read DESCRIPTOR COUNT
@@ -64,7 +72,7 @@ abbrev pub read_line : List (List ℕ) → Option CallLine
 read_line (descriptor ∷ count ∷ []) = do
   d ← number_operand descriptor
   n ← number_operand count
-  Some (line.Read d n)
+  Some (line.Transfer (transfer_line.Read d n))
 read_line _ = None
 
 -- write DESCRIPTOR BYTES
@@ -72,8 +80,26 @@ abbrev pub write_line : List (List ℕ) → Option CallLine
 write_line (descriptor ∷ bytes ∷ []) = do
   d ← number_operand descriptor
   b ← data_operand bytes
-  Some (line.Write d b)
+  Some (line.Transfer (transfer_line.Write d b))
 write_line _ = None
+
+-- pread DESCRIPTOR COUNT POSITION
+abbrev pub pread_line : List (List ℕ) → Option CallLine
+pread_line (descriptor ∷ count ∷ position ∷ []) = do
+  d ← number_operand descriptor
+  n ← number_operand count
+  p ← number_operand position
+  Some (line.Transfer (transfer_line.Pread d n p))
+pread_line _ = None
+
+-- pwrite DESCRIPTOR BYTES POSITION
+abbrev pub pwrite_line : List (List ℕ) → Option CallLine
+pwrite_line (descriptor ∷ bytes ∷ position ∷ []) = do
+  d ← number_operand descriptor
+  b ← data_operand bytes
+  p ← number_operand position
+  Some (line.Transfer (transfer_line.Pwrite d b p))
+pwrite_line _ = None
 
 -- lseek DESCRIPTOR OFFSET WHENCE
 abbrev pub lseek_line : List (List ℕ) → Option CallLine
@@ -81,8 +107,95 @@ lseek_line (descriptor ∷ offset ∷ whence ∷ []) = do
   d ← number_operand descriptor
   o ← number_operand offset
   w ← whence_of whence
-  Some (line.Lseek d o w)
+  Some (line.Status (status_line.Lseek d o w))
 lseek_line _ = None
+
+-- ftruncate DESCRIPTOR SIZE
+abbrev pub ftruncate_line : List (List ℕ) → Option CallLine
+ftruncate_line (descriptor ∷ size ∷ []) = do
+  d ← number_operand descriptor
+  n ← number_operand size
+  Some (line.Status (status_line.Ftruncate d n))
+ftruncate_line _ = None
+
+-- fstat DESCRIPTOR
+abbrev pub fstat_line : List (List ℕ) → Option CallLine
+fstat_line (descriptor ∷ []) = do
+  d ← number_operand descriptor
+  Some (line.Status (status_line.Fstat d))
+fstat_line _ = None
+
+-- dup DESCRIPTOR
+abbrev pub dup_line : List (List ℕ) → Option CallLine
+dup_line (descriptor ∷ []) = do
+  d ← number_operand descriptor
+  Some (line.Descriptor (descriptor_line.Dup d))
+dup_line _ = None
+
+-- dup_from DESCRIPTOR LEAST
+abbrev pub dup_from_line : List (List ℕ) → Option CallLine
+dup_from_line (descriptor ∷ least ∷ []) = do
+  d ← number_operand descriptor
+  n ← number_operand least
+  Some (line.Descriptor (descriptor_line.DupFrom d n))
+dup_from_line _ = None
+
+-- dup2 DESCRIPTOR TARGET
+abbrev pub dup2_line : List (List ℕ) → Option CallLine
+dup2_line (descriptor ∷ target ∷ []) = do
+  d ← number_operand descriptor
+  t ← number_operand target
+  Some (line.Descriptor (descriptor_line.Dup2 d t))
+dup2_line _ = None
+
+-- getfl DESCRIPTOR
+abbrev pub getfl_line : List (List ℕ) → Option CallLine
+getfl_line (descriptor ∷ []) = do
+  d ← number_operand descriptor
+  Some (line.Status (status_line.Getfl d))
+getfl_line _ = None
+
+-- flags that can be set later: those for opening alone are not among them
+abbrev pub status_flags : OpenFlags → Option OpenFlags
+status_flags f = if f.create || f.exclusive || f.truncate then None else Some f
+
+-- setfl DESCRIPTOR FLAG..
+abbrev pub setfl_line : List (List ℕ) → Option CallLine
+setfl_line (descriptor ∷ flags) = do
+  d ← number_operand descriptor
+  words ← with_flags no_flags flags
+  f ← status_flags words
+  Some (line.Status (status_line.Setfl d f.append f.nonblock))
+setfl_line _ = None
+
+-- link PATH PATH
+abbrev pub link_line : List (List ℕ) → Option CallLine
+link_line (old_path ∷ new_path ∷ []) = do
+  old ← path_of old_path
+  new ← path_of new_path
+  Some (line.Path (path_line.Link old new))
+link_line _ = None
+
+-- unlink PATH
+abbrev pub unlink_line : List (List ℕ) → Option CallLine
+unlink_line (path ∷ []) = do
+  p ← path_of path
+  Some (line.Path (path_line.Unlink p))
+unlink_line _ = None
+
+-- mkdir PATH
+abbrev pub mkdir_line : List (List ℕ) → Option CallLine
+mkdir_line (path ∷ []) = do
+  p ← path_of path
+  Some (line.Path (path_line.Mkdir p))
+mkdir_line _ = None
+
+-- rmdir PATH
+abbrev pub rmdir_line : List (List ℕ) → Option CallLine
+rmdir_line (path ∷ []) = do
+  p ← path_of path
+  Some (line.Path (path_line.Rmdir p))
+rmdir_line _ = None
 
 -- the line of a call with these operands
 unfoldable pub call_line : CallKind → List (List ℕ) → Option CallLine
@@ -90,4 +203,17 @@ call_line kind.Open operands = open_line operands
 call_line kind.Close operands = close_line operands
 call_line kind.Read operands = read_line operands
 call_line kind.Write operands = write_line operands
+call_line kind.Pread operands = pread_line operands
+call_line kind.Pwrite operands = pwrite_line operands
 call_line kind.Lseek operands = lseek_line operands
+call_line kind.Ftruncate operands = ftruncate_line operands
+call_line kind.Fstat operands = fstat_line operands
+call_line kind.Dup operands = dup_line operands
+call_line kind.DupFrom operands = dup_from_line operands
+call_line kind.Dup2 operands = dup2_line operands
+call_line kind.Getfl operands = getfl_line operands
+call_line kind.Setfl operands = setfl_line operands
+call_line kind.Link operands = link_line operands
+call_line kind.Unlink operands = unlink_line operands
+call_line kind.Mkdir operands = mkdir_line operands
+call_line kind.Rmdir operands = rmdir_line operands

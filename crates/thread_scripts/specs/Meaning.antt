@@ -14,6 +14,14 @@ use Rattle.thread_scripts.specs.declared.line.Data.{Data}
 use Rattle.thread_scripts.specs.declared.line.Data.TheVariants as bytes
 use Rattle.thread_scripts.specs.declared.line.CallLine.{CallLine}
 use Rattle.thread_scripts.specs.declared.line.CallLine.TheVariants as call_line
+use Rattle.thread_scripts.specs.declared.line.DescriptorLine.{DescriptorLine}
+use Rattle.thread_scripts.specs.declared.line.DescriptorLine.TheVariants as descriptor_line
+use Rattle.thread_scripts.specs.declared.line.PathLine.{PathLine}
+use Rattle.thread_scripts.specs.declared.line.PathLine.TheVariants as path_line
+use Rattle.thread_scripts.specs.declared.line.StatusLine.{StatusLine}
+use Rattle.thread_scripts.specs.declared.line.StatusLine.TheVariants as status_line
+use Rattle.thread_scripts.specs.declared.line.TransferLine.{TransferLine}
+use Rattle.thread_scripts.specs.declared.line.TransferLine.TheVariants as transfer_line
 use Rattle.thread_scripts.specs.declared.line.Line.{Line}
 use Rattle.thread_scripts.specs.declared.line.Line.TheVariants as line
 use Rattle.thread_scripts.specs.declared.state.Action.{Action}
@@ -62,13 +70,38 @@ abbrev pub data_value : ScriptState → Data → List ℕ
 data_value s (bytes.Text text) = text
 data_value s (bytes.Register register) = slice_index_or s.bytes register []
 
+abbrev pub transfer_of : ScriptState → TransferLine → Call
+transfer_of s (transfer_line.Read d n) = call.Read (number_value s d) (number_value s n)
+transfer_of s (transfer_line.Write d b) = call.Write (number_value s d) (data_value s b)
+transfer_of s (transfer_line.Pread d n p) = call.Pread (number_value s d) (number_value s n) (number_value s p)
+transfer_of s (transfer_line.Pwrite d b p) = call.Pwrite (number_value s d) (data_value s b) (number_value s p)
+
+abbrev pub descriptor_call_of : ScriptState → DescriptorLine → Call
+descriptor_call_of s (descriptor_line.Close d) = call.Close (number_value s d)
+descriptor_call_of s (descriptor_line.Dup d) = call.Dup (number_value s d)
+descriptor_call_of s (descriptor_line.DupFrom d n) = call.DupFrom (number_value s d) (number_value s n)
+descriptor_call_of s (descriptor_line.Dup2 d t) = call.Dup2 (number_value s d) (number_value s t)
+
+abbrev pub status_call_of : ScriptState → StatusLine → Call
+status_call_of s (status_line.Lseek d o whence) = call.Lseek (number_value s d) (number_value s o) whence
+status_call_of s (status_line.Ftruncate d n) = call.Ftruncate (number_value s d) (number_value s n)
+status_call_of s (status_line.Fstat d) = call.Fstat (number_value s d)
+status_call_of s (status_line.Getfl d) = call.Getfl (number_value s d)
+status_call_of s (status_line.Setfl d append nonblock) = call.Setfl (number_value s d) append nonblock
+
+abbrev pub path_call_of : PathLine → Call
+path_call_of (path_line.Open path access flags) = call.Open path access flags
+path_call_of (path_line.Link old_path new_path) = call.Link old_path new_path
+path_call_of (path_line.Unlink path) = call.Unlink path
+path_call_of (path_line.Mkdir path) = call.Mkdir path
+path_call_of (path_line.Rmdir path) = call.Rmdir path
+
 -- the call that a line makes
 abbrev pub call_of : ScriptState → CallLine → Call
-call_of s (call_line.Open path access flags) = call.Open path access flags
-call_of s (call_line.Close d) = call.Close (number_value s d)
-call_of s (call_line.Read d n) = call.Read (number_value s d) (number_value s n)
-call_of s (call_line.Write d b) = call.Write (number_value s d) (data_value s b)
-call_of s (call_line.Lseek d o whence) = call.Lseek (number_value s d) (number_value s o) whence
+call_of s (call_line.Transfer l) = transfer_of s l
+call_of s (call_line.Descriptor l) = descriptor_call_of s l
+call_of s (call_line.Status l) = status_call_of s l
+call_of s (call_line.Path l) = path_call_of l
 
 -- what a line does; `end` goes behind the last line
 unfoldable pub action_of : Bool → ScriptState → Line → Action

@@ -1,12 +1,12 @@
 ghost use Rattle.std.specs.Prelude.{◌≡◌, map};
-ghost use Rattle.thread_scripts.specs.Calls.{call_line, close_line, data_operand, kind_named, lseek_line, number_operand, open_line, read_line, write_line};
+ghost use Rattle.thread_scripts.specs.Calls.{call_line, close_line, data_operand, dup_from_line, dup_line, dup2_line, fstat_line, ftruncate_line, getfl_line, kind_among, kind_named, link_line, lseek_line, mkdir_line, number_operand, open_line, pread_line, pwrite_line, read_line, rmdir_line, setfl_line, status_flags, unlink_line, write_line};
 ghost use Rattle.thread_scripts.specs.Faults.{Reads};
 
 use crate::fault::LineFault;
-use crate::line::{CallLine, Data, Number};
+use crate::line::{CallLine, Data, DescriptorLine, Number, PathLine, StatusLine, TransferLine};
 use crate::numbers::{byte_register, number, register};
 use crate::texts::{access, byte_text, flags, path, whence};
-use posix_terms::CallKind;
+use posix_terms::{CallKind, OpenFlags};
 use std::alloc::Global;
 
 /// An operand that is a number: a register's or its own.
@@ -32,23 +32,23 @@ pub(crate) fn data_operand(alloc: Global, word: &[u8]) -> Result<Data, LineFault
     Ok(Data::Text(byte_text(alloc, word)?))
 }
 
+/// The first of these calls that a word names.
+fn kind_among(kinds: &[CallKind], word: &[u8]) -> Option<CallKind>
+    ensures { result ≡ kind_among kinds.now word.now }
+{
+    for kind in kinds {
+        if word == kind.word().as_bytes() {
+            return Some(*kind);
+        }
+    }
+    None
+}
+
 /// The call that a word names.
 pub(crate) fn kind_named(word: &[u8]) -> Option<CallKind>
     ensures { result ≡ kind_named word.now }
 {
-    if word == CallKind::Open.word().as_bytes() {
-        Some(CallKind::Open)
-    } else if word == CallKind::Close.word().as_bytes() {
-        Some(CallKind::Close)
-    } else if word == CallKind::Read.word().as_bytes() {
-        Some(CallKind::Read)
-    } else if word == CallKind::Write.word().as_bytes() {
-        Some(CallKind::Write)
-    } else if word == CallKind::Lseek.word().as_bytes() {
-        Some(CallKind::Lseek)
-    } else {
-        None
-    }
+    kind_among(&CallKind::ALL, word)
 }
 
 fn read_open(alloc: Global, operands: &[&[u8]]) -> Result<CallLine, LineFault>
@@ -60,11 +60,11 @@ fn read_open(alloc: Global, operands: &[&[u8]]) -> Result<CallLine, LineFault>
     let path = path(alloc, path_word)?;
     let access = access(access_word).ok_or(LineFault::Bad)?;
     let flags = flags(flag_words).ok_or(LineFault::Bad)?;
-    Ok(CallLine::Open {
+    Ok(CallLine::Path(PathLine::Open {
         path,
         access,
         flags,
-    })
+    }))
 }
 
 fn read_close(operands: &[&[u8]]) -> Result<CallLine, LineFault>
@@ -74,7 +74,7 @@ fn read_close(operands: &[&[u8]]) -> Result<CallLine, LineFault>
         return Err(LineFault::Bad);
     };
     let descriptor = number_operand(descriptor)?;
-    Ok(CallLine::Close { descriptor })
+    Ok(CallLine::Descriptor(DescriptorLine::Close { descriptor }))
 }
 
 fn read_read(operands: &[&[u8]]) -> Result<CallLine, LineFault>
@@ -85,7 +85,7 @@ fn read_read(operands: &[&[u8]]) -> Result<CallLine, LineFault>
     };
     let descriptor = number_operand(descriptor)?;
     let count = number_operand(count)?;
-    Ok(CallLine::Read { descriptor, count })
+    Ok(CallLine::Transfer(TransferLine::Read { descriptor, count }))
 }
 
 fn read_write(alloc: Global, operands: &[&[u8]]) -> Result<CallLine, LineFault>
@@ -96,7 +96,39 @@ fn read_write(alloc: Global, operands: &[&[u8]]) -> Result<CallLine, LineFault>
     };
     let descriptor = number_operand(descriptor)?;
     let bytes = data_operand(alloc, bytes)?;
-    Ok(CallLine::Write { descriptor, bytes })
+    Ok(CallLine::Transfer(TransferLine::Write { descriptor, bytes }))
+}
+
+fn read_pread(operands: &[&[u8]]) -> Result<CallLine, LineFault>
+    ensures { Reads result (pread_line (map (λ w. w.now) operands.now)) }
+{
+    let [descriptor, count, position] = operands else {
+        return Err(LineFault::Bad);
+    };
+    let descriptor = number_operand(descriptor)?;
+    let count = number_operand(count)?;
+    let position = number_operand(position)?;
+    Ok(CallLine::Transfer(TransferLine::Pread {
+        descriptor,
+        count,
+        position,
+    }))
+}
+
+fn read_pwrite(alloc: Global, operands: &[&[u8]]) -> Result<CallLine, LineFault>
+    ensures { Reads result (pwrite_line (map (λ w. w.now) operands.now)) }
+{
+    let [descriptor, bytes, position] = operands else {
+        return Err(LineFault::Bad);
+    };
+    let descriptor = number_operand(descriptor)?;
+    let bytes = data_operand(alloc, bytes)?;
+    let position = number_operand(position)?;
+    Ok(CallLine::Transfer(TransferLine::Pwrite {
+        descriptor,
+        bytes,
+        position,
+    }))
 }
 
 fn read_lseek(operands: &[&[u8]]) -> Result<CallLine, LineFault>
@@ -108,11 +140,142 @@ fn read_lseek(operands: &[&[u8]]) -> Result<CallLine, LineFault>
     let descriptor = number_operand(descriptor)?;
     let offset = number_operand(offset)?;
     let whence = whence(whence_word).ok_or(LineFault::Bad)?;
-    Ok(CallLine::Lseek {
+    Ok(CallLine::Status(StatusLine::Lseek {
         descriptor,
         offset,
         whence,
-    })
+    }))
+}
+
+fn read_ftruncate(operands: &[&[u8]]) -> Result<CallLine, LineFault>
+    ensures { Reads result (ftruncate_line (map (λ w. w.now) operands.now)) }
+{
+    let [descriptor, size] = operands else {
+        return Err(LineFault::Bad);
+    };
+    let descriptor = number_operand(descriptor)?;
+    let size = number_operand(size)?;
+    Ok(CallLine::Status(StatusLine::Ftruncate { descriptor, size }))
+}
+
+fn read_fstat(operands: &[&[u8]]) -> Result<CallLine, LineFault>
+    ensures { Reads result (fstat_line (map (λ w. w.now) operands.now)) }
+{
+    let [descriptor] = operands else {
+        return Err(LineFault::Bad);
+    };
+    let descriptor = number_operand(descriptor)?;
+    Ok(CallLine::Status(StatusLine::Fstat { descriptor }))
+}
+
+fn read_dup(operands: &[&[u8]]) -> Result<CallLine, LineFault>
+    ensures { Reads result (dup_line (map (λ w. w.now) operands.now)) }
+{
+    let [descriptor] = operands else {
+        return Err(LineFault::Bad);
+    };
+    let descriptor = number_operand(descriptor)?;
+    Ok(CallLine::Descriptor(DescriptorLine::Dup { descriptor }))
+}
+
+fn read_dup_from(operands: &[&[u8]]) -> Result<CallLine, LineFault>
+    ensures { Reads result (dup_from_line (map (λ w. w.now) operands.now)) }
+{
+    let [descriptor, least] = operands else {
+        return Err(LineFault::Bad);
+    };
+    let descriptor = number_operand(descriptor)?;
+    let least = number_operand(least)?;
+    Ok(CallLine::Descriptor(DescriptorLine::DupFrom { descriptor, least }))
+}
+
+fn read_dup2(operands: &[&[u8]]) -> Result<CallLine, LineFault>
+    ensures { Reads result (dup2_line (map (λ w. w.now) operands.now)) }
+{
+    let [descriptor, target] = operands else {
+        return Err(LineFault::Bad);
+    };
+    let descriptor = number_operand(descriptor)?;
+    let target = number_operand(target)?;
+    Ok(CallLine::Descriptor(DescriptorLine::Dup2 { descriptor, target }))
+}
+
+fn read_getfl(operands: &[&[u8]]) -> Result<CallLine, LineFault>
+    ensures { Reads result (getfl_line (map (λ w. w.now) operands.now)) }
+{
+    let [descriptor] = operands else {
+        return Err(LineFault::Bad);
+    };
+    let descriptor = number_operand(descriptor)?;
+    Ok(CallLine::Status(StatusLine::Getfl { descriptor }))
+}
+
+/// Flags that can be set later: those for opening alone are not among them.
+fn status_flags(flags: OpenFlags) -> Option<OpenFlags>
+    ensures { result ≡ status_flags flags }
+{
+    if flags.create || flags.exclusive || flags.truncate {
+        None
+    } else {
+        Some(flags)
+    }
+}
+
+fn read_setfl(operands: &[&[u8]]) -> Result<CallLine, LineFault>
+    ensures { Reads result (setfl_line (map (λ w. w.now) operands.now)) }
+{
+    let [descriptor, flag_words @ ..] = operands else {
+        return Err(LineFault::Bad);
+    };
+    let descriptor = number_operand(descriptor)?;
+    let words = flags(flag_words).ok_or(LineFault::Bad)?;
+    let flags = status_flags(words).ok_or(LineFault::Bad)?;
+    Ok(CallLine::Status(StatusLine::Setfl {
+        descriptor,
+        append: flags.append,
+        nonblock: flags.nonblock,
+    }))
+}
+
+fn read_link(alloc: Global, operands: &[&[u8]]) -> Result<CallLine, LineFault>
+    ensures { Reads result (link_line (map (λ w. w.now) operands.now)) }
+{
+    let [old_word, new_word] = operands else {
+        return Err(LineFault::Bad);
+    };
+    let old_path = path(alloc, old_word)?;
+    let new_path = path(alloc, new_word)?;
+    Ok(CallLine::Path(PathLine::Link { old_path, new_path }))
+}
+
+fn read_unlink(alloc: Global, operands: &[&[u8]]) -> Result<CallLine, LineFault>
+    ensures { Reads result (unlink_line (map (λ w. w.now) operands.now)) }
+{
+    let [path_word] = operands else {
+        return Err(LineFault::Bad);
+    };
+    let path = path(alloc, path_word)?;
+    Ok(CallLine::Path(PathLine::Unlink { path }))
+}
+
+fn read_mkdir(alloc: Global, operands: &[&[u8]]) -> Result<CallLine, LineFault>
+    ensures { Reads result (mkdir_line (map (λ w. w.now) operands.now)) }
+{
+    let [path_word] = operands else {
+        return Err(LineFault::Bad);
+    };
+    let path = path(alloc, path_word)?;
+    Ok(CallLine::Path(PathLine::Mkdir { path }))
+}
+
+fn read_rmdir(alloc: Global, operands: &[&[u8]]) -> Result<CallLine, LineFault>
+    ensures { Reads result (rmdir_line (map (λ w. w.now) operands.now)) }
+{
+    let [path_word] = operands else {
+        return Err(LineFault::Bad);
+    };
+    let path = path(alloc, path_word)?;
+    Ok(CallLine::Path(PathLine::Rmdir { path }))
 }
 
 /// The line of a call with these operands.
@@ -129,6 +292,19 @@ pub(crate) fn read_call(
         CallKind::Close => read_close(operands),
         CallKind::Read => read_read(operands),
         CallKind::Write => read_write(alloc, operands),
+        CallKind::Pread => read_pread(operands),
+        CallKind::Pwrite => read_pwrite(alloc, operands),
         CallKind::Lseek => read_lseek(operands),
+        CallKind::Ftruncate => read_ftruncate(operands),
+        CallKind::Fstat => read_fstat(operands),
+        CallKind::Dup => read_dup(operands),
+        CallKind::DupFrom => read_dup_from(operands),
+        CallKind::Dup2 => read_dup2(operands),
+        CallKind::Getfl => read_getfl(operands),
+        CallKind::Setfl => read_setfl(operands),
+        CallKind::Link => read_link(alloc, operands),
+        CallKind::Unlink => read_unlink(alloc, operands),
+        CallKind::Mkdir => read_mkdir(alloc, operands),
+        CallKind::Rmdir => read_rmdir(alloc, operands),
     }
 }

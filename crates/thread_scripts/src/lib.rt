@@ -25,5 +25,8 @@ pub use laws::{
     accepted_exactly, bad_line_is_the_first, jumps_lead_to_labels, runs_end, script_stays,
     too_long_is_counted,
 };
-pub use line::{ByteRegister, CallLine, Data, Line, Number, NumberRegister, Register};
+pub use line::{
+    ByteRegister, CallLine, Data, DescriptorLine, Line, Number, NumberRegister, PathLine, Register,
+    StatusLine, TransferLine,
+};
 pub use script::Script;

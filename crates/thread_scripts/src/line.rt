@@ -56,17 +56,9 @@ pub enum Data {
     Register(ByteRegister),
 }
 
-/// A call as a line gives it: its numbers and bytes are found when the line is executed.
+/// A call that moves bytes, as a line gives it.
 #[derive(Debug, PartialEq, Eq, Drop)]
-pub enum CallLine {
-    Open {
-        path: Bytes,
-        access: Access,
-        flags: OpenFlags,
-    },
-    Close {
-        descriptor: Number,
-    },
+pub enum TransferLine {
     Read {
         descriptor: Number,
         count: Number,
@@ -75,11 +67,82 @@ pub enum CallLine {
         descriptor: Number,
         bytes: Data,
     },
+    Pread {
+        descriptor: Number,
+        count: Number,
+        position: Number,
+    },
+    Pwrite {
+        descriptor: Number,
+        bytes: Data,
+        position: Number,
+    },
+}
+
+/// A call that frees or shares a descriptor, as a line gives it.
+#[derive(Clone, Copy, Debug, PartialEq, Eq)]
+pub enum DescriptorLine {
+    Close { descriptor: Number },
+    Dup { descriptor: Number },
+    DupFrom { descriptor: Number, least: Number },
+    Dup2 { descriptor: Number, target: Number },
+}
+
+/// A call about an offset, a length or flags, as a line gives it.
+#[derive(Clone, Copy, Debug, PartialEq, Eq)]
+pub enum StatusLine {
     Lseek {
         descriptor: Number,
         offset: Number,
         whence: Whence,
     },
+    Ftruncate {
+        descriptor: Number,
+        size: Number,
+    },
+    Fstat {
+        descriptor: Number,
+    },
+    Getfl {
+        descriptor: Number,
+    },
+    Setfl {
+        descriptor: Number,
+        append: bool,
+        nonblock: bool,
+    },
+}
+
+/// A call on paths, as a line gives it.
+#[derive(Debug, PartialEq, Eq, Drop)]
+pub enum PathLine {
+    Open {
+        path: Bytes,
+        access: Access,
+        flags: OpenFlags,
+    },
+    Link {
+        old_path: Bytes,
+        new_path: Bytes,
+    },
+    Unlink {
+        path: Bytes,
+    },
+    Mkdir {
+        path: Bytes,
+    },
+    Rmdir {
+        path: Bytes,
+    },
+}
+
+/// A call as a line gives it: its numbers and bytes are found when the line is executed.
+#[derive(Debug, PartialEq, Eq, Drop)]
+pub enum CallLine {
+    Transfer(TransferLine),
+    Descriptor(DescriptorLine),
+    Status(StatusLine),
+    Path(PathLine),
 }
 
 /// A line of a script that does something. A jump has the place of its label's line: how many lines

@@ -1,7 +1,11 @@
 ghost use Rattle.std.specs.Prelude.{◌≡◌, ◌+◌, ◌^◌, ◌<◌, IfOk, IfSome, OnOk, OnErr, option_copied, slice_get};
+ghost use Rattle.thread_scripts.specs.Meaning.{path_call_of};
 
 use crate::actor::{ScriptState, Step};
-use crate::line::{ByteRegister, CallLine, Data, Line, Number, NumberRegister};
+use crate::line::{
+    ByteRegister, CallLine, Data, DescriptorLine, Line, Number, NumberRegister, PathLine,
+    StatusLine, TransferLine,
+};
 use crate::script::Script;
 use posix_terms::{Bytes, Call, Limits, Reply};
 use std::alloc::AllocError;
@@ -25,8 +29,37 @@ pub(crate) struct Saved {
     executed: usize,
 }
 
+fn path_call(line: &PathLine) -> Result<Call, AllocError>
+    ensures { IfOk result (λ call. call ≡ path_call_of line.now) }
+{
+    Ok(match line {
+        PathLine::Open {
+            path,
+            access,
+            flags,
+        } => Call::Open {
+            path: path.try_clone()?,
+            access: *access,
+            flags: *flags,
+        },
+        PathLine::Link { old_path, new_path } => Call::Link {
+            old_path: old_path.try_clone()?,
+            new_path: new_path.try_clone()?,
+        },
+        PathLine::Unlink { path } => Call::Unlink {
+            path: path.try_clone()?,
+        },
+        PathLine::Mkdir { path } => Call::Mkdir {
+            path: path.try_clone()?,
+        },
+        PathLine::Rmdir { path } => Call::Rmdir {
+            path: path.try_clone()?,
+        },
+    })
+}
+
 impl ScriptState {
-    ghost use Rattle.thread_scripts.specs.Meaning.{action_of, call_of, data_value, is_failure, lines_left, next_of, next_within, number_value, performed, start_of, step_given, stored};
+    ghost use Rattle.thread_scripts.specs.Meaning.{action_of, call_of, data_value, descriptor_call_of, is_failure, lines_left, next_of, next_within, number_value, performed, start_of, status_call_of, step_given, stored, transfer_of};
     ghost use Rattle.thread_scripts.specs.Saving.{with_saved};
 
     /// The state before the script's first line. It takes no memory.
@@ -67,41 +100,105 @@ impl ScriptState {
         }
     }
 
-    /// The call that a line makes.
-    fn call(&self, line: &CallLine) -> Result<Call, AllocError>
-        ensures { IfOk result (λ call. call ≡ call_of self.now line.now) }
+    fn transfer(&self, line: &TransferLine) -> Result<Call, AllocError>
+        ensures { IfOk result (λ call. call ≡ transfer_of self.now line.now) }
     {
         Ok(match line {
-            CallLine::Open {
-                path,
-                access,
-                flags,
-            } => Call::Open {
-                path: path.try_clone()?,
-                access: *access,
-                flags: *flags,
-            },
-            CallLine::Close { descriptor } => Call::Close {
-                descriptor: self.number(*descriptor),
-            },
-            CallLine::Read { descriptor, count } => Call::Read {
+            TransferLine::Read { descriptor, count } => Call::Read {
                 descriptor: self.number(*descriptor),
                 count: self.number(*count),
             },
-            CallLine::Write { descriptor, bytes } => Call::Write {
+            TransferLine::Write { descriptor, bytes } => Call::Write {
                 descriptor: self.number(*descriptor),
                 bytes: self.bytes(bytes)?,
             },
-            CallLine::Lseek {
+            TransferLine::Pread {
+                descriptor,
+                count,
+                position,
+            } => Call::Pread {
+                descriptor: self.number(*descriptor),
+                count: self.number(*count),
+                position: self.number(*position),
+            },
+            TransferLine::Pwrite {
+                descriptor,
+                bytes,
+                position,
+            } => Call::Pwrite {
+                descriptor: self.number(*descriptor),
+                bytes: self.bytes(bytes)?,
+                position: self.number(*position),
+            },
+        })
+    }
+
+    fn descriptor_call(&self, line: DescriptorLine) -> Call
+        ensures { result ≡ descriptor_call_of self.now line }
+    {
+        match line {
+            DescriptorLine::Close { descriptor } => Call::Close {
+                descriptor: self.number(descriptor),
+            },
+            DescriptorLine::Dup { descriptor } => Call::Dup {
+                descriptor: self.number(descriptor),
+            },
+            DescriptorLine::DupFrom { descriptor, least } => Call::DupFrom {
+                descriptor: self.number(descriptor),
+                least: self.number(least),
+            },
+            DescriptorLine::Dup2 { descriptor, target } => Call::Dup2 {
+                descriptor: self.number(descriptor),
+                target: self.number(target),
+            },
+        }
+    }
+
+    fn status_call(&self, line: StatusLine) -> Call
+        ensures { result ≡ status_call_of self.now line }
+    {
+        match line {
+            StatusLine::Lseek {
                 descriptor,
                 offset,
                 whence,
             } => Call::Lseek {
-                descriptor: self.number(*descriptor),
-                offset: self.number(*offset),
-                whence: *whence,
+                descriptor: self.number(descriptor),
+                offset: self.number(offset),
+                whence,
             },
-        })
+            StatusLine::Ftruncate { descriptor, size } => Call::Ftruncate {
+                descriptor: self.number(descriptor),
+                size: self.number(size),
+            },
+            StatusLine::Fstat { descriptor } => Call::Fstat {
+                descriptor: self.number(descriptor),
+            },
+            StatusLine::Getfl { descriptor } => Call::Getfl {
+                descriptor: self.number(descriptor),
+            },
+            StatusLine::Setfl {
+                descriptor,
+                append,
+                nonblock,
+            } => Call::Setfl {
+                descriptor: self.number(descriptor),
+                append,
+                nonblock,
+            },
+        }
+    }
+
+    /// The call that a line makes.
+    fn call(&self, line: &CallLine) -> Result<Call, AllocError>
+        ensures { IfOk result (λ call. call ≡ call_of self.now line.now) }
+    {
+        match line {
+            CallLine::Transfer(line) => self.transfer(line),
+            CallLine::Descriptor(line) => Ok(self.descriptor_call(*line)),
+            CallLine::Status(line) => Ok(self.status_call(*line)),
+            CallLine::Path(line) => path_call(line),
+        }
     }
 
     /// What a line does.

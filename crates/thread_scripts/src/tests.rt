@@ -95,6 +95,12 @@ fn reads_every_operand(rt: HostRuntime) -> Result<(), Fail> {
         first_step(alloc, "write 007 xfFA0")?,
         write(alloc, 7, &[255, 160])?
     );
+    Ok(())
+}
+
+#[test]
+fn reads_numbers_at_their_limits(rt: HostRuntime) -> Result<(), Fail> {
+    let alloc = rt.alloc();
     let least = Call::Lseek {
         descriptor: i64::MAX,
         offset: i64::MIN,
@@ -164,6 +170,156 @@ fn tells_the_first_bad_line(rt: HostRuntime) {
     }
 }
 
+/// Lines of the calls on descriptors, with the calls that they make.
+fn descriptor_calls() -> [(&'static str, Call); 10] {
+    [
+        (
+            "pread -1 r0 9",
+            Call::Pread {
+                descriptor: -1,
+                count: 0,
+                position: 9,
+            },
+        ),
+        (
+            "ftruncate 2 -3",
+            Call::Ftruncate {
+                descriptor: 2,
+                size: -3,
+            },
+        ),
+        ("dup 5", Call::Dup { descriptor: 5 }),
+        (
+            "dup_from 6 7",
+            Call::DupFrom {
+                descriptor: 6,
+                least: 7,
+            },
+        ),
+        (
+            "dup2 8 9",
+            Call::Dup2 {
+                descriptor: 8,
+                target: 9,
+            },
+        ),
+        ("getfl 10", Call::Getfl { descriptor: 10 }),
+        ("setfl 11", set_flags(11, false, false)),
+        ("setfl 11 append", set_flags(11, true, false)),
+        ("setfl 11 nonblock", set_flags(11, false, true)),
+        ("setfl 11 nonblock append", set_flags(11, true, true)),
+    ]
+}
+
+fn set_flags(descriptor: i64, append: bool, nonblock: bool) -> Call {
+    Call::Setfl {
+        descriptor,
+        append,
+        nonblock,
+    }
+}
+
+#[test]
+fn reads_calls_on_descriptors(rt: HostRuntime) -> Result<(), Fail> {
+    for (text, call) in descriptor_calls() {
+        assert_eq!(rt; first_step(rt.alloc(), text)?, Step::Call(call), "{text}");
+    }
+    let pwrite = Call::Pwrite {
+        descriptor: 1,
+        bytes: Bytes::from_slice(rt.alloc(), b"hi")?,
+        position: -2,
+    };
+    let fstat = Call::Fstat { descriptor: 4 };
+    assert_eq!(rt; first_step(rt.alloc(), "fstat 4")?, Step::Call(fstat));
+    let text = "setb b2 x6869\nset r3 -2\npwrite 1 b2 r3";
+    assert_eq!(rt; first_step(rt.alloc(), text)?, Step::Call(pwrite));
+    Ok(())
+}
+
+#[test]
+fn reads_calls_on_paths(rt: HostRuntime) -> Result<(), Fail> {
+    let alloc = rt.alloc();
+    let link = Call::Link {
+        old_path: Bytes::from_slice(alloc, b"/a")?,
+        new_path: Bytes::from_slice(alloc, b"")?,
+    };
+    assert_eq!(rt; first_step(alloc, "link /a \"\"")?, Step::Call(link));
+    let unlink = Call::Unlink {
+        path: Bytes::from_slice(alloc, b"/b")?,
+    };
+    assert_eq!(rt; first_step(alloc, "unlink /b")?, Step::Call(unlink));
+    let mkdir = Call::Mkdir {
+        path: Bytes::from_slice(alloc, b"/c/d")?,
+    };
+    assert_eq!(rt; first_step(alloc, "mkdir /c/d")?, Step::Call(mkdir));
+    let rmdir = Call::Rmdir {
+        path: Bytes::from_slice(alloc, b"/")?,
+    };
+    assert_eq!(rt; first_step(alloc, "rmdir /")?, Step::Call(rmdir));
+    Ok(())
+}
+
+/// Lines with an operand too few, too many or of another form.
+const BAD_CALLS: [&str; 46] = [
+    "pread 0 1",
+    "pread 0 1 2 3",
+    "pread 0 x 2",
+    "pwrite 0 x61",
+    "pwrite 0 1 x61",
+    "pwrite 0 x61 0 0",
+    "pwrite 0 r0 0",
+    "ftruncate 0",
+    "ftruncate 0 1 2",
+    "ftruncate 0 x",
+    "fstat",
+    "fstat 0 1",
+    "fstat /a",
+    "dup",
+    "dup 0 1",
+    "dup x",
+    "dup_from 0",
+    "dup_from 0 1 2",
+    "dup_from 0 x",
+    "dupfrom 0 1",
+    "dup2 0",
+    "dup2 0 1 2",
+    "dup2 x 1",
+    "getfl",
+    "getfl 0 append",
+    "getfl x",
+    "setfl",
+    "setfl append",
+    "setfl 0 append append",
+    "setfl 0 nonblock append nonblock",
+    "setfl 0 create",
+    "setfl 0 append excl",
+    "setfl 0 trunc nonblock",
+    "setfl 0 APPEND",
+    "link /a",
+    "link /a /b /c",
+    "link /a /\u{7f}",
+    "unlink",
+    "unlink /a /b",
+    "unlink /\u{1}",
+    "mkdir",
+    "mkdir /a /b",
+    "Mkdir /a",
+    "rmdir",
+    "rmdir /a /b",
+    "rmdir\t/a",
+];
+
+#[test]
+fn refuses_calls_of_another_form(rt: HostRuntime) {
+    for text in BAD_CALLS {
+        assert_eq!(rt;
+            parse(rt.alloc(), text.as_bytes()).err(),
+            Some(ScriptFault::BadLine(1)),
+            "in {text}"
+        );
+    }
+}
+
 #[test]
 fn counts_every_line(rt: HostRuntime) -> Result<(), Fail> {
     let alloc = rt.alloc();
@@ -219,7 +375,7 @@ fn prints_faults(rt: HostRuntime) -> Result<(), Fail> {
 const BAD_REGISTERS_AND_LABELS: [(&str, usize); 43] = [
     ("close r16", 1),
     ("close r01", 1),
-    ("close R0", 1),
+    ("close R1", 1),
     ("close r", 1),
     ("close b0", 1),
     ("write 0 b4", 1),

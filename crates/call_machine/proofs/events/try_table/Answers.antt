@@ -4,7 +4,6 @@ use Rattle.posix_terms.specs.declared.transcript.Turn.{Turn}
 use Rattle.logical_clocks.specs.ThreadClocks.{clock_at}
 use Rattle.call_machine.specs.Events.{Parts, in_time, parts}
 use Rattle.call_machine.specs.Threads.{timed}
-use Rattle.call_machine.specs.View.{state_of}
 use Rattle.call_machine.specs.declared.thread.Phase.TheVariants as phase
 use Rattle.call_machine.proofs.Granting.{tried_planned}
 use Rattle.call_machine.proofs.events.try_table.Goals as goal
@@ -14,8 +13,8 @@ returns-in_ok-plan-in-WantsTable-clause-event c =
     let shared = c.args.shared.now in
     let start = clock_at c.args.clocks.now c.args.i in
     let now = clock_at c.add.new.self c.args.i in
-    let old : Parts = parts (timed c.args.thread.now start) shared.lock (state_of shared.table) shared.rows.items in
-    let new : Parts = parts (timed c.plan.new.thread now) c.plan.new.shared.lock (state_of c.plan.new.shared.table) c.plan.new.shared.rows.items in
+    let old : Parts = parts (timed c.args.thread.now start) shared.lock shared.store shared.rows.items in
+    let new : Parts = parts (timed c.plan.new.thread now) c.plan.new.shared.lock c.plan.new.shared.store c.plan.new.shared.rows.items in
     let is : c.args.thread.now.phase ≡ phase.WantsTable c.in-WantsTable.call = search rules in
     let room : in_time old 1 ≡ true = search rules in
     let free : takes shared.lock start ≡ true = search rules in

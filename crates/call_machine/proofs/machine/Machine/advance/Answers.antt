@@ -1,5 +1,4 @@
 use Rattle.std.proofs.Common.{refl, arith}
-use Rattle.call_machine.specs.View.{state_of}
 use Rattle.call_machine.specs.declared.thread.Phase.TheVariants as phase
 use Rattle.call_machine.proofs.EventShows.{ask_done, ask_lowers, item_agrees, item_of, same_phase, wait_done}
 use Rattle.call_machine.proofs.machine.Machine.advance.Goals as goal
@@ -14,7 +13,7 @@ pub returns-in-Working-clause-event : goal.returns-in-Working-clause-event
 returns-in-Working-clause-event c =
     let m = c.args.self.now in
     let item = item_of m.threads.items m.clocks c.args.i c.index_mut.result.now c.ask.new.self c.ask.new.clocks m.agree c.requires c.index_mut.ensures.value c.ask.ensures.others in
-    ask_done m.threads.items m.clocks c.ask.new.clocks m.shared.lock m.objects.items (state_of m.shared.table) m.shared.rows.items c.args.i c.index_mut.result.now c.ask.new.self c.ask.result item (same_phase m.threads.items c.args.i c.index_mut.result.now c.index.result.now phase.Working c.requires c.index_mut.ensures.value c.index.ensures c.in-Working.is) c.ask.ensures.event
+    ask_done m.threads.items m.clocks c.ask.new.clocks m.shared.lock m.objects.items m.shared.store m.shared.rows.items c.args.i c.index_mut.result.now c.ask.new.self c.ask.result item (same_phase m.threads.items c.args.i c.index_mut.result.now c.index.result.now phase.Working c.requires c.index_mut.ensures.value c.index.ensures c.in-Working.is) c.ask.ensures.event
 
 pub returns-in-Working-clause-falls : goal.returns-in-Working-clause-falls
 returns-in-Working-clause-falls c =
@@ -26,7 +25,7 @@ pub returns-in_default : goal.returns-in_default
 returns-in_default c =
     let m = c.args.self.now in
     record {
-      event = wait_done m.threads.items m.clocks m.shared.lock m.objects.items (state_of m.shared.table) m.shared.rows.items c.args.i c.index.result.now c.requires c.index.ensures c.in_default.not-Working c.in_default.not-Granted;
+      event = wait_done m.threads.items m.clocks m.shared.lock m.objects.items m.shared.store m.shared.rows.items c.args.i c.index.result.now c.requires c.index.ensures c.in_default.not-Working c.in_default.not-Granted;
       falls = omega arith;
       count = refl;
     }

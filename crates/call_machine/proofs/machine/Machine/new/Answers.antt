@@ -2,16 +2,15 @@ use Rattle.std.proofs.Common.{◌≡◌, [], length, map, replicate, sym, ap, ap
 use Rattle.det_mutex.specs.Attempt.{new_lock}
 use Rattle.logical_clocks.specs.ThreadClocks.{first_clock}
 use Rattle.logical_clocks.specs.declared.clocks.ThreadClock.{ThreadClock}
-use Rattle.posix_terms.specs.Object.{empty_state}
+use Rattle.call_machine.specs.Store.{first_stored}
 use Rattle.call_machine.specs.Lives.{lives}
 use Rattle.call_machine.specs.Starting.{first_item}
 use Rattle.call_machine.specs.Threads.{joined}
-use Rattle.call_machine.specs.View.{state_of}
 use Rattle.call_machine.proofs.Joining.{agree_first, joined_first}
 use Rattle.call_machine.proofs.machine.Machine.new.Goals as goal
 
-pub invariant_of-result-2 : goal.invariant_of-result-2
-invariant_of-result-2 c =
+pub invariant_of-result-3 : goal.invariant_of-result-3
+invariant_of-result-3 c =
     let scripts = c.args.scripts.items in
     let threads : c.in_ok-first_threads.field-0.items ≡ map first_item scripts = search rules in
     let clocks : c.clocks.inside.threads.items ≡ replicate (length scripts) first_clock = search rules in
@@ -23,7 +22,7 @@ returns c =
     let threads : c.in_ok-first_threads.field-0.items ≡ map first_item scripts = search rules in
     let clocks : c.clocks.inside.threads.items ≡ replicate (length scripts) first_clock = search rules in
     let objects : c.in_ok-vec.field-0.items ≡ replicate 48 new_lock = search rules in
-    let table : state_of c.in_ok-new.field-0 ≡ empty_state = search rules in
+    let table : c.in_ok-new.field-0 ≡ first_stored = search rules in
     let rows : c.new-4.result.items ≡ [] = search rules in
     λ i. record {
       threads = (ap₂ joined threads clocks ∙ joined_first scripts) i;

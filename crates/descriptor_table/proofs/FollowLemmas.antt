@@ -1,0 +1,626 @@
+-- The change of each call, beside what the sequential object does.
+use Rattle.std.proofs.Common.{◌≡◌, ◌≢◌, IsTrue, ℕ, ◌+◌, ◌-◌, ◌<◌, ◌≤◌, ◌==◌, ◌&&◌, ◌||◌, List, [], length, Option, Some, None, is_some, Result, Ok, Err, Bool, true, false, not, if◌then◌else◌, refl, sym, ap, ◌∙◌, subst, arith}
+use Rattle.std.proofs.lemmas.Bool.{false≢true, true≢false}
+use Rattle.std.proofs.lemmas.Bool.Decides.{nat_tests}
+use Rattle.std.proofs.lemmas.Option.{same_Some}
+use Rattle.std.specs.FinMap as fin
+use Rattle.std.specs.Ordering.{int_eq}
+use Rattle.std.specs.Option.{option_map}
+use Rattle.std.specs.Prelude.{ℤ, ◌+ℤ◌, pos, negsuc, nat_le, nat_lt, slice_index_or, slice_set}
+use Rattle.posix_terms.specs.Calls.{can_read, can_write}
+use Rattle.posix_terms.specs.Descriptors as posix
+use Rattle.posix_terms.specs.Descriptors.{close_result, open_result}
+use Rattle.posix_terms.specs.Duplicates as duplicates
+use Rattle.posix_terms.specs.Duplicates.{dup_result, dup_from_result, dup2_result, descriptor_number}
+use Rattle.posix_terms.specs.Effects.{Effect, Completes}
+use Rattle.posix_terms.specs.Files.{bytes_at, written}
+use Rattle.posix_terms.specs.Names as names
+use Rattle.posix_terms.specs.Names.{PathMap, added, file_named, file_node, has_entries, link_result, mkdir_result, removed, removed_dir, removed_dir_at, rmdir_result, unlink_result}
+use Rattle.posix_terms.specs.Paths.{node_at, resolved}
+use Rattle.std.specs.FinMap.{FinMap}
+use Rattle.std.specs.Ordering.{nat_cmp}
+use Rattle.posix_terms.specs.Object.{State, Content, File, Node, FileNode, Directory}
+use Rattle.posix_terms.specs.Object as object
+use Rattle.posix_terms.specs.Refusals.{◌>>=◌, count_of, position_of, refuse_if, some_or}
+use Rattle.posix_terms.specs.Status.{fstat_result, getfl_result, setfl_result}
+use Rattle.posix_terms.specs.Step.{Carried, concluded, step}
+use Rattle.posix_terms.specs.Transfers.{base_of, content_of, file_in, offset_of, read_content, seek_content, write_at, write_content, read_result, write_result, pread_result, pwrite_result, lseek_result, ftruncate_result, size_of, start_of}
+use Rattle.posix_terms.specs.declared.call.Access.{Access}
+use Rattle.posix_terms.specs.declared.call.Call.{Call}
+use Rattle.posix_terms.specs.declared.call.Call.TheVariants as call
+use Rattle.posix_terms.specs.declared.call.OpenFlags.{OpenFlags}
+use Rattle.posix_terms.specs.declared.call.Whence.{Whence}
+use Rattle.posix_terms.specs.declared.errno.Errno.{Errno}
+use Rattle.posix_terms.specs.declared.errno.Errno.TheVariants.{EBADF, EBUSY, EEXIST, EINVAL, EISDIR, EMFILE, ENOENT, ENOSPC, ENOTEMPTY, ESPIPE}
+use Rattle.posix_terms.specs.declared.outcome.Outcome.{Outcome}
+use Rattle.posix_terms.specs.declared.reply.Reply.{Reply}
+use Rattle.posix_terms.specs.declared.reply.Reply.TheVariants as reply
+use Rattle.posix_terms.specs.declared.transcript.Settings.{Settings}
+use Rattle.file_descriptions.specs.Descriptions.{AreSound, description_at, is_last_held, with_description, without}
+use Rattle.file_descriptions.specs.declared.description.Description.{Description}
+use Rattle.descriptor_table.proofs.ChangeLemmas.{birth_of_new, description_got, shows-opened, shows-with_file, shows-closed, shows-content, shows-flags, shows-name, shows-offset, shows-shared, shows-without_gone}
+use Rattle.file_descriptions.proofs.SoundLemmas.{AreSound-changed, AreSound-removed}
+use Rattle.descriptor_table.proofs.KnownLemmas.{lowest_below, some_inside}
+use Rattle.descriptor_table.proofs.PathLemmas.{birth_is, has_entries_shown, names_shown, node_shown, resolved_shown}
+use Rattle.descriptor_table.proofs.PlanLemmas.{full_shown, lowest_none, named_shown, plans-as_step, shows-without_name, some_shown}
+use Rattle.descriptor_table.proofs.ShownLemmas.{FoundBoth, Shut, Open, found_both, key_known, key_shown, lowest_shown}
+use Rattle.descriptor_table.proofs.SoundLemmas.{closed_other, get-remove_other, named_at, names_without, none_past, sound-freed, sound-let_go, sound-named, sound-with_file}
+use Rattle.descriptor_table.specs.Changes.{Changes, IsOpened, file_at, is_refused, number_given, opened_number, Opening, found_or_made, opened, opening, status_flags, with_file, close_change, closed, closed_if_open, dup2_change, dup_change, dup_from_change, kept_or, let_go, link_change, mkdir_change, rmdir_change, setfl_change, shared, unlink_change, with_paths, without_gone}
+use Rattle.directories.specs.Lookup.{looked_up}
+use Rattle.descriptor_table.specs.Plans.{answered, locks, planned, open_new, open_node, open_plan, open_there}
+use Rattle.descriptor_table.specs.declared.plan.Op.TheVariants as op
+use Rattle.descriptor_table.specs.declared.plan.Plan.{Plan}
+use Rattle.descriptor_table.specs.declared.plan.Plan.TheVariants as plan
+use Rattle.descriptor_table.specs.Agreement.{AgreesOn, ChangesAsStep, TellsAsStep, number_told}
+use Rattle.posix_terms.proofs.Refused.{fail_leaves_state}
+use Rattle.posix_terms.specs.Locked.{locked_object}
+use Rattle.posix_terms.specs.declared.reply.Answer.TheVariants as answer
+use Rattle.descriptor_table.specs.Shows.{Shows, birth_at, birth_of, shown, shown_node}
+use Rattle.descriptor_table.specs.Table.{TableState, IsSound, described, free_object, is_gone, is_used, key_at, lowest_from}
+
+-- both are refused, or the table after shows the state after
+abbrev pub Follows : Result TableState Errno → Result Effect Errno → Type 0
+Follows (Ok u) (Ok (Completes after r)) = Shows u after
+Follows (Ok u) (Err e) = ⊥
+Follows (Err e) (Ok effect) = ⊥
+Follows (Err e) (Err f) = Unit {0}
+
+pub follows_after : (t : TableState) (settings : Settings) (s : State) (outcome : Option Outcome) (carried : Carried) (u : Result TableState Errno) (does : Result Effect Errno) → Shows t s → Follows u does → Shows (kept_or t u) (concluded settings s outcome carried does).after
+follows_after t settings s outcome carried (Ok u) (Ok (Completes after r)) shows follows = follows
+follows_after t settings s outcome carried (Ok u) (Err e) shows follows = absurd follows
+follows_after t settings s outcome carried (Err e) (Ok effect) shows follows = absurd follows
+follows_after t settings s outcome carried (Err e) (Err f) shows follows = shows
+
+-- the table stays, and shows the state after
+abbrev pub Stays : TableState → Result Effect Errno → Type 0
+Stays t (Ok (Completes after r)) = Shows t after
+Stays t (Err e) = Unit {0}
+
+pub stays_after : (t : TableState) (settings : Settings) (s : State) (outcome : Option Outcome) (carried : Carried) (does : Result Effect Errno) → Shows t s → Stays t does → Shows t (concluded settings s outcome carried does).after
+stays_after t settings s outcome carried (Ok (Completes after r)) shows stays = stays
+stays_after t settings s outcome carried (Err e) shows stays = shows
+
+through : (t : TableState) {A : Type 0} (r : Result A Errno) (f : A → Result Effect Errno) → ((x : A) → Stays t (f x)) → Stays t (r >>= f)
+through t (Ok x) f each = each x
+through t (Err e) f each = tt
+
+number_below : (number : ℤ) (e : Errno) (n : ℕ) → descriptor_number number e ≡ Ok n → n < 32
+number_below (pos m) e n is = grind (arith, nat_tests)
+number_below (negsuc m) e n is = cc
+
+pub number_is : (number : ℤ) (n : ℕ) → descriptor_number number EBADF ≡ Ok n → number ≡ pos n
+number_is (pos m) n is = let same : m ≡ n = grind (arith, nat_tests) in ap (λ (k : ℕ). pos k) same
+number_is (negsuc m) n is = cc
+
+pub apart_by : (descriptor : ℤ) (n : ℕ) → int_eq descriptor (pos n) ≡ false → descriptor ≢ pos n
+apart_by (pos m) n is same = false≢true (sym is ∙ ap (λ (x : ℤ). int_eq x (pos n)) same ∙ int_eq_self n)
+  where
+    int_eq_self : (n : ℕ) → int_eq (pos n) (pos n) ≡ true
+    int_eq_self n = grind (arith, nat_tests)
+apart_by (negsuc m) n is same = cc
+
+within : (n : ℕ) → n < 32 → nat_lt n 32 ≡ true
+within n h = grind (arith, nat_tests)
+
+module _ (t : TableState) (s : State) (sound : IsSound t) (all : AreSound t.descriptions) (shows : Shows t s) where
+  object_there : (key : ℕ) (d : Description) → fin.get t.descriptions.by_key key ≡ Some d → is_some (fin.get s.objects (birth_at t d.node)) ≡ true
+  object_there key d got = shows.objects d.node (birth_at t d.node) (birth_is t d.node (sound.described_objects key d got))
+
+  -- ## Calls that leave the table as it is
+
+  stays-getfl : (descriptor : ℤ) → Stays t (getfl_result s descriptor)
+  unfolding getfl_result
+  stays-getfl descriptor = through t (posix.described s descriptor) _ (λ found. shows)
+
+  stays-fstat : (descriptor : ℤ) → Stays t (fstat_result s descriptor)
+  unfolding fstat_result
+  stays-fstat descriptor = through t (posix.described s descriptor) _ (λ found. shows)
+
+  stays-pread : (descriptor count position : ℤ) → Stays t (pread_result s descriptor count position)
+  unfolding pread_result
+  stays-pread descriptor count position =
+      through t (posix.described s descriptor) _ (λ found. through t (file_in (content_of s found.1.object) ESPIPE) _ (λ file. through t (refuse_if (not (can_read found.1.access)) EBADF) _ (λ a.
+      through t (count_of count) _ (λ n. through t (position_of position) _ (λ start. shows)))))
+
+  stays-read : (descriptor count : ℤ) → FoundBoth t s descriptor → Stays t (read_result s descriptor count)
+  unfolding read_result
+  stays-read descriptor count (Shut table state) = rw state tt
+  stays-read descriptor count (Open key d offset at got there table state) = rw state (by_access (not (can_read d.access)))
+    where
+      by_content : (n : ℕ) (c : Content) → Stays t (read_content s d.birth (shown t d offset) n c)
+      by_content n (File file) = shows-offset t s key (offset + length (bytes_at file offset n)) d all shows got
+
+      by_access : (b : Bool) → Stays t ((refuse_if b EBADF >>= (λ _. Ok (d.birth, shown t d offset))) >>= (λ (found : ℕ × object.Description). count_of count >>= (λ n. read_content s found.0 found.1 n (content_of s found.1.object))))
+      by_access true = tt
+      by_access false = through t (count_of count) _ (λ n. by_content n (content_of s (birth_at t d.node)))
+
+  stays-write : (descriptor : ℤ) (bytes : List ℕ) → FoundBoth t s descriptor → Stays t (write_result s descriptor bytes)
+  unfolding write_result
+  stays-write descriptor bytes (Shut table state) = rw state tt
+  stays-write descriptor bytes (Open key d offset at got there table state) = rw state (by_refusals (not (can_write d.access)) (nat_lt 32767 (length bytes)) (length bytes == 0))
+    where
+      by_content : (c : Content) → Stays t (write_content s d.birth (shown t d offset) bytes c)
+      by_content (File file) = through t (written file (start_of (shown t d offset) file) bytes) _ (λ w. shows-content t (record s { descriptions = fin.insert s.descriptions d.birth (shown t d (start_of (shown t d offset) file + w.1)) }) (birth_at t d.node) (File w.0)
+          (shows-offset t s key (start_of (shown t d offset) file + w.1) d all shows got) (object_there key d got))
+
+      by_refusals : (a b c : Bool) → Stays t ((refuse_if a EBADF >>= (λ _. refuse_if b EINVAL >>= (λ _. Ok (d.birth, shown t d offset)))) >>= (λ (found : ℕ × object.Description). if c then Ok (Completes s (reply.Count 0)) else write_content s found.0 found.1 bytes (content_of s found.1.object)))
+      by_refusals true b c = tt
+      by_refusals false true c = tt
+      by_refusals false false true = shows
+      by_refusals false false false = by_content (content_of s (birth_at t d.node))
+
+  stays-lseek : (descriptor offset : ℤ) (whence : Whence) → FoundBoth t s descriptor → Stays t (lseek_result s descriptor offset whence)
+  unfolding lseek_result
+  stays-lseek descriptor offset whence (Shut table state) = rw state tt
+  stays-lseek descriptor offset whence (Open key d at_offset at got there table state) = rw state (by_content (content_of s (birth_at t d.node)))
+    where
+      by_content : (c : Content) → Stays t (seek_content s d.birth (shown t d at_offset) offset whence c)
+      by_content (File file) = through t (offset_of (pos (base_of whence at_offset (length file)) +ℤ offset)) _ (λ to. shows-offset t s key to d all shows got)
+
+  stays-pwrite : (descriptor : ℤ) (bytes : List ℕ) (position : ℤ) → FoundBoth t s descriptor → Stays t (pwrite_result s descriptor bytes position)
+  unfolding pwrite_result
+  stays-pwrite descriptor bytes position (Shut table state) = rw state tt
+  stays-pwrite descriptor bytes position (Open key d offset at got there table state) =
+      rw state (through t (file_in (content_of s (birth_at t d.node)) ESPIPE) _ (λ file. through t (refuse_if (not (can_write d.access)) EBADF) _ (λ a. through t (refuse_if (nat_lt 32767 (length bytes)) EINVAL) _ (λ b.
+      through t (position_of position) _ (λ start. by_length file start (length bytes == 0))))))
+    where
+      by_length : (file : List ℕ) (start : ℕ) (b : Bool) → Stays t (if b then Ok (Completes s (reply.Count 0)) else write_at s (birth_at t d.node) file start bytes)
+      by_length file start true = shows
+      by_length file start false = through t (written file start bytes) _ (λ w. shows-content t s (birth_at t d.node) (File w.0) shows (object_there key d got))
+
+  stays-ftruncate : (descriptor size : ℤ) → FoundBoth t s descriptor → Stays t (ftruncate_result s descriptor size)
+  unfolding ftruncate_result
+  stays-ftruncate descriptor size (Shut table state) = rw state tt
+  stays-ftruncate descriptor size (Open key d offset at got there table state) =
+      rw state (through t (refuse_if (not (can_write d.access)) EINVAL) _ (λ a. through t (file_in (content_of s (birth_at t d.node)) EINVAL) _ (λ file. through t (size_of size) _ (λ n.
+      shows-content t s (birth_at t d.node) _ shows (object_there key d got)))))
+
+  -- ## Descriptors
+
+  follows-setfl : (descriptor : ℤ) (append nonblock : Bool) → FoundBoth t s descriptor → Follows (setfl_change t descriptor append nonblock) (setfl_result s descriptor append nonblock)
+  unfolding setfl_change setfl_result
+  follows-setfl descriptor append nonblock (Shut table state) = rw (table, state) tt
+  follows-setfl descriptor append nonblock (Open key d offset at got there table state) =
+      rw (table, state, description_got t.descriptions key d got) (shows-flags t s key offset d (record { append = append; nonblock = nonblock }) all shows got)
+
+  long : length t.descriptors ≡ 32
+  long = sound.numbers
+
+  follows-dup : (descriptor : ℤ) → FoundBoth t s descriptor → Follows (dup_change t descriptor) (dup_result s descriptor)
+  unfolding dup_change dup_result
+  follows-dup descriptor (Shut table state) = rw (table, state) tt
+  follows-dup descriptor (Open key d offset at got there table state) = rw (table, state, lowest_shown t s 32 0 shows) (by_number (lowest_from t.descriptors 32 0) (λ n is. lowest_below t.descriptors 32 0 n is))
+    where
+      by_number : (o : Option ℕ) → ((n : ℕ) → o ≡ Some n → n < 0 + 32) → Follows (some_or o EMFILE >>= (λ n. Ok (shared t n key))) (some_or o EMFILE >>= (λ n. Ok (Completes (duplicates.shared s n d.birth) (reply.Number (pos n)))))
+      by_number None below = tt
+      by_number (Some n) below = let inside : n < 0 + 32 = below n refl in shows-shared t s n key d all shows (omega (arith, inside, long)) got
+
+  follows-dup_from : (descriptor least : ℤ) → FoundBoth t s descriptor → Follows (dup_from_change t descriptor least) (dup_from_result s descriptor least)
+  unfolding dup_from_change dup_from_result
+  follows-dup_from descriptor least (Shut table state) = rw (table, state) tt
+  follows-dup_from descriptor least (Open key d offset at got there table state) = rw (table, state) (by_first (descriptor_number least EINVAL) (λ first is. number_below least EINVAL first is))
+    where
+      by_number : (o : Option ℕ) → ((n : ℕ) → o ≡ Some n → n < 32) → Follows (some_or o EMFILE >>= (λ n. Ok (shared t n key))) (some_or o EMFILE >>= (λ n. Ok (Completes (duplicates.shared s n d.birth) (reply.Number (pos n)))))
+      by_number None below = tt
+      by_number (Some n) below = let inside : n < 32 = below n refl in shows-shared t s n key d all shows (omega (arith, inside, long)) got
+
+      by_first : (r : Result ℕ Errno) → ((first : ℕ) → r ≡ Ok first → first < 32) → Follows (r >>= (λ first. some_or (lowest_from t.descriptors (32 - first) first) EMFILE >>= (λ n. Ok (shared t n key)))) (r >>= (λ first. some_or (posix.lowest_from s (32 - first) first) EMFILE >>= (λ n. Ok (Completes (duplicates.shared s n d.birth) (reply.Number (pos n))))))
+      by_first (Ok first) below =
+          let low : first < 32 = below first refl in
+          rw (lowest_shown t s (32 - first) first shows) (by_number (lowest_from t.descriptors (32 - first) first) (λ n is. let h : n < first + (32 - first) = lowest_below t.descriptors (32 - first) first n is in omega arith))
+      by_first (Err e) below = tt
+
+  closed_as : (n key : ℕ) (d : Description) (offset : ℕ) → slice_index_or t.descriptors n None ≡ Some key → fin.get t.descriptions.by_key key ≡ Some d → Shows (closed t n key) (posix.released (posix.freed s (pos n)) d.birth (shown t d offset))
+  closed_as n key d offset at got = subst (λ (x : Description). Shows (closed t n key) (posix.released (posix.freed s (pos n)) x.birth (shown t x offset))) (description_got t.descriptions key d got) (shows-closed t s n key offset sound all shows at (key_known t (pos n) key sound at))
+
+  follows-close : (descriptor : ℤ) → FoundBoth t s descriptor → Follows (close_change t descriptor) (close_result s descriptor)
+  unfolding close_change close_result
+  follows-close descriptor (Shut table state) = rw (table, state) (by_number (descriptor_number descriptor EBADF))
+    where
+      by_number : (r : Result ℕ Errno) → Follows (r >>= (λ n. Err EBADF)) (Err EBADF)
+      by_number (Ok n) = tt
+      by_number (Err e) = tt
+  follows-close (negsuc n) (Open key d offset at got there table state) = cc
+  follows-close (pos n) (Open key d offset at got there table state) =
+      let inside : n < length t.descriptors = some_inside t.descriptors n (ap (λ (o : Option ℕ). is_some o) at) (none_past t.descriptors n) in
+      rw (table, state, within n (omega (arith, inside, long))) (closed_as n key d offset at got)
+
+  -- ## A descriptor that another one replaces
+
+  -- what remains when a descriptor is closed
+  pub left_sound : (n key : ℕ) → slice_index_or t.descriptors n None ≡ Some key → IsSound (closed t n key)
+  left_sound n key at = by_last (is_last_held t.descriptions key)
+    where
+      inside : n < 32
+      inside = let h : n < length t.descriptors = some_inside t.descriptors n (ap (λ (o : Option ℕ). is_some o) at) (none_past t.descriptors n) in omega (arith, h, long)
+
+      left : IsSound (let_go t n key)
+      left = sound-let_go t n key sound inside at
+
+      by_gone : (node : ℕ) (g : Bool) → is_gone (let_go t n key) node ≡ g → IsSound (if g then record (let_go t n key) { objects = slice_set (let_go t n key).objects node None } else let_go t n key)
+      by_gone node true is = sound-freed (let_go t n key) node is left
+      by_gone node false is = left
+
+      by_last : (b : Bool) → IsSound (if b then without_gone (let_go t n key) (description_at t.descriptions key).node else let_go t n key)
+      by_last true = by_gone (description_at t.descriptions key).node (is_gone (let_go t n key) (description_at t.descriptions key).node) refl
+      by_last false = left
+
+  left_all : (n key : ℕ) → slice_index_or t.descriptors n None ≡ Some key → AreSound (closed t n key).descriptions
+  left_all n key at = subst AreSound (sym (same_left (is_last_held t.descriptions key))) (by_last (is_last_held t.descriptions key) refl)
+    where
+      got : fin.get t.descriptions.by_key key ≡ Some (description_at t.descriptions key)
+      got = key_known t (pos n) key sound at
+
+      same_left : (b : Bool) → (if b then without_gone (let_go t n key) (description_at t.descriptions key).node else let_go t n key).descriptions ≡ (let_go t n key).descriptions
+      same_left true = same_gone (is_gone (let_go t n key) (description_at t.descriptions key).node)
+        where
+          same_gone : (g : Bool) → (if g then record (let_go t n key) { objects = slice_set t.objects (description_at t.descriptions key).node None } else let_go t n key).descriptions ≡ (let_go t n key).descriptions
+          same_gone true = refl
+          same_gone false = refl
+      same_left false = refl
+
+      two : (h : ℕ) → 1 ≤ h → (h == 1) ≡ false → 1 ≤ h - 1
+      two h some last = grind (arith, nat_tests)
+
+      by_last : (b : Bool) → is_last_held t.descriptions key ≡ b → AreSound (if b then without t.descriptions key else with_description t.descriptions key (record (description_at t.descriptions key) { holders = (description_at t.descriptions key).holders - 1 }))
+      by_last true is = AreSound-removed t.descriptions key all
+      by_last false is = AreSound-changed t.descriptions key (description_at t.descriptions key) (record (description_at t.descriptions key) { holders = (description_at t.descriptions key).holders - 1 }) all got (two (description_at t.descriptions key).holders (all.held key (description_at t.descriptions key) got) is) refl
+
+  released_descriptors : (a : State) (key : ℕ) (e : object.Description) → (posix.released a key e).descriptors ≡ a.descriptors
+  released_descriptors a key e = by_last (posix.has_descriptor a key)
+    where
+      by_used : (b : Bool) → (if b then record a { descriptions = fin.remove a.descriptions key } else record a { descriptions = fin.remove a.descriptions key; objects = fin.remove a.objects e.object }).descriptors ≡ a.descriptors
+      by_used true = refl
+      by_used false = refl
+
+      by_last : (b : Bool) → (if b then a else posix.without_unused (record a { descriptions = fin.remove a.descriptions key }) e.object).descriptors ≡ a.descriptors
+      by_last true = refl
+      by_last false = by_used (posix.has_description (record a { descriptions = fin.remove a.descriptions key }) e.object || posix.has_path (record a { descriptions = fin.remove a.descriptions key }) e.object)
+
+  key_stays : (a : State) (n : ℕ) (descriptor : ℤ) → descriptor ≢ pos n → a.descriptors ≡ fin.remove s.descriptors n → posix.key_at a descriptor ≡ posix.key_at s descriptor
+  key_stays a n (pos m) apart same = ap (λ (ds : FinMap nat_cmp ℕ). fin.get ds m) same ∙ get-remove_other s.descriptors n m (λ e. apart (ap (λ (x : ℕ). pos x) e))
+  key_stays a n (negsuc m) apart same = refl
+
+  replaced_as : (descriptor : ℤ) (n key : ℕ) (d : Description) → n < 32 → descriptor ≢ pos n → key_at t descriptor ≡ Some key → fin.get t.descriptions.by_key key ≡ Some d → FoundBoth t s (pos n)
+      → Shows (shared (closed_if_open t n (described t (pos n))) n key) (duplicates.shared (duplicates.closed s (pos n) (posix.described s (pos n))) n d.birth)
+  replaced_as descriptor n key d inside apart at got (Shut table state) = rw (table, state) (shows-shared t s n key d all shows (omega (arith, inside, long)) got)
+  replaced_as descriptor n key d inside apart at got (Open other e offset its_at its_got there table state) =
+      rw (table, state) (subst (λ (b : ℕ). Shows (shared left n key) (duplicates.shared after n b)) births (shows-shared left after n key now (left_all n other its_at) shown_left (omega (arith, inside, left_long)) now_got))
+    where
+      left : TableState
+      left = closed t n other
+
+      after : State
+      after = posix.released (posix.freed s (pos n)) e.birth (shown t e offset)
+
+      shown_left : Shows left after
+      shown_left = closed_as n other e offset its_at its_got
+
+      left_long : length left.descriptors ≡ 32
+      left_long = (left_sound n other its_at).numbers
+
+      now_at : key_at left descriptor ≡ Some key
+      now_at = closed_other t n other descriptor apart ∙ at
+
+      now : Description
+      now = description_at left.descriptions key
+
+      now_got : fin.get left.descriptions.by_key key ≡ Some now
+      now_got = key_known left descriptor key (left_sound n other its_at) now_at
+
+      births : now.birth ≡ d.birth
+      births =
+          let before : posix.key_at s descriptor ≡ Some (birth_of t key) = key_shown t s descriptor shows ∙ ap (option_map (birth_of t)) at in
+          let later : posix.key_at after descriptor ≡ Some now.birth = key_shown left after descriptor shown_left ∙ ap (option_map (birth_of left)) now_at in
+          let stays : posix.key_at after descriptor ≡ posix.key_at s descriptor = key_stays after n descriptor apart (released_descriptors (posix.freed s (pos n)) e.birth (shown t e offset)) in
+          same_Some _ _ (sym later ∙ stays ∙ before) ∙ ap (λ (x : Description). x.birth) (description_got t.descriptions key d got)
+
+  follows-dup2 : (descriptor target : ℤ) → FoundBoth t s descriptor → ((n : ℕ) → FoundBoth t s (pos n)) → Follows (dup2_change t descriptor target) (dup2_result s descriptor target)
+  unfolding dup2_change dup2_result
+  follows-dup2 descriptor target (Shut table state) other = rw (table, state) tt
+  follows-dup2 descriptor (negsuc m) (Open key d offset at got there table state) other = rw (table, state) tt
+  follows-dup2 descriptor (pos m) (Open key d offset at got there table state) other = rw (table, state) (by_inside (nat_lt m 32) refl)
+    where
+      by_same : (b : Bool) → int_eq descriptor (pos m) ≡ b → m < 32 → Shows (if b then t else shared (closed_if_open t m (described t (pos m))) m key) (if b then s else duplicates.shared (duplicates.closed s (pos m) (posix.described s (pos m))) m d.birth)
+      by_same true is inside = shows
+      by_same false is inside = replaced_as descriptor m key d inside (apart_by descriptor m is) at got (other m)
+
+      below : (m : ℕ) → nat_lt m 32 ≡ true → m < 32
+      below m h = grind (arith, nat_tests)
+
+      by_inside : (b : Bool) → nat_lt m 32 ≡ b → Follows ((if b then Ok m else Err EBADF) >>= (λ n. Ok (if int_eq descriptor (pos m) then t else shared (closed_if_open t n (described t (pos m))) n key))) ((if b then Ok m else Err EBADF) >>= (λ n. Ok (Completes (if int_eq descriptor (pos m) then s else duplicates.shared (duplicates.closed s (pos m) (posix.described s (pos m))) n d.birth) (reply.Number (pos m)))))
+      by_inside true h = by_same (int_eq descriptor (pos m)) refl (below m h)
+      by_inside false h = tt
+
+  -- ## Names
+
+  follows-add : (path : List ℕ) (node : Node) → Follows (added t.paths path node >>= (λ paths. Ok (with_paths t paths))) (added s.paths path (shown_node t node) >>= (λ paths. Ok (Completes (names.with_paths s paths) reply.Done)))
+  unfolding added
+  follows-add path node = rw (resolved_shown t s path shows) (by_path (resolved t.paths path))
+    where
+      by_refusals : (components : List (List ℕ)) (a b : Bool) → Follows ((refuse_if a EEXIST >>= (λ _. refuse_if b ENOSPC >>= (λ _. Ok (fin.insert t.paths components node)))) >>= (λ paths. Ok (with_paths t paths))) ((refuse_if a EEXIST >>= (λ _. refuse_if b ENOSPC >>= (λ _. Ok (fin.insert s.paths components (shown_node t node))))) >>= (λ paths. Ok (Completes (names.with_paths s paths) reply.Done)))
+      by_refusals components true b = tt
+      by_refusals components false true = tt
+      by_refusals components false false = shows-name t s components node shows
+
+      by_path : (r : Result (List (List ℕ)) Errno) → Follows ((r >>= (λ components. refuse_if (is_some (node_at t.paths components)) EEXIST >>= (λ _. refuse_if (nat_le 64 (fin.len t.paths)) ENOSPC >>= (λ _. Ok (fin.insert t.paths components node))))) >>= (λ paths. Ok (with_paths t paths))) ((r >>= (λ components. refuse_if (is_some (node_at s.paths components)) EEXIST >>= (λ _. refuse_if (nat_le 64 (fin.len s.paths)) ENOSPC >>= (λ _. Ok (fin.insert s.paths components (shown_node t node)))))) >>= (λ paths. Ok (Completes (names.with_paths s paths) reply.Done)))
+      by_path (Err e) = tt
+      by_path (Ok components) = rw (node_shown t s components shows, some_shown t s sound all shows (node_at t.paths components), names_shown t s shows) (by_refusals components (is_some (node_at t.paths components)) (nat_le 64 (fin.len t.paths)))
+
+  follows-mkdir : (path : List ℕ) → Follows (mkdir_change t path) (mkdir_result s path)
+  unfolding mkdir_change mkdir_result
+  follows-mkdir path = follows-add path Directory
+
+  follows-link : (old_path new_path : List ℕ) → Follows (link_change t old_path new_path) (link_result s old_path new_path)
+  unfolding link_change link_result
+  follows-link old_path new_path = rw (named_shown t s sound all shows old_path) (by_file (file_named t.paths old_path))
+    where
+      by_file : (r : Result ℕ Errno) → Follows (r >>= (λ node. added t.paths new_path (FileNode node) >>= (λ paths. Ok (with_paths t paths)))) ((r >>= (λ node. Ok (birth_at t node))) >>= (λ object. added s.paths new_path (FileNode object) >>= (λ paths. Ok (Completes (names.with_paths s paths) reply.Done))))
+      by_file (Ok node) = follows-add new_path (FileNode node)
+      by_file (Err e) = tt
+
+  follows-rmdir : (path : List ℕ) → Follows (rmdir_change t path) (rmdir_result s path)
+  unfolding rmdir_change rmdir_result removed_dir
+  follows-rmdir path = rw (resolved_shown t s path shows) (by_path (resolved t.paths path))
+    where
+      by_refusals : (components : List (List ℕ)) (a b : Bool) → Follows ((refuse_if a EBUSY >>= (λ _. refuse_if b ENOTEMPTY >>= (λ _. Ok (fin.remove t.paths components)))) >>= (λ paths. Ok (with_paths t paths))) ((refuse_if a EBUSY >>= (λ _. refuse_if b ENOTEMPTY >>= (λ _. Ok (fin.remove s.paths components)))) >>= (λ paths. Ok (Completes (names.with_paths s paths) reply.Done)))
+      by_refusals components true b = tt
+      by_refusals components false true = tt
+      by_refusals components false false = shows-without_name t s components shows
+
+      by_node : (components : List (List ℕ)) (o : Option Node) → Follows (removed_dir_at t.paths components o >>= (λ paths. Ok (with_paths t paths))) (removed_dir_at s.paths components (option_map (shown_node t) o) >>= (λ paths. Ok (Completes (names.with_paths s paths) reply.Done)))
+      by_node components None = tt
+      by_node components (Some (FileNode node)) = tt
+      by_node components (Some Directory) = rw (has_entries_shown t s components shows) (by_refusals components (length components == 0) (has_entries t.paths components))
+
+      by_path : (r : Result (List (List ℕ)) Errno) → Follows ((r >>= (λ components. removed_dir_at t.paths components (node_at t.paths components))) >>= (λ paths. Ok (with_paths t paths))) ((r >>= (λ components. removed_dir_at s.paths components (node_at s.paths components))) >>= (λ paths. Ok (Completes (names.with_paths s paths) reply.Done)))
+      by_path (Ok components) = rw (node_shown t s components shows) (by_node components (node_at t.paths components))
+      by_path (Err e) = tt
+
+  abbrev table_without : List (List ℕ) → ℕ → Result (PathMap × ℕ) Errno
+  table_without components node = Ok (fin.remove t.paths components, node)
+
+  abbrev state_without : List (List ℕ) → ℕ → Result (PathMap × ℕ) Errno
+  state_without components node = Ok (fin.remove s.paths components, node)
+
+  follows-unlink : (path : List ℕ) → Follows (unlink_change t path) (unlink_result s path)
+  unfolding unlink_change unlink_result removed
+  follows-unlink path = rw (resolved_shown t s path shows) (by_path (resolved t.paths path))
+    where
+      unlinked : (components : List (List ℕ)) (node : ℕ) → node_at t.paths components ≡ Some (FileNode node) → Shows (without_gone (with_paths t (fin.remove t.paths components)) node) (posix.without_unused (names.with_paths s (fin.remove s.paths components)) (birth_at t node))
+      unlinked components node at =
+          shows-without_gone (with_paths t (fin.remove t.paths components)) (names.with_paths s (fin.remove s.paths components)) node
+          (sound-named t (fin.remove t.paths components) sound (names_without t components sound)) all (shows-without_name t s components shows) (named_at t components node sound at)
+
+      by_node : (components : List (List ℕ)) (o : Option Node) → node_at t.paths components ≡ o
+          → Follows ((file_node o >>= (λ node. table_without components node)) >>= (λ without. Ok (without_gone (with_paths t without.0) without.1)))
+          ((file_node (option_map (shown_node t) o) >>= (λ object. state_without components object)) >>= (λ without. Ok (Completes (posix.without_unused (names.with_paths s without.0) without.1) reply.Done)))
+      by_node components None at = tt
+      by_node components (Some Directory) at = tt
+      by_node components (Some (FileNode node)) at = unlinked components node at
+
+      by_path : (r : Result (List (List ℕ)) Errno) → Follows ((r >>= (λ components. file_node (node_at t.paths components) >>= (λ node. table_without components node))) >>= (λ without. Ok (without_gone (with_paths t without.0) without.1)))
+          ((r >>= (λ components. file_node (node_at s.paths components) >>= (λ object. state_without components object))) >>= (λ without. Ok (Completes (posix.without_unused (names.with_paths s without.0) without.1) reply.Done)))
+      by_path (Ok components) = rw (node_shown t s components shows) (by_node components (node_at t.paths components) refl)
+      by_path (Err e) = tt
+
+  -- ## Opening
+
+  -- a call that is planned is made, under any key that is free, and then the table shows the state after
+  abbrev OpensAs : Access → OpenFlags → Result Plan Errno → Result Opening Errno → Result Effect Errno → Type 0
+  OpensAs access flags (Ok p) (Ok o) (Ok (Completes after r)) = ((key : ℕ) → fin.get t.descriptions.by_key key ≡ None → Shows (opened o.ready o.number key o.node access (status_flags flags)) after) × (r ≡ reply.Number (pos o.number))
+  OpensAs access flags (Ok p) (Ok o) (Err e) = ⊥
+  OpensAs access flags (Ok p) (Err e) does = ⊥
+  OpensAs access flags (Err e) o does = Unit {0}
+
+  truncated_shown : (node : ℕ) (b : Bool) → is_used t node ≡ true → Shows t (posix.truncated s (birth_at t node) b)
+  truncated_shown node true used = shows-content t s (birth_at t node) (File []) shows (shows.objects node (birth_at t node) (birth_is t node used))
+  truncated_shown node false used = shows
+
+  -- a file that is there
+  opens-there : (access : Access) (flags : OpenFlags) (node : ℕ) → is_used t node ≡ true
+      → OpensAs access flags (refuse_if (flags.create && flags.exclusive) EEXIST >>= (λ _. open_there t (FileNode node) flags))
+      (some_or (lowest_from t.descriptors 32 0) EMFILE >>= (λ n. Ok (record { number = n; node = node; ready = t })))
+      (refuse_if (flags.create && flags.exclusive) EEXIST >>= (λ _. posix.open_there s (FileNode (birth_at t node)) access flags))
+  opens-there access flags node used = rw (lowest_shown t s 32 0 shows) (by_refusal (flags.create && flags.exclusive) (lowest_from t.descriptors 32 0) (λ n is. lowest_below t.descriptors 32 0 n is))
+    where
+      by_refusal : (b : Bool) (o : Option ℕ) → ((n : ℕ) → o ≡ Some n → n < 0 + 32) → OpensAs access flags (refuse_if b EEXIST >>= (λ _. some_or o EMFILE >>= (λ _. Ok (locks node (op.Open flags.truncate)))))
+          (some_or o EMFILE >>= (λ n. Ok (record { number = n; node = node; ready = t })))
+          (refuse_if b EEXIST >>= (λ _. some_or o EMFILE >>= (λ n. Ok (Completes (posix.opened (posix.truncated s (birth_at t node) flags.truncate) n (birth_at t node) access flags.append flags.nonblock) (reply.Number (pos n))))))
+      by_refusal true o below = tt
+      by_refusal false None below = tt
+      by_refusal false (Some n) below = (
+        λ key fresh. let inside : n < 0 + 32 = below n refl in
+            shows-opened t (posix.truncated s (birth_at t node) flags.truncate) n key node access (status_flags flags) sound all (truncated_shown node flags.truncate used) (omega (arith, inside, long)) fresh,
+        refl,
+      )
+
+  abbrev made_file : PathMap → ℕ → Result (TableState × ℕ) Errno
+  made_file paths node = Ok (with_file t paths node, node)
+
+  -- a new file
+  opens-new : (components : List (List ℕ)) (access : Access) (flags : OpenFlags) (adding : ℕ → Result PathMap Errno) → ((node : ℕ) → adding node ≡ (refuse_if (nat_le 64 (fin.len t.paths)) ENOSPC >>= (λ _. Ok (fin.insert t.paths components (FileNode node)))))
+      → OpensAs access flags (open_new t flags)
+      (some_or (lowest_from t.descriptors 32 0) EMFILE >>= (λ n. (some_or (free_object t) ENOSPC >>= (λ node. adding node >>= (λ paths. made_file paths node))) >>= (λ (file : TableState × ℕ). Ok (record { number = n; node = file.1; ready = file.0 }))))
+      (posix.open_new s components access flags)
+  opens-new components access flags adding added_as = rw (names_shown t s shows, full_shown t s sound all shows, lowest_shown t s 32 0 shows)
+      (by_rest (not flags.create) (nat_le 64 (fin.len t.paths)) (free_object t) (lowest_from t.descriptors 32 0) (λ node is. (lowest_none t.objects 48 0 node is, lowest_below t.objects 48 0 node is)) (λ n is. lowest_below t.descriptors 32 0 n is) added_as)
+    where
+      by_rest : (a b : Bool) (o number : Option ℕ) → ((node : ℕ) → o ≡ Some node → (slice_index_or t.objects node None ≡ None) × (node < 0 + 48)) → ((n : ℕ) → number ≡ Some n → n < 0 + 32)
+          → ((node : ℕ) → adding node ≡ (refuse_if b ENOSPC >>= (λ _. Ok (fin.insert t.paths components (FileNode node)))))
+          → OpensAs access flags (refuse_if a ENOENT >>= (λ _. refuse_if b ENOSPC >>= (λ _. some_or o ENOSPC >>= (λ node. some_or number EMFILE >>= (λ _. Ok (locks node (op.Open true)))))))
+          (some_or number EMFILE >>= (λ n. (some_or o ENOSPC >>= (λ node. adding node >>= (λ paths. made_file paths node))) >>= (λ (file : TableState × ℕ). Ok (record { number = n; node = file.1; ready = file.0 }))))
+          (refuse_if a ENOENT >>= (λ _. refuse_if (b || not (is_some o)) ENOSPC >>= (λ _. some_or number EMFILE >>= (λ n. Ok (Completes (posix.opened (posix.with_file s components) n s.next_object access flags.append flags.nonblock) (reply.Number (pos n)))))))
+      by_rest true b o number free below adds = tt
+      by_rest false true o number free below adds = tt
+      by_rest false false None number free below adds = tt
+      by_rest false false (Some node) None free below adds = tt
+      by_rest false false (Some node) (Some n) free below adds = rw (adds node) (opens_here node n (below n refl) (free node refl))
+        where
+          opens_here : (node n : ℕ) → n < 0 + 32 → (slice_index_or t.objects node None ≡ None) × (node < 0 + 48)
+              → ((key : ℕ) → fin.get t.descriptions.by_key key ≡ None → Shows (opened (with_file t (fin.insert t.paths components (FileNode node)) node) n key node access (status_flags flags)) (posix.opened (posix.with_file s components) n s.next_object access flags.append flags.nonblock))
+              × ◌≡◌ {A = Reply} (reply.Number (pos n)) (reply.Number (pos n))
+          opens_here node n inside at =
+              let low : node < 0 + 48 = at.1 in
+              let objects : length t.objects ≡ 48 = sound.object_numbers in
+              let within : node < length t.objects = omega (arith, low, objects) in
+              let ready : TableState = with_file t (fin.insert t.paths components (FileNode node)) node in (
+                λ key fresh. subst (λ (b : ℕ). Shows (opened ready n key node access (status_flags flags)) (posix.opened (posix.with_file s components) n b access flags.append flags.nonblock))
+                    (birth_of_new t (fin.insert t.paths components (FileNode node)) node within ∙ sym shows.next_object)
+                    (shows-opened ready (posix.with_file s components) n key node access (status_flags flags) (sound-with_file t components node within at.0 sound) all (shows-with_file t s components node sound shows within at.0) (omega (arith, inside, long)) fresh),
+                refl,
+              )
+
+  adds : (path : List ℕ) (components : List (List ℕ)) → resolved t.paths path ≡ Ok components → node_at t.paths components ≡ None → (node : ℕ) → added t.paths path (FileNode node) ≡ (refuse_if (nat_le 64 (fin.len t.paths)) ENOSPC >>= (λ _. Ok (fin.insert t.paths components (FileNode node))))
+  unfolding added
+  adds path components is at node = rw (is, at) refl
+
+  opens : (path : List ℕ) (access : Access) (flags : OpenFlags) → OpensAs access flags (open_plan t path access flags) (opening t path) (open_result s path access flags)
+  unfolding open_plan opening found_or_made looked_up open_result
+  opens path access flags = rw (resolved_shown t s path shows) (by_path (resolved t.paths path) refl)
+    where
+      by_refused : (b : Bool) (e : Errno) (o : Result Opening Errno) (does : Result Effect Errno) → OpensAs access flags (refuse_if b EINVAL >>= (λ _. Err e)) o does
+      by_refused true e o does = tt
+      by_refused false e o does = tt
+
+      by_node : (components : List (List ℕ)) (b : Bool) (o : Option Node) → resolved t.paths path ≡ Ok components → node_at t.paths components ≡ o
+          → OpensAs access flags (refuse_if b EINVAL >>= (λ _. open_node t o flags)) (some_or (lowest_from t.descriptors 32 0) EMFILE >>= (λ n. file_at t path o >>= (λ (file : TableState × ℕ). Ok (record { number = n; node = file.1; ready = file.0 })))) (refuse_if b EINVAL >>= (λ _. posix.open_node s components (option_map (shown_node t) o) access flags))
+      by_node components true o is at = tt
+      by_node components false None is at = opens-new components access flags (λ node. added t.paths path (FileNode node)) (adds path components is at)
+      by_node components false (Some (FileNode node)) is at = opens-there access flags node (named_at t components node sound at)
+      by_node components false (Some Directory) is at = by_exclusive (flags.create && flags.exclusive)
+        where
+          by_exclusive : (b : Bool) → OpensAs access flags (refuse_if b EEXIST >>= (λ _. Err EISDIR)) (some_or (lowest_from t.descriptors 32 0) EMFILE >>= (λ n. Err EISDIR)) (refuse_if b EEXIST >>= (λ _. Err EISDIR))
+          by_exclusive true = tt
+          by_exclusive false = tt
+
+      by_path : (r : Result (List (List ℕ)) Errno) → resolved t.paths path ≡ r
+          → OpensAs access flags (refuse_if (flags.truncate && not (can_write access)) EINVAL >>= (λ _. r >>= (λ components. open_node t (node_at t.paths components) flags)))
+          (some_or (lowest_from t.descriptors 32 0) EMFILE >>= (λ n. ((r >>= (λ components. Ok (node_at t.paths components))) >>= (λ node. file_at t path node)) >>= (λ (file : TableState × ℕ). Ok (record { number = n; node = file.1; ready = file.0 }))))
+          (refuse_if (flags.truncate && not (can_write access)) EINVAL >>= (λ _. r >>= (λ components. posix.open_node s components (node_at s.paths components) access flags)))
+      by_path (Err e) is = by_refused (flags.truncate && not (can_write access)) e _ _
+      by_path (Ok components) is = rw (node_shown t s components shows) (by_node components (flags.truncate && not (can_write access)) (node_at t.paths components) is refl)
+
+-- an `open` that is not refused
+opened_after : (t : TableState) (settings : Settings) (s : State) (outcome : Option Outcome) (carried : Carried) (access : Access) (flags : OpenFlags) (p : Result Plan Errno) (o : Result Opening Errno) (does : Result Effect Errno) (after : TableState) (sound : IsSound t) (all : AreSound t.descriptions) (shows : Shows t s)
+    → OpensAs t s sound all shows access flags p o does → is_refused (answered p) ≡ false → IsOpened t access flags o after → Shows after (concluded settings s outcome carried does).after
+opened_after t settings s outcome carried access flags (Ok p) (Ok o) (Ok (Completes state r)) after sound all shows opens made (key, fresh, is) = subst (λ (u : TableState). Shows u state) (sym is) (opens.0 key fresh)
+opened_after t settings s outcome carried access flags (Ok p) (Ok o) (Err e) after sound all shows opens made is = absurd opens
+opened_after t settings s outcome carried access flags (Ok p) (Err e) does after sound all shows opens made is = absurd opens
+opened_after t settings s outcome carried access flags (Err e) o does after sound all shows opens made is = absurd (true≢false made)
+
+-- ## All calls
+
+module _ (t : TableState) (s : State) (settings : Settings) (outcome : Option Outcome) (carried : Carried) (sound : IsSound t) (all : AreSound t.descriptions) (shows : Shows t s) where
+  follows_call : (after : TableState) (u : Result TableState Errno) (does : Result Effect Errno) → Follows u does → after ≡ kept_or t u → Shows after (concluded settings s outcome carried does).after
+  follows_call after u does follows is = subst (λ (x : TableState). Shows x (concluded settings s outcome carried does).after) (sym is) (follows_after t settings s outcome carried u does shows follows)
+
+  stays_call : (after : TableState) (does : Result Effect Errno) → Stays t does → after ≡ t → Shows after (concluded settings s outcome carried does).after
+  stays_call after does stays is = subst (λ (x : TableState). Shows x (concluded settings s outcome carried does).after) (sym is) (stays_after t settings s outcome carried does shows stays)
+
+  found_at : (descriptor : ℤ) → FoundBoth t s descriptor
+  found_at descriptor = found_both t s descriptor sound shows
+
+  pub changes_call : (c : Call) (after : TableState) → is_refused (planned t c) ≡ false → Changes t c after → Shows after (step settings s c outcome carried).after
+  changes_call (call.Open path access flags) after made is = opened_after t settings s outcome carried access flags (open_plan t path access flags) (opening t path) (open_result s path access flags) after sound all shows (opens t s sound all shows path access flags) made is
+  changes_call (call.Close descriptor) after made is = follows_call after (close_change t descriptor) (close_result s descriptor) (follows-close t s sound all shows descriptor (found_at descriptor)) is
+  changes_call (call.Read descriptor count) after made is = stays_call after (read_result s descriptor count) (stays-read t s sound all shows descriptor count (found_at descriptor)) is
+  changes_call (call.Write descriptor bytes) after made is = stays_call after (write_result s descriptor bytes) (stays-write t s sound all shows descriptor bytes (found_at descriptor)) is
+  changes_call (call.Pread descriptor count position) after made is = stays_call after (pread_result s descriptor count position) (stays-pread t s sound all shows descriptor count position) is
+  changes_call (call.Pwrite descriptor bytes position) after made is = stays_call after (pwrite_result s descriptor bytes position) (stays-pwrite t s sound all shows descriptor bytes position (found_at descriptor)) is
+  changes_call (call.Lseek descriptor offset whence) after made is = stays_call after (lseek_result s descriptor offset whence) (stays-lseek t s sound all shows descriptor offset whence (found_at descriptor)) is
+  changes_call (call.Ftruncate descriptor size) after made is = stays_call after (ftruncate_result s descriptor size) (stays-ftruncate t s sound all shows descriptor size (found_at descriptor)) is
+  changes_call (call.Fstat descriptor) after made is = stays_call after (fstat_result s descriptor) (stays-fstat t s sound all shows descriptor) is
+  changes_call (call.Dup descriptor) after made is = follows_call after (dup_change t descriptor) (dup_result s descriptor) (follows-dup t s sound all shows descriptor (found_at descriptor)) is
+  changes_call (call.DupFrom descriptor least) after made is = follows_call after (dup_from_change t descriptor least) (dup_from_result s descriptor least) (follows-dup_from t s sound all shows descriptor least (found_at descriptor)) is
+  changes_call (call.Dup2 descriptor target) after made is = follows_call after (dup2_change t descriptor target) (dup2_result s descriptor target) (follows-dup2 t s sound all shows descriptor target (found_at descriptor) (λ n. found_at (pos n))) is
+  changes_call (call.Getfl descriptor) after made is = stays_call after (getfl_result s descriptor) (stays-getfl t s sound all shows descriptor) is
+  changes_call (call.Setfl descriptor append nonblock) after made is = follows_call after (setfl_change t descriptor append nonblock) (setfl_result s descriptor append nonblock) (follows-setfl t s sound all shows descriptor append nonblock (found_at descriptor)) is
+  changes_call (call.Link old_path new_path) after made is = follows_call after (link_change t old_path new_path) (link_result s old_path new_path) (follows-link t s sound all shows old_path new_path) is
+  changes_call (call.Unlink path) after made is = follows_call after (unlink_change t path) (unlink_result s path) (follows-unlink t s sound all shows path) is
+  changes_call (call.Mkdir path) after made is = follows_call after (mkdir_change t path) (mkdir_result s path) (follows-mkdir t s sound all shows path) is
+  changes_call (call.Rmdir path) after made is = follows_call after (rmdir_change t path) (rmdir_result s path) (follows-rmdir t s sound all shows path) is
+
+-- the number of an `open` that is not refused
+told_after : (t : TableState) (settings : Settings) (s : State) (outcome : Option Outcome) (carried : Carried) (path : List ℕ) (access : Access) (flags : OpenFlags) (p : Result Plan Errno) (o : Result Opening Errno) (does : Result Effect Errno) (sound : IsSound t) (all : AreSound t.descriptions) (shows : Shows t s)
+    → OpensAs t s sound all shows access flags p o does → is_refused (answered p) ≡ false → opened_number o ≡ number_told (call.Open path access flags) (concluded settings s outcome carried does).answer
+told_after t settings s outcome carried path access flags (Ok p) (Ok o) (Ok (Completes state r)) sound all shows opens made = ap (λ (x : Reply). number_told (call.Open path access flags) (answer.Reply x)) (sym opens.1)
+told_after t settings s outcome carried path access flags (Ok p) (Ok o) (Err e) sound all shows opens made = absurd opens
+told_after t settings s outcome carried path access flags (Ok p) (Err e) does sound all shows opens made = absurd opens
+told_after t settings s outcome carried path access flags (Err e) o does sound all shows opens made = absurd (true≢false made)
+
+tells_call : (t : TableState) (settings : Settings) (s : State) (outcome : Option Outcome) (carried : Carried) → IsSound t → AreSound t.descriptions → Shows t s → (c : Call) → is_refused (planned t c) ≡ false → number_given t c ≡ number_told c (step settings s c outcome carried).answer
+tells_call t settings s outcome carried sound all shows (call.Open path access flags) made = told_after t settings s outcome carried path access flags (open_plan t path access flags) (opening t path) (open_result s path access flags) sound all shows (opens t s sound all shows path access flags) made
+tells_call t settings s outcome carried sound all shows (call.Close descriptor) made = refl
+tells_call t settings s outcome carried sound all shows (call.Read descriptor count) made = refl
+tells_call t settings s outcome carried sound all shows (call.Write descriptor bytes) made = refl
+tells_call t settings s outcome carried sound all shows (call.Pread descriptor count position) made = refl
+tells_call t settings s outcome carried sound all shows (call.Pwrite descriptor bytes position) made = refl
+tells_call t settings s outcome carried sound all shows (call.Lseek descriptor offset whence) made = refl
+tells_call t settings s outcome carried sound all shows (call.Ftruncate descriptor size) made = refl
+tells_call t settings s outcome carried sound all shows (call.Fstat descriptor) made = refl
+tells_call t settings s outcome carried sound all shows (call.Dup descriptor) made = refl
+tells_call t settings s outcome carried sound all shows (call.DupFrom descriptor least) made = refl
+tells_call t settings s outcome carried sound all shows (call.Dup2 descriptor target) made = refl
+tells_call t settings s outcome carried sound all shows (call.Getfl descriptor) made = refl
+tells_call t settings s outcome carried sound all shows (call.Setfl descriptor append nonblock) made = refl
+tells_call t settings s outcome carried sound all shows (call.Link old_path new_path) made = refl
+tells_call t settings s outcome carried sound all shows (call.Unlink path) made = refl
+tells_call t settings s outcome carried sound all shows (call.Mkdir path) made = refl
+tells_call t settings s outcome carried sound all shows (call.Rmdir path) made = refl
+
+-- ## A call that the table refuses
+
+refused_as : (p : Plan) → is_refused p ≡ true → (e : Errno) × (p ≡ plan.Reply (reply.Fail e))
+refused_as (plan.Reply (reply.Fail e)) refused = (e, refl)
+refused_as (plan.Reply (reply.Count n)) refused = absurd (false≢true refused)
+refused_as (plan.Reply (reply.Data bytes)) refused = absurd (false≢true refused)
+refused_as (plan.Reply (reply.Number n)) refused = absurd (false≢true refused)
+refused_as (plan.Reply (reply.Pair a b)) refused = absurd (false≢true refused)
+refused_as (plan.Reply (reply.Stat kind number links)) refused = absurd (false≢true refused)
+refused_as (plan.Reply reply.Done) refused = absurd (false≢true refused)
+refused_as (plan.Node node act keep_table) refused = absurd (false≢true refused)
+
+refused_answer : (t : TableState) (settings : Settings) (s : State) (outcome : Option Outcome) (carried : Carried) → IsSound t → AreSound t.descriptions → Shows t s → (c : Call) → is_refused (planned t c) ≡ true → (e : Errno) × ((step settings s c outcome carried).answer ≡ answer.Reply (reply.Fail e))
+refused_answer t settings s outcome carried sound all shows c refused =
+    let how = refused_as (planned t c) refused in
+    let agrees : AgreesOn t (plan.Reply (reply.Fail how.0)) (locked_object s c) (step settings s c outcome carried).answer = subst (λ (p : Plan). AgreesOn t p (locked_object s c) (step settings s c outcome carried).answer) how.1 (plans-as_step t c sound all settings s outcome carried shows) in
+    (how.0, agrees.1)
+
+pub changes-as_step : (t : TableState) (c : Call) (after : TableState) → IsSound t → AreSound t.descriptions → (IsTrue (is_refused (planned t c)) → after ≡ t) → (is_refused (planned t c) ≡ false → Changes t c after) → ChangesAsStep t c after
+changes-as_step t c after sound all kept changed settings s outcome carried shows = by_test (is_refused (planned t c)) refl
+  where
+    by_test : (b : Bool) → is_refused (planned t c) ≡ b → Shows after (step settings s c outcome carried).after
+    by_test false made = changes_call t s settings outcome carried sound all shows c after made (changed made)
+    by_test true refused =
+        let fails = refused_answer t settings s outcome carried sound all shows c refused in
+        subst (λ (x : State). Shows after x) (sym (fail_leaves_state settings s c outcome carried fails.0 fails.1)) (subst (λ (u : TableState). Shows u s) (sym (kept refused)) shows)
+
+none_told : (c : Call) (e : Errno) → None ≡ number_told c (answer.Reply (reply.Fail e))
+none_told (call.Open path access flags) e = refl
+none_told (call.Close descriptor) e = refl
+none_told (call.Read descriptor count) e = refl
+none_told (call.Write descriptor bytes) e = refl
+none_told (call.Pread descriptor count position) e = refl
+none_told (call.Pwrite descriptor bytes position) e = refl
+none_told (call.Lseek descriptor offset whence) e = refl
+none_told (call.Ftruncate descriptor size) e = refl
+none_told (call.Fstat descriptor) e = refl
+none_told (call.Dup descriptor) e = refl
+none_told (call.DupFrom descriptor least) e = refl
+none_told (call.Dup2 descriptor target) e = refl
+none_told (call.Getfl descriptor) e = refl
+none_told (call.Setfl descriptor append nonblock) e = refl
+none_told (call.Link old_path new_path) e = refl
+none_told (call.Unlink path) e = refl
+none_told (call.Mkdir path) e = refl
+none_told (call.Rmdir path) e = refl
+
+pub tells-as_step : (t : TableState) (c : Call) (number : Option ℤ) → IsSound t → AreSound t.descriptions → (IsTrue (is_refused (planned t c)) → number ≡ None) → (is_refused (planned t c) ≡ false → number ≡ number_given t c) → TellsAsStep t c number
+tells-as_step t c number sound all silent told settings s outcome carried shows = by_test (is_refused (planned t c)) refl
+  where
+    by_test : (b : Bool) → is_refused (planned t c) ≡ b → number ≡ number_told c (step settings s c outcome carried).answer
+    by_test false made = told made ∙ tells_call t settings s outcome carried sound all shows c made
+    by_test true refused =
+        let fails = refused_answer t settings s outcome carried sound all shows c refused in
+        silent refused ∙ none_told c fails.0 ∙ ap (number_told c) (sym fails.1)

@@ -1,0 +1,262 @@
+-- Each call locks an object that is there, or the one that a new file becomes.
+use Rattle.std.proofs.Common.{◌≡◌, ℕ, zero, suc, ◌+◌, ◌<◌, inl, inr, List, length, Option, Some, None, is_some, Result, Ok, Err, Bool, true, false, not, ◌&&◌, ◌==◌, ◌≤◌, subst, refl, sym, ap, ◌∙◌, arith, if◌then◌else◌}
+use Rattle.std.proofs.lemmas.Bool.Decides.{nat_tests}
+use Rattle.std.specs.FinMap as fin
+use Rattle.std.specs.Ordering.{int_eq}
+use Rattle.std.specs.Prelude.{ℤ, pos, negsuc, IfOk, nat_le, nat_lt, slice_index_or}
+use Rattle.posix_terms.specs.Calls.{can_read, can_write}
+use Rattle.posix_terms.specs.Duplicates.{descriptor_number}
+use Rattle.posix_terms.specs.Names.{file_named, removed_dir}
+use Rattle.posix_terms.specs.Object.{Node, FileNode, Directory}
+use Rattle.posix_terms.specs.Paths.{node_at, resolved}
+use Rattle.posix_terms.specs.Refusals.{◌>>=◌, count_of, position_of, refuse_if, some_or}
+use Rattle.posix_terms.specs.Transfers.{size_of}
+use Rattle.posix_terms.specs.declared.call.Access.{Access}
+use Rattle.posix_terms.specs.declared.call.Call.{Call}
+use Rattle.posix_terms.specs.declared.call.Call.TheVariants as call
+use Rattle.posix_terms.specs.declared.call.OpenFlags.{OpenFlags}
+use Rattle.posix_terms.specs.declared.errno.Errno.{Errno}
+use Rattle.posix_terms.specs.declared.limits.TheConstants.Limits as limit
+use Rattle.posix_terms.specs.declared.errno.Errno.TheVariants.{EBADF, EFBIG, EINVAL, EEXIST, EMFILE, ENOENT, ENOSPC}
+use Rattle.posix_terms.specs.declared.reply.Reply.{Reply}
+use Rattle.posix_terms.specs.declared.reply.Reply.TheVariants as reply
+use Rattle.file_descriptions.specs.Descriptions.{ContainsKey, description_at}
+use Rattle.file_descriptions.specs.declared.description.Description.{Description}
+use Rattle.descriptor_table.proofs.SoundLemmas.{known_of, named_at, none_past, used_of, used-named}
+use Rattle.descriptor_table.specs.Plans.{IsKnownNumber, LocksKnown, addable, answered, close_plan, dup2_plan, dup_from_plan, dup_plan, fstat_plan, ftruncate_plan, getfl_plan, link_plan, lseek_plan, mkdir_plan, open_new, open_node, open_plan, open_there, plan_of, planned, pread_plan, pwrite_plan, read_plan, release, replaced, rmdir_plan, setfl_plan, unlink_plan, write_plan}
+use Rattle.descriptor_table.specs.Table.{TableState, IsSound, described, free_object, is_last_name, is_used, key_at, lowest_free, lowest_from}
+use Rattle.descriptor_table.specs.declared.plan.Op.TheVariants as op
+use Rattle.descriptor_table.specs.declared.plan.Plan.{Plan}
+use Rattle.descriptor_table.specs.declared.plan.Plan.TheVariants as plan
+
+-- ## Which numbers are known
+
+-- the lowest of some numbers is one of them
+pub lowest_below : {X : Type 0} (slots : List (Option X)) (left from n : ℕ) → lowest_from slots left from ≡ Some n → n < from + left
+unfolding lowest_from
+lowest_below slots zero from n is = cc
+lowest_below slots (suc left) from n is = by_test (is_some (slice_index_or slots from None)) refl (λ later. lowest_below slots left (from + 1) n later)
+  where
+    by_test : (b : Bool) → is_some (slice_index_or slots from None) ≡ b → (lowest_from slots left (from + 1) ≡ Some n → n < from + 1 + left) → n < from + suc left
+    by_test true taken later =
+        let h : n < from + 1 + left = later (sym (ap (λ (b : Bool). if b then lowest_from slots left (from + 1) else Some from) taken) ∙ is) in
+        omega arith
+    by_test false free later =
+        let h : Some from ≡ Some n = sym (ap (λ (b : Bool). if b then lowest_from slots left (from + 1) else Some from) free) ∙ is in
+        let same : from ≡ n = cc in
+        omega arith
+
+pub equal_nat : (n m : ℕ) → (n == m) ≡ true → n ≡ m
+equal_nat n m e = grind (arith, nat_tests)
+
+pub some_inside : (slots : List (Option ℕ)) (n : ℕ) → is_some (slice_index_or slots n None) ≡ true → (length slots ≤ n → slice_index_or slots n None ≡ None) → n < length slots
+some_inside slots n used past = grind (arith, nat_tests)
+
+pub used_known : (t : TableState) (node : ℕ) → IsSound t → is_used t node ≡ true → IsKnownNumber t node
+used_known t node sound used =
+    let inside : node < length t.objects = some_inside t.objects node used (none_past t.objects node) in
+    let long : length t.objects ≡ 48 = sound.object_numbers in
+    (omega arith, inl used)
+
+pub free_known : (t : TableState) (node : ℕ) → free_object t ≡ Some node → IsKnownNumber t node
+free_known t node is = let h : node < 0 + 48 = lowest_below t.objects 48 0 node is in (omega arith, inr is)
+
+key_used : (t : TableState) (descriptor : ℤ) (key : ℕ) → IsSound t → key_at t descriptor ≡ Some key → is_used t (let d : Description = description_at t.descriptions key in d.node) ≡ true
+key_used t (pos n) key sound is = used_of t key sound (known_of t n key sound is)
+key_used t (negsuc n) key sound is = cc
+
+-- the object of a description that was found
+pub found_used : (t : TableState) (descriptor : ℤ) (found : ℕ × Description) → IsSound t → described t descriptor ≡ Ok found → is_used t found.1.node ≡ true
+found_used t descriptor found sound is = by_key (key_at t descriptor) refl is
+  where
+    by_key : (o : Option ℕ) → key_at t descriptor ≡ o → (some_or o EBADF >>= (λ key. Ok (key, description_at t.descriptions key))) ≡ Ok found → is_used t found.1.node ≡ true
+    by_key None at is = cc
+    by_key (Some key) at is =
+        let same : (key, description_at t.descriptions key) ≡ found = cc in
+        subst (λ (p : ℕ × Description). is_used t p.1.node ≡ true) same (key_used t descriptor key sound at)
+
+found_known : (t : TableState) (descriptor : ℤ) (found : ℕ × Description) → IsSound t → described t descriptor ≡ Ok found → IsKnownNumber t found.1.node
+found_known t descriptor found sound is = used_known t found.1.node sound (found_used t descriptor found sound is)
+
+pub found_key : (t : TableState) (descriptor : ℤ) (found : ℕ × Description) → IsSound t → described t descriptor ≡ Ok found → ContainsKey t.descriptions found.0
+found_key t descriptor found sound is = by_key (key_at t descriptor) refl is
+  where
+    by_number : (descriptor : ℤ) (key : ℕ) → key_at t descriptor ≡ Some key → ContainsKey t.descriptions key
+    by_number (pos n) key at = known_of t n key sound at
+    by_number (negsuc n) key at = cc
+
+    by_key : (o : Option ℕ) → key_at t descriptor ≡ o → (some_or o EBADF >>= (λ key. Ok (key, description_at t.descriptions key))) ≡ Ok found → ContainsKey t.descriptions found.0
+    by_key None at is = cc
+    by_key (Some key) at is =
+        let same : (key, description_at t.descriptions key) ≡ found = cc in
+        subst (λ (p : ℕ × Description). ContainsKey t.descriptions p.0) same (by_number descriptor key at)
+
+-- ## Each call
+
+through : (t : TableState) {A : Type 0} (r : Result A Errno) (f : A → Result Plan Errno) → ((x : A) → r ≡ Ok x → IfOk (f x) (LocksKnown t)) → IfOk (r >>= f) (LocksKnown t)
+through t (Ok x) f each = each x refl
+through t (Err e) f each = tt
+
+known-release : (t : TableState) (d : Description) (r : Reply) → IsKnownNumber t d.node → LocksKnown t (release d r)
+known-release t d r known = by_test (d.holders == 1)
+  where
+    by_test : (b : Bool) → LocksKnown t (if b then plan.Node d.node op.Release false else plan.Reply r)
+    by_test true = (known, tt)
+    by_test false = tt
+
+known-there : (t : TableState) (node : Node) (flags : OpenFlags) → ((n : ℕ) → node ≡ FileNode n → IsKnownNumber t n) → IfOk (open_there t node flags) (LocksKnown t)
+known-there t Directory flags known = tt
+known-there t (FileNode node) flags known = through t (some_or (lowest_free t 0) EMFILE) _ (λ n is. (known node refl, tt))
+
+known-new : (t : TableState) (flags : OpenFlags) → IfOk (open_new t flags) (LocksKnown t)
+known-new t flags =
+    through t (refuse_if (not flags.create) ENOENT) _ (λ a x. through t (refuse_if (nat_le 64 (fin.len t.paths)) ENOSPC) _ (λ b y.
+    through t (some_or (free_object t) ENOSPC) _ (λ node is. through t (some_or (lowest_free t 0) EMFILE) _ (λ n z. (free_known t node (was_some (free_object t) node is), tt)))))
+  where
+    was_some : (o : Option ℕ) (n : ℕ) → some_or o ENOSPC ≡ Ok n → o ≡ Some n
+    was_some None n is = cc
+    was_some (Some m) n is = cc
+
+known-node : (t : TableState) (node : Option Node) (flags : OpenFlags) → ((n : ℕ) → node ≡ Some (FileNode n) → IsKnownNumber t n) → IfOk (open_node t node flags) (LocksKnown t)
+known-node t None flags known = known-new t flags
+known-node t (Some node) flags known = through t (refuse_if (flags.create && flags.exclusive) EEXIST) _ (λ a x. known-there t node flags (λ n is. known n (ap (λ (m : Node). Some m) is)))
+
+known-open : (t : TableState) (path : List ℕ) (access : Access) (flags : OpenFlags) → IsSound t → IfOk (open_plan t path access flags) (LocksKnown t)
+unfolding open_plan
+known-open t path access flags sound =
+    through t (refuse_if (flags.truncate && not (can_write access)) EINVAL) _ (λ a x. through t (resolved t.paths path) _ (λ components y.
+    known-node t (node_at t.paths components) flags (λ n is. used_known t n sound (named_at t components n sound is))))
+
+known-close : (t : TableState) (descriptor : ℤ) → IsSound t → IfOk (close_plan t descriptor) (LocksKnown t)
+unfolding close_plan
+known-close t descriptor sound = through t (described t descriptor) _ (λ found is. known-release t found.1 reply.Done (found_known t descriptor found sound is))
+
+known-read : (t : TableState) (descriptor count : ℤ) → IsSound t → IfOk (read_plan t descriptor count) (LocksKnown t)
+unfolding read_plan
+known-read t descriptor count sound =
+    through t (described t descriptor) _ (λ found is. through t (refuse_if (not (can_read found.1.access)) EBADF) _ (λ a x.
+    through t (count_of count) _ (λ n y. (found_known t descriptor found sound is, found_key t descriptor found sound is))))
+
+known-write : (t : TableState) (descriptor : ℤ) (count : ℕ) → IsSound t → IfOk (write_plan t descriptor count) (LocksKnown t)
+unfolding write_plan
+known-write t descriptor count sound =
+    through t (described t descriptor) _ (λ found is. through t (refuse_if (not (can_write found.1.access)) EBADF) _ (λ a x.
+    through t (refuse_if (nat_lt 32767 count) EINVAL) _ (λ b y. (found_known t descriptor found sound is, found_key t descriptor found sound is))))
+
+known-pread : (t : TableState) (descriptor count position : ℤ) → IsSound t → IfOk (pread_plan t descriptor count position) (LocksKnown t)
+unfolding pread_plan
+known-pread t descriptor count position sound =
+    through t (described t descriptor) _ (λ found is. through t (refuse_if (not (can_read found.1.access)) EBADF) _ (λ a x.
+    through t (count_of count) _ (λ n y. through t (position_of position) _ (λ p z. (found_known t descriptor found sound is, tt)))))
+
+known-pwrite : (t : TableState) (descriptor : ℤ) (count : ℕ) (position : ℤ) → IsSound t → IfOk (pwrite_plan t descriptor count position) (LocksKnown t)
+unfolding pwrite_plan
+known-pwrite t descriptor count position sound =
+    through t (described t descriptor) _ (λ found is. through t (refuse_if (not (can_write found.1.access)) EBADF) _ (λ a x.
+    through t (refuse_if (nat_lt 32767 count) EINVAL) _ (λ b y. through t (position_of position) _ (λ p z. (found_known t descriptor found sound is, tt)))))
+
+known-lseek : (t : TableState) (descriptor : ℤ) → IsSound t → IfOk (lseek_plan t descriptor) (LocksKnown t)
+unfolding lseek_plan
+known-lseek t descriptor sound = through t (described t descriptor) _ (λ found is. (found_known t descriptor found sound is, found_key t descriptor found sound is))
+
+-- a size that is taken is one that a file may have
+small_size : (size : ℤ) (n : ℕ) → size_of size ≡ Ok n → n ≤ limit.FILE_BYTES
+small_size (pos n) m is = by_size (nat_lt limit.FILE_BYTES n) refl is
+  where
+    by_size : (b : Bool) → nat_lt limit.FILE_BYTES n ≡ b → (if b then Err EFBIG else Ok n) ≡ Ok m → m ≤ limit.FILE_BYTES
+    by_size true over is = cc
+    by_size false over is =
+        let same : n ≡ m = cc in
+        let fits : n ≤ limit.FILE_BYTES = grind (arith, nat_tests) in
+        subst (λ (k : ℕ). k ≤ limit.FILE_BYTES) same fits
+small_size (negsuc n) m is = cc
+
+known-ftruncate : (t : TableState) (descriptor size : ℤ) → IsSound t → IfOk (ftruncate_plan t descriptor size) (LocksKnown t)
+unfolding ftruncate_plan
+known-ftruncate t descriptor size sound =
+    through t (described t descriptor) _ (λ found is. through t (refuse_if (not (can_write found.1.access)) EINVAL) _ (λ a x.
+    through t (size_of size) _ (λ n y. (found_known t descriptor found sound is, small_size size n y))))
+
+known-fstat : (t : TableState) (descriptor : ℤ) → IsSound t → IfOk (fstat_plan t descriptor) (LocksKnown t)
+unfolding fstat_plan
+known-fstat t descriptor sound = through t (described t descriptor) _ (λ found is. (found_known t descriptor found sound is, tt))
+
+known-dup : (t : TableState) (descriptor : ℤ) → IfOk (dup_plan t descriptor) (LocksKnown t)
+unfolding dup_plan
+known-dup t descriptor = through t (described t descriptor) _ (λ found is. through t (some_or (lowest_free t 0) EMFILE) _ (λ n x. tt))
+
+known-dup_from : (t : TableState) (descriptor least : ℤ) → IfOk (dup_from_plan t descriptor least) (LocksKnown t)
+unfolding dup_from_plan
+known-dup_from t descriptor least =
+    through t (described t descriptor) _ (λ found is. through t (descriptor_number least EINVAL) _ (λ first x.
+    through t (some_or (lowest_free t first) EMFILE) _ (λ n y. tt)))
+
+known-replaced : (t : TableState) (found : Result (ℕ × Description) Errno) (r : Reply) → ((x : ℕ × Description) → found ≡ Ok x → IsKnownNumber t x.1.node) → LocksKnown t (replaced found r)
+known-replaced t (Ok x) r known = known-release t x.1 r (known x refl)
+known-replaced t (Err e) r known = tt
+
+known-dup2 : (t : TableState) (descriptor target : ℤ) → IsSound t → IfOk (dup2_plan t descriptor target) (LocksKnown t)
+unfolding dup2_plan
+known-dup2 t descriptor target sound =
+    through t (described t descriptor) _ (λ found is. through t (descriptor_number target EBADF) _ (λ n x. by_test (int_eq descriptor target)))
+  where
+    by_test : (b : Bool) → LocksKnown t (if b then plan.Reply (reply.Number target) else replaced (described t target) (reply.Number target))
+    by_test true = tt
+    by_test false = known-replaced t (described t target) (reply.Number target) (λ x is. found_known t target x sound is)
+
+known-getfl : (t : TableState) (descriptor : ℤ) → IfOk (getfl_plan t descriptor) (LocksKnown t)
+unfolding getfl_plan
+known-getfl t descriptor = through t (described t descriptor) _ (λ found is. tt)
+
+known-setfl : (t : TableState) (descriptor : ℤ) → IfOk (setfl_plan t descriptor) (LocksKnown t)
+unfolding setfl_plan
+known-setfl t descriptor = through t (described t descriptor) _ (λ found is. tt)
+
+known-link : (t : TableState) (old_path new_path : List ℕ) → IfOk (link_plan t old_path new_path) (LocksKnown t)
+unfolding link_plan
+known-link t old_path new_path = through t (file_named t.paths old_path) _ (λ node is. through t (addable t.paths new_path) _ (λ a x. tt))
+
+known-unlink : (t : TableState) (path : List ℕ) → IsSound t → IfOk (unlink_plan t path) (LocksKnown t)
+unfolding unlink_plan
+known-unlink t path sound = through t (file_named t.paths path) _ (λ node is. by_test node (used_known t node sound (used-named t path node is sound)) (is_last_name t node))
+  where
+    by_test : (node : ℕ) → IsKnownNumber t node → (b : Bool) → LocksKnown t (if b then plan.Node node op.Release false else plan.Reply reply.Done)
+    by_test node known true = (known, tt)
+    by_test node known false = tt
+
+known-mkdir : (t : TableState) (path : List ℕ) → IfOk (mkdir_plan t path) (LocksKnown t)
+unfolding mkdir_plan
+known-mkdir t path = through t (addable t.paths path) _ (λ a x. tt)
+
+known-rmdir : (t : TableState) (path : List ℕ) → IfOk (rmdir_plan t path) (LocksKnown t)
+unfolding rmdir_plan
+known-rmdir t path = through t (removed_dir t.paths path) _ (λ a x. tt)
+
+known-call : (t : TableState) (c : Call) → IsSound t → IfOk (plan_of t c) (LocksKnown t)
+known-call t (call.Open path access flags) sound = known-open t path access flags sound
+known-call t (call.Close descriptor) sound = known-close t descriptor sound
+known-call t (call.Read descriptor count) sound = known-read t descriptor count sound
+known-call t (call.Write descriptor bytes) sound = known-write t descriptor (length bytes) sound
+known-call t (call.Pread descriptor count position) sound = known-pread t descriptor count position sound
+known-call t (call.Pwrite descriptor bytes position) sound = known-pwrite t descriptor (length bytes) position sound
+known-call t (call.Lseek descriptor offset whence) sound = known-lseek t descriptor sound
+known-call t (call.Ftruncate descriptor size) sound = known-ftruncate t descriptor size sound
+known-call t (call.Fstat descriptor) sound = known-fstat t descriptor sound
+known-call t (call.Dup descriptor) sound = known-dup t descriptor
+known-call t (call.DupFrom descriptor least) sound = known-dup_from t descriptor least
+known-call t (call.Dup2 descriptor target) sound = known-dup2 t descriptor target sound
+known-call t (call.Getfl descriptor) sound = known-getfl t descriptor
+known-call t (call.Setfl descriptor append nonblock) sound = known-setfl t descriptor
+known-call t (call.Link old_path new_path) sound = known-link t old_path new_path
+known-call t (call.Unlink path) sound = known-unlink t path sound
+known-call t (call.Mkdir path) sound = known-mkdir t path
+known-call t (call.Rmdir path) sound = known-rmdir t path
+
+known-answered : (t : TableState) (r : Result Plan Errno) → IfOk r (LocksKnown t) → LocksKnown t (answered r)
+known-answered t (Ok p) known = known
+known-answered t (Err e) known = tt
+
+pub known-planned : (t : TableState) (c : Call) → IsSound t → LocksKnown t (planned t c)
+known-planned t c sound = known-answered t (plan_of t c) (known-call t c sound)
+
+pub ruleset known = (known-planned)

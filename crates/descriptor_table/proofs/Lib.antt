@@ -1,0 +1,15 @@
+pub mod ActLemmas
+pub mod Agreeing
+pub mod ChangeLemmas
+pub mod EntryLemmas
+pub mod FollowLemmas
+pub mod KnownLemmas
+pub mod NumberLemmas
+pub mod ObjectLemmas
+pub mod OffsetLemmas
+pub mod OtherLemmas
+pub mod PathLemmas
+pub mod PlanLemmas
+pub mod ShownLemmas
+pub mod SlotLemmas
+pub mod SoundLemmas

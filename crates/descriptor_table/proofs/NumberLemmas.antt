@@ -1,0 +1,220 @@
+-- The numbers of objects, and how many were made, after a change.
+use Rattle.std.proofs.Common.{◌≡◌, ◌⊎◌, ℕ, ◌+◌, ◌-◌, ◌<◌, length, List, Option, Some, None, Result, Ok, Err, Bool, true, false, if◌then◌else◌, refl, sym, ap, ◌∙◌, subst, inl, inr, arith}
+use Rattle.std.proofs.lemmas.List.{get_or-set_other, get_or-set_same}
+use Rattle.std.proofs.lemmas.Option.{none-some}
+use Rattle.std.specs.Ordering.{int_eq}
+use Rattle.std.specs.Prelude.{ℤ, slice_index_or, slice_set}
+use Rattle.posix_terms.specs.Duplicates.{descriptor_number}
+use Rattle.posix_terms.specs.Names.{PathMap, added, file_named, removed, removed_dir}
+use Rattle.posix_terms.specs.Object.{Node, FileNode, Directory}
+use Rattle.posix_terms.specs.Refusals.{◌>>=◌, some_or}
+use Rattle.posix_terms.specs.declared.call.Access.{Access}
+use Rattle.posix_terms.specs.declared.call.Call.{Call}
+use Rattle.posix_terms.specs.declared.call.Call.TheVariants as call
+use Rattle.posix_terms.specs.declared.call.OpenFlags.{OpenFlags}
+use Rattle.posix_terms.specs.declared.errno.Errno.{Errno}
+use Rattle.posix_terms.specs.declared.errno.Errno.TheVariants.{EBADF, EINVAL, EMFILE, ENOSPC}
+use Rattle.directories.specs.Lookup.{looked_up}
+use Rattle.file_descriptions.specs.Descriptions.{description_at, is_last_held, with_description, without}
+use Rattle.file_descriptions.specs.declared.description.Description.{Description}
+use Rattle.descriptor_table.proofs.KnownLemmas.{lowest_below}
+use Rattle.descriptor_table.proofs.PlanLemmas.{lowest_none}
+use Rattle.descriptor_table.proofs.ObjectLemmas.{IsNew, IsOld, Taken, freed_slot, taken_slot}
+use Rattle.descriptor_table.specs.Agreement.{IsBorn, NumbersStay}
+use Rattle.descriptor_table.specs.Changes.{Changes, IsOpened, Opening, close_change, closed, closed_if_open, dup2_change, dup_change, dup_from_change, file_at, found_or_made, kept_or, let_go, link_change, mkdir_change, opening, rmdir_change, setfl_change, shared, unlink_change, with_file, with_paths, without_gone}
+use Rattle.descriptor_table.specs.Table.{TableState, IsSound, described, free_object, is_gone, lowest_free}
+
+numbers_same : (t u : TableState) → u.objects ≡ t.objects → u.made_objects ≡ t.made_objects → u.descriptions.made ≡ t.descriptions.made → NumbersStay t u
+numbers_same t u objects made descriptions =
+    record {
+      numbers = λ node birth is. inl (ap (λ (os : List (Option ℕ)). slice_index_or os node None) (sym objects) ∙ is);
+      objects = omega (arith, made);
+      born = inl made;
+      descriptions = omega (arith, descriptions);
+    }
+
+numbers_gone : (t u : TableState) (node : ℕ) → NumbersStay t u → u.made_objects ≡ t.made_objects → NumbersStay t (without_gone u node)
+numbers_gone t u node stay made = by_gone (is_gone u node)
+  where
+    by_gone : (b : Bool) → NumbersStay t (if b then record u { objects = slice_set u.objects node None } else u)
+    by_gone true = record { numbers = λ n birth is. stay.numbers n birth (freed_slot u.objects node n birth is).0; objects = stay.objects; born = inl made; descriptions = stay.descriptions }
+    by_gone false = stay
+
+numbers_let_go : (t : TableState) (n key : ℕ) → NumbersStay t (let_go t n key)
+numbers_let_go t n key = numbers_same t (let_go t n key) refl refl (by_last (is_last_held t.descriptions key))
+  where
+    by_last : (b : Bool) → (if b then without t.descriptions key else with_description t.descriptions key (record (description_at t.descriptions key) { holders = (description_at t.descriptions key).holders - 1 })).made ≡ t.descriptions.made
+    by_last true = refl
+    by_last false = refl
+
+numbers_closed : (t : TableState) (n key : ℕ) → NumbersStay t (closed t n key)
+numbers_closed t n key = by_last (is_last_held t.descriptions key)
+  where
+    by_last : (b : Bool) → NumbersStay t (if b then without_gone (let_go t n key) (description_at t.descriptions key).node else let_go t n key)
+    by_last true = numbers_gone t (let_go t n key) (description_at t.descriptions key).node (numbers_let_go t n key) refl
+    by_last false = numbers_let_go t n key
+
+born_along : (t u v : TableState) → v.objects ≡ u.objects → v.made_objects ≡ u.made_objects → (u.made_objects ≡ t.made_objects) ⊎ IsBorn t u → (v.made_objects ≡ t.made_objects) ⊎ IsBorn t v
+born_along t u v objects made (inl same) = inl (made ∙ same)
+born_along t u v objects made (inr b) =
+    let at = λ (k : ℕ). ap (λ (os : List (Option ℕ)). slice_index_or os k None) objects in
+    inr (record { node = b.node; free = b.free; here = at b.node ∙ b.here; others = λ other birth is. at other ∙ b.others other birth is; made = made ∙ b.made })
+
+-- a number more refers to a description that is there
+numbers_shared : (t u : TableState) (n key : ℕ) → NumbersStay t u → NumbersStay t (shared u n key)
+numbers_shared t u n key stay = record { numbers = stay.numbers; objects = stay.objects; born = born_along t u (shared u n key) refl refl stay.born; descriptions = stay.descriptions }
+
+abbrev Stay : TableState → Result TableState Errno → Type 0
+Stay t (Ok u) = NumbersStay t u
+Stay t (Err e) = Unit {0}
+
+through : (t : TableState) {A : Type 0} (r : Result A Errno) (f : A → Result TableState Errno) → ((x : A) → Stay t (f x)) → Stay t (r >>= f)
+through t (Ok x) f each = each x
+through t (Err e) f each = tt
+
+kept : (t after : TableState) (u : Result TableState Errno) → Stay t u → after ≡ kept_or t u → NumbersStay t after
+kept t after (Ok u) stay is = subst (NumbersStay t) (sym is) stay
+kept t after (Err e) stay is = subst (NumbersStay t) (sym is) (numbers_same t t refl refl refl)
+
+module _ (t : TableState) where
+  stay-close : (descriptor : ℤ) → Stay t (close_change t descriptor)
+  unfolding close_change
+  stay-close descriptor = through t (descriptor_number descriptor EBADF) _ (λ n. through t (described t descriptor) _ (λ found. numbers_closed t n found.0))
+
+  stay-dup : (descriptor : ℤ) → Stay t (dup_change t descriptor)
+  unfolding dup_change
+  stay-dup descriptor = through t (described t descriptor) _ (λ found. through t (some_or (lowest_free t 0) EMFILE) _ (λ n. numbers_shared t t n found.0 (numbers_same t t refl refl refl)))
+
+  stay-dup_from : (descriptor least : ℤ) → Stay t (dup_from_change t descriptor least)
+  unfolding dup_from_change
+  stay-dup_from descriptor least = through t (described t descriptor) _ (λ found. through t (descriptor_number least EINVAL) _ (λ first. through t (some_or (lowest_free t first) EMFILE) _ (λ n. numbers_shared t t n found.0 (numbers_same t t refl refl refl))))
+
+  stay-dup2 : (descriptor target : ℤ) → Stay t (dup2_change t descriptor target)
+  unfolding dup2_change
+  stay-dup2 descriptor target = through t (described t descriptor) _ (λ found. through t (descriptor_number target EBADF) _ (λ n. by_same n found.0 (int_eq descriptor target)))
+    where
+      by_target : (n : ℕ) (r : Result (ℕ × Description) Errno) → NumbersStay t (closed_if_open t n r)
+      by_target n (Ok found) = numbers_closed t n found.0
+      by_target n (Err e) = numbers_same t t refl refl refl
+
+      by_same : (n key : ℕ) (b : Bool) → NumbersStay t (if b then t else shared (closed_if_open t n (described t target)) n key)
+      by_same n key true = numbers_same t t refl refl refl
+      by_same n key false = numbers_shared t (closed_if_open t n (described t target)) n key (by_target n (described t target))
+
+  stay-setfl : (descriptor : ℤ) (append nonblock : Bool) → Stay t (setfl_change t descriptor append nonblock)
+  unfolding setfl_change
+  stay-setfl descriptor append nonblock = through t (described t descriptor) _ (λ found. numbers_same t _ refl refl refl)
+
+  stay-link : (old_path new_path : List ℕ) → Stay t (link_change t old_path new_path)
+  unfolding link_change
+  stay-link old_path new_path = through t (file_named t.paths old_path) _ (λ node. through t (added t.paths new_path (FileNode node)) _ (λ paths. numbers_same t (with_paths t paths) refl refl refl))
+
+  stay-unlink : (path : List ℕ) → Stay t (unlink_change t path)
+  unfolding unlink_change
+  stay-unlink path = through t (removed t.paths path) _ (λ less. numbers_gone t (with_paths t less.0) less.1 (numbers_same t (with_paths t less.0) refl refl refl) refl)
+
+  stay-mkdir : (path : List ℕ) → Stay t (mkdir_change t path)
+  unfolding mkdir_change
+  stay-mkdir path = through t (added t.paths path Directory) _ (λ paths. numbers_same t (with_paths t paths) refl refl refl)
+
+  stay-rmdir : (path : List ℕ) → Stay t (rmdir_change t path)
+  unfolding rmdir_change
+  stay-rmdir path = through t (removed_dir t.paths path) _ (λ paths. numbers_same t (with_paths t paths) refl refl refl)
+
+-- ## Opening
+
+-- the table where the file is there, in which no description was made
+abbrev Ready : TableState → TableState → Type 0
+Ready t u = NumbersStay t u × (u.descriptions.made ≡ t.descriptions.made)
+
+-- what stands at a number once another one was taken
+taken_or : (t : TableState) (node n birth : ℕ) → free_object t ≡ Some node → Taken t.objects node t.made_objects n birth → (slice_index_or t.objects n None ≡ Some birth) ⊎ ((free_object t ≡ Some n) × (birth ≡ t.made_objects))
+taken_or t node n birth free (IsNew here is) = inr (free ∙ ap (λ (k : ℕ). Some k) (sym here), is)
+taken_or t node n birth free (IsOld was) = inl was
+
+ready_file : (t : TableState) (paths : PathMap) (node : ℕ) → IsSound t → free_object t ≡ Some node → Ready t (with_file t paths node)
+ready_file t paths node sound free =
+    let below : node < 0 + 48 = lowest_below t.objects 48 0 node free in
+    let long : length t.objects ≡ 48 = sound.object_numbers in
+    let inside : node < length t.objects = omega (arith, below, long) in (
+      record {
+        numbers = λ n birth is. taken_or t node n birth free (taken_slot t.objects node t.made_objects n birth inside is);
+        objects = omega arith;
+        born = inr (record {
+          node = node;
+          free = free;
+          here = get_or-set_same t.objects node (Some t.made_objects) None inside;
+          others = λ other birth is. get_or-set_other t.objects node other (Some t.made_objects) None (λ same. none_taken other birth same is) ∙ is;
+          made = refl;
+        });
+        descriptions = omega arith;
+      },
+      refl,
+    )
+  where
+    none_taken : (other birth : ℕ) → other ≡ node → slice_index_or t.objects other None ≡ Some birth → ⊥
+    none_taken other birth same is = none-some birth (sym (ap (λ (k : ℕ). slice_index_or t.objects k None) same ∙ lowest_none t.objects 48 0 node free) ∙ is)
+
+abbrev ReadyFile : TableState → Result (TableState × ℕ) Errno → Type 0
+ReadyFile t (Ok file) = Ready t file.0
+ReadyFile t (Err e) = Unit {0}
+
+abbrev ReadyOpening : TableState → Result Opening Errno → Type 0
+ReadyOpening t (Ok o) = Ready t o.ready
+ReadyOpening t (Err e) = Unit {0}
+
+through_file : (t : TableState) {A : Type 0} (r : Result A Errno) (f : A → Result (TableState × ℕ) Errno) → ((x : A) → r ≡ Ok x → ReadyFile t (f x)) → ReadyFile t (r >>= f)
+through_file t (Ok x) f each = each x refl
+through_file t (Err e) f each = tt
+
+was_some : (o : Option ℕ) (n : ℕ) → some_or o ENOSPC ≡ Ok n → o ≡ Some n
+was_some None n is = cc
+was_some (Some m) n is = cc
+
+file_ready : (t : TableState) (path : List ℕ) (node : Option Node) → IsSound t → ReadyFile t (file_at t path node)
+file_ready t path (Some (FileNode node)) sound = (numbers_same t t refl refl refl, refl)
+file_ready t path (Some Directory) sound = tt
+file_ready t path None sound =
+    through_file t (some_or (free_object t) ENOSPC) _ (λ node is. through_file t (added t.paths path (FileNode node)) _ (λ paths a. ready_file t paths node sound (was_some (free_object t) node is)))
+
+found_ready : (t : TableState) (path : List ℕ) → IsSound t → ReadyFile t (found_or_made t path)
+unfolding found_or_made
+found_ready t path sound = through_file t (looked_up t.paths path) _ (λ node is. file_ready t path node sound)
+
+opening_ready : (t : TableState) (path : List ℕ) → IsSound t → ReadyOpening t (opening t path)
+unfolding opening
+opening_ready t path sound = by_number (some_or (lowest_free t 0) EMFILE) (found_or_made t path) (found_ready t path sound)
+  where
+    by_number : (r : Result ℕ Errno) (file : Result (TableState × ℕ) Errno) → ReadyFile t file → ReadyOpening t (r >>= (λ n. file >>= (λ (x : TableState × ℕ). Ok (record { number = n; node = x.1; ready = x.0 }))))
+    by_number (Err e) file ready = tt
+    by_number (Ok n) (Err e) ready = tt
+    by_number (Ok n) (Ok x) ready = ready
+
+opened_stay : (t after : TableState) (access : Access) (flags : OpenFlags) (o : Result Opening Errno) → ReadyOpening t o → IsOpened t access flags o after → NumbersStay t after
+opened_stay t after access flags (Err e) ready is = subst (NumbersStay t) (sym is) (numbers_same t t refl refl refl)
+opened_stay t after access flags (Ok o) ready (key, fresh, is) = subst (NumbersStay t) (sym is) (record { numbers = ready.0.numbers; objects = ready.0.objects; born = born_along t o.ready _ refl refl ready.0.born; descriptions = omega arith })
+
+-- ## All calls
+
+pub numbers-stay : (t : TableState) (c : Call) (after : TableState) → IsSound t → Changes t c after → NumbersStay t after
+numbers-stay t (call.Open path access flags) after sound is = opened_stay t after access flags (opening t path) (opening_ready t path sound) is
+numbers-stay t (call.Close descriptor) after sound is = kept t after (close_change t descriptor) (stay-close t descriptor) is
+numbers-stay t (call.Read descriptor count) after sound is = kept t after (Ok t) (numbers_same t t refl refl refl) is
+numbers-stay t (call.Write descriptor bytes) after sound is = kept t after (Ok t) (numbers_same t t refl refl refl) is
+numbers-stay t (call.Pread descriptor count position) after sound is = kept t after (Ok t) (numbers_same t t refl refl refl) is
+numbers-stay t (call.Pwrite descriptor bytes position) after sound is = kept t after (Ok t) (numbers_same t t refl refl refl) is
+numbers-stay t (call.Lseek descriptor offset whence) after sound is = kept t after (Ok t) (numbers_same t t refl refl refl) is
+numbers-stay t (call.Ftruncate descriptor size) after sound is = kept t after (Ok t) (numbers_same t t refl refl refl) is
+numbers-stay t (call.Fstat descriptor) after sound is = kept t after (Ok t) (numbers_same t t refl refl refl) is
+numbers-stay t (call.Dup descriptor) after sound is = kept t after (dup_change t descriptor) (stay-dup t descriptor) is
+numbers-stay t (call.DupFrom descriptor least) after sound is = kept t after (dup_from_change t descriptor least) (stay-dup_from t descriptor least) is
+numbers-stay t (call.Dup2 descriptor target) after sound is = kept t after (dup2_change t descriptor target) (stay-dup2 t descriptor target) is
+numbers-stay t (call.Getfl descriptor) after sound is = kept t after (Ok t) (numbers_same t t refl refl refl) is
+numbers-stay t (call.Setfl descriptor append nonblock) after sound is = kept t after (setfl_change t descriptor append nonblock) (stay-setfl t descriptor append nonblock) is
+numbers-stay t (call.Link old_path new_path) after sound is = kept t after (link_change t old_path new_path) (stay-link t old_path new_path) is
+numbers-stay t (call.Unlink path) after sound is = kept t after (unlink_change t path) (stay-unlink t path) is
+numbers-stay t (call.Mkdir path) after sound is = kept t after (mkdir_change t path) (stay-mkdir t path) is
+numbers-stay t (call.Rmdir path) after sound is = kept t after (rmdir_change t path) (stay-rmdir t path) is
+
+pub numbers-unchanged : (t : TableState) → NumbersStay t t
+numbers-unchanged t = numbers_same t t refl refl refl

@@ -1,0 +1,358 @@
+-- What a call leaves alone: other objects, and other descriptions' offsets.
+use Rattle.std.proofs.Common.{◌≡◌, ◌≢◌, ◌⊎◌, ℕ, ◌+◌, ◌-◌, ◌==◌, ◌&&◌, ◌||◌, List, [], length, Option, Some, None, is_some, unwrap_or, Result, Ok, Err, Bool, true, false, not, if◌then◌else◌, refl, sym, ap, ◌∙◌, inl, inr}
+use Rattle.std.proofs.lemmas.Bool.{cases_eq}
+use Rattle.std.proofs.lemmas.Option.{none-some, same_Some}
+use Rattle.std.specs.FinMap as fin
+use Rattle.std.specs.Ordering.{int_eq}
+use Rattle.std.specs.Option.{option_map}
+use Rattle.std.specs.Prelude.{ℤ, ◌+ℤ◌, pos, negsuc, nat_le, nat_lt, slice_index_or}
+use Rattle.posix_terms.specs.Calls.{can_read, can_write}
+use Rattle.posix_terms.specs.Descriptors as posix
+use Rattle.posix_terms.specs.Descriptors.{close_result, open_result}
+use Rattle.posix_terms.specs.Duplicates as duplicates
+use Rattle.posix_terms.specs.Duplicates.{dup_result, dup_from_result, dup2_result, descriptor_number}
+use Rattle.posix_terms.specs.Effects.{Effect, Completes}
+use Rattle.posix_terms.specs.Files.{bytes_at, resized, written}
+use Rattle.posix_terms.specs.Names.{PathMap, added, file_named, link_result, mkdir_result, removed, removed_dir, rmdir_result, unlink_result, with_paths}
+use Rattle.posix_terms.specs.Object.{State, Content, File, Node, FileNode, Directory, with_content}
+use Rattle.posix_terms.specs.Object as object
+use Rattle.posix_terms.specs.Paths.{node_at, resolved}
+use Rattle.posix_terms.specs.Refusals.{◌>>=◌, count_of, position_of, refuse_if, some_or}
+use Rattle.posix_terms.specs.Status.{fstat_result, getfl_result, setfl_result}
+use Rattle.posix_terms.specs.Step.{Carried, concluded, effect_of}
+use Rattle.posix_terms.specs.Transfers.{base_of, content_of, file_in, offset_of, read_content, seek_content, write_at, write_content, read_result, write_result, pread_result, pwrite_result, lseek_result, ftruncate_result, size_of, start_of}
+use Rattle.posix_terms.specs.declared.call.Access.{Access}
+use Rattle.posix_terms.specs.declared.call.Call.{Call}
+use Rattle.posix_terms.specs.declared.call.Call.TheVariants as call
+use Rattle.posix_terms.specs.declared.call.OpenFlags.{OpenFlags}
+use Rattle.posix_terms.specs.declared.call.Whence.{Whence}
+use Rattle.posix_terms.specs.declared.errno.Errno.{Errno}
+use Rattle.posix_terms.specs.declared.errno.Errno.TheVariants.{EBADF, EEXIST, EINVAL, EMFILE, ENOENT, ENOSPC, ESPIPE}
+use Rattle.posix_terms.specs.declared.outcome.Outcome.{Outcome}
+use Rattle.posix_terms.specs.declared.reply.Reply.TheVariants as reply
+use Rattle.posix_terms.specs.declared.transcript.Settings.{Settings}
+use Rattle.file_descriptions.specs.Descriptions.{AreSound}
+use Rattle.file_descriptions.specs.declared.description.Description.{Description}
+use Rattle.descriptor_table.proofs.ChangeLemmas.{birth_got}
+use Rattle.descriptor_table.proofs.PathLemmas.{names_shown, node_shown, resolved_shown}
+use Rattle.descriptor_table.proofs.PlanLemmas.{full_shown, lowest_none}
+use Rattle.descriptor_table.proofs.ShownLemmas.{FoundBoth, Shut, Open, found_both, lowest_shown}
+use Rattle.descriptor_table.proofs.SoundLemmas.{get-insert_other, get-insert_same, get-remove_other, get-remove_same}
+use Rattle.descriptor_table.specs.Acts.{OthersStay, StaysAsStep, offset_at}
+use Rattle.descriptor_table.specs.Plans.{answered, ftruncate_plan, locks, lseek_plan, open_new, open_node, open_plan, open_there, planned, pwrite_plan, read_plan, seen, write_plan}
+use Rattle.descriptor_table.specs.Shows.{Shows, birth_at, birth_of, shown, shown_node}
+use Rattle.descriptor_table.specs.Table.{TableState, IsSound, free_object, lowest_from}
+use Rattle.descriptor_table.specs.declared.plan.Op.TheVariants as op
+use Rattle.descriptor_table.specs.declared.plan.Plan.{Plan}
+
+-- ## Nothing but less
+
+pub record Fewer (s after : State) : Type 0 where
+  pub files : (birth : ℕ) (content : Content) → fin.get after.objects birth ≡ Some content → fin.get s.objects birth ≡ Some content
+  pub offsets : (birth offset : ℕ) → offset_at after birth ≡ Some offset → offset_at s birth ≡ Some offset
+
+fewer_same : (s : State) → Fewer s s
+fewer_same s = record { files = λ birth content at. at; offsets = λ birth offset at. at }
+
+-- for every plan
+fewer_others : (t : TableState) (p : Plan) (s after : State) → Fewer s after → OthersStay t p s after
+fewer_others t p s after fewer = record { files = λ birth content other at. fewer.files birth content at; offsets = λ birth offset still at. inl (fewer.offsets birth offset at) }
+
+abbrev FewerAfter : State → Result Effect Errno → Type 0
+FewerAfter s (Ok (Completes after r)) = Fewer s after
+FewerAfter s (Err e) = Unit {0}
+
+through : (s : State) {A : Type 0} (r : Result A Errno) (f : A → Result Effect Errno) → ((x : A) → FewerAfter s (f x)) → FewerAfter s (r >>= f)
+through s (Ok x) f each = each x
+through s (Err e) f each = tt
+
+fewer_unused : (s a : State) (n : ℕ) → Fewer s a → Fewer s (posix.without_unused a n)
+fewer_unused s a n fewer = by_used (posix.has_description a n || posix.has_path a n)
+  where
+    files : (birth : ℕ) (content : Content) → fin.get (fin.remove a.objects n) birth ≡ Some content → fin.get s.objects birth ≡ Some content
+    files birth content at =
+        elim (cases_eq birth n) [
+          | inl e ↦ absurd (none-some _ (sym (ap (fin.get (fin.remove a.objects n)) e ∙ get-remove_same a.objects n) ∙ at))
+          | inr apart ↦ fewer.files birth content (sym (get-remove_other a.objects n birth apart) ∙ at)
+        ]
+
+    by_used : (b : Bool) → Fewer s (if b then a else record a { objects = fin.remove a.objects n })
+    by_used true = fewer
+    by_used false = record { files = files; offsets = fewer.offsets }
+
+fewer_released : (s a : State) (key : ℕ) (d : object.Description) → Fewer s a → Fewer s (posix.released a key d)
+fewer_released s a key d fewer = by_last (posix.has_descriptor a key)
+  where
+    offsets : (birth offset : ℕ) → option_map (λ (x : object.Description). x.offset) (fin.get (fin.remove a.descriptions key) birth) ≡ Some offset → offset_at s birth ≡ Some offset
+    offsets birth offset at =
+        elim (cases_eq birth key) [
+          | inl e ↦ absurd (none-some _ (sym (ap (option_map (λ (x : object.Description). x.offset)) (ap (fin.get (fin.remove a.descriptions key)) e ∙ get-remove_same a.descriptions key)) ∙ at))
+          | inr apart ↦ fewer.offsets birth offset (sym (ap (option_map (λ (x : object.Description). x.offset)) (get-remove_other a.descriptions key birth apart)) ∙ at)
+        ]
+
+    by_last : (b : Bool) → Fewer s (if b then a else posix.without_unused (record a { descriptions = fin.remove a.descriptions key }) d.object)
+    by_last true = fewer
+    by_last false = fewer_unused s (record a { descriptions = fin.remove a.descriptions key }) d.object (record { files = fewer.files; offsets = offsets })
+
+fewer_freed : (s : State) (descriptor : ℤ) → Fewer s (posix.freed s descriptor)
+fewer_freed s (pos n) = record { files = λ birth content at. at; offsets = λ birth offset at. at }
+fewer_freed s (negsuc n) = fewer_same s
+
+fewer_closed : (s : State) (target : ℤ) (r : Result (ℕ × object.Description) Errno) → Fewer s (duplicates.closed s target r)
+fewer_closed s target (Ok found) = fewer_released s (posix.freed s target) found.0 found.1 (fewer_freed s target)
+fewer_closed s target (Err e) = fewer_same s
+
+fewer_shared : (s a : State) (n key : ℕ) → Fewer s a → Fewer s (duplicates.shared a n key)
+fewer_shared s a n key fewer = record { files = fewer.files; offsets = fewer.offsets }
+
+fewer_paths : (s : State) (paths : PathMap) → Fewer s (with_paths s paths)
+fewer_paths s paths = record { files = λ birth content at. at; offsets = λ birth offset at. at }
+
+module _ (s : State) where
+  fewer-close : (descriptor : ℤ) → FewerAfter s (close_result s descriptor)
+  unfolding close_result
+  fewer-close descriptor = through s (posix.described s descriptor) _ (λ found. fewer_released s (posix.freed s descriptor) found.0 found.1 (fewer_freed s descriptor))
+
+  fewer-fstat : (descriptor : ℤ) → FewerAfter s (fstat_result s descriptor)
+  unfolding fstat_result
+  fewer-fstat descriptor = through s (posix.described s descriptor) _ (λ found. fewer_same s)
+
+  fewer-getfl : (descriptor : ℤ) → FewerAfter s (getfl_result s descriptor)
+  unfolding getfl_result
+  fewer-getfl descriptor = through s (posix.described s descriptor) _ (λ found. fewer_same s)
+
+  fewer-pread : (descriptor count position : ℤ) → FewerAfter s (pread_result s descriptor count position)
+  unfolding pread_result
+  fewer-pread descriptor count position =
+      through s (posix.described s descriptor) _ (λ found. through s (file_in (content_of s found.1.object) ESPIPE) _ (λ file. through s (refuse_if (not (can_read found.1.access)) EBADF) _ (λ a.
+      through s (count_of count) _ (λ n. through s (position_of position) _ (λ start. fewer_same s)))))
+
+  fewer-dup : (descriptor : ℤ) → FewerAfter s (dup_result s descriptor)
+  unfolding dup_result
+  fewer-dup descriptor = through s (posix.described s descriptor) _ (λ found. through s (some_or (posix.lowest_free s) EMFILE) _ (λ n. fewer_shared s s n found.0 (fewer_same s)))
+
+  fewer-dup_from : (descriptor least : ℤ) → FewerAfter s (dup_from_result s descriptor least)
+  unfolding dup_from_result
+  fewer-dup_from descriptor least = through s (posix.described s descriptor) _ (λ found. through s (descriptor_number least EINVAL) _ (λ first. through s (some_or (posix.lowest_from s (32 - first) first) EMFILE) _ (λ n. fewer_shared s s n found.0 (fewer_same s))))
+
+  fewer-dup2 : (descriptor target : ℤ) → FewerAfter s (dup2_result s descriptor target)
+  unfolding dup2_result
+  fewer-dup2 descriptor target = through s (posix.described s descriptor) _ (λ found. through s (descriptor_number target EBADF) _ (λ n. by_same n found.0 (int_eq descriptor target)))
+    where
+      by_same : (n key : ℕ) (b : Bool) → Fewer s (if b then s else duplicates.shared (duplicates.closed s target (posix.described s target)) n key)
+      by_same n key true = fewer_same s
+      by_same n key false = fewer_shared s (duplicates.closed s target (posix.described s target)) n key (fewer_closed s target (posix.described s target))
+
+  fewer-link : (old_path new_path : List ℕ) → FewerAfter s (link_result s old_path new_path)
+  unfolding link_result
+  fewer-link old_path new_path = through s (file_named s.paths old_path) _ (λ object. through s (added s.paths new_path (FileNode object)) _ (λ paths. fewer_paths s paths))
+
+  fewer-mkdir : (path : List ℕ) → FewerAfter s (mkdir_result s path)
+  unfolding mkdir_result
+  fewer-mkdir path = through s (added s.paths path Directory) _ (λ paths. fewer_paths s paths)
+
+  fewer-rmdir : (path : List ℕ) → FewerAfter s (rmdir_result s path)
+  unfolding rmdir_result
+  fewer-rmdir path = through s (removed_dir s.paths path) _ (λ paths. fewer_paths s paths)
+
+  fewer-unlink : (path : List ℕ) → FewerAfter s (unlink_result s path)
+  unfolding unlink_result
+  fewer-unlink path = through s (removed s.paths path) _ (λ without. fewer_unused s (with_paths s without.0) without.1 (fewer_paths s without.0))
+
+-- ## Each call
+
+-- what a call leaves alone, beside its plan
+abbrev pub Others : TableState → State → Plan → Result Effect Errno → Type 0
+Others t s p (Ok (Completes after r)) = OthersStay t p s after
+Others t s p (Err e) = Unit {0}
+
+by_fewer : (t : TableState) (s : State) (p : Plan) (does : Result Effect Errno) → FewerAfter s does → Others t s p does
+by_fewer t s p (Ok (Completes after r)) fewer = fewer_others t p s after fewer
+by_fewer t s p (Err e) fewer = tt
+
+module _ (t : TableState) (s : State) (sound : IsSound t) (all : AreSound t.descriptions) (shows : Shows t s) where
+  -- the description under a birth has another offset, or other flags
+  still_at : (key birth offset other : ℕ) (d : Description) → fin.get t.descriptions.by_key key ≡ Some d → birth ≢ birth_of t key → option_map (λ (x : object.Description). x.offset) (fin.get (fin.insert s.descriptions d.birth (shown t d other)) birth) ≡ Some offset → offset_at s birth ≡ Some offset
+  still_at key birth offset other d got still at = ap (option_map (λ (x : object.Description). x.offset)) (sym (get-insert_other s.descriptions d.birth (shown t d other) birth (λ e. still (e ∙ sym (birth_got t.descriptions key d got))))) ∙ at
+
+  -- another object holds what it held
+  other_at : (birth object : ℕ) (content new : Content) → birth ≢ object → fin.get (fin.insert s.objects object new) birth ≡ Some content → fin.get s.objects birth ≡ Some content
+  other_at birth object content new other at = sym (get-insert_other s.objects object new birth other) ∙ at
+
+  others-setfl : (p : Plan) (descriptor : ℤ) (append nonblock : Bool) → FoundBoth t s descriptor → Others t s p (setfl_result s descriptor append nonblock)
+  unfolding setfl_result
+  others-setfl p descriptor append nonblock (Shut table state) = rw state tt
+  others-setfl p descriptor append nonblock (Open key d offset at got there table state) = rw state (record { files = λ birth content other is. is; offsets = λ birth o still is. inl (stands birth o is) })
+    where
+      new : object.Description
+      new = record (shown t d offset) { append = append; nonblock = nonblock }
+
+      stands : (birth o : ℕ) → option_map (λ (x : object.Description). x.offset) (fin.get (fin.insert s.descriptions d.birth new) birth) ≡ Some o → offset_at s birth ≡ Some o
+      stands birth o is =
+          elim (cases_eq birth d.birth) [
+            | inl e ↦ ap (offset_at s) e ∙ ap (option_map (λ (x : object.Description). x.offset)) there ∙ sym (ap (option_map (λ (x : object.Description). x.offset)) (ap (fin.get (fin.insert s.descriptions d.birth new)) e ∙ get-insert_same s.descriptions d.birth new)) ∙ is
+            | inr apart ↦ sym (ap (option_map (λ (x : object.Description). x.offset)) (get-insert_other s.descriptions d.birth new birth apart)) ∙ is
+          ]
+
+  others-read : (descriptor count : ℤ) → FoundBoth t s descriptor → Others t s (answered (read_plan t descriptor count)) (read_result s descriptor count)
+  unfolding read_plan read_result
+  others-read descriptor count (Shut table state) = rw (table, state) tt
+  others-read descriptor count (Open key d offset at got there table state) = rw (table, state) (by_refusals (not (can_read d.access)) (count_of count))
+    where
+      by_content : (n : ℕ) (c : Content) → Others t s (locks d.node (op.Read (seen key d) n)) (read_content s d.birth (shown t d offset) n c)
+      by_content n (File file) = record { files = λ birth content other is. is; offsets = λ birth o still is. inl (still_at key birth o (offset + length (bytes_at file offset n)) d got still is) }
+
+      by_refusals : (b : Bool) (r : Result ℕ Errno) → Others t s (answered (refuse_if b EBADF >>= (λ _. r >>= (λ n. Ok (locks d.node (op.Read (seen key d) n)))))) ((refuse_if b EBADF >>= (λ _. Ok (d.birth, shown t d offset))) >>= (λ (found : ℕ × object.Description). r >>= (λ n. read_content s found.0 found.1 n (content_of s found.1.object))))
+      by_refusals true r = tt
+      by_refusals false (Err e) = tt
+      by_refusals false (Ok n) = by_content n (content_of s (birth_at t d.node))
+
+  others-write : (descriptor : ℤ) (bytes : List ℕ) → FoundBoth t s descriptor → Others t s (answered (write_plan t descriptor (length bytes))) (write_result s descriptor bytes)
+  unfolding write_plan write_result
+  others-write descriptor bytes (Shut table state) = rw (table, state) tt
+  others-write descriptor bytes (Open key d offset at got there table state) = rw (table, state) (by_refusals (not (can_write d.access)) (nat_lt 32767 (length bytes)) (length bytes == 0))
+    where
+      p : Plan
+      p = locks d.node (op.Write (seen key d))
+
+      by_written : (file : List ℕ) (r : Result (List ℕ × ℕ) Errno) → Others t s (locks d.node (op.Write (seen key d))) (r >>= (λ w. Ok (Completes (with_content (record s { descriptions = fin.insert s.descriptions d.birth (shown t d (start_of (shown t d offset) file + w.1)) }) (birth_at t d.node) (File w.0)) (reply.Count w.1))))
+      by_written file (Ok w) = record { files = λ birth content other is. other_at birth (birth_at t d.node) content (File w.0) other is; offsets = λ birth o still is. inl (still_at key birth o (start_of (shown t d offset) file + w.1) d got still is) }
+      by_written file (Err e) = tt
+
+      by_content : (c : Content) → Others t s (locks d.node (op.Write (seen key d))) (write_content s d.birth (shown t d offset) bytes c)
+      by_content (File file) = by_written file (written file (start_of (shown t d offset) file) bytes)
+
+      by_refusals : (a b c : Bool) → Others t s (answered (refuse_if a EBADF >>= (λ _. refuse_if b EINVAL >>= (λ _. Ok (locks d.node (op.Write (seen key d))))))) ((refuse_if a EBADF >>= (λ _. refuse_if b EINVAL >>= (λ _. Ok (d.birth, shown t d offset)))) >>= (λ (found : ℕ × object.Description). if c then Ok (Completes s (reply.Count 0)) else write_content s found.0 found.1 bytes (content_of s found.1.object)))
+      by_refusals true b c = tt
+      by_refusals false true c = tt
+      by_refusals false false true = fewer_others t (locks d.node (op.Write (seen key d))) s s (fewer_same s)
+      by_refusals false false false = by_content (content_of s (birth_at t d.node))
+
+  others-lseek : (descriptor to : ℤ) (whence : Whence) → FoundBoth t s descriptor → Others t s (answered (lseek_plan t descriptor)) (lseek_result s descriptor to whence)
+  unfolding lseek_plan lseek_result
+  others-lseek descriptor to whence (Shut table state) = rw (table, state) tt
+  others-lseek descriptor to whence (Open key d offset at got there table state) = rw (table, state) (by_content (content_of s (birth_at t d.node)))
+    where
+      by_offset : (r : Result ℕ Errno) → Others t s (locks d.node (op.Lseek (seen key d))) (r >>= (λ to. Ok (Completes (record s { descriptions = fin.insert s.descriptions d.birth (shown t d to) }) (reply.Number (pos to)))))
+      by_offset (Ok to) = record { files = λ birth content other is. is; offsets = λ birth o still is. inl (still_at key birth o to d got still is) }
+      by_offset (Err e) = tt
+
+      by_content : (c : Content) → Others t s (locks d.node (op.Lseek (seen key d))) (seek_content s d.birth (shown t d offset) to whence c)
+      by_content (File file) = by_offset (offset_of (pos (base_of whence offset (length file)) +ℤ to))
+
+  others-pwrite : (descriptor : ℤ) (bytes : List ℕ) (position : ℤ) → FoundBoth t s descriptor → Others t s (answered (pwrite_plan t descriptor (length bytes) position)) (pwrite_result s descriptor bytes position)
+  unfolding pwrite_plan pwrite_result
+  others-pwrite descriptor bytes position (Shut table state) = rw (table, state) tt
+  others-pwrite descriptor bytes position (Open key d offset at got there table state) = rw (table, state) (by_refusals (not (can_write d.access)) (nat_lt 32767 (length bytes)) (position_of position) (file_in (content_of s (birth_at t d.node)) ESPIPE))
+    where
+      by_written : (start : ℕ) (r : Result (List ℕ × ℕ) Errno) → Others t s (locks d.node (op.Pwrite start)) (r >>= (λ w. Ok (Completes (with_content s (birth_at t d.node) (File w.0)) (reply.Count w.1))))
+      by_written start (Ok w) = record { files = λ birth content other is. other_at birth (birth_at t d.node) content (File w.0) other is; offsets = λ birth o still is. inl is }
+      by_written start (Err e) = tt
+
+      by_length : (file : List ℕ) (start : ℕ) (b : Bool) → Others t s (locks d.node (op.Pwrite start)) (if b then Ok (Completes s (reply.Count 0)) else write_at s (birth_at t d.node) file start bytes)
+      by_length file start true = fewer_others t (locks d.node (op.Pwrite start)) s s (fewer_same s)
+      by_length file start false = by_written start (written file start bytes)
+
+      by_refusals : (a b : Bool) (p : Result ℕ Errno) (f : Result (List ℕ) Errno) → Others t s (answered (refuse_if a EBADF >>= (λ _. refuse_if b EINVAL >>= (λ _. p >>= (λ start. Ok (locks d.node (op.Pwrite start)))))))
+          (f >>= (λ file. refuse_if a EBADF >>= (λ _. refuse_if b EINVAL >>= (λ _. p >>= (λ start. if length bytes == 0 then Ok (Completes s (reply.Count 0)) else write_at s (birth_at t d.node) file start bytes)))))
+      by_refusals a b p (Err e) = tt
+      by_refusals true b p (Ok file) = tt
+      by_refusals false true p (Ok file) = tt
+      by_refusals false false (Err e) (Ok file) = tt
+      by_refusals false false (Ok start) (Ok file) = by_length file start (length bytes == 0)
+
+  others-ftruncate : (descriptor size : ℤ) → FoundBoth t s descriptor → Others t s (answered (ftruncate_plan t descriptor size)) (ftruncate_result s descriptor size)
+  unfolding ftruncate_plan ftruncate_result
+  others-ftruncate descriptor size (Shut table state) = rw (table, state) tt
+  others-ftruncate descriptor size (Open key d offset at got there table state) = rw (table, state) (by_refusals (not (can_write d.access)) (size_of size) (file_in (content_of s (birth_at t d.node)) EINVAL))
+    where
+      by_refusals : (a : Bool) (r : Result ℕ Errno) (f : Result (List ℕ) Errno) → Others t s (answered (refuse_if a EINVAL >>= (λ _. r >>= (λ n. Ok (locks d.node (op.Ftruncate n))))))
+          (refuse_if a EINVAL >>= (λ _. f >>= (λ file. r >>= (λ n. Ok (Completes (with_content s (birth_at t d.node) (File (resized file n))) reply.Done)))))
+      by_refusals true r f = tt
+      by_refusals false r (Err e) = tt
+      by_refusals false (Err e) (Ok file) = tt
+      by_refusals false (Ok n) (Ok file) = record { files = λ birth content other is. other_at birth (birth_at t d.node) content (File (resized file n)) other is; offsets = λ birth o still is. inl is }
+
+  -- ## Opening
+
+  -- a new description stands at 0
+  new_at : (birth o : ℕ) (new : object.Description) → new.offset ≡ 0 → option_map (λ (x : object.Description). x.offset) (fin.get (fin.insert s.descriptions s.next_description new) birth) ≡ Some o → (offset_at s birth ≡ Some o) ⊎ ((birth ≡ s.next_description) × (o ≡ 0))
+  new_at birth o new zero is =
+      elim (cases_eq birth s.next_description) [
+        | inl e ↦ inr (e, same_Some _ _ (sym is ∙ ap (option_map (λ (x : object.Description). x.offset)) (ap (fin.get (fin.insert s.descriptions s.next_description new)) e ∙ get-insert_same s.descriptions s.next_description new)) ∙ zero)
+        | inr apart ↦ inl (sym (ap (option_map (λ (x : object.Description). x.offset)) (get-insert_other s.descriptions s.next_description new birth apart)) ∙ is)
+      ]
+
+  others-there : (node : Node) (access : Access) (flags : OpenFlags) → Others t s (answered (open_there t node flags)) (posix.open_there s (shown_node t node) access flags)
+  others-there Directory access flags = tt
+  others-there (FileNode node) access flags = rw (lowest_shown t s 32 0 shows) (by_number (lowest_from t.descriptors 32 0))
+    where
+      by_cut : (n : ℕ) (cut : Bool) → OthersStay t (locks node (op.Open flags.truncate)) s (posix.opened (posix.truncated s (birth_at t node) cut) n (birth_at t node) access flags.append flags.nonblock)
+      by_cut n true = record { files = λ birth content other is. other_at birth (birth_at t node) content (File []) other is; offsets = λ birth o still is. new_at birth o (record { object = birth_at t node; access = access; offset = 0; append = flags.append; nonblock = flags.nonblock }) refl is }
+      by_cut n false = record { files = λ birth content other is. is; offsets = λ birth o still is. new_at birth o (record { object = birth_at t node; access = access; offset = 0; append = flags.append; nonblock = flags.nonblock }) refl is }
+
+      by_number : (o : Option ℕ) → Others t s (answered (some_or o EMFILE >>= (λ n. Ok (locks node (op.Open flags.truncate))))) (some_or o EMFILE >>= (λ n. Ok (Completes (posix.opened (posix.truncated s (birth_at t node) flags.truncate) n (birth_at t node) access flags.append flags.nonblock) (reply.Number (pos n)))))
+      by_number None = tt
+      by_number (Some n) = by_cut n flags.truncate
+
+  others-new : (components : List (List ℕ)) (access : Access) (flags : OpenFlags) → Others t s (answered (open_new t flags)) (posix.open_new s components access flags)
+  others-new components access flags = rw (names_shown t s shows, full_shown t s sound all shows, lowest_shown t s 32 0 shows) (by_rest (not flags.create) (nat_le 64 (fin.len t.paths)) (free_object t) (lowest_from t.descriptors 32 0) (λ node is. lowest_none t.objects 48 0 node is))
+    where
+      by_rest : (a b : Bool) (o number : Option ℕ) → ((node : ℕ) → o ≡ Some node → slice_index_or t.objects node None ≡ None)
+          → Others t s (answered (refuse_if a ENOENT >>= (λ _. refuse_if b ENOSPC >>= (λ _. some_or o ENOSPC >>= (λ node. some_or number EMFILE >>= (λ _. Ok (locks node (op.Open true))))))))
+          (refuse_if a ENOENT >>= (λ _. refuse_if (b || not (is_some o)) ENOSPC >>= (λ _. some_or number EMFILE >>= (λ n. Ok (Completes (posix.opened (posix.with_file s components) n s.next_object access flags.append flags.nonblock) (reply.Number (pos n)))))))
+      by_rest true b o number free = tt
+      by_rest false true o number free = tt
+      by_rest false false None number free = tt
+      by_rest false false (Some node) None free = tt
+      by_rest false false (Some node) (Some n) free = record {
+        files = λ birth content other is. other_at birth s.next_object content (File []) (λ e. other (e ∙ shows.next_object ∙ ap (λ (o : Option ℕ). unwrap_or o t.made_objects) (sym (free node refl)))) is;
+        offsets = λ birth o still is. new_at birth o (record { object = s.next_object; access = access; offset = 0; append = flags.append; nonblock = flags.nonblock }) refl is;
+      }
+
+  others-open : (path : List ℕ) (access : Access) (flags : OpenFlags) → Others t s (answered (open_plan t path access flags)) (open_result s path access flags)
+  unfolding open_plan open_result
+  others-open path access flags = rw (resolved_shown t s path shows) (by_rest (flags.truncate && not (can_write access)) (resolved t.paths path))
+    where
+      by_node : (components : List (List ℕ)) (o : Option Node) → Others t s (answered (open_node t o flags)) (posix.open_node s components (option_map (shown_node t) o) access flags)
+      by_node components None = others-new components access flags
+      by_node components (Some node) = by_refusal (flags.create && flags.exclusive)
+        where
+          by_refusal : (b : Bool) → Others t s (answered (refuse_if b EEXIST >>= (λ _. open_there t node flags))) (refuse_if b EEXIST >>= (λ _. posix.open_there s (shown_node t node) access flags))
+          by_refusal true = tt
+          by_refusal false = others-there node access flags
+
+      by_rest : (b : Bool) (r : Result (List (List ℕ)) Errno) → Others t s (answered (refuse_if b EINVAL >>= (λ _. r >>= (λ components. open_node t (node_at t.paths components) flags)))) (refuse_if b EINVAL >>= (λ _. r >>= (λ components. posix.open_node s components (node_at s.paths components) access flags)))
+      by_rest true r = tt
+      by_rest false (Err e) = tt
+      by_rest false (Ok components) = rw (node_shown t s components shows) (by_node components (node_at t.paths components))
+
+  found_at : (descriptor : ℤ) → FoundBoth t s descriptor
+  found_at descriptor = found_both t s descriptor sound shows
+
+  others_call : (c : Call) (carried : Carried) → Others t s (planned t c) (effect_of s c carried)
+  others_call (call.Open path access flags) carried = others-open path access flags
+  others_call (call.Close descriptor) carried = by_fewer t s _ (close_result s descriptor) (fewer-close s descriptor)
+  others_call (call.Read descriptor count) carried = others-read descriptor count (found_at descriptor)
+  others_call (call.Write descriptor bytes) carried = others-write descriptor bytes (found_at descriptor)
+  others_call (call.Pread descriptor count position) carried = by_fewer t s _ (pread_result s descriptor count position) (fewer-pread s descriptor count position)
+  others_call (call.Pwrite descriptor bytes position) carried = others-pwrite descriptor bytes position (found_at descriptor)
+  others_call (call.Lseek descriptor offset whence) carried = others-lseek descriptor offset whence (found_at descriptor)
+  others_call (call.Ftruncate descriptor size) carried = others-ftruncate descriptor size (found_at descriptor)
+  others_call (call.Fstat descriptor) carried = by_fewer t s _ (fstat_result s descriptor) (fewer-fstat s descriptor)
+  others_call (call.Dup descriptor) carried = by_fewer t s _ (dup_result s descriptor) (fewer-dup s descriptor)
+  others_call (call.DupFrom descriptor least) carried = by_fewer t s _ (dup_from_result s descriptor least) (fewer-dup_from s descriptor least)
+  others_call (call.Dup2 descriptor target) carried = by_fewer t s _ (dup2_result s descriptor target) (fewer-dup2 s descriptor target)
+  others_call (call.Getfl descriptor) carried = by_fewer t s _ (getfl_result s descriptor) (fewer-getfl s descriptor)
+  others_call (call.Setfl descriptor append nonblock) carried = others-setfl (planned t (call.Setfl descriptor append nonblock)) descriptor append nonblock (found_at descriptor)
+  others_call (call.Link old_path new_path) carried = by_fewer t s _ (link_result s old_path new_path) (fewer-link s old_path new_path)
+  others_call (call.Unlink path) carried = by_fewer t s _ (unlink_result s path) (fewer-unlink s path)
+  others_call (call.Mkdir path) carried = by_fewer t s _ (mkdir_result s path) (fewer-mkdir s path)
+  others_call (call.Rmdir path) carried = by_fewer t s _ (rmdir_result s path) (fewer-rmdir s path)
+
+concluded_others : (t : TableState) (s : State) (settings : Settings) (outcome : Option Outcome) (carried : Carried) (p : Plan) (does : Result Effect Errno) → Others t s p does → OthersStay t p s (concluded settings s outcome carried does).after
+concluded_others t s settings outcome carried p (Ok (Completes after r)) others = others
+concluded_others t s settings outcome carried p (Err e) others = fewer_others t p s s (fewer_same s)
+
+pub stays-as_step : (t : TableState) (c : Call) → IsSound t → AreSound t.descriptions → StaysAsStep t c (planned t c)
+stays-as_step t c sound all settings s outcome carried shows = concluded_others t s settings outcome carried (planned t c) (effect_of s c carried) (others_call t s sound all shows c carried)

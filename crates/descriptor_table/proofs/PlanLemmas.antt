@@ -1,0 +1,448 @@
+-- The plan of each call, beside what the sequential object does.
+use Rattle.std.proofs.Common.{◌≡◌, ℕ, ◌+◌, ◌-◌, ◌==◌, ◌&&◌, ◌||◌, List, [], ◌∷◌, length, Option, Some, None, is_some, unwrap_or, zero, suc, ◌<◌, ◌≤◌, Result, Ok, Err, Bool, true, false, cond, not, if◌then◌else◌, refl, sym, ap, ◌∙◌, subst, inl, inr, arith}
+use Rattle.std.proofs.lemmas.Bool.{cases_eq}
+use Rattle.std.proofs.lemmas.Bool.Decides.{nat_tests}
+use Rattle.std.proofs.lemmas.List.Sums.{sum_by-cons}
+use Rattle.std.proofs.lemmas.Option.{none-some, same_Some}
+use Rattle.std.specs.FinMap as fin
+use Rattle.std.specs.FinMap.{get-remove}
+use Rattle.std.specs.Ordering.{eq_by_cmp}
+use Rattle.posix_terms.specs.Object.{path_cmp}
+use Rattle.posix_terms.specs.Object as Object
+use Rattle.std.specs.Ordering.{int_eq}
+use Rattle.std.specs.Option.{option_map}
+use Rattle.std.specs.Prelude.{ℤ, pos, negsuc, nat_le, slice_index_or}
+use Rattle.posix_terms.specs.Calls.{can_write}
+use Rattle.posix_terms.specs.Descriptors as posix
+use Rattle.posix_terms.specs.Descriptors.{close_result, is_file, open_result, opened, truncated, with_file, without_unused}
+use Rattle.posix_terms.specs.Duplicates.{dup_result, dup_from_result, dup2_result, closed, descriptor_number, shared}
+use Rattle.posix_terms.specs.Effects.{Effect, Completes}
+use Rattle.posix_terms.specs.Locked.{closed_object, locked, locked_by_open, locked_object, unless_refused, unnamed_object}
+use Rattle.posix_terms.specs.Names.{PathMap, added, file_named, file_node, link_result, mkdir_result, removed, removed_dir, removed_dir_at, rmdir_result, unlink_result, has_entries, links_of, with_paths}
+use Rattle.posix_terms.specs.Object.{State, Content, File, Node, FileNode, Directory}
+use Rattle.posix_terms.specs.Paths.{node_at, resolved}
+use Rattle.posix_terms.specs.Refusals.{◌>>=◌, refuse_if, some_or}
+use Rattle.posix_terms.specs.Status.{fstat_result, getfl_result, setfl_result}
+use Rattle.posix_terms.specs.Step.{Carried, concluded, effect_of}
+use Rattle.posix_terms.specs.declared.outcome.Outcome.{Outcome}
+use Rattle.posix_terms.specs.declared.transcript.Settings.{Settings}
+use Rattle.posix_terms.specs.Transfers.{content_of, file_in, read_result, write_result, pread_result, pwrite_result, lseek_result, ftruncate_result}
+use Rattle.posix_terms.specs.declared.call.Access.{Access}
+use Rattle.posix_terms.specs.declared.call.Call.{Call}
+use Rattle.posix_terms.specs.declared.call.Call.TheVariants as call
+use Rattle.posix_terms.specs.declared.call.OpenFlags.{OpenFlags}
+use Rattle.posix_terms.specs.declared.call.Whence.{Whence}
+use Rattle.posix_terms.specs.declared.errno.Errno.{Errno}
+use Rattle.posix_terms.specs.declared.errno.Errno.TheVariants.{EBADF, EEXIST, EINVAL, EBUSY, EMFILE, ENOENT, ENOSPC, ENOTEMPTY, ESPIPE}
+use Rattle.posix_terms.specs.declared.reply.Answer.{Answer}
+use Rattle.posix_terms.specs.declared.reply.Answer.TheVariants as answer
+use Rattle.posix_terms.specs.declared.reply.Reply.{Reply}
+use Rattle.posix_terms.specs.declared.reply.Reply.TheVariants as reply
+use Rattle.file_descriptions.specs.Descriptions.{AreSound}
+use Rattle.file_descriptions.specs.declared.description.Description.{Description}
+use Rattle.descriptor_table.proofs.ShownLemmas.{FoundBoth, Shut, Open, found_both, last_shown, lowest_shown}
+use Rattle.descriptor_table.proofs.EntryLemmas.{counted-remove}
+use Rattle.descriptor_table.proofs.KnownLemmas.{lowest_below}
+use Rattle.descriptor_table.proofs.PathLemmas.{closed_shown, has_entries_shown, holds_of, linked_shown, names_shown, node_shown, objects_counted, paths_apart, resolved_shown, taken}
+use Rattle.descriptor_table.proofs.SoundLemmas.{get-insert_same, named_at, not_all_open, paths_total, same_nat, names_without, sound-named}
+use Rattle.descriptor_table.specs.Agreement.{AgreesOn, PlansAsStep}
+use Rattle.descriptor_table.specs.Plans.{answered, close_plan, dup_plan, dup_from_plan, dup2_plan, fstat_plan, ftruncate_plan, getfl_plan, locks, lseek_plan, pread_plan, pwrite_plan, read_plan, replaced, setfl_plan, write_plan, addable, link_plan, mkdir_plan, open_new, open_node, open_plan, open_there, plan_of, planned, rmdir_plan, unlink_plan}
+use Rattle.descriptor_table.specs.Shows.{Shows, birth_at, shown_node}
+use Rattle.descriptor_table.specs.Table.{TableState, IsSound, described, free_object, is_last_name, is_used, key_at, lowest_from}
+use Rattle.descriptor_table.specs.declared.plan.Op.TheVariants as op
+use Rattle.descriptor_table.specs.declared.plan.Plan.{Plan}
+use Rattle.descriptor_table.specs.declared.plan.Plan.TheVariants as plan
+
+abbrev pub answer_of : Result Effect Errno → Answer
+answer_of (Ok (Completes after r)) = answer.Reply r
+answer_of (Err e) = answer.Reply (reply.Fail e)
+
+-- a plan, the object that is locked and what is done agree
+abbrev pub Ties : TableState → Result Plan Errno → Result (Option ℕ) Errno → Result Effect Errno → Type 0
+Ties t p object does = AgreesOn t (answered p) (unless_refused object) (answer_of does)
+
+file_there : (c : Content) (e : Errno) → (file : List ℕ) × (file_in c e ≡ Ok file)
+file_there (File file) e = (file, refl)
+
+-- ## The lowest number
+
+pub lowest_none : (slots : List (Option ℕ)) (left from n : ℕ) → lowest_from slots left from ≡ Some n → slice_index_or slots n None ≡ None
+unfolding lowest_from
+lowest_none slots zero from n is = cc
+lowest_none slots (suc left) from n is = by_slot (slice_index_or slots from None) refl (λ later. lowest_none slots left (from + 1) n later)
+  where
+    by_slot : (o : Option ℕ) → slice_index_or slots from None ≡ o → (lowest_from slots left (from + 1) ≡ Some n → slice_index_or slots n None ≡ None) → slice_index_or slots n None ≡ None
+    by_slot (Some x) taken later = later (sym (ap (λ (o : Option ℕ). if is_some o then lowest_from slots left (from + 1) else Some from) taken) ∙ is)
+    by_slot None free later =
+        let same : from ≡ n = same_Some _ _ (sym (ap (λ (o : Option ℕ). if is_some o then lowest_from slots left (from + 1) else Some from) free) ∙ is) in
+        ap (λ (k : ℕ). slice_index_or slots k None) (sym same) ∙ free
+
+none_lowest : (slots : List (Option ℕ)) (left from : ℕ) → lowest_from slots left from ≡ None → (i : ℕ) → from ≤ i → i < from + left → is_some (slice_index_or slots i None) ≡ true
+unfolding lowest_from
+none_lowest slots zero from is i above inside = absurd (omega arith)
+none_lowest slots (suc left) from is i above inside = by_test (is_some (slice_index_or slots from None)) refl (λ later. none_lowest slots left (from + 1) later)
+  where
+    by_test : (b : Bool) → is_some (slice_index_or slots from None) ≡ b → (lowest_from slots left (from + 1) ≡ None → (i : ℕ) → from + 1 ≤ i → i < from + 1 + left → is_some (slice_index_or slots i None) ≡ true) → is_some (slice_index_or slots i None) ≡ true
+    by_test false free later = absurd (none-some _ (sym is ∙ ap (λ (b : Bool). if b then lowest_from slots left (from + 1) else Some from) free))
+    by_test true taken later =
+        elim (cases_eq i from) [
+          | inl e ↦ ap (λ (k : ℕ). is_some (slice_index_or slots k None)) e ∙ taken
+          | inr apart ↦ later (sym (ap (λ (b : Bool). if b then lowest_from slots left (from + 1) else Some from) taken) ∙ is) i (omega arith) (omega arith)
+        ]
+
+all_taken : (slots : List (Option ℕ)) → ((i : ℕ) → i < length slots → is_some (slice_index_or slots i None) ≡ true) → taken slots ≡ length slots
+all_taken [] each = refl
+all_taken (o ∷ os) each =
+    let rest = all_taken os (λ i inside. each (suc i) (omega arith)) in
+    let one : ◌≡◌ {A = ℕ} (cond (is_some o) 1 0) 1 = ap (λ (b : Bool). cond b 1 0) (each 0 (omega arith)) in
+    omega (arith, rest, one, sum_by-cons (λ (x : Option ℕ). cond (is_some x) 1 0) o os)
+
+-- ## A name less
+
+pub shows-without_name : (t : TableState) (s : State) (path : List (List ℕ)) → Shows t s → Shows (record t { paths = fin.remove t.paths path }) (with_paths s (fin.remove s.paths path))
+shows-without_name t s path shows =
+    record {
+      descriptors = shows.descriptors;
+      descriptions = shows.descriptions;
+      described = shows.described;
+      paths = λ q. get-remove paths_total s.paths path q ∙ ap (cond (eq_by_cmp path_cmp q path) None) (shows.paths q) ∙ moved (eq_by_cmp path_cmp q path) (fin.get t.paths q) ∙ ap (option_map (shown_node t)) (sym (get-remove paths_total t.paths path q));
+      objects = shows.objects;
+      numbered = shows.numbered;
+      next_description = shows.next_description;
+      next_object = shows.next_object;
+    }
+  where
+    moved : (b : Bool) (o : Option Node) → cond b None (option_map (shown_node t) o) ≡ option_map (shown_node t) (cond b None o)
+    moved true o = refl
+    moved false o = refl
+
+module _ (t : TableState) (s : State) (sound : IsSound t) (all : AreSound t.descriptions) (shows : Shows t s) where
+  ties-getfl : (descriptor : ℤ) → FoundBoth t s descriptor → Ties t (getfl_plan t descriptor) (locked s (call.Getfl descriptor)) (getfl_result s descriptor)
+  unfolding getfl_plan getfl_result
+  ties-getfl descriptor (Shut table state) = rw (table, state) (refl, refl)
+  ties-getfl descriptor (Open key d offset at got there table state) = rw (table, state) (refl, refl)
+
+  ties-setfl : (descriptor : ℤ) (append nonblock : Bool) → FoundBoth t s descriptor → Ties t (setfl_plan t descriptor) (locked s (call.Setfl descriptor append nonblock)) (setfl_result s descriptor append nonblock)
+  unfolding setfl_plan setfl_result
+  ties-setfl descriptor append nonblock (Shut table state) = rw (table, state) (refl, refl)
+  ties-setfl descriptor append nonblock (Open key d offset at got there table state) = rw (table, state) (refl, refl)
+
+  ties-lseek : (descriptor offset : ℤ) (whence : Whence) → FoundBoth t s descriptor → Ties t (lseek_plan t descriptor) (locked s (call.Lseek descriptor offset whence)) (lseek_result s descriptor offset whence)
+  unfolding lseek_plan lseek_result
+  ties-lseek descriptor offset whence (Shut table state) = rw (table, state) (refl, refl)
+  ties-lseek descriptor offset whence (Open key d at_offset at got there table state) = rw (table, state) refl
+
+  ties-fstat : (descriptor : ℤ) → FoundBoth t s descriptor → Ties t (fstat_plan t descriptor) (locked s (call.Fstat descriptor)) (fstat_result s descriptor)
+  unfolding fstat_plan fstat_result
+  ties-fstat descriptor (Shut table state) = rw (table, state) (refl, refl)
+  ties-fstat descriptor (Open key d offset at got there table state) = rw (table, state) refl
+
+  ties-read : (descriptor count : ℤ) → FoundBoth t s descriptor → Ties t (read_plan t descriptor count) (locked s (call.Read descriptor count)) (read_result s descriptor count)
+  unfolding read_plan read_result
+  ties-read descriptor count (Shut table state) = rw (table, state) (refl, refl)
+  ties-read descriptor count (Open key d offset at got there table state) = grind (arith, table, state)
+
+  ties-write : (descriptor : ℤ) (bytes : List ℕ) → FoundBoth t s descriptor → Ties t (write_plan t descriptor (length bytes)) (locked s (call.Write descriptor bytes)) (write_result s descriptor bytes)
+  unfolding write_plan write_result
+  ties-write descriptor bytes (Shut table state) = rw (table, state) (refl, refl)
+  ties-write descriptor bytes (Open key d offset at got there table state) = grind (arith, table, state)
+
+  ties-pread : (descriptor count position : ℤ) → FoundBoth t s descriptor → Ties t (pread_plan t descriptor count position) (locked s (call.Pread descriptor count position)) (pread_result s descriptor count position)
+  unfolding pread_plan pread_result
+  ties-pread descriptor count position (Shut table state) = rw (table, state) (refl, refl)
+  ties-pread descriptor count position (Open key d offset at got there table state) =
+      let file = file_there (content_of s (birth_at t d.node)) ESPIPE in
+      let is : file_in (content_of s (birth_at t d.node)) ESPIPE ≡ Ok file.0 = file.1 in
+      grind (arith, table, state, is)
+
+  ties-pwrite : (descriptor : ℤ) (bytes : List ℕ) (position : ℤ) → FoundBoth t s descriptor → Ties t (pwrite_plan t descriptor (length bytes) position) (locked s (call.Pwrite descriptor bytes position)) (pwrite_result s descriptor bytes position)
+  unfolding pwrite_plan pwrite_result
+  ties-pwrite descriptor bytes position (Shut table state) = rw (table, state) (refl, refl)
+  ties-pwrite descriptor bytes position (Open key d offset at got there table state) =
+      let file = file_there (content_of s (birth_at t d.node)) ESPIPE in
+      let is : file_in (content_of s (birth_at t d.node)) ESPIPE ≡ Ok file.0 = file.1 in
+      grind (arith, table, state, is)
+
+  ties-ftruncate : (descriptor size : ℤ) → FoundBoth t s descriptor → Ties t (ftruncate_plan t descriptor size) (locked s (call.Ftruncate descriptor size)) (ftruncate_result s descriptor size)
+  unfolding ftruncate_plan ftruncate_result
+  ties-ftruncate descriptor size (Shut table state) = rw (table, state) (refl, refl)
+  ties-ftruncate descriptor size (Open key d offset at got there table state) =
+      let file = file_there (content_of s (birth_at t d.node)) EINVAL in
+      let is : file_in (content_of s (birth_at t d.node)) EINVAL ≡ Ok file.0 = file.1 in
+      grind (arith, table, state, is)
+
+  ties-dup : (descriptor : ℤ) → FoundBoth t s descriptor → Ties t (dup_plan t descriptor) (locked s (call.Dup descriptor)) (dup_result s descriptor)
+  unfolding dup_plan dup_result
+  ties-dup descriptor (Shut table state) = rw (table, state) (refl, refl)
+  ties-dup descriptor (Open key d offset at got there table state) = rw (table, state, lowest_shown t s 32 0 shows) (by_number (lowest_from t.descriptors 32 0))
+    where
+      by_number : (o : Option ℕ) → Ties t (some_or o EMFILE >>= (λ n. Ok (plan.Reply (reply.Number (pos n))))) (Ok None) (some_or o EMFILE >>= (λ n. Ok (Completes (shared s n d.birth) (reply.Number (pos n)))))
+      by_number None = (refl, refl)
+      by_number (Some n) = (refl, refl)
+
+  ties-dup_from : (descriptor least : ℤ) → FoundBoth t s descriptor → Ties t (dup_from_plan t descriptor least) (locked s (call.DupFrom descriptor least)) (dup_from_result s descriptor least)
+  unfolding dup_from_plan dup_from_result
+  ties-dup_from descriptor least (Shut table state) = rw (table, state) (refl, refl)
+  ties-dup_from descriptor least (Open key d offset at got there table state) = rw (table, state) (by_first (descriptor_number least EINVAL))
+    where
+      by_number : (o : Option ℕ) → Ties t (some_or o EMFILE >>= (λ n. Ok (plan.Reply (reply.Number (pos n))))) (Ok None) (some_or o EMFILE >>= (λ n. Ok (Completes (shared s n d.birth) (reply.Number (pos n)))))
+      by_number None = (refl, refl)
+      by_number (Some n) = (refl, refl)
+
+      by_first : (r : Result ℕ Errno) → Ties t (r >>= (λ first. some_or (lowest_from t.descriptors (32 - first) first) EMFILE >>= (λ n. Ok (plan.Reply (reply.Number (pos n)))))) (Ok None) (r >>= (λ first. some_or (posix.lowest_from s (32 - first) first) EMFILE >>= (λ n. Ok (Completes (shared s n d.birth) (reply.Number (pos n))))))
+      by_first (Ok first) = rw (lowest_shown t s (32 - first) first shows) (by_number (lowest_from t.descriptors (32 - first) first))
+      by_first (Err e) = (refl, refl)
+
+  -- the number of a descriptor that is open
+  open_number : (descriptor : ℤ) (key : ℕ) → key_at t descriptor ≡ Some key → (n : ℕ) × (descriptor ≡ pos n) × (slice_index_or t.descriptors n None ≡ Some key)
+  open_number (pos n) key at = (n, refl, at)
+  open_number (negsuc n) key at = cc
+
+  -- whether a description ends with this descriptor
+  last_open : (descriptor : ℤ) (key : ℕ) (d : Description) → key_at t descriptor ≡ Some key → fin.get t.descriptions.by_key key ≡ Some d → posix.has_descriptor (posix.freed s descriptor) d.birth ≡ not (d.holders == 1)
+  last_open (pos n) key d at got = last_shown t s n key d sound all shows at got
+  last_open (negsuc n) key d at got = cc
+
+  -- the plan to let go of a descriptor agrees with what ends
+  released_as : (d : Description) (r : Reply) (b : Bool) → AgreesOn t (if b then locks d.node op.Release else plan.Reply r) (if not b then None else Some (birth_at t d.node)) (answer.Reply r)
+  released_as d r true = refl
+  released_as d r false = (refl, refl)
+
+  ties-close : (descriptor : ℤ) → FoundBoth t s descriptor → Ties t (close_plan t descriptor) (locked s (call.Close descriptor)) (close_result s descriptor)
+  unfolding close_plan close_result
+  ties-close descriptor (Shut table state) = rw (table, state) (refl, refl)
+  ties-close descriptor (Open key d offset at got there table state) = rw (table, state, last_open descriptor key d at got) (released_as d reply.Done (d.holders == 1))
+
+  replaced_as : (target : ℤ) → FoundBoth t s target → AgreesOn t (replaced (described t target) (reply.Number target)) (closed_object s target (posix.described s target)) (answer.Reply (reply.Number target))
+  replaced_as target (Shut table state) = rw (table, state) (refl, refl)
+  replaced_as target (Open key d offset at got there table state) = rw (table, state, last_open target key d at got) (released_as d (reply.Number target) (d.holders == 1))
+
+  ties-dup2 : (descriptor target : ℤ) → FoundBoth t s descriptor → FoundBoth t s target → Ties t (dup2_plan t descriptor target) (locked s (call.Dup2 descriptor target)) (dup2_result s descriptor target)
+  unfolding dup2_plan dup2_result
+  ties-dup2 descriptor target (Shut table state) other = rw (table, state) (refl, refl)
+  ties-dup2 descriptor target (Open key d offset at got there table state) other = rw (table, state) (by_number (descriptor_number target EBADF))
+    where
+      by_same : (n : ℕ) (b : Bool) → Ties t (Ok (if b then plan.Reply (reply.Number target) else replaced (described t target) (reply.Number target))) (Ok (if b then None else closed_object s target (posix.described s target))) (Ok (Completes (if b then s else shared (closed s target (posix.described s target)) n d.birth) (reply.Number target)))
+      by_same n true = (refl, refl)
+      by_same n false = replaced_as target other
+
+      by_number : (r : Result ℕ Errno) → Ties t (r >>= (λ n. Ok (if int_eq descriptor target then plan.Reply (reply.Number target) else replaced (described t target) (reply.Number target)))) (r >>= (λ n. Ok (if int_eq descriptor target then None else closed_object s target (posix.described s target)))) (r >>= (λ n. Ok (Completes (if int_eq descriptor target then s else shared (closed s target (posix.described s target)) n d.birth) (reply.Number target))))
+      by_number (Ok n) = by_same n (int_eq descriptor target)
+      by_number (Err e) = (refl, refl)
+
+  -- ## Names
+
+  pub some_shown : (o : Option Node) → is_some (option_map (shown_node t) o) ≡ is_some o
+  some_shown None = refl
+  some_shown (Some node) = refl
+
+  ties-add : (path : List ℕ) (node : Node) → Ties t (addable t.paths path >>= (λ _. Ok (plan.Reply reply.Done))) (Ok None) (added s.paths path node >>= (λ paths. Ok (Completes (with_paths s paths) reply.Done)))
+  unfolding addable added
+  ties-add path node = rw (resolved_shown t s path shows) (by_path (resolved t.paths path))
+    where
+      by_refusals : (components : List (List ℕ)) (a b : Bool) → Ties t ((refuse_if a EEXIST >>= (λ _. refuse_if b ENOSPC)) >>= (λ _. Ok (plan.Reply reply.Done))) (Ok None) ((refuse_if a EEXIST >>= (λ _. refuse_if b ENOSPC >>= (λ _. Ok (fin.insert s.paths components node)))) >>= (λ paths. Ok (Completes (with_paths s paths) reply.Done)))
+      by_refusals components true b = (refl, refl)
+      by_refusals components false true = (refl, refl)
+      by_refusals components false false = (refl, refl)
+
+      by_path : (r : Result (List (List ℕ)) Errno) → Ties t ((r >>= (λ components. refuse_if (is_some (node_at t.paths components)) EEXIST >>= (λ _. refuse_if (nat_le 64 (fin.len t.paths)) ENOSPC))) >>= (λ _. Ok (plan.Reply reply.Done))) (Ok None) ((r >>= (λ components. refuse_if (is_some (node_at s.paths components)) EEXIST >>= (λ _. refuse_if (nat_le 64 (fin.len s.paths)) ENOSPC >>= (λ _. Ok (fin.insert s.paths components node))))) >>= (λ paths. Ok (Completes (with_paths s paths) reply.Done)))
+      by_path (Err e) = (refl, refl)
+      by_path (Ok components) = rw (node_shown t s components shows, some_shown (node_at t.paths components), names_shown t s shows) (by_refusals components (is_some (node_at t.paths components)) (nat_le 64 (fin.len t.paths)))
+
+  ties-mkdir : (path : List ℕ) → Ties t (mkdir_plan t path) (locked s (call.Mkdir path)) (mkdir_result s path)
+  unfolding mkdir_plan mkdir_result
+  ties-mkdir path = ties-add path Directory
+
+  pub file_node_shown : (o : Option Node) → file_node (option_map (shown_node t) o) ≡ (file_node o >>= (λ node. Ok (birth_at t node)))
+  file_node_shown None = refl
+  file_node_shown (Some Directory) = refl
+  file_node_shown (Some (FileNode node)) = refl
+
+  pub named_shown : (path : List ℕ) → file_named s.paths path ≡ (file_named t.paths path >>= (λ node. Ok (birth_at t node)))
+  unfolding file_named
+  named_shown path = rw (resolved_shown t s path shows) (by_path (resolved t.paths path))
+    where
+      by_path : (r : Result (List (List ℕ)) Errno) → (r >>= (λ components. file_node (node_at s.paths components))) ≡ ((r >>= (λ components. file_node (node_at t.paths components))) >>= (λ node. Ok (birth_at t node)))
+      by_path (Ok components) = ap file_node (node_shown t s components shows) ∙ file_node_shown (node_at t.paths components)
+      by_path (Err e) = refl
+
+  ties-link : (old_path new_path : List ℕ) → Ties t (link_plan t old_path new_path) (locked s (call.Link old_path new_path)) (link_result s old_path new_path)
+  unfolding link_plan link_result
+  ties-link old_path new_path = rw (named_shown old_path) (by_file (file_named t.paths old_path))
+    where
+      by_file : (r : Result ℕ Errno) → Ties t (r >>= (λ node. addable t.paths new_path >>= (λ _. Ok (plan.Reply reply.Done)))) (Ok None) ((r >>= (λ node. Ok (birth_at t node))) >>= (λ object. added s.paths new_path (FileNode object) >>= (λ paths. Ok (Completes (with_paths s paths) reply.Done))))
+      by_file (Ok node) = ties-add new_path (FileNode (birth_at t node))
+      by_file (Err e) = (refl, refl)
+
+  ties-rmdir : (path : List ℕ) → Ties t (rmdir_plan t path) (locked s (call.Rmdir path)) (rmdir_result s path)
+  unfolding rmdir_plan rmdir_result removed_dir
+  ties-rmdir path = rw (resolved_shown t s path shows) (by_path (resolved t.paths path))
+    where
+      by_refusals : (components : List (List ℕ)) (a b : Bool) → Ties t ((refuse_if a EBUSY >>= (λ _. refuse_if b ENOTEMPTY >>= (λ _. Ok (fin.remove t.paths components)))) >>= (λ _. Ok (plan.Reply reply.Done))) (Ok None) ((refuse_if a EBUSY >>= (λ _. refuse_if b ENOTEMPTY >>= (λ _. Ok (fin.remove s.paths components)))) >>= (λ paths. Ok (Completes (with_paths s paths) reply.Done)))
+      by_refusals components true b = (refl, refl)
+      by_refusals components false true = (refl, refl)
+      by_refusals components false false = (refl, refl)
+
+      by_node : (components : List (List ℕ)) (o : Option Node) → Ties t (removed_dir_at t.paths components o >>= (λ _. Ok (plan.Reply reply.Done))) (Ok None) (removed_dir_at s.paths components (option_map (shown_node t) o) >>= (λ paths. Ok (Completes (with_paths s paths) reply.Done)))
+      by_node components None = (refl, refl)
+      by_node components (Some (FileNode node)) = (refl, refl)
+      by_node components (Some Directory) = rw (has_entries_shown t s components shows) (by_refusals components (length components == 0) (has_entries t.paths components))
+
+      by_path : (r : Result (List (List ℕ)) Errno) → Ties t ((r >>= (λ components. removed_dir_at t.paths components (node_at t.paths components))) >>= (λ _. Ok (plan.Reply reply.Done))) (Ok None) ((r >>= (λ components. removed_dir_at s.paths components (node_at s.paths components))) >>= (λ paths. Ok (Completes (with_paths s paths) reply.Done)))
+      by_path (Ok components) = rw (node_shown t s components shows) (by_node components (node_at t.paths components))
+      by_path (Err e) = (refl, refl)
+
+  -- ## The last name of a file
+
+  less_one : (n k : ℕ) → n ≡ 1 + k → (n == 1) ≡ (k == 0)
+  less_one n k e = grind (arith, nat_tests)
+
+  last_name : (components : List (List ℕ)) (node : ℕ) → node_at t.paths components ≡ Some (FileNode node) → AgreesOn t (if is_last_name t node then locks node op.Release else plan.Reply reply.Done) (unnamed_object (with_paths s (fin.remove s.paths components)) (birth_at t node)) (answer.Reply reply.Done)
+  last_name [] node at = cc
+  last_name (name ∷ names) node at =
+      rw (closed_shown after state node kept all shown_after used, less_one (links_of t.paths node) (links_of after.paths node) counted, linked_shown after state node kept shown_after used)
+      (by_rest (posix.has_description state (birth_at t node)) (posix.has_path state (birth_at t node)))
+    where
+      components : List (List ℕ)
+      components = name ∷ names
+
+      after : TableState
+      after = record t { paths = fin.remove t.paths (name ∷ names) }
+
+      state : State
+      state = with_paths s (fin.remove s.paths (name ∷ names))
+
+      used : is_used t node ≡ true
+      used = named_at t (name ∷ names) node sound at
+
+      kept : IsSound after
+      kept = sound-named t (fin.remove t.paths (name ∷ names)) sound (names_without t (name ∷ names) sound)
+
+      shown_after : Shows after state
+      shown_after = shows-without_name t s (name ∷ names) shows
+
+      counted : links_of t.paths node ≡ 1 + links_of after.paths node
+      counted = counted-remove paths_total paths_apart (λ (e : List (List ℕ) × Node). is_file e.1 node) t.paths (name ∷ names) (FileNode node) at ∙ ap (λ (b : Bool). cond b 1 0 + links_of after.paths node) (same_nat node node refl)
+
+      by_rest : (a b : Bool) → AgreesOn t (if not a && not b then locks node op.Release else plan.Reply reply.Done) (if a || b then None else Some (birth_at t node)) (answer.Reply reply.Done)
+      by_rest true b = (refl, refl)
+      by_rest false true = (refl, refl)
+      by_rest false false = refl
+
+  abbrev without_at : List (List ℕ) → ℕ → Result (PathMap × ℕ) Errno
+  without_at components object = Ok (fin.remove s.paths components, object)
+
+  ties-unlink : (path : List ℕ) → Ties t (unlink_plan t path) (locked s (call.Unlink path)) (unlink_result s path)
+  unfolding unlink_plan unlink_result file_named removed
+  ties-unlink path = rw (resolved_shown t s path shows) (by_path (resolved t.paths path))
+    where
+      by_node : (components : List (List ℕ)) (o : Option Node) → node_at t.paths components ≡ o
+          → Ties t (file_node o >>= (λ node. Ok (if is_last_name t node then locks node op.Release else plan.Reply reply.Done)))
+          ((file_node (option_map (shown_node t) o) >>= (λ object. without_at components object)) >>= (λ without. Ok (unnamed_object (with_paths s without.0) without.1)))
+          ((file_node (option_map (shown_node t) o) >>= (λ object. without_at components object)) >>= (λ without. Ok (Completes (without_unused (with_paths s without.0) without.1) reply.Done)))
+      by_node components None at = (refl, refl)
+      by_node components (Some Directory) at = (refl, refl)
+      by_node components (Some (FileNode node)) at = last_name components node at
+
+      by_path : (r : Result (List (List ℕ)) Errno) → Ties t ((r >>= (λ components. file_node (node_at t.paths components))) >>= (λ node. Ok (if is_last_name t node then locks node op.Release else plan.Reply reply.Done)))
+          ((r >>= (λ components. file_node (node_at s.paths components) >>= (λ object. without_at components object))) >>= (λ without. Ok (unnamed_object (with_paths s without.0) without.1)))
+          ((r >>= (λ components. file_node (node_at s.paths components) >>= (λ object. without_at components object))) >>= (λ without. Ok (Completes (without_unused (with_paths s without.0) without.1) reply.Done)))
+      by_path (Ok components) = rw (node_shown t s components shows) (by_node components (node_at t.paths components) refl)
+      by_path (Err e) = (refl, refl)
+
+  -- ## Opening
+
+  abbrev TiesOpen : Result Plan Errno → Result Effect Errno → Type 0
+  TiesOpen p does = Ties t p (locked_by_open s does) does
+
+  made_here : (object n : ℕ) (access : Access) (append nonblock b : Bool) → option_map (λ (d : Object.Description). d.object) (fin.get (opened (truncated s object b) n object access append nonblock).descriptions s.next_description) ≡ Some object
+  made_here object n access append nonblock true = ap (option_map (λ (d : Object.Description). d.object)) (get-insert_same s.descriptions s.next_description (record { object = object; access = access; offset = 0; append = append; nonblock = nonblock }))
+  made_here object n access append nonblock false = ap (option_map (λ (d : Object.Description). d.object)) (get-insert_same s.descriptions s.next_description (record { object = object; access = access; offset = 0; append = append; nonblock = nonblock }))
+
+  ties-there : (node : Node) (access : Access) (flags : OpenFlags) → TiesOpen (open_there t node flags) (posix.open_there s (shown_node t node) access flags)
+  ties-there Directory access flags = (refl, refl)
+  ties-there (FileNode node) access flags = rw (lowest_shown t s 32 0 shows) (by_number (lowest_from t.descriptors 32 0))
+    where
+      by_number : (o : Option ℕ) → TiesOpen (some_or o EMFILE >>= (λ n. Ok (locks node (op.Open flags.truncate)))) (some_or o EMFILE >>= (λ n. Ok (Completes (opened (truncated s (birth_at t node) flags.truncate) n (birth_at t node) access flags.append flags.nonblock) (reply.Number (pos n)))))
+      by_number None = (refl, refl)
+      by_number (Some n) = made_here (birth_at t node) n access flags.append flags.nonblock flags.truncate
+
+  -- there is a number for a new object just where there are not as many as there may be
+  pub full_shown : nat_le 48 (fin.len s.objects) ≡ not (is_some (free_object t))
+  full_shown = ap (nat_le 48) (objects_counted t.objects s.objects (holds_of t s sound shows)) ∙ by_free (free_object t) refl
+    where
+      long : length t.objects ≡ 48
+      long = sound.object_numbers
+
+      at_most : (n : ℕ) → n ≡ 48 → nat_le 48 n ≡ true
+      at_most n e = grind (arith, nat_tests)
+
+      below : (n : ℕ) → n < 48 → nat_le 48 n ≡ false
+      below n e = grind (arith, nat_tests)
+
+      by_free : (o : Option ℕ) → free_object t ≡ o → nat_le 48 (taken t.objects) ≡ not (is_some o)
+      by_free None is = at_most (taken t.objects) (all_taken t.objects (λ i inside. none_lowest t.objects 48 0 is i (omega arith) (omega (arith, long))) ∙ long)
+      by_free (Some n) is =
+          let inside : n < 0 + 48 = lowest_below t.objects 48 0 n is in
+          let fewer : taken t.objects < length t.objects = not_all_open t.objects n (omega (arith, long)) (lowest_none t.objects 48 0 n is) in
+          below (taken t.objects) (omega (arith, long))
+
+  ties-new : (components : List (List ℕ)) (access : Access) (flags : OpenFlags) → TiesOpen (open_new t flags) (posix.open_new s components access flags)
+  ties-new components access flags = rw (names_shown t s shows, full_shown, lowest_shown t s 32 0 shows) (by_rest (not flags.create) (nat_le 64 (fin.len t.paths)) (free_object t) (lowest_from t.descriptors 32 0) (λ node is. lowest_none t.objects 48 0 node is))
+    where
+      by_rest : (a b : Bool) (o number : Option ℕ) → ((node : ℕ) → o ≡ Some node → slice_index_or t.objects node None ≡ None)
+          → TiesOpen (refuse_if a ENOENT >>= (λ _. refuse_if b ENOSPC >>= (λ _. some_or o ENOSPC >>= (λ node. some_or number EMFILE >>= (λ _. Ok (locks node (op.Open true)))))))
+          (refuse_if a ENOENT >>= (λ _. refuse_if (b || not (is_some o)) ENOSPC >>= (λ _. some_or number EMFILE >>= (λ n. Ok (Completes (opened (with_file s components) n s.next_object access flags.append flags.nonblock) (reply.Number (pos n)))))))
+      by_rest true b o number free = (refl, refl)
+      by_rest false true o number free = (refl, refl)
+      by_rest false false None number free = (refl, refl)
+      by_rest false false (Some node) None free = (refl, refl)
+      by_rest false false (Some node) (Some n) free =
+          ap (option_map (λ (d : Object.Description). d.object)) (get-insert_same s.descriptions s.next_description (record { object = s.next_object; access = access; offset = 0; append = flags.append; nonblock = flags.nonblock }))
+          ∙ ap (λ (b : ℕ). Some b) shows.next_object ∙ ap (λ (o : Option ℕ). Some (unwrap_or o t.made_objects)) (sym (free node refl))
+
+  ties-node : (components : List (List ℕ)) (node : Option Node) (access : Access) (flags : OpenFlags) → TiesOpen (open_node t node flags) (posix.open_node s components (option_map (shown_node t) node) access flags)
+  ties-node components None access flags = ties-new components access flags
+  ties-node components (Some node) access flags = by_refusal (flags.create && flags.exclusive)
+    where
+      by_refusal : (b : Bool) → TiesOpen (refuse_if b EEXIST >>= (λ _. open_there t node flags)) (refuse_if b EEXIST >>= (λ _. posix.open_there s (shown_node t node) access flags))
+      by_refusal true = (refl, refl)
+      by_refusal false = ties-there node access flags
+
+  ties-open : (path : List ℕ) (access : Access) (flags : OpenFlags) → Ties t (open_plan t path access flags) (locked s (call.Open path access flags)) (open_result s path access flags)
+  unfolding open_plan open_result
+  ties-open path access flags = rw (resolved_shown t s path shows) (by_rest (flags.truncate && not (can_write access)) (resolved t.paths path))
+    where
+      by_rest : (b : Bool) (r : Result (List (List ℕ)) Errno) → TiesOpen (refuse_if b EINVAL >>= (λ _. r >>= (λ components. open_node t (node_at t.paths components) flags))) (refuse_if b EINVAL >>= (λ _. r >>= (λ components. posix.open_node s components (node_at s.paths components) access flags)))
+      by_rest true r = (refl, refl)
+      by_rest false (Err e) = (refl, refl)
+      by_rest false (Ok components) = rw (node_shown t s components shows) (ties-node components (node_at t.paths components) access flags)
+
+  ties-call : (c : Call) (carried : Carried) → Ties t (plan_of t c) (locked s c) (effect_of s c carried)
+  ties-call (call.Open path access flags) carried = ties-open path access flags
+  ties-call (call.Close descriptor) carried = ties-close descriptor (found_both t s descriptor sound shows)
+  ties-call (call.Read descriptor count) carried = ties-read descriptor count (found_both t s descriptor sound shows)
+  ties-call (call.Write descriptor bytes) carried = ties-write descriptor bytes (found_both t s descriptor sound shows)
+  ties-call (call.Pread descriptor count position) carried = ties-pread descriptor count position (found_both t s descriptor sound shows)
+  ties-call (call.Pwrite descriptor bytes position) carried = ties-pwrite descriptor bytes position (found_both t s descriptor sound shows)
+  ties-call (call.Lseek descriptor offset whence) carried = ties-lseek descriptor offset whence (found_both t s descriptor sound shows)
+  ties-call (call.Ftruncate descriptor size) carried = ties-ftruncate descriptor size (found_both t s descriptor sound shows)
+  ties-call (call.Fstat descriptor) carried = ties-fstat descriptor (found_both t s descriptor sound shows)
+  ties-call (call.Dup descriptor) carried = ties-dup descriptor (found_both t s descriptor sound shows)
+  ties-call (call.DupFrom descriptor least) carried = ties-dup_from descriptor least (found_both t s descriptor sound shows)
+  ties-call (call.Dup2 descriptor target) carried = ties-dup2 descriptor target (found_both t s descriptor sound shows) (found_both t s target sound shows)
+  ties-call (call.Getfl descriptor) carried = ties-getfl descriptor (found_both t s descriptor sound shows)
+  ties-call (call.Setfl descriptor append nonblock) carried = ties-setfl descriptor append nonblock (found_both t s descriptor sound shows)
+  ties-call (call.Link old_path new_path) carried = ties-link old_path new_path
+  ties-call (call.Unlink path) carried = ties-unlink path
+  ties-call (call.Mkdir path) carried = ties-mkdir path
+  ties-call (call.Rmdir path) carried = ties-rmdir path
+
+concluded_answer : (settings : Settings) (s : State) (outcome : Option Outcome) (carried : Carried) (does : Result Effect Errno) → (concluded settings s outcome carried does).answer ≡ answer_of does
+concluded_answer settings s outcome carried (Ok (Completes after r)) = refl
+concluded_answer settings s outcome carried (Err e) = refl
+
+pub plans-as_step : (t : TableState) (c : Call) → IsSound t → AreSound t.descriptions → PlansAsStep t c (planned t c)
+unfolding locked_object
+plans-as_step t c sound all settings s outcome carried shows =
+    subst (AgreesOn t (planned t c) (unless_refused (locked s c))) (sym (concluded_answer settings s outcome carried (effect_of s c carried))) (ties-call t s sound all shows c carried)

@@ -1,0 +1,88 @@
+-- That a plan and its change are what the sequential object does.
+use Rattle.std.specs.Prelude.{◌≡◌, ◌⊎◌, ◌≤◌, ◌+◌, slice_index_or, ℕ, ℤ, List, Option, Some, None, Result, Ok, Err}
+use Rattle.std.specs.FinMap as map
+use Rattle.file_descriptions.specs.declared.description.Description.{Description}
+use Rattle.posix_terms.specs.Locked.{locked_object}
+use Rattle.posix_terms.specs.Object.{State}
+use Rattle.posix_terms.specs.Step.{Carried, step}
+use Rattle.posix_terms.specs.declared.call.Access.{Access}
+use Rattle.posix_terms.specs.declared.call.Call.{Call}
+use Rattle.posix_terms.specs.declared.call.Call.TheVariants as call
+use Rattle.posix_terms.specs.declared.call.OpenFlags.{OpenFlags}
+use Rattle.posix_terms.specs.declared.errno.Errno.{Errno}
+use Rattle.posix_terms.specs.declared.outcome.Outcome.{Outcome}
+use Rattle.posix_terms.specs.declared.reply.Answer.{Answer}
+use Rattle.posix_terms.specs.declared.reply.Answer.TheVariants as answer
+use Rattle.posix_terms.specs.declared.reply.Reply.TheVariants as reply
+use Rattle.posix_terms.specs.declared.transcript.Settings.{Settings}
+use Rattle.descriptor_table.specs.Changes.{Opening, opening}
+use Rattle.descriptor_table.specs.Plans.{open_plan}
+use Rattle.descriptor_table.specs.Shows.{Shows, birth_at}
+use Rattle.descriptor_table.specs.Table.{TableState, free_object}
+use Rattle.descriptor_table.specs.declared.plan.Plan.{Plan}
+use Rattle.descriptor_table.specs.declared.plan.Plan.TheVariants as plan
+
+abbrev pub object_of : Plan → Option ℕ
+object_of (plan.Node node act keep_table) = Some node
+object_of (plan.Reply r) = None
+
+-- ## Plan and change of an `open`
+
+-- a call that is planned can be made, on the object of the plan
+abbrev pub AreOneObject : Result Plan Errno → Result Opening Errno → Type 0
+AreOneObject (Ok p) (Ok o) = object_of p ≡ Some o.node
+AreOneObject (Ok p) (Err e) = ⊥
+AreOneObject (Err e) made = Unit {0}
+
+abbrev pub OpenIsAsPlanned : Type 0
+OpenIsAsPlanned = (t : TableState) (path : List ℕ) (access : Access) (flags : OpenFlags) → AreOneObject (open_plan t path access flags) (opening t path)
+
+-- ## Plan and step
+
+-- where the table answers, that is the answer, and no object's lock is taken; else the lock of the plan's object is taken
+abbrev pub AgreesOn : TableState → Plan → Option ℕ → Answer → Type 0
+AgreesOn t (plan.Reply r) object answered = (object ≡ None) × (answered ≡ answer.Reply r)
+AgreesOn t (plan.Node node act keep_table) object answered = object ≡ Some (birth_at t node)
+
+-- whatever the objects hold and wherever the offsets are
+abbrev pub PlansAsStep : TableState → Call → Plan → Type 0
+PlansAsStep t c p = (settings : Settings) (s : State) (outcome : Option Outcome) (carried : Carried) → Shows t s → AgreesOn t p (locked_object s c) (step settings s c outcome carried).answer
+
+-- ## Change and step
+
+-- the table after a call shows the state after it
+abbrev pub ChangesAsStep : TableState → Call → TableState → Type 0
+ChangesAsStep t c after = (settings : Settings) (s : State) (outcome : Option Outcome) (carried : Carried) → Shows t s → Shows after (step settings s c outcome carried).after
+
+-- the number that an `open` answers
+abbrev pub number_told : Call → Answer → Option ℤ
+number_told (call.Open path access flags) (answer.Reply (reply.Number n)) = Some n
+number_told _ _ = None
+
+abbrev pub TellsAsStep : TableState → Call → Option ℤ → Type 0
+TellsAsStep t c number = (settings : Settings) (s : State) (outcome : Option Outcome) (carried : Carried) → Shows t s → number ≡ number_told c (step settings s c outcome carried).answer
+
+-- ## Numbers and births
+
+-- a new object is there, under the next number that was free, and each other one as before
+pub record IsBorn (t after : TableState) : Type 0 where
+  pub node : ℕ
+  pub free : free_object t ≡ Some node
+  pub here : slice_index_or after.objects node None ≡ Some t.made_objects
+  pub others : (other birth : ℕ) → slice_index_or t.objects other None ≡ Some birth → slice_index_or after.objects other None ≡ Some birth
+  pub made : after.made_objects ≡ t.made_objects + 1
+
+-- a number that an object has was its own before, or was the next free one and the object is new; and a call makes one object and one description at most
+pub record NumbersStay (t after : TableState) : Type 0 where
+  pub numbers : (node birth : ℕ) → slice_index_or after.objects node None ≡ Some birth → (slice_index_or t.objects node None ≡ Some birth) ⊎ ((free_object t ≡ Some node) × (birth ≡ t.made_objects))
+  pub objects : after.made_objects ≤ t.made_objects + 1
+  pub born : (after.made_objects ≡ t.made_objects) ⊎ IsBorn t after
+  pub descriptions : after.descriptions.made ≤ t.descriptions.made + 1
+
+-- ## Offsets
+
+-- a description stands where it stood, or it is new and stands at 0
+abbrev pub OffsetsStay : TableState → TableState → Type 0
+OffsetsStay t after =
+    (key : ℕ) (d : Description) → map.get after.descriptions.by_key key ≡ Some d
+    → ((e : Description) × (map.get t.descriptions.by_key key ≡ Some e) × (e.birth ≡ d.birth) × (e.offset ≡ d.offset)) ⊎ ((d.birth ≡ t.descriptions.made) × (d.offset ≡ 0))

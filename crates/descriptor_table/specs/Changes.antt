@@ -1,0 +1,195 @@
+-- How each call changes the table: its descriptors, descriptions and names, and the numbers of its objects.
+use Rattle.std.specs.Prelude.{◌≡◌, ℕ, ◌+◌, ℤ, pos, List, slice_set, Bool, true, false, Option, Some, None, Result, Ok, Err, if◌then◌else◌}
+use Rattle.std.specs.FinMap as map
+use Rattle.std.specs.Ordering.{int_eq}
+use Rattle.posix_terms.specs.Duplicates.{descriptor_number}
+use Rattle.posix_terms.specs.Names.{PathMap, added, file_named, removed, removed_dir}
+use Rattle.posix_terms.specs.Object.{Node, FileNode, Directory}
+use Rattle.posix_terms.specs.Refusals.{◌>>=◌, some_or}
+use Rattle.posix_terms.specs.declared.call.Access.{Access}
+use Rattle.posix_terms.specs.declared.call.Call.{Call}
+use Rattle.posix_terms.specs.declared.call.Call.TheVariants as call
+use Rattle.posix_terms.specs.declared.call.OpenFlags.{OpenFlags}
+use Rattle.posix_terms.specs.declared.errno.Errno.{Errno}
+use Rattle.posix_terms.specs.declared.errno.Errno.TheVariants.{EBADF, EINVAL, EISDIR, EMFILE, ENOSPC}
+use Rattle.posix_terms.specs.declared.reply.Reply.{Reply}
+use Rattle.posix_terms.specs.declared.reply.Reply.TheVariants as reply
+use Rattle.directories.specs.Lookup.{looked_up}
+use Rattle.file_descriptions.specs.Descriptions.{description_at, is_last_held, new_description, with_flags, with_holder, with_new, without_holder}
+use Rattle.file_descriptions.specs.declared.description.Description.{Description}
+use Rattle.file_descriptions.specs.declared.description.End.TheVariants as part
+use Rattle.file_descriptions.specs.declared.description.StatusFlags.{StatusFlags}
+use Rattle.descriptor_table.specs.Table.{TableState, described, free_object, is_gone, lowest_free}
+use Rattle.descriptor_table.specs.declared.plan.Plan.{Plan}
+use Rattle.descriptor_table.specs.declared.plan.Plan.TheVariants as plan
+
+-- what a call leaves; a call that is refused leaves the table as it was
+abbrev pub kept_or : TableState → Result TableState Errno → TableState
+kept_or t (Ok after) = after
+kept_or t (Err e) = t
+
+-- ## Descriptors
+
+-- number n refers to the description of this key too
+abbrev pub shared : TableState → ℕ → ℕ → TableState
+shared t n key = record t { descriptors = slice_set t.descriptors n (Some key); descriptions = with_holder t.descriptions key }
+
+-- number n refers to its description no longer
+abbrev pub let_go : TableState → ℕ → ℕ → TableState
+let_go t n key = record t { descriptors = slice_set t.descriptors n None; descriptions = without_holder t.descriptions key }
+
+-- the number of an object that nothing refers to is free
+abbrev pub without_gone : TableState → ℕ → TableState
+without_gone t node = if is_gone t node then record t { objects = slice_set t.objects node None } else t
+
+-- number n is closed
+abbrev pub closed : TableState → ℕ → ℕ → TableState
+closed t n key = if is_last_held t.descriptions key then without_gone (let_go t n key) (description_at t.descriptions key).node else let_go t n key
+
+unfoldable pub close_change : TableState → ℤ → Result TableState Errno
+close_change t descriptor = do
+  n ← descriptor_number descriptor EBADF
+  found ← described t descriptor
+  Ok (closed t n found.0)
+
+unfoldable pub dup_change : TableState → ℤ → Result TableState Errno
+dup_change t descriptor = do
+  found ← described t descriptor
+  n ← some_or (lowest_free t 0) EMFILE
+  Ok (shared t n found.0)
+
+unfoldable pub dup_from_change : TableState → ℤ → ℤ → Result TableState Errno
+dup_from_change t descriptor least = do
+  found ← described t descriptor
+  first ← descriptor_number least EINVAL
+  n ← some_or (lowest_free t first) EMFILE
+  Ok (shared t n found.0)
+
+-- without number n, if it is open
+abbrev pub closed_if_open : TableState → ℕ → Result (ℕ × Description) Errno → TableState
+closed_if_open t n (Ok found) = closed t n found.0
+closed_if_open t n (Err e) = t
+
+unfoldable pub dup2_change : TableState → ℤ → ℤ → Result TableState Errno
+dup2_change t descriptor target = do
+  found ← described t descriptor
+  n ← descriptor_number target EBADF
+  Ok (if int_eq descriptor target then t else shared (closed_if_open t n (described t target)) n found.0)
+
+unfoldable pub setfl_change : TableState → ℤ → Bool → Bool → Result TableState Errno
+setfl_change t descriptor append nonblock = do
+  found ← described t descriptor
+  Ok (record t { descriptions = with_flags t.descriptions found.0 (record { append = append; nonblock = nonblock }) })
+
+-- ## Names
+
+-- the names after a change, or as they were where it is refused
+abbrev pub paths_or : PathMap → Result PathMap Errno → PathMap
+paths_or paths (Ok after) = after
+paths_or paths (Err e) = paths
+
+abbrev pub with_paths : TableState → PathMap → TableState
+with_paths t paths = record t { paths = paths }
+
+unfoldable pub link_change : TableState → List ℕ → List ℕ → Result TableState Errno
+link_change t old_path new_path = do
+  node ← file_named t.paths old_path
+  paths ← added t.paths new_path (FileNode node)
+  Ok (with_paths t paths)
+
+unfoldable pub unlink_change : TableState → List ℕ → Result TableState Errno
+unlink_change t path = do
+  without ← removed t.paths path
+  Ok (without_gone (with_paths t without.0) without.1)
+
+unfoldable pub mkdir_change : TableState → List ℕ → Result TableState Errno
+mkdir_change t path = do
+  paths ← added t.paths path Directory
+  Ok (with_paths t paths)
+
+unfoldable pub rmdir_change : TableState → List ℕ → Result TableState Errno
+rmdir_change t path = do
+  paths ← removed_dir t.paths path
+  Ok (with_paths t paths)
+
+-- ## Opening a file
+
+-- a new file, which has this number and one name
+abbrev pub with_file : TableState → PathMap → ℕ → TableState
+with_file t paths node = record t { paths = paths; objects = slice_set t.objects node (Some t.made_objects); made_objects = t.made_objects + 1 }
+
+abbrev pub file_at : TableState → List ℕ → Option Node → Result (TableState × ℕ) Errno
+file_at t path (Some (FileNode node)) = Ok (t, node)
+file_at t path (Some Directory) = Err EISDIR
+file_at t path None = do
+  node ← some_or (free_object t) ENOSPC
+  paths ← added t.paths path (FileNode node)
+  Ok (with_file t paths node, node)
+
+-- the file of a path, which is made if it is missing
+unfoldable pub found_or_made : TableState → List ℕ → Result (TableState × ℕ) Errno
+found_or_made t path = do
+  node ← looked_up t.paths path
+  file_at t path node
+
+-- a descriptor that is about to be opened: its number, its object, and the table where the object is there
+pub record Opening : Type 0 where
+  pub number : ℕ
+  pub node : ℕ
+  pub ready : TableState
+
+unfoldable pub opening : TableState → List ℕ → Result Opening Errno
+opening t path = do
+  n ← some_or (lowest_free t 0) EMFILE
+  file ← found_or_made t path
+  Ok (record { number = n; node = file.1; ready = file.0 })
+
+-- number n refers to a new description, under this key
+abbrev pub opened : TableState → ℕ → ℕ → ℕ → Access → StatusFlags → TableState
+opened t n key node access flags =
+    record t {
+      descriptors = slice_set t.descriptors n (Some key);
+      descriptions = with_new t.descriptions key (new_description node part.Only access flags t.descriptions.made);
+    }
+
+abbrev pub status_flags : OpenFlags → StatusFlags
+status_flags flags = record { append = flags.append; nonblock = flags.nonblock }
+
+-- The new description may have any key that is free
+abbrev pub IsOpened : TableState → Access → OpenFlags → Result Opening Errno → TableState → Type 0
+IsOpened t access flags (Ok o) after =
+    (key : ℕ) × (map.get t.descriptions.by_key key ≡ None) × (after ≡ opened o.ready o.number key o.node access (status_flags flags))
+IsOpened t access flags (Err e) after = after ≡ t
+
+abbrev pub opened_number : Result Opening Errno → Option ℤ
+opened_number (Ok o) = Some (pos o.number)
+opened_number (Err e) = None
+
+-- ## All calls
+
+-- what a call changes where it is not refused
+abbrev pub Changes : TableState → Call → TableState → Type 0
+Changes t (call.Open path access flags) after = IsOpened t access flags (opening t path) after
+Changes t (call.Close descriptor) after = after ≡ kept_or t (close_change t descriptor)
+Changes t (call.Dup descriptor) after = after ≡ kept_or t (dup_change t descriptor)
+Changes t (call.DupFrom descriptor least) after = after ≡ kept_or t (dup_from_change t descriptor least)
+Changes t (call.Dup2 descriptor target) after = after ≡ kept_or t (dup2_change t descriptor target)
+Changes t (call.Setfl descriptor append nonblock) after = after ≡ kept_or t (setfl_change t descriptor append nonblock)
+Changes t (call.Link old_path new_path) after = after ≡ kept_or t (link_change t old_path new_path)
+Changes t (call.Unlink path) after = after ≡ kept_or t (unlink_change t path)
+Changes t (call.Mkdir path) after = after ≡ kept_or t (mkdir_change t path)
+Changes t (call.Rmdir path) after = after ≡ kept_or t (rmdir_change t path)
+Changes t _ after = after ≡ t
+
+-- the number that a call gives a new descriptor when it is applied
+abbrev pub number_given : TableState → Call → Option ℤ
+number_given t (call.Open path access flags) = opened_number (opening t path)
+number_given t _ = None
+
+abbrev pub is_failure : Reply → Bool
+is_failure (reply.Fail e) = true
+is_failure _ = false
+
+abbrev pub is_refused : Plan → Bool
+is_refused (plan.Reply r) = is_failure r
+is_refused (plan.Node node act keep_table) = false

@@ -1,0 +1,233 @@
+-- What the table alone makes of each call: its reply, or which object's lock the call takes and what it does there.
+use Rattle.std.specs.Prelude.{◌≤◌, ◌≡◌, ◌<◌, ◌⊎◌, ℕ, ◌+◌, ℤ, pos, List, length, true, false, not, ◌&&◌, ◌==◌, nat_lt, nat_le, Option, Some, None, is_some, Result, Ok, Err, if◌then◌else◌}
+use Rattle.std.specs.FinMap as map
+use Rattle.std.specs.Ordering.{int_eq}
+use Rattle.posix_terms.specs.Calls.{can_read, can_write}
+use Rattle.posix_terms.specs.Duplicates.{descriptor_number}
+use Rattle.posix_terms.specs.Names.{PathMap, file_named, links_of, removed_dir}
+use Rattle.posix_terms.specs.Object.{Node, FileNode, Directory}
+use Rattle.posix_terms.specs.Paths.{node_at, resolved}
+use Rattle.posix_terms.specs.Refusals.{◌>>=◌, count_of, position_of, refuse_if, some_or}
+use Rattle.posix_terms.specs.Status.{access_number}
+use Rattle.posix_terms.specs.Transfers.{size_of}
+use Rattle.posix_terms.specs.declared.call.Access.{Access}
+use Rattle.posix_terms.specs.declared.call.Call.{Call}
+use Rattle.posix_terms.specs.declared.call.Call.TheVariants as call
+use Rattle.posix_terms.specs.declared.call.OpenFlags.{OpenFlags}
+use Rattle.posix_terms.specs.declared.errno.Errno.{Errno}
+use Rattle.posix_terms.specs.declared.errno.Errno.TheVariants.{EBADF, EINVAL, EEXIST, EISDIR, EMFILE, ENOENT, ENOSPC}
+use Rattle.posix_terms.specs.declared.limits.TheConstants.Limits as limit
+use Rattle.posix_terms.specs.declared.reply.Reply.{Reply}
+use Rattle.posix_terms.specs.declared.reply.Reply.TheVariants as reply
+use Rattle.file_descriptions.specs.Descriptions.{ContainsKey}
+use Rattle.file_descriptions.specs.declared.description.Description.{Description}
+use Rattle.descriptor_table.specs.Table.{TableState, described, free_object, is_last_name, is_used, lowest_free}
+use Rattle.descriptor_table.specs.declared.plan.Op.{Op}
+use Rattle.descriptor_table.specs.declared.plan.Op.TheVariants as op
+use Rattle.descriptor_table.specs.declared.plan.Opened.{Opened}
+use Rattle.descriptor_table.specs.declared.plan.Plan.{Plan}
+use Rattle.descriptor_table.specs.declared.plan.Plan.TheVariants as plan
+
+-- a call that takes an object's lock and then no longer keeps the table
+abbrev pub locks : ℕ → Op → Plan
+locks node act = plan.Node node act false
+
+abbrev pub seen : ℕ → Description → Opened
+seen key d = record { key = key; «end» = d.«end»; flags = d.flags }
+
+-- one descriptor less refers to a description: its object is locked where that was the last one
+abbrev pub release : Description → Reply → Plan
+release d r = if d.holders == 1 then locks d.node op.Release else plan.Reply r
+
+-- `open` of a path that names something
+abbrev pub open_there : TableState → Node → OpenFlags → Result Plan Errno
+open_there t Directory flags = Err EISDIR
+open_there t (FileNode node) flags = do
+  _ ← some_or (lowest_free t 0) EMFILE
+  Ok (locks node (op.Open flags.truncate))
+
+-- `open` of a path that names nothing: the file has a name and a number to come, and no bytes
+abbrev pub open_new : TableState → OpenFlags → Result Plan Errno
+open_new t flags = do
+  _ ← refuse_if (not flags.create) ENOENT
+  _ ← refuse_if (nat_le limit.NAMES (map.len t.paths)) ENOSPC
+  node ← some_or (free_object t) ENOSPC
+  _ ← some_or (lowest_free t 0) EMFILE
+  Ok (locks node (op.Open true))
+
+abbrev pub open_node : TableState → Option Node → OpenFlags → Result Plan Errno
+open_node t None flags = open_new t flags
+open_node t (Some node) flags = do
+  _ ← refuse_if (flags.create && flags.exclusive) EEXIST
+  open_there t node flags
+
+unfoldable pub open_plan : TableState → List ℕ → Access → OpenFlags → Result Plan Errno
+open_plan t path access flags = do
+  _ ← refuse_if (flags.truncate && not (can_write access)) EINVAL
+  components ← resolved t.paths path
+  open_node t (node_at t.paths components) flags
+
+unfoldable pub close_plan : TableState → ℤ → Result Plan Errno
+close_plan t descriptor = do
+  found ← described t descriptor
+  Ok (release found.1 reply.Done)
+
+unfoldable pub read_plan : TableState → ℤ → ℤ → Result Plan Errno
+read_plan t descriptor count = do
+  found ← described t descriptor
+  _ ← refuse_if (not (can_read found.1.access)) EBADF
+  n ← count_of count
+  Ok (locks found.1.node (op.Read (seen found.0 found.1) n))
+
+unfoldable pub write_plan : TableState → ℤ → ℕ → Result Plan Errno
+write_plan t descriptor count = do
+  found ← described t descriptor
+  _ ← refuse_if (not (can_write found.1.access)) EBADF
+  _ ← refuse_if (nat_lt limit.COUNT count) EINVAL
+  Ok (locks found.1.node (op.Write (seen found.0 found.1)))
+
+unfoldable pub pread_plan : TableState → ℤ → ℤ → ℤ → Result Plan Errno
+pread_plan t descriptor count position = do
+  found ← described t descriptor
+  _ ← refuse_if (not (can_read found.1.access)) EBADF
+  n ← count_of count
+  start ← position_of position
+  Ok (locks found.1.node (op.Pread n start))
+
+unfoldable pub pwrite_plan : TableState → ℤ → ℕ → ℤ → Result Plan Errno
+pwrite_plan t descriptor count position = do
+  found ← described t descriptor
+  _ ← refuse_if (not (can_write found.1.access)) EBADF
+  _ ← refuse_if (nat_lt limit.COUNT count) EINVAL
+  start ← position_of position
+  Ok (locks found.1.node (op.Pwrite start))
+
+unfoldable pub lseek_plan : TableState → ℤ → Result Plan Errno
+lseek_plan t descriptor = do
+  found ← described t descriptor
+  Ok (locks found.1.node (op.Lseek (seen found.0 found.1)))
+
+unfoldable pub ftruncate_plan : TableState → ℤ → ℤ → Result Plan Errno
+ftruncate_plan t descriptor size = do
+  found ← described t descriptor
+  _ ← refuse_if (not (can_write found.1.access)) EINVAL
+  n ← size_of size
+  Ok (locks found.1.node (op.Ftruncate n))
+
+unfoldable pub fstat_plan : TableState → ℤ → Result Plan Errno
+fstat_plan t descriptor = do
+  found ← described t descriptor
+  Ok (locks found.1.node (op.Fstat (links_of t.paths found.1.node)))
+
+unfoldable pub dup_plan : TableState → ℤ → Result Plan Errno
+dup_plan t descriptor = do
+  _ ← described t descriptor
+  n ← some_or (lowest_free t 0) EMFILE
+  Ok (plan.Reply (reply.Number (pos n)))
+
+unfoldable pub dup_from_plan : TableState → ℤ → ℤ → Result Plan Errno
+dup_from_plan t descriptor least = do
+  _ ← described t descriptor
+  first ← descriptor_number least EINVAL
+  n ← some_or (lowest_free t first) EMFILE
+  Ok (plan.Reply (reply.Number (pos n)))
+
+-- what `dup2` makes of its target, which is closed first if it is open
+abbrev pub replaced : Result (ℕ × Description) Errno → Reply → Plan
+replaced (Ok found) r = release found.1 r
+replaced (Err e) r = plan.Reply r
+
+unfoldable pub dup2_plan : TableState → ℤ → ℤ → Result Plan Errno
+dup2_plan t descriptor target = do
+  _ ← described t descriptor
+  _ ← descriptor_number target EBADF
+  Ok (if int_eq descriptor target then plan.Reply (reply.Number target) else replaced (described t target) (reply.Number target))
+
+-- an access and flags as one number: 4 for O_APPEND, 8 for O_NONBLOCK
+abbrev pub status_number : Description → ℕ
+status_number d = access_number d.access + (if d.flags.append then 4 else 0) + (if d.flags.nonblock then 8 else 0)
+
+unfoldable pub getfl_plan : TableState → ℤ → Result Plan Errno
+getfl_plan t descriptor = do
+  found ← described t descriptor
+  Ok (plan.Reply (reply.Number (pos (status_number found.1))))
+
+unfoldable pub setfl_plan : TableState → ℤ → Result Plan Errno
+setfl_plan t descriptor = do
+  _ ← described t descriptor
+  Ok (plan.Reply reply.Done)
+
+-- whether a path can become a name
+unfoldable pub addable : PathMap → List ℕ → Result (Unit {0}) Errno
+addable paths path = do
+  components ← resolved paths path
+  _ ← refuse_if (is_some (node_at paths components)) EEXIST
+  refuse_if (nat_le limit.NAMES (map.len paths)) ENOSPC
+
+unfoldable pub link_plan : TableState → List ℕ → List ℕ → Result Plan Errno
+link_plan t old_path new_path = do
+  _ ← file_named t.paths old_path
+  _ ← addable t.paths new_path
+  Ok (plan.Reply reply.Done)
+
+-- the file is locked where it ends with this name
+unfoldable pub unlink_plan : TableState → List ℕ → Result Plan Errno
+unlink_plan t path = do
+  node ← file_named t.paths path
+  Ok (if is_last_name t node then locks node op.Release else plan.Reply reply.Done)
+
+unfoldable pub mkdir_plan : TableState → List ℕ → Result Plan Errno
+mkdir_plan t path = do
+  _ ← addable t.paths path
+  Ok (plan.Reply reply.Done)
+
+unfoldable pub rmdir_plan : TableState → List ℕ → Result Plan Errno
+rmdir_plan t path = do
+  _ ← removed_dir t.paths path
+  Ok (plan.Reply reply.Done)
+
+abbrev pub plan_of : TableState → Call → Result Plan Errno
+plan_of t (call.Open path access flags) = open_plan t path access flags
+plan_of t (call.Close descriptor) = close_plan t descriptor
+plan_of t (call.Read descriptor count) = read_plan t descriptor count
+plan_of t (call.Write descriptor bytes) = write_plan t descriptor (length bytes)
+plan_of t (call.Pread descriptor count position) = pread_plan t descriptor count position
+plan_of t (call.Pwrite descriptor bytes position) = pwrite_plan t descriptor (length bytes) position
+plan_of t (call.Lseek descriptor offset whence) = lseek_plan t descriptor
+plan_of t (call.Ftruncate descriptor size) = ftruncate_plan t descriptor size
+plan_of t (call.Fstat descriptor) = fstat_plan t descriptor
+plan_of t (call.Dup descriptor) = dup_plan t descriptor
+plan_of t (call.DupFrom descriptor least) = dup_from_plan t descriptor least
+plan_of t (call.Dup2 descriptor target) = dup2_plan t descriptor target
+plan_of t (call.Getfl descriptor) = getfl_plan t descriptor
+plan_of t (call.Setfl descriptor append nonblock) = setfl_plan t descriptor
+plan_of t (call.Link old_path new_path) = link_plan t old_path new_path
+plan_of t (call.Unlink path) = unlink_plan t path
+plan_of t (call.Mkdir path) = mkdir_plan t path
+plan_of t (call.Rmdir path) = rmdir_plan t path
+
+-- a call that is refused by the table is answered by it
+abbrev pub answered : Result Plan Errno → Plan
+answered (Ok p) = p
+answered (Err e) = plan.Reply (reply.Fail e)
+
+abbrev pub planned : TableState → Call → Plan
+planned t c = answered (plan_of t c)
+
+-- ## Which objects calls lock
+
+-- one that is there, or the one that a new file becomes; so each has one of the numbers of objects
+abbrev pub IsKnownNumber : TableState → ℕ → Type 0
+IsKnownNumber t node = (node < limit.OBJECTS) × ((is_used t node ≡ true) ⊎ (free_object t ≡ Some node))
+
+-- the description whose offset an act reads or moves is there
+abbrev pub MovesKnown : TableState → Op → Type 0
+MovesKnown t (op.Read from count) = ContainsKey t.descriptions from.key
+MovesKnown t (op.Write to) = ContainsKey t.descriptions to.key
+MovesKnown t (op.Lseek at) = ContainsKey t.descriptions at.key
+MovesKnown t (op.Ftruncate size) = size ≤ limit.FILE_BYTES
+MovesKnown t _ = Unit {0}
+
+abbrev pub LocksKnown : TableState → Plan → Type 0
+LocksKnown t (plan.Reply r) = Unit {0}
+LocksKnown t (plan.Node node act keep_table) = IsKnownNumber t node × MovesKnown t act

@@ -1,0 +1,38 @@
+-- What a table shows of the sequential object: all but what the objects hold, and but the offsets, which a call
+-- moves at its answer. The keys of the sequential object are the births of descriptions and of objects.
+use Rattle.std.specs.Prelude.{◌≡◌, ℕ, List, true, Some, None, is_some, unwrap_or, slice_index_or}
+use Rattle.std.specs.Option.{option_map}
+use Rattle.std.specs.FinMap as map
+use Rattle.posix_terms.specs.Object as posix
+use Rattle.posix_terms.specs.Object.{State, Node, FileNode, Directory}
+use Rattle.file_descriptions.specs.Descriptions.{description_at}
+use Rattle.file_descriptions.specs.declared.description.Description.{Description}
+use Rattle.descriptor_table.specs.Table.{TableState}
+
+-- the birth of the object with this number; a number that is free is for the object to come
+abbrev pub birth_at : TableState → ℕ → ℕ
+birth_at t node = unwrap_or (slice_index_or t.objects node None) t.made_objects
+
+-- the birth of the description under this key
+abbrev pub birth_of : TableState → ℕ → ℕ
+birth_of t key = let d : Description = description_at t.descriptions key in d.birth
+
+-- a description as the sequential object has it, at an offset
+abbrev pub shown : TableState → Description → ℕ → posix.Description
+shown t d offset = record { object = birth_at t d.node; access = d.access; offset = offset; append = d.flags.append; nonblock = d.flags.nonblock }
+
+abbrev pub shown_node : TableState → Node → Node
+shown_node t (FileNode node) = FileNode (birth_at t node)
+shown_node t Directory = Directory
+
+pub record Shows (t : TableState) (s : State) : Type 0 where
+  pub descriptors : (n : ℕ) → map.get s.descriptors n ≡ option_map (birth_of t) (slice_index_or t.descriptors n None)
+  -- each description is there under its birth, and no other one
+  pub descriptions : (key : ℕ) (d : Description) → map.get t.descriptions.by_key key ≡ Some d → (offset : ℕ) × (map.get s.descriptions d.birth ≡ Some (shown t d offset))
+  pub described : (birth : ℕ) → is_some (map.get s.descriptions birth) ≡ true → (key : ℕ) × (d : Description) × (map.get t.descriptions.by_key key ≡ Some d) × (d.birth ≡ birth)
+  pub paths : (path : List (List ℕ)) → map.get s.paths path ≡ option_map (shown_node t) (map.get t.paths path)
+  -- each object is there under its birth, and no other one
+  pub objects : (node birth : ℕ) → slice_index_or t.objects node None ≡ Some birth → is_some (map.get s.objects birth) ≡ true
+  pub numbered : (birth : ℕ) → is_some (map.get s.objects birth) ≡ true → (node : ℕ) × (slice_index_or t.objects node None ≡ Some birth)
+  pub next_description : s.next_description ≡ t.descriptions.made
+  pub next_object : s.next_object ≡ t.made_objects

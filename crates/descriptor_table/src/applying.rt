@@ -1,0 +1,250 @@
+ghost use Rattle.std.specs.Prelude.{◌≡◌, ◌≢◌, ◌<◌, ◌^◌, ℤ, pos, IfOk, IfErr, Ok, Err, Some, None, IsTrue, true, false, if◌then◌else◌};
+ghost use Rattle.std.specs.FinMap as map;
+ghost use Rattle.descriptor_table.specs.Changes.{Changes, IsOpened, close_change, closed, closed_if_open, dup_change, dup_from_change, dup2_change, found_or_made, is_refused, kept_or, link_change, mkdir_change, number_given, opened_number, opening, shared, rmdir_change, setfl_change, unlink_change};
+ghost use Rattle.descriptor_table.specs.Agreement.{ChangesAsStep, NumbersStay, OffsetsStay, TellsAsStep};
+ghost use Rattle.descriptor_table.specs.Plans.{planned};
+ghost use Rattle.descriptor_table.specs.Table.{described, is_used, key_at};
+
+use crate::numbers::descriptor_number;
+use crate::plan::Plan;
+use crate::table::Table;
+use directories::Node;
+use file_descriptions::StatusFlags;
+use posix_terms::{Access, Call, Errno, Limits, OpenFlags, Outcome};
+
+impl Table {
+    /// Makes the change of a call that was planned: of descriptors, descriptions, names and objects. After
+    /// a refusal there is none. It gives the number of a new descriptor where the plan has not told it.
+    /// So the table goes on showing the sequential object after the call (`step`), and the number is that
+    /// of its answer (`tells`). An object keeps its number while it is there, and a new one gets the next that
+    /// is free (`numbers`). A description stands where it stood, and a new one at 0 (`offsets`).
+    pub fn apply(&mut self, call: &Call, plan: &Plan, _outcome: Option<&Outcome>) -> Option<i64>
+        requires descriptions { self.old.descriptions.made < 2 ^ 127 }
+        requires objects { self.old.made_objects < 2 ^ 127 }
+        ensures refused { IsTrue (is_refused plan.now) → (self.new ≡ self.old) × (result ≡ None) }
+        ensures changes { is_refused plan.now ≡ false → Changes self.old call.now self.new }
+        ensures number { is_refused plan.now ≡ false → result ≡ number_given self.old call.now }
+        ensures step { plan.now ≡ planned self.old call.now → ChangesAsStep self.old call.now self.new }
+        ensures numbers { NumbersStay self.old self.new }
+        ensures offsets { OffsetsStay self.old self.new }
+        ensures tells { plan.now ≡ planned self.old call.now → TellsAsStep self.old call.now result }
+    {
+        self.known();
+        if plan.is_refused() {
+            return None;
+        }
+        self.change(call)
+    }
+
+    fn change(&mut self, call: &Call) -> Option<i64>
+        requires descriptions { self.old.descriptions.made < 2 ^ 127 }
+        requires objects { self.old.made_objects < 2 ^ 127 }
+        ensures changes { Changes self.old call.now self.new }
+        ensures number { result ≡ number_given self.old call.now }
+    {
+        match call {
+            Call::Open {
+                path,
+                access,
+                flags,
+            } => return self.open(path.as_slice(), *access, *flags),
+            Call::Close { descriptor } => self.close(*descriptor),
+            Call::Dup { descriptor } => self.dup(*descriptor),
+            Call::DupFrom { descriptor, least } => self.dup_from(*descriptor, *least),
+            Call::Dup2 { descriptor, target } => self.dup2(*descriptor, *target),
+            Call::Setfl {
+                descriptor,
+                append,
+                nonblock,
+            } => self.setfl(*descriptor, *append, *nonblock),
+            Call::Link { old_path, new_path } => self.link(
+                old_path.as_slice(),
+                new_path.as_slice(),
+            ),
+            Call::Unlink { path } => self.unlink(path.as_slice()),
+            Call::Mkdir { path } => self.mkdir(path.as_slice()),
+            Call::Rmdir { path } => self.rmdir(path.as_slice()),
+            Call::Read { .. }
+            | Call::Write { .. }
+            | Call::Pread { .. }
+            | Call::Pwrite { .. }
+            | Call::Lseek { .. }
+            | Call::Ftruncate { .. }
+            | Call::Fstat { .. }
+            | Call::Getfl { .. } => {}
+        }
+        None
+    }
+
+    #[tactic(auto, unfolding(crate::specs::Changes::opening))]
+    fn open(&mut self, path: &[u8], access: Access, flags: OpenFlags) -> Option<i64>
+        requires descriptions { self.old.descriptions.made < 2 ^ 127 }
+        requires objects { self.old.made_objects < 2 ^ 127 }
+        ensures opened { IsOpened self.old access flags (opening self.old path.now) self.new }
+        ensures number { result ≡ opened_number (opening self.old path.now) }
+    {
+        let number = self.free_number(0)?;
+        let Ok(node) = self.find_or_make(path) else {
+            return None;
+        };
+        let flags = StatusFlags {
+            append: flags.append,
+            nonblock: flags.nonblock,
+        };
+        let _ = self.open_number(number, node, access, flags);
+        Some(number as i64)
+    }
+
+    // The file of a path, which is made if it is missing.
+    #[tactic(auto, unfolding(crate::specs::Changes::found_or_made))]
+    fn find_or_make(&mut self, path: &[u8]) -> Result<usize, Errno>
+        requires { self.old.made_objects < 2 ^ 127 }
+        ensures ok { IfOk result (λ node. found_or_made self.old path.now ≡ Ok (self.new, node)) }
+        ensures err { IfErr result (λ error. (found_or_made self.old path.now ≡ Err error) × (self.new ≡ self.old)) }
+        ensures others { (self.new.descriptors ≡ self.old.descriptors) × (self.new.descriptions ≡ self.old.descriptions) }
+        ensures there { IfOk result (λ node. is_used self.new node ≡ true) }
+    {
+        match self.names().resolve(path)? {
+            Some(Node::File(node)) => Ok(node),
+            Some(Node::Directory) => Err(Errno::EISDIR),
+            None => self.make_file(path),
+        }
+    }
+
+    // Number `number` is closed, which refers to the description of this key.
+    fn close_number(&mut self, number: usize, key: usize)
+        requires inside { number < Limits.DESCRIPTORS }
+        requires refers { key_at self.old (pos number) ≡ Some key }
+        ensures { self.new ≡ closed self.old number key }
+    {
+        if let Some(node) = self.let_go(number, key) {
+            self.free_if_gone(node);
+        }
+    }
+
+    #[tactic(auto, unfolding(crate::specs::Changes::close_change))]
+    fn close(&mut self, descriptor: i64)
+        ensures { self.new ≡ kept_or self.old (close_change self.old descriptor) }
+    {
+        let Ok(number) = descriptor_number(descriptor, Errno::EBADF) else {
+            return;
+        };
+        let Ok((key, _)) = self.described(descriptor) else {
+            return;
+        };
+        self.close_number(number, key);
+    }
+
+    #[tactic(auto, unfolding(crate::specs::Changes::dup_change))]
+    fn dup(&mut self, descriptor: i64)
+        ensures { self.new ≡ kept_or self.old (dup_change self.old descriptor) }
+    {
+        let Ok((key, _)) = self.described(descriptor) else {
+            return;
+        };
+        let Some(number) = self.free_number(0) else {
+            return;
+        };
+        self.share(number, key);
+    }
+
+    #[tactic(auto, unfolding(crate::specs::Changes::dup_from_change))]
+    fn dup_from(&mut self, descriptor: i64, least: i64)
+        ensures { self.new ≡ kept_or self.old (dup_from_change self.old descriptor least) }
+    {
+        let Ok((key, _)) = self.described(descriptor) else {
+            return;
+        };
+        let Ok(first) = descriptor_number(least, Errno::EINVAL) else {
+            return;
+        };
+        let Some(number) = self.free_number(first) else {
+            return;
+        };
+        self.share(number, key);
+    }
+
+    #[tactic(auto, unfolding(crate::specs::Changes::setfl_change))]
+    fn setfl(&mut self, descriptor: i64, append: bool, nonblock: bool)
+        ensures { self.new ≡ kept_or self.old (setfl_change self.old descriptor append nonblock) }
+    {
+        if let Ok((key, _)) = self.described(descriptor) {
+            self.set_flags(key, StatusFlags { append, nonblock });
+        }
+    }
+
+    #[tactic(auto, unfolding(crate::specs::Changes::link_change))]
+    fn link(&mut self, old_path: &[u8], new_path: &[u8])
+        ensures { self.new ≡ kept_or self.old (link_change self.old old_path.now new_path.now) }
+    {
+        if let Ok(node) = self.file_named(old_path) {
+            self.add_name(new_path, node);
+        }
+    }
+
+    #[tactic(auto, unfolding(crate::specs::Changes::unlink_change))]
+    fn unlink(&mut self, path: &[u8])
+        ensures { self.new ≡ kept_or self.old (unlink_change self.old path.now) }
+    {
+        if let Ok(node) = self.remove_name(path) {
+            self.free_if_gone(node);
+        }
+    }
+
+    #[tactic(auto, unfolding(crate::specs::Changes::mkdir_change))]
+    fn mkdir(&mut self, path: &[u8])
+        ensures { self.new ≡ kept_or self.old (mkdir_change self.old path.now) }
+    {
+        self.make_dir(path);
+    }
+
+    #[tactic(auto, unfolding(crate::specs::Changes::rmdir_change))]
+    fn rmdir(&mut self, path: &[u8])
+        ensures { self.new ≡ kept_or self.old (rmdir_change self.old path.now) }
+    {
+        self.remove_dir(path);
+    }
+
+    #[tactic(auto, unfolding(crate::specs::Changes::dup2_change))]
+    fn dup2(&mut self, descriptor: i64, target: i64)
+        ensures { self.new ≡ kept_or self.old (dup2_change self.old descriptor target) }
+    {
+        let Ok((source, _)) = self.described(descriptor) else {
+            return;
+        };
+        let Ok(number) = descriptor_number(target, Errno::EBADF) else {
+            return;
+        };
+        if descriptor == target {
+            return;
+        }
+        self.close_if_open(number, target);
+        self.share_of(number, descriptor, source);
+    }
+
+    // Number `number` refers to what another descriptor refers to.
+    fn share_of(&mut self, number: usize, descriptor: i64, key: usize)
+        requires inside { number < Limits.DESCRIPTORS }
+        requires free { key_at self.old (pos number) ≡ None }
+        requires refers { key_at self.old descriptor ≡ Some key }
+        ensures { self.new ≡ shared self.old number key }
+    {
+        if let Ok((key, _)) = self.described(descriptor) {
+            self.share(number, key);
+        }
+    }
+
+    // A descriptor, by its number, is closed if it is open.
+    #[tactic(auto, using(crate::proofs::SoundLemmas::keys))]
+    fn close_if_open(&mut self, number: usize, target: i64)
+        requires inside { number < Limits.DESCRIPTORS }
+        requires same { target ≡ pos number }
+        ensures closed { self.new ≡ closed_if_open self.old number (described self.old target) }
+        ensures free { key_at self.new (pos number) ≡ None }
+        ensures others { (descriptor : ℤ) → descriptor ≢ target → key_at self.new descriptor ≡ key_at self.old descriptor }
+    {
+        if let Ok((key, _)) = self.described(target) {
+            self.close_number(number, key);
+        }
+    }
+}

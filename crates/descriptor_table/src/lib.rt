@@ -1,0 +1,16 @@
+//! The table of descriptors: what each call finds in it, and how each call changes it.
+#![tactic(auto)]
+
+mod applying;
+mod laws;
+mod numbers;
+mod plan;
+mod planning;
+mod slots;
+mod table;
+#[cfg(test)]
+mod tests;
+
+pub use laws::opens_as_planned;
+pub use plan::{Op, Opened, Plan};
+pub use table::Table;

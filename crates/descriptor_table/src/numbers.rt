@@ -1,0 +1,49 @@
+ghost use Rattle.std.specs.Prelude.{◌≡◌, ◌<◌, pos, IfOk};
+ghost use Rattle.posix_terms.specs.Duplicates.{descriptor_number};
+ghost use Rattle.posix_terms.specs.Refusals.{count_of, position_of};
+ghost use Rattle.posix_terms.specs.Transfers.{size_of};
+
+use posix_terms::{Errno, Limits};
+
+// How many bytes a read asks for.
+pub fn count_of(count: i64) -> Result<usize, Errno>
+    ensures { result ≡ count_of count }
+{
+    match usize::try_from(count) {
+        Ok(count) if count <= Limits::COUNT => Ok(count),
+        _ => Err(Errno::EINVAL),
+    }
+}
+
+// A position in a file.
+pub fn position_of(position: i64) -> Result<u64, Errno>
+    ensures { result ≡ position_of position }
+{
+    match u64::try_from(position) {
+        Ok(position) => Ok(position),
+        Err(_) => Err(Errno::EINVAL),
+    }
+}
+
+// A length that a file can have.
+pub fn size_of(size: i64) -> Result<usize, Errno>
+    ensures { result ≡ size_of size }
+{
+    match usize::try_from(size) {
+        Ok(size) if size <= Limits::FILE_BYTES => Ok(size),
+        Ok(_) => Err(Errno::EFBIG),
+        Err(_) => Err(Errno::EINVAL),
+    }
+}
+
+// A number that a descriptor can have; another is refused as the caller says.
+pub fn descriptor_number(number: i64, error: Errno) -> Result<usize, Errno>
+    ensures number { result ≡ descriptor_number number error }
+    ensures same { IfOk result (λ n. number ≡ pos n) }
+    ensures inside { IfOk result (λ n. n < Limits.DESCRIPTORS) }
+{
+    match usize::try_from(number) {
+        Ok(number) if number < Limits::DESCRIPTORS => Ok(number),
+        _ => Err(error),
+    }
+}

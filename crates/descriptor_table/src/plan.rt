@@ -1,0 +1,52 @@
+ghost use Rattle.std.specs.Prelude.{◌≡◌};
+ghost use Rattle.descriptor_table.specs.Changes.{is_refused};
+
+use file_descriptions::{End, StatusFlags};
+use posix_terms::Reply;
+
+/// An open file description, as it is when the call is planned.
+#[derive(Clone, Copy, Debug, PartialEq, Eq)]
+pub struct Opened {
+    pub key: usize,
+    pub end: End,
+    pub flags: StatusFlags,
+}
+
+/// What a call does to the object that it locks.
+#[derive(Clone, Copy, Debug, PartialEq, Eq)]
+pub enum Op {
+    /// A file is opened. Where it is new or cut it has no bytes.
+    Open { cut: bool },
+    /// What referred to the object does so no more.
+    Release,
+    Read { from: Opened, count: usize },
+    Write { to: Opened },
+    Pread { count: usize, position: u64 },
+    Pwrite { position: u64 },
+    Lseek { at: Opened },
+    Ftruncate { size: usize },
+    /// The file has this many names when the call is planned.
+    Fstat { links: usize },
+}
+
+/// What the table makes of a call.
+#[derive(Debug, PartialEq, Eq, Drop)]
+pub enum Plan {
+    /// The table alone answers.
+    Reply(Reply),
+    /// The call takes the lock of an object. `keep_table`: it keeps the table's lock to its answer.
+    Node {
+        node: usize,
+        op: Op,
+        keep_table: bool,
+    },
+}
+
+impl Plan {
+    /// Whether the table refuses the call.
+    pub fn is_refused(&self) -> bool
+        ensures { result ≡ is_refused self.now }
+    {
+        matches!(self, Plan::Reply(Reply::Fail(_)))
+    }
+}

@@ -1,0 +1,304 @@
+ghost use Rattle.std.specs.Prelude.{◌≡◌, ◌<◌, ◌≤◌, pos, length, ◌^◌, option_map, slice_index_or, slice_set, true, IfOk, IfErr, IfSome, Some, None, Ok, Err, if◌then◌else◌};
+ghost use Rattle.std.specs.FinMap as map;
+ghost use Rattle.file_descriptions.specs.Descriptions.{AreSound, ContainsKey, description_at, is_last_held, with_flags, with_offset, ends_of};
+ghost use Rattle.posix_terms.specs.Names.{added, file_named, removed, removed_dir};
+ghost use Rattle.descriptor_table.specs.Shows.{Shows};
+ghost use Rattle.posix_terms.specs.Object.{State, FileNode, empty_state, Directory as a_directory};
+ghost use Rattle.descriptor_table.specs.Changes.{file_at, let_go, opened, paths_or, shared, with_paths, without_gone};
+ghost use Rattle.descriptor_table.specs.Table.{IsSound, empty_table, key_at, described, lowest_free, free_object, is_closed, is_gone, is_last_name, is_used};
+
+use crate::slots::lowest_from;
+use directories::Names;
+use file_descriptions::{Description, Descriptions, End, StatusFlags};
+use posix_terms::{Access, Errno, Limits};
+use std::alloc::{AllocError, Global};
+use std::marker::Model;
+
+/// The descriptors, the descriptions that they refer to, the names and the numbers of the objects: all
+/// but what the objects hold. Contracts see these as one value.
+#[derive(Drop)]
+pub struct Table {
+    descriptors: [Option<usize>; Limits::DESCRIPTORS],
+    descriptions: Descriptions,
+    names: Names,
+    objects: [Option<u128>; Limits::OBJECTS],
+    made_objects: u128,
+}
+
+impl Model for Table {
+    ghost use Rattle.descriptor_table.specs.Table.{TableState};
+    ghost use Rattle.descriptor_table.specs.TableCode.{table_code};
+
+    ghost Value = { TableState };
+
+    ghost coded = { table_code };
+
+    ghost use Rattle.descriptor_table.specs.Table.{IsSound};
+
+    ghost view = { λ t. record { descriptors = t.descriptors; descriptions = t.descriptions; paths = t.names; objects = t.objects; made_objects = t.made_objects } };
+
+    ghost invariant = { λ t. IsSound (record { descriptors = t.descriptors; descriptions = t.descriptions; paths = t.names; objects = t.objects; made_objects = t.made_objects }) };
+}
+
+impl Table {
+    /// No descriptor is open, and there is only the root. This takes all the memory that a table ever
+    /// needs.
+    #[tactic(auto, using(crate::proofs::SoundLemmas::sound))]
+    pub fn new(alloc: Global) -> Result<Table, AllocError>
+        ensures empty { IfOk result (λ t. t ≡ empty_table) }
+        ensures shows { IfOk result (λ t. Shows t empty_state) }
+    {
+        Ok(Table {
+            descriptors: [None; Limits::DESCRIPTORS],
+            descriptions: Descriptions::new(alloc)?,
+            names: Names::new(),
+            objects: [None; Limits::OBJECTS],
+            made_objects: 0,
+        })
+    }
+
+    /// The least number from `from` on that is not open.
+    #[tactic(auto, using(crate::proofs::SoundLemmas::sound))]
+    pub fn lowest_free(&self, from: usize) -> Option<i64>
+        ensures { result ≡ option_map (λ n. pos n) (lowest_free self.now from) }
+    {
+        match self.free_number(from) {
+            Some(number) => Some(number as i64),
+            None => None,
+        }
+    }
+
+    /// The offset of a description.
+    pub fn offset(&self, key: usize) -> u64
+        requires { ContainsKey self.now.descriptions key }
+        ensures { result ≡ (description_at self.now.descriptions key).offset }
+    {
+        self.descriptions.offset(key)
+    }
+
+    /// Sets the offset of a description. What the table shows is no matter of offsets (`shows`).
+    #[tactic(auto, using(crate::proofs::SoundLemmas::sound))]
+    pub fn set_offset(&mut self, key: usize, offset: u64)
+        requires { ContainsKey self.old.descriptions key }
+        ensures shows { (s : State) → Shows self.old s → Shows self.new s }
+        ensures set { self.new ≡ record self.old { descriptions = with_offset self.old.descriptions key offset } }
+    {
+        self.known();
+        self.descriptions.set_offset(key, offset);
+    }
+
+    /// How many descriptions have the ends of an object: of a pipe its read end and its write end, of a
+    /// socket pair its side 0 and its side 1. Those of a file or a door all count first.
+    pub fn ends(&self, node: usize) -> (usize, usize)
+        ensures { result ≡ ends_of self.now.descriptions node }
+    {
+        self.descriptions.ends(node)
+    }
+
+    /// How many descriptions and how many objects were ever made. With it comes what holds of every table
+    /// (`sound`, `births`).
+    pub fn made(&self) -> (u128, u128)
+        ensures made { result ≡ (self.now.descriptions.made, self.now.made_objects) }
+        ensures sound { IsSound self.now }
+        ensures births { AreSound self.now.descriptions }
+    {
+        (self.descriptions.made(), self.made_objects)
+    }
+
+    // What holds of every table, for the proofs of its callers.
+    pub(crate) fn known(&self)
+        ensures table { IsSound self.now }
+        ensures descriptions { AreSound self.now.descriptions }
+    {
+        let _ = self.made();
+    }
+
+    // The key of the description that a descriptor refers to.
+    #[tactic(auto, using(crate::proofs::SoundLemmas::sound))]
+    fn key_at(&self, descriptor: i64) -> Option<usize>
+        ensures key { result ≡ key_at self.now descriptor }
+        ensures known { IfSome result (λ key. ContainsKey self.now.descriptions key) }
+    {
+        let number = usize::try_from(descriptor).ok()?;
+        let slots = self.descriptors.as_slice();
+        if number >= slots.len() {
+            return None;
+        }
+        slots[number]
+    }
+
+    // That description, with its key.
+    pub(crate) fn described(&self, descriptor: i64) -> Result<(usize, Description), Errno>
+        ensures found { result ≡ described self.now descriptor }
+        ensures key { IfOk result (λ found. key_at self.now descriptor ≡ Some found.0) }
+        ensures shut { IfErr result (λ error. key_at self.now descriptor ≡ None) }
+        ensures known { IfOk result (λ found. ContainsKey self.now.descriptions found.0) }
+    {
+        match self.key_at(descriptor) {
+            Some(key) => Ok((key, self.descriptions.description(key))),
+            None => Err(Errno::EBADF),
+        }
+    }
+
+    // The least descriptor number from one on that is not open.
+    #[tactic(auto, using(crate::proofs::SoundLemmas::sound))]
+    pub(crate) fn free_number(&self, from: usize) -> Option<usize>
+        ensures lowest { result ≡ lowest_free self.now from }
+        ensures inside { IfSome result (λ n. n < Limits.DESCRIPTORS) }
+        ensures free { IfSome result (λ n. key_at self.now (pos n) ≡ None) }
+    {
+        lowest_from(self.descriptors.as_slice(), from)
+    }
+
+    // The number that a new object gets.
+    #[tactic(auto, using(crate::proofs::SoundLemmas::sound))]
+    pub(crate) fn free_object(&self) -> Option<usize>
+        ensures lowest { result ≡ free_object self.now }
+        ensures inside { IfSome result (λ n. n < Limits.OBJECTS) }
+        ensures free { IfSome result (λ n. slice_index_or self.now.objects n None ≡ None) }
+    {
+        lowest_from(self.objects.as_slice(), 0)
+    }
+
+    // Whether no description has an object.
+    pub(crate) fn is_closed(&self, node: usize) -> bool
+        ensures { result ≡ is_closed self.now node }
+    {
+        let (first, second) = self.ends(node);
+        first == 0 && second == 0
+    }
+
+    // The names. The file of each is there.
+    pub(crate) fn names(&self) -> &Names
+        ensures names { result.now ≡ self.now.paths }
+        ensures sound { IsSound self.now }
+    {
+        &self.names
+    }
+
+    // A descriptor that is not open refers to the description of another one.
+    pub(crate) fn share(&mut self, number: usize, key: usize)
+        requires inside { number < Limits.DESCRIPTORS }
+        requires free { key_at self.old (pos number) ≡ None }
+        requires known { ContainsKey self.old.descriptions key }
+        ensures { self.new ≡ shared self.old number key }
+    {
+        self.descriptions.hold(key);
+        self.descriptors[number] = Some(key);
+    }
+
+    // A descriptor refers to its description no longer. Where that was the last one, its object is given.
+    pub(crate) fn let_go(&mut self, number: usize, key: usize) -> Option<usize>
+        requires inside { number < Limits.DESCRIPTORS }
+        requires refers { key_at self.old (pos number) ≡ Some key }
+        ensures ended { result ≡ (if is_last_held self.old.descriptions key then Some (description_at self.old.descriptions key).node else None) }
+        ensures left { self.new ≡ let_go self.old number key }
+    {
+        let ended = self.descriptions.drop_one(key);
+        self.descriptors[number] = None;
+        ended
+    }
+
+    // A descriptor that is not open refers to a new description of a file; its key is given.
+    pub(crate) fn open_number(
+        &mut self,
+        number: usize,
+        node: usize,
+        access: Access,
+        flags: StatusFlags,
+    ) -> usize
+        requires inside { number < Limits.DESCRIPTORS }
+        requires free { key_at self.old (pos number) ≡ None }
+        requires births { self.old.descriptions.made < 2 ^ 127 }
+        requires there { is_used self.old node ≡ true }
+        ensures fresh { map.get self.old.descriptions.by_key result ≡ None }
+        ensures opened { self.new ≡ opened self.old number result node access flags }
+    {
+        let key = self
+            .descriptions
+            .make(node, End::Only, access, flags)
+            .unwrap();
+        self.descriptors[number] = Some(key);
+        key
+    }
+
+    // The number of an object is free if nothing refers to it any more.
+    pub(crate) fn free_if_gone(&mut self, node: usize)
+        ensures { self.new ≡ without_gone self.old node }
+    {
+        if self.is_closed(node) && self.names.links(node) == 0 {
+            self.free_node(node);
+        }
+    }
+
+    // The number of an object is free.
+    #[tactic(auto, using(crate::proofs::SoundLemmas::sound))]
+    fn free_node(&mut self, node: usize)
+        requires { is_gone self.old node ≡ true }
+        ensures { self.new ≡ record self.old { objects = slice_set self.old.objects node None } }
+    {
+        let slots = self.objects.as_slice();
+        if node < slots.len() {
+            self.objects[node] = None;
+        }
+    }
+
+    // A new file with this name, under a number that is free.
+    #[tactic(auto, using(crate::proofs::SoundLemmas::sound))]
+    pub(crate) fn make_file(&mut self, path: &[u8]) -> Result<usize, Errno>
+        requires births { self.old.made_objects < 2 ^ 127 }
+        ensures ok { IfOk result (λ node. file_at self.old path.now None ≡ Ok (self.new, node)) }
+        ensures err { IfErr result (λ error. (file_at self.old path.now None ≡ Err error) × (self.new ≡ self.old)) }
+        ensures others { (self.new.descriptors ≡ self.old.descriptors) × (self.new.descriptions ≡ self.old.descriptions) }
+        ensures there { IfOk result (λ node. is_used self.new node ≡ true) }
+    {
+        let node = self.free_object().ok_or(Errno::ENOSPC)?;
+        self.names.add(path, node)?;
+        self.objects[node] = Some(self.made_objects);
+        self.made_objects += 1;
+        Ok(node)
+    }
+
+    // Sets both flags of a description.
+    pub(crate) fn set_flags(&mut self, key: usize, flags: StatusFlags)
+        requires { ContainsKey self.old.descriptions key }
+        ensures { self.new ≡ record self.old { descriptions = with_flags self.old.descriptions key flags } }
+    {
+        self.descriptions.set_flags(key, flags);
+    }
+
+    // A new name for a file.
+    #[tactic(auto, using(crate::proofs::SoundLemmas::sound))]
+    pub(crate) fn add_name(&mut self, path: &[u8], node: usize)
+        requires { is_used self.old node ≡ true }
+        ensures { self.new ≡ with_paths self.old (paths_or self.old.paths (added self.old.paths path.now (FileNode node))) }
+    {
+        let _ = self.names.add(path, node);
+    }
+
+    // A new directory.
+    #[tactic(auto, using(crate::proofs::SoundLemmas::sound))]
+    pub(crate) fn make_dir(&mut self, path: &[u8])
+        ensures { self.new ≡ with_paths self.old (paths_or self.old.paths (added self.old.paths path.now a_directory)) }
+    {
+        let _ = self.names.make_dir(path);
+    }
+
+    // A directory less.
+    #[tactic(auto, using(crate::proofs::SoundLemmas::sound))]
+    pub(crate) fn remove_dir(&mut self, path: &[u8])
+        ensures { self.new ≡ with_paths self.old (paths_or self.old.paths (removed_dir self.old.paths path.now)) }
+    {
+        let _ = self.names.remove_dir(path);
+    }
+
+    // A name of a file less.
+    #[tactic(auto, using(crate::proofs::SoundLemmas::sound))]
+    pub(crate) fn remove_name(&mut self, path: &[u8]) -> Result<usize, Errno>
+        ensures ok { IfOk result (λ node. removed self.old.paths path.now ≡ Ok (self.new.paths, node)) }
+        ensures others { self.new ≡ with_paths self.old self.new.paths }
+        ensures err { IfErr result (λ error. (removed self.old.paths path.now ≡ Err error) × (self.new ≡ self.old)) }
+    {
+        self.names.remove(path)
+    }
+}

@@ -1,0 +1,174 @@
+use crate::{Op, Plan, Table};
+use posix_terms::{Access, Bytes, Call, Errno, OpenFlags, Reply};
+use std::alloc::Global;
+use std::test::Fail;
+
+const CREATE: OpenFlags = OpenFlags {
+    create: true,
+    exclusive: false,
+    truncate: false,
+    append: false,
+    nonblock: false,
+};
+
+// Plans a call and makes its change, and tells the plan and the new number.
+fn make(table: &mut Table, call: &Call) -> Result<(Plan, Option<i64>), Fail> {
+    let (descriptions, objects) = table.made();
+    if descriptions >= 1_000 || objects >= 1_000 {
+        return Err("too many")?;
+    }
+    let plan = table.plan(call);
+    let number = table.apply(call, &plan, None);
+    Ok((plan, number))
+}
+
+fn open(alloc: Global, table: &mut Table, path: &[u8]) -> Result<(Plan, Option<i64>), Fail> {
+    let call = Call::Open {
+        path: Bytes::from_slice(alloc, path)?,
+        access: Access::ReadWrite,
+        flags: CREATE,
+    };
+    make(table, &call)
+}
+
+fn unlink(alloc: Global, table: &mut Table, path: &[u8]) -> Result<Plan, Fail> {
+    let path = Bytes::from_slice(alloc, path)?;
+    Ok(make(table, &Call::Unlink { path })?.0)
+}
+
+// A write of so many bytes to descriptor 0.
+fn write(alloc: Global, count: usize) -> Result<Call, Fail> {
+    Ok(Call::Write {
+        descriptor: 0,
+        bytes: Bytes::from_vec(vec![in alloc; 0; count]?),
+    })
+}
+
+fn node(node: usize, op: Op) -> Plan {
+    Plan::Node {
+        node,
+        op,
+        keep_table: false,
+    }
+}
+
+fn number(number: i64) -> Plan {
+    Plan::Reply(Reply::Number(number))
+}
+
+fn fail(error: Errno) -> Plan {
+    Plan::Reply(Reply::Fail(error))
+}
+
+#[test]
+fn an_object_ends_with_its_last_name_and_descriptor(rt: HostRuntime) -> Result<(), Fail> {
+    let mut table = Table::new(rt.alloc())?;
+    assert_eq!(rt;
+        open(rt.alloc(), &mut table, b"/a")?,
+        (node(0, Op::Open { cut: true }), Some(0))
+    );
+    assert_eq!(rt;
+        open(rt.alloc(), &mut table, b"/b")?,
+        (node(1, Op::Open { cut: true }), Some(1))
+    );
+    assert_eq!(rt;
+        open(rt.alloc(), &mut table, b"/a")?,
+        (node(0, Op::Open { cut: false }), Some(2))
+    );
+    assert_eq!(rt; table.ends(0), (2, 0));
+    assert_eq!(rt;
+        unlink(rt.alloc(), &mut table, b"/a")?,
+        Plan::Reply(Reply::Done)
+    );
+    for descriptor in [0, 2] {
+        let plan = make(&mut table, &Call::Close { descriptor })?.0;
+        assert_eq!(rt; plan, node(0, Op::Release));
+    }
+    assert_eq!(rt;
+        open(rt.alloc(), &mut table, b"/c")?,
+        (node(0, Op::Open { cut: true }), Some(0))
+    );
+    assert_eq!(rt; table.made(), (4, 3));
+    Ok(())
+}
+
+#[test]
+fn descriptors_share_a_description(rt: HostRuntime) -> Result<(), Fail> {
+    let mut table = Table::new(rt.alloc())?;
+    let _ = open(rt.alloc(), &mut table, b"/a")?;
+    let dup = Call::Dup { descriptor: 0 };
+    assert_eq!(rt; make(&mut table, &dup)?, (number(1), None));
+    let far = Call::DupFrom {
+        descriptor: 0,
+        least: 5,
+    };
+    assert_eq!(rt; make(&mut table, &far)?, (number(5), None));
+    assert_eq!(rt; table.lowest_free(1), Some(2));
+    let nothing = Call::Dup2 {
+        descriptor: 9,
+        target: 0,
+    };
+    assert_eq!(rt; make(&mut table, &nothing)?, (fail(Errno::EBADF), None));
+    for descriptor in [0, 1] {
+        let plan = make(&mut table, &Call::Close { descriptor })?.0;
+        assert_eq!(rt; plan, Plan::Reply(Reply::Done));
+    }
+    let fstat = Call::Fstat { descriptor: 5 };
+    assert_eq!(rt;
+        make(&mut table, &fstat)?.0,
+        node(0, Op::Fstat { links: 1 })
+    );
+    Ok(())
+}
+
+#[test]
+fn a_write_has_at_most_32_767_bytes(rt: HostRuntime) -> Result<(), Fail> {
+    let mut table = Table::new(rt.alloc())?;
+    let _ = open(rt.alloc(), &mut table, b"/a")?;
+    let most = table.plan(&write(rt.alloc(), 32_767)?);
+    assert!(rt; matches!(most, Plan::Node { node: 0, .. }));
+    let more = table.plan(&write(rt.alloc(), 32_768)?);
+    assert_eq!(rt; more, fail(Errno::EINVAL));
+    Ok(())
+}
+
+#[test]
+fn there_are_at_most_32_descriptors(rt: HostRuntime) -> Result<(), Fail> {
+    let mut table = Table::new(rt.alloc())?;
+    for descriptor in 0..32 {
+        assert_eq!(rt; open(rt.alloc(), &mut table, b"/a")?.1, Some(descriptor));
+    }
+    assert_eq!(rt;
+        open(rt.alloc(), &mut table, b"/a")?,
+        (fail(Errno::EMFILE), None)
+    );
+    assert_eq!(rt; table.lowest_free(0), None);
+    Ok(())
+}
+
+#[test]
+fn there_are_at_most_48_objects(rt: HostRuntime) -> Result<(), Fail> {
+    let mut table = Table::new(rt.alloc())?;
+    for count in 0..48u8 {
+        let path = [b'a' + count / 10, b'0' + count % 10];
+        assert_eq!(rt;
+            open(rt.alloc(), &mut table, &path)?.1,
+            Some(0),
+            "after {count}"
+        );
+        let _ = make(&mut table, &Call::Close { descriptor: 0 })?;
+    }
+    assert_eq!(rt;
+        open(rt.alloc(), &mut table, b"/x")?,
+        (fail(Errno::ENOSPC), None)
+    );
+    assert_eq!(rt;
+        unlink(rt.alloc(), &mut table, b"/b3")?,
+        node(13, Op::Release)
+    );
+    assert_eq!(rt;
+        open(rt.alloc(), &mut table, b"/x")?,
+        (node(13, Op::Open { cut: true }), Some(0))
+    );
+    Ok(())
+}

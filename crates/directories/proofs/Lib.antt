@@ -1,0 +1,3 @@
+pub mod ComponentLemmas
+pub mod EntryLemmas
+pub mod NameLemmas

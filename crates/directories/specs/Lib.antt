@@ -1,0 +1,3 @@
+pub mod Lookup
+pub mod Entries
+pub mod NameCode

@@ -1,0 +1,287 @@
+ghost use Rattle.std.specs.Prelude.{◌≡◌, ◌<◌, ◌≤◌, [], length, map, nat_le, take, IsSome, IfSome, IfNone, IfOk, IfErr, OnOk, Ok, Err, Some, None, option_map};
+ghost use Rattle.std.specs.FinMap as fin;
+ghost use Rattle.posix_terms.specs.Object.{path_cmp, FileNode, Directory as a_directory};
+ghost use Rattle.posix_terms.specs.Paths.{components_of, node_at, resolved, walked};
+ghost use Rattle.posix_terms.specs.Names.{added, removed, removed_dir, removed_dir_at, has_entries, is_inside, links_of};
+ghost use Rattle.directories.specs.Lookup.{looked_up};
+ghost use Rattle.directories.specs.Entries.{node_of, entry_of, IsAt};
+
+use crate::entry::{Entry, Node};
+use crate::path::{component_count, has_prefix_components, well_formed};
+use arrayvec::ArrayVec;
+use posix_terms::{Errno, Limits};
+use std::marker::Model;
+
+/// All names of files and directories, at most `Limits::NAMES`. The root has no name: it is always
+/// there. Contracts see the finite map from whole paths to what they name. No call takes memory.
+#[derive(Drop)]
+pub struct Names {
+    entries: ArrayVec<Entry, { Limits::NAMES }>,
+}
+
+impl Model for Names {
+    ghost use Rattle.posix_terms.specs.Names.{PathMap};
+    ghost use Rattle.directories.specs.NameCode.{path_map_code};
+
+    ghost Value = { PathMap };
+
+    ghost coded = { path_map_code };
+
+    ghost use Rattle.std.specs.Prelude.{map};
+    ghost use Rattle.posix_terms.specs.Object.{path_cmp};
+    ghost use Rattle.directories.specs.Entries.{AreDistinct, entry_of, names_of};
+
+    ghost view = { λ n. names_of n.entries.items };
+
+    ghost invariant = { λ n. AreDistinct path_cmp (map entry_of n.entries.items) };
+}
+
+impl Names {
+    /// No name yet: there is only the root.
+    #[tactic(auto, using(crate::proofs::NameLemmas::entries))]
+    pub fn new() -> Names
+        ensures { result ≡ fin.empty }
+    {
+        Names {
+            entries: ArrayVec::new(),
+        }
+    }
+
+    /// What a path names: nothing, a file or a directory. It is refused where the path is not well formed
+    /// or leads through what is no directory.
+    #[tactic(auto, unfolding(crate::specs::Lookup::looked_up))]
+    pub fn resolve(&self, path: &[u8]) -> Result<Option<Node>, Errno>
+        ensures ok { IfOk result (λ node. looked_up self.now path.now ≡ Ok (option_map node_of node)) }
+        ensures err { IfErr result (λ error. looked_up self.now path.now ≡ Err error) }
+    {
+        let count = self.components(path)?;
+        Ok(self.named(path, count))
+    }
+
+    /// Gives a file a name. Refused as in `resolve`, where the path names something already, and where
+    /// there are as many names as there may be; then nothing changes.
+    pub fn add(&mut self, path: &[u8], node: usize) -> Result<(), Errno>
+        ensures ok { OnOk result (added self.old path.now (FileNode node) ≡ Ok self.new) }
+        ensures err { IfErr result (λ error. (added self.old path.now (FileNode node) ≡ Err error) × (self.new ≡ self.old)) }
+    {
+        self.add_node(path, Node::File(node))
+    }
+
+    /// Makes a directory. Refused as in `add`.
+    pub fn make_dir(&mut self, path: &[u8]) -> Result<(), Errno>
+        ensures ok { OnOk result (added self.old path.now a_directory ≡ Ok self.new) }
+        ensures err { IfErr result (λ error. (added self.old path.now a_directory ≡ Err error) × (self.new ≡ self.old)) }
+    {
+        self.add_node(path, Node::Directory)
+    }
+
+    /// Takes the name of a file away, and tells which file that was. Refused as in `resolve`, where the
+    /// path names nothing, and where it names a directory; then nothing changes.
+    #[tactic(auto, unfolding(posix_terms::specs::Names::removed))]
+    pub fn remove(&mut self, path: &[u8]) -> Result<usize, Errno>
+        ensures ok { IfOk result (λ node. removed self.old path.now ≡ Ok (self.new, node)) }
+        ensures err { IfErr result (λ error. (removed self.old path.now ≡ Err error) × (self.new ≡ self.old)) }
+    {
+        let count = self.components(path)?;
+        match self.named(path, count) {
+            None => Err(Errno::ENOENT),
+            Some(Node::Directory) => Err(Errno::EPERM),
+            Some(Node::File(object)) => {
+                self.remove_entry(path, count);
+                Ok(object)
+            }
+        }
+    }
+
+    /// Takes a directory away. Refused as `check_remove_dir` says; then nothing changes.
+    pub fn remove_dir(&mut self, path: &[u8]) -> Result<(), Errno>
+        ensures ok { OnOk result (removed_dir self.old path.now ≡ Ok self.new) }
+        ensures err { IfErr result (λ error. (removed_dir self.old path.now ≡ Err error) × (self.new ≡ self.old)) }
+    {
+        self.check_remove_dir(path)?;
+        self.remove_entry(path, component_count(path));
+        Ok(())
+    }
+
+    /// Whether a directory may be taken away. Refused as in `resolve`, where the path names nothing, where
+    /// it names a file, at the root, and where there are names inside.
+    #[tactic(auto, unfolding(posix_terms::specs::Names::removed_dir))]
+    pub fn check_remove_dir(&self, path: &[u8]) -> Result<(), Errno>
+        ensures ok { OnOk result (removed_dir self.now path.now ≡ Ok (fin.remove self.now (components_of path.now))) }
+        ensures err { IfErr result (λ error. removed_dir self.now path.now ≡ Err error) }
+    {
+        let count = self.components(path)?;
+        match self.named(path, count) {
+            None => Err(Errno::ENOENT),
+            Some(Node::File(_)) => Err(Errno::ENOTDIR),
+            Some(Node::Directory) => self.check_directory(path, count),
+        }
+    }
+
+    /// Whether there are as many names as there may be.
+    #[tactic(auto, using(crate::proofs::NameLemmas::entries))]
+    pub fn is_full(&self) -> bool
+        ensures { result ≡ nat_le Limits.NAMES (fin.len self.now) }
+    {
+        self.entries.is_full()
+    }
+
+    /// How many names a file has.
+    #[tactic(auto, using(crate::proofs::NameLemmas::counting))]
+    pub fn links(&self, node: usize) -> usize
+        ensures count { result ≡ links_of self.now node }
+        ensures within_limit { result ≤ Limits.NAMES }
+    {
+        let mut count = 0;
+        for entry in self.entries.as_slice() {
+            if entry.node.is_file(node) {
+                count += 1;
+            }
+        }
+        count
+    }
+
+    // How many components a path has that is well formed and whose prefix is there.
+    fn components(&self, path: &[u8]) -> Result<usize, Errno>
+        ensures ok { OnOk result (resolved self.now path.now ≡ Ok (components_of path.now)) }
+        ensures count { IfOk result (λ count. count ≡ length (components_of path.now)) }
+        ensures fits { OnOk result (length path.now ≤ Limits.PATH_BYTES) }
+        ensures err { IfErr result (λ error. resolved self.now path.now ≡ Err error) }
+    {
+        let count = well_formed(path)?;
+        self.walk(path, count)?;
+        Ok(count)
+    }
+
+    // Whether all components but the last lead on.
+    #[tactic(auto, using(crate::proofs::NameLemmas::walking))]
+    fn walk(&self, path: &[u8], count: usize) -> Result<(), Errno>
+        requires { count ≡ length (components_of path.now) }
+        ensures ok { OnOk result (walked self.now [] (components_of path.now) ≡ Ok tt) }
+        ensures err { IfErr result (λ error. walked self.now [] (components_of path.now) ≡ Err error) }
+    {
+        for passed in 0..count.saturating_sub(1) {
+            match self.node(path, passed + 1) {
+                None => return Err(Errno::ENOENT),
+                Some(Node::File(_)) => return Err(Errno::ENOTDIR),
+                Some(Node::Directory) => {}
+            }
+        }
+        Ok(())
+    }
+
+    // What the first components of a path name.
+    #[tactic(auto, using(crate::proofs::NameLemmas::entries, crate::proofs::NameLemmas::nodes))]
+    fn node(&self, path: &[u8], count: usize) -> Option<Node>
+        requires { count ≤ length (components_of path.now) }
+        ensures { option_map node_of result ≡ node_at self.now (take count (components_of path.now)) }
+    {
+        if count == 0 {
+            return Some(Node::Directory);
+        }
+        let entries = self.entries.as_slice();
+        let at = position(entries, path, count)?;
+        Some(entries[at].node)
+    }
+
+    // What all of them name.
+    fn named(&self, path: &[u8], count: usize) -> Option<Node>
+        requires { count ≡ length (components_of path.now) }
+        ensures { option_map node_of result ≡ node_at self.now (components_of path.now) }
+    {
+        self.node(path, count)
+    }
+
+    #[tactic(auto, using(crate::proofs::NameLemmas::nodes), unfolding(posix_terms::specs::Names::added))]
+    fn add_node(&mut self, path: &[u8], node: Node) -> Result<(), Errno>
+        ensures ok { OnOk result (added self.old path.now (node_of node) ≡ Ok self.new) }
+        ensures err { IfErr result (λ error. (added self.old path.now (node_of node) ≡ Err error) × (self.new ≡ self.old)) }
+    {
+        let count = self.components(path)?;
+        if self.named(path, count).is_some() {
+            return Err(Errno::EEXIST);
+        }
+        if self.is_full() {
+            return Err(Errno::ENOSPC);
+        }
+        self.insert(path, node);
+        Ok(())
+    }
+
+    // A new name, for which there is room.
+    #[tactic(auto, using(crate::proofs::NameLemmas::entries))]
+    fn insert(&mut self, path: &[u8], node: Node)
+        requires room { fin.len self.old < Limits.NAMES }
+        requires fits { length path.now ≤ Limits.PATH_BYTES }
+        requires missing { fin.get self.old (components_of path.now) ≡ None }
+        ensures { self.new ≡ fin.insert self.old (components_of path.now) (node_of node) }
+    {
+        let path = ArrayVec::try_from(path).unwrap();
+        self.entries.push(Entry { path, node });
+    }
+
+    // Without the entry of a path, if there is one.
+    #[tactic(auto, using(crate::proofs::NameLemmas::entries))]
+    fn remove_entry(&mut self, path: &[u8], count: usize)
+        requires { count ≡ length (components_of path.now) }
+        ensures { self.new ≡ fin.remove self.old (components_of path.now) }
+    {
+        match position(self.entries.as_slice(), path, count) {
+            Some(at) => {
+                let _ = self.entries.remove(at);
+            }
+            None => {}
+        }
+    }
+
+    // Whether what is a directory may be taken away.
+    fn check_directory(&self, path: &[u8], count: usize) -> Result<(), Errno>
+        requires { count ≡ length (components_of path.now) }
+        ensures ok { OnOk result (removed_dir_at self.now (components_of path.now) (Some a_directory) ≡ Ok (fin.remove self.now (components_of path.now))) }
+        ensures err { IfErr result (λ error. removed_dir_at self.now (components_of path.now) (Some a_directory) ≡ Err error) }
+    {
+        if count == 0 {
+            return Err(Errno::EBUSY);
+        }
+        if self.has_entries(path, count) {
+            return Err(Errno::ENOTEMPTY);
+        }
+        Ok(())
+    }
+
+    // Whether there are names inside a directory.
+    #[tactic(auto, using(crate::proofs::NameLemmas::leading))]
+    fn has_entries(&self, path: &[u8], count: usize) -> bool
+        requires { count ≡ length (components_of path.now) }
+        ensures { result ≡ has_entries self.now (components_of path.now) }
+    {
+        for entry in self.entries.as_slice() {
+            if leads_on(path, count, entry.path.as_slice()) {
+                return true;
+            }
+        }
+        false
+    }
+}
+
+// The place of the entry that the first components of a path name.
+#[tactic(auto, using(crate::proofs::NameLemmas::finding))]
+fn position(entries: &[Entry], path: &[u8], count: usize) -> Option<usize>
+    ensures found { IfSome result (λ i. IsAt entries.now i (take count (components_of path.now))) }
+    ensures missing { IfNone result (fin.find path_cmp (take count (components_of path.now)) (map entry_of entries.now) ≡ None) }
+{
+    for i in 0..entries.len() {
+        if has_prefix_components(entries[i].path.as_slice(), path, count) {
+            return Some(i);
+        }
+    }
+    None
+}
+
+// Whether another path leads on from a path.
+fn leads_on(path: &[u8], count: usize, other: &[u8]) -> bool
+    requires { count ≡ length (components_of path.now) }
+    ensures { result ≡ is_inside (components_of path.now) (components_of other.now) }
+{
+    count < component_count(other) && has_prefix_components(path, other, count)
+}

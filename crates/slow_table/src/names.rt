@@ -1,0 +1,148 @@
+use crate::refusal::Refusal;
+use crate::table::{Description, Entry, Name, SlowTable};
+use posix_terms::{Access, Bytes, Errno, Limits, OpenFlags, Reply};
+use std::alloc::Global;
+
+impl SlowTable {
+    pub(crate) fn open(
+        &mut self,
+        alloc: Global,
+        path: &[u8],
+        access: Access,
+        flags: OpenFlags,
+    ) -> Result<Reply, Refusal> {
+        if flags.truncate && access == Access::ReadOnly {
+            return Err(Refusal::Errno(Errno::EINVAL));
+        }
+        let path = self.resolve(alloc, path)?;
+        let there = self.file_to_open(path.as_slice(), flags)?;
+        let number = self.lowest_from(0)?;
+        let file = match there {
+            Some(file) => file,
+            None => self.add_file(alloc, path)?,
+        };
+        if flags.truncate {
+            self.file_mut(file)?.clear();
+        }
+        let description = Description {
+            file,
+            access,
+            offset: 0,
+            append: flags.append,
+            nonblock: flags.nonblock,
+        };
+        let place = self.descriptions.len();
+        self.descriptions.push(description)?;
+        Ok(self.refer(number, place))
+    }
+
+    // The file that an open of this path finds, or none where it is to make one.
+    fn file_to_open(&self, path: &[Bytes], flags: OpenFlags) -> Result<Option<usize>, Errno> {
+        match self.find(path) {
+            Some(_) if flags.create && flags.exclusive => Err(Errno::EEXIST),
+            Some(Entry::Directory) => Err(Errno::EISDIR),
+            Some(Entry::File(file)) => Ok(Some(file)),
+            None if !flags.create => Err(Errno::ENOENT),
+            None if self.live_files() >= Limits::OBJECTS => Err(Errno::ENOSPC),
+            None => {
+                self.expect_room()?;
+                Ok(None)
+            }
+        }
+    }
+
+    pub(crate) fn link(
+        &mut self,
+        alloc: Global,
+        old_path: &[u8],
+        new_path: &[u8],
+    ) -> Result<Reply, Refusal> {
+        let old_path = self.resolve(alloc, old_path)?;
+        let file = match self.find(old_path.as_slice()) {
+            Some(Entry::File(file)) => file,
+            Some(Entry::Directory) => return Err(Refusal::Errno(Errno::EPERM)),
+            None => return Err(Refusal::Errno(Errno::ENOENT)),
+        };
+        let path = self.resolve(alloc, new_path)?;
+        self.add_name(path, Entry::File(file))
+    }
+
+    pub(crate) fn mkdir(&mut self, alloc: Global, path: &[u8]) -> Result<Reply, Refusal> {
+        let path = self.resolve(alloc, path)?;
+        self.add_name(path, Entry::Directory)
+    }
+
+    pub(crate) fn unlink(&mut self, alloc: Global, path: &[u8]) -> Result<Reply, Refusal> {
+        let path = self.resolve(alloc, path)?;
+        match self.find(path.as_slice()) {
+            Some(Entry::File(_)) => Ok(self.remove_name(path.as_slice())),
+            Some(Entry::Directory) => Err(Refusal::Errno(Errno::EPERM)),
+            None => Err(Refusal::Errno(Errno::ENOENT)),
+        }
+    }
+
+    pub(crate) fn rmdir(&mut self, alloc: Global, path: &[u8]) -> Result<Reply, Refusal> {
+        let path = self.resolve(alloc, path)?;
+        match self.find(path.as_slice()) {
+            None => Err(Refusal::Errno(Errno::ENOENT)),
+            Some(Entry::File(_)) => Err(Refusal::Errno(Errno::ENOTDIR)),
+            Some(Entry::Directory) if path.is_empty() => Err(Refusal::Errno(Errno::EBUSY)),
+            Some(Entry::Directory) if self.has_names_below(path.as_slice()) => {
+                Err(Refusal::Errno(Errno::ENOTEMPTY))
+            }
+            Some(Entry::Directory) => Ok(self.remove_name(path.as_slice())),
+        }
+    }
+
+    fn expect_room(&self) -> Result<(), Errno> {
+        if self.names.len() >= Limits::NAMES {
+            return Err(Errno::ENOSPC);
+        }
+        Ok(())
+    }
+
+    // Gives a name that is not there yet.
+    fn add_name(&mut self, path: Vec<Bytes>, entry: Entry) -> Result<Reply, Refusal> {
+        if self.find(path.as_slice()).is_some() {
+            return Err(Refusal::Errno(Errno::EEXIST));
+        }
+        self.expect_room()?;
+        self.names.push(Name { path, entry })?;
+        Ok(Reply::Done)
+    }
+
+    // Makes an empty file with this name.
+    fn add_file(&mut self, alloc: Global, path: Vec<Bytes>) -> Result<usize, Refusal> {
+        let file = self.files.len();
+        self.files.push(Vec::new(alloc))?;
+        self.add_name(path, Entry::File(file))?;
+        Ok(file)
+    }
+
+    fn remove_name(&mut self, path: &[Bytes]) -> Reply {
+        self.names.retain(|name| name.path.as_slice() != path);
+        Reply::Done
+    }
+
+    // How many names a file has.
+    pub(crate) fn links(&self, file: usize) -> u64 {
+        let mut links = 0u64;
+        for name in &self.names {
+            if matches!(name.entry, Entry::File(named) if named == file) {
+                links = links.saturating_add(1);
+            }
+        }
+        links
+    }
+
+    // How many files have a name or are open.
+    fn live_files(&self) -> usize {
+        let mut live = 0usize;
+        for file in 0..self.files.len() {
+            if self.links(file) > 0 || self.is_open(file) {
+                live = live.saturating_add(1);
+            }
+        }
+        live
+    }
+}

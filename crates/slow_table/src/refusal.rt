@@ -1,0 +1,27 @@
+use posix_terms::Errno;
+use std::alloc::{AllocError, AllocFailed};
+
+// Why a call does not go on: it is refused, or there is no memory for it.
+#[derive(Clone, Copy, Debug)]
+pub enum Refusal {
+    Errno(Errno),
+    Memory,
+}
+
+impl From<Errno> for Refusal {
+    fn from(error: Errno) -> Refusal {
+        Refusal::Errno(error)
+    }
+}
+
+impl From<AllocError> for Refusal {
+    fn from(_error: AllocError) -> Refusal {
+        Refusal::Memory
+    }
+}
+
+impl<T: Drop> From<AllocFailed<T>> for Refusal {
+    fn from(_failed: AllocFailed<T>) -> Refusal {
+        Refusal::Memory
+    }
+}

@@ -1,0 +1,115 @@
+use crate::refusal::Refusal;
+use posix_terms::{Access, Bytes, Call, Errno, Limits, Reply};
+use std::alloc::{AllocError, Global};
+
+// An open file description. A file is known by its place in the list of all files.
+#[derive(Clone, Copy)]
+pub(crate) struct Description {
+    pub file: usize,
+    pub access: Access,
+    pub offset: u64,
+    pub append: bool,
+    pub nonblock: bool,
+}
+
+// What a name stands for.
+#[derive(Clone, Copy)]
+pub(crate) enum Entry {
+    File(usize),
+    Directory,
+}
+
+// A name of a file or a directory, by all components of its path.
+#[derive(Drop)]
+pub(crate) struct Name {
+    pub path: Vec<Bytes>,
+    pub entry: Entry,
+}
+
+/// The shared table, as lists that only grow: the place of a description or a file is never used again.
+#[derive(Drop)]
+pub struct SlowTable {
+    // the descriptors by number, each with the place of its description
+    pub(crate) descriptors: Vec<Option<usize>>,
+    pub(crate) descriptions: Vec<Description>,
+    pub(crate) names: Vec<Name>,
+    pub(crate) files: Vec<Vec<u8>>,
+}
+
+impl SlowTable {
+    /// A table with no names and nothing open.
+    pub fn new(alloc: Global) -> Result<SlowTable, AllocError> {
+        let mut descriptors = Vec::new(alloc);
+        for _ in 0..Limits::DESCRIPTORS {
+            descriptors.push(None)?;
+        }
+        Ok(SlowTable {
+            descriptors,
+            descriptions: Vec::new(alloc),
+            names: Vec::new(alloc),
+            files: Vec::new(alloc),
+        })
+    }
+
+    /// Makes a call, and answers its reply.
+    pub fn make(&mut self, alloc: Global, call: &Call) -> Result<Reply, AllocError> {
+        match self.attempt(alloc, call) {
+            Ok(reply) => Ok(reply),
+            Err(Refusal::Errno(error)) => Ok(Reply::Fail(error)),
+            Err(Refusal::Memory) => Err(AllocError),
+        }
+    }
+
+    fn attempt(&mut self, alloc: Global, call: &Call) -> Result<Reply, Refusal> {
+        match call {
+            Call::Open {
+                path,
+                access,
+                flags,
+            } => self.open(alloc, path.as_slice(), *access, *flags),
+            Call::Link { old_path, new_path } => {
+                self.link(alloc, old_path.as_slice(), new_path.as_slice())
+            }
+            Call::Unlink { path } => self.unlink(alloc, path.as_slice()),
+            Call::Mkdir { path } => self.mkdir(alloc, path.as_slice()),
+            Call::Rmdir { path } => self.rmdir(alloc, path.as_slice()),
+            Call::Read { descriptor, count } => self.read(alloc, *descriptor, *count),
+            Call::Write { descriptor, bytes } => self.write(*descriptor, bytes.as_slice()),
+            Call::Pread {
+                descriptor,
+                count,
+                position,
+            } => self.pread(alloc, *descriptor, *count, *position),
+            Call::Pwrite {
+                descriptor,
+                bytes,
+                position,
+            } => self.pwrite(*descriptor, bytes.as_slice(), *position),
+            Call::Ftruncate { descriptor, size } => self.ftruncate(*descriptor, *size),
+            call => Ok(self.descriptor_call(call)?),
+        }
+    }
+
+    // The calls that take no memory and no path.
+    fn descriptor_call(&mut self, call: &Call) -> Result<Reply, Errno> {
+        match call {
+            Call::Close { descriptor } => self.close(*descriptor),
+            Call::Lseek {
+                descriptor,
+                offset,
+                whence,
+            } => self.lseek(*descriptor, *offset, *whence),
+            Call::Fstat { descriptor } => self.fstat(*descriptor),
+            Call::Dup { descriptor } => self.dup(*descriptor),
+            Call::DupFrom { descriptor, least } => self.dup_from(*descriptor, *least),
+            Call::Dup2 { descriptor, target } => self.dup2(*descriptor, *target),
+            Call::Getfl { descriptor } => self.getfl(*descriptor),
+            Call::Setfl {
+                descriptor,
+                append,
+                nonblock,
+            } => self.setfl(*descriptor, *append, *nonblock),
+            _ => Err(Errno::EIO),
+        }
+    }
+}

@@ -1,0 +1,205 @@
+use std::alloc::{AllocError, Global};
+
+// Numbers that look like chance and are the same each time: a linear congruential generator.
+#[derive(Clone, Copy)]
+pub struct Dice {
+    state: u64,
+}
+
+impl Dice {
+    pub fn new(state: u64) -> Dice {
+        Dice { state }
+    }
+
+    // A number below another, of which the low bits of the state are no part; 0 below 0.
+    pub fn below(&mut self, end: u64) -> u64 {
+        self.state = self
+            .state
+            .wrapping_mul(6_364_136_223_846_793_005)
+            .wrapping_add(1_442_695_040_888_963_407);
+        (self.state >> 33).checked_rem(end).unwrap_or(0)
+    }
+
+    fn pick(&mut self, words: &[&'static str]) -> &'static str {
+        let place = self.below(words.len() as u64);
+        words.get(place as usize).copied().unwrap_or("")
+    }
+
+    // One of the words that a template's letter stands for.
+    fn operand(&mut self, letter: u8) -> &'static str {
+        match letter {
+            b'P' => self.pick(&PATHS),
+            b'F' => self.pick(&NUMBERS),
+            b'C' => self.pick(&COUNTS),
+            b'B' => self.pick(&BYTES),
+            b'O' => self.pick(&OFFSETS),
+            b'S' => self.pick(&SIZES),
+            b'W' => self.pick(&["set", "cur", "end"]),
+            b'A' => self.pick(&["r", "w", "rw", "rw", "rw create", "rw create", "w create"]),
+            b'X' => self.pick(&["", "", "", " excl", " trunc", " append", " append nonblock"]),
+            _ => self.pick(&["", " append", " nonblock", " append nonblock"]),
+        }
+    }
+}
+
+// What paths stand for: names that are often there and seldom, and forms that are refused.
+const PATHS: [&str; 24] = [
+    "/a",
+    "/a",
+    "/a",
+    "/b",
+    "/b",
+    "/b",
+    "/d",
+    "/d",
+    "/d/x",
+    "/d/x",
+    "d//y",
+    "/d/e",
+    "/d/e/x",
+    "/a/x",
+    "/m/x",
+    "/",
+    "/d/",
+    "\"\"",
+    "/.",
+    "/d/../x",
+    "/abcdefghijklmn",
+    "/abcdefghijklmno",
+    LONGEST_PATH,
+    TOO_LONG_PATH,
+];
+
+// The file `/a` by a path of 255 bytes.
+const LONGEST_PATH: &str = "\
+    ////////////////////////////////////////////////////////////////\
+    ////////////////////////////////////////////////////////////////\
+    ////////////////////////////////////////////////////////////////\
+    //////////////////////////////////////////////////////////////a";
+
+// The same with a slash more.
+const TOO_LONG_PATH: &str = "\
+    ////////////////////////////////////////////////////////////////\
+    ////////////////////////////////////////////////////////////////\
+    ////////////////////////////////////////////////////////////////\
+    ///////////////////////////////////////////////////////////////a";
+
+const NUMBERS: [&str; 16] = [
+    "-1", "0", "0", "0", "1", "1", "1", "2", "2", "3", "3", "4", "5", "6", "r0", "r0",
+];
+
+const COUNTS: [&str; 8] = ["-1", "0", "1", "3", "9", "32767", "32768", "r0"];
+
+const BYTES: [&str; 8] = ["x", "x61", "x6263", "x646566", "xffee", "b0", "b0", "b1"];
+
+const OFFSETS: [&str; 12] = [
+    "-1",
+    "0",
+    "0",
+    "1",
+    "2",
+    "5",
+    "40",
+    "65534",
+    "65536",
+    "9223372036854775807",
+    "-3",
+    "r0",
+];
+
+const SIZES: [&str; 8] = ["-1", "0", "1", "4", "20", "65535", "65536", "65537"];
+
+// The lines of scripts: each letter in capitals stands for an operand.
+const LINES: [&str; 39] = [
+    "open P AX",
+    "open P AX",
+    "open P AX",
+    "open P AX",
+    "open P AX",
+    "open P AX",
+    "close F",
+    "close F",
+    "read F C",
+    "read F C",
+    "read F C",
+    "write F B",
+    "write F B",
+    "write F B",
+    "pread F C O",
+    "pread F C O",
+    "pwrite F B O",
+    "pwrite F B O",
+    "lseek F O W",
+    "lseek F O W",
+    "ftruncate F S",
+    "fstat F",
+    "fstat F",
+    "dup F",
+    "dup_from F F",
+    "dup_from F C",
+    "dup2 F F",
+    "dup2 F F",
+    "getfl F",
+    "setfl FL",
+    "setfl FL",
+    "link P P",
+    "link P P",
+    "unlink P",
+    "unlink P",
+    "mkdir P",
+    "rmdir P",
+    "work 5",
+    "setb b1 x7071",
+];
+
+// Two files, one of them in a directory, and two numbers of one description.
+const BEGINNING: &str = "mkdir /d\nopen /a rw create\nopen /d/x rw create append\ndup r0\n";
+
+// Opens what is left of the numbers.
+const MANY_NUMBERS: &str = "label more\nopen /a r create\njfail full\njump more\nlabel full\n";
+
+// What a script begins with: sometimes it uses up the numbers, the files or the names.
+fn beginning(alloc: Global, dice: &mut Dice) -> Result<Vec<u8>, AllocError> {
+    let mut text = Vec::new(alloc);
+    text.extend_from_slice(BEGINNING.as_bytes())?;
+    match dice.below(12) {
+        0 => text.extend_from_slice(MANY_NUMBERS.as_bytes())?,
+        1 => {
+            for file in 0u32..45 {
+                let lines = format!(in alloc; "open /f{file} w create\nclose r0\n")?;
+                text.extend_from_slice(lines.as_bytes())?;
+            }
+        }
+        2 => {
+            for directory in 0u32..60 {
+                let line = format!(in alloc; "mkdir /n{directory}\n")?;
+                text.extend_from_slice(line.as_bytes())?;
+            }
+        }
+        _ => {}
+    }
+    Ok(text)
+}
+
+// Adds a line whose operands are found by chance.
+fn add_line(text: &mut Vec<u8>, dice: &mut Dice) -> Result<(), AllocError> {
+    for letter in dice.pick(&LINES).as_bytes() {
+        if letter.is_ascii_uppercase() {
+            let operand = dice.operand(*letter);
+            text.extend_from_slice(operand.as_bytes())?;
+        } else {
+            text.push(*letter)?;
+        }
+    }
+    text.push(b'\n')?;
+    Ok(())
+}
+
+// A script of some 30 lines behind its beginning.
+pub fn script_text(alloc: Global, dice: &mut Dice) -> Result<Vec<u8>, AllocError> {
+    let mut text = beginning(alloc, dice)?;
+    for _ in 0u32..30 {
+        add_line(&mut text, dice)?;
+    }
+    Ok(text)
+}
