@@ -20,3 +20,4 @@ pub mod Scheduling
 pub mod Told
 pub mod Legality
 pub mod Concluding
+pub mod Streaming

@@ -4,6 +4,7 @@
 mod acts;
 mod advance;
 mod ask;
+mod body;
 mod drive;
 mod events;
 mod fault;
@@ -11,10 +12,12 @@ mod finish;
 mod history;
 mod log;
 mod machine;
+mod patience;
 mod plain;
 mod run;
 mod start;
 mod store;
+mod streams;
 #[cfg(test)]
 mod tests;
 mod thread;
