@@ -20,4 +20,3 @@ pub mod Scheduling
 pub mod Told
 pub mod Legality
 pub mod Concluding
-pub mod Streaming

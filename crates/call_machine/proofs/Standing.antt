@@ -7,8 +7,8 @@ use Rattle.std.specs.Option.{option_map}
 use Rattle.std.specs.Ordering.{nat_cmp}
 use Rattle.std.specs.Prelude.{is_some, unwrap_or}
 use Rattle.posix_terms.specs.Locked.{locked_object}
-use Rattle.posix_terms.specs.Object.{FileNode, path_cmp}
-use Rattle.posix_terms.specs.Step.{Carried, step}
+use Rattle.posix_terms.specs.Object.{path_cmp}
+use Rattle.posix_terms.specs.Step.{nothing_carried, step}
 use Rattle.posix_terms.specs.declared.call.Call.{Call}
 use Rattle.posix_terms.specs.declared.limits.TheConstants.Limits as limit
 use Rattle.posix_terms.specs.declared.reply.Answer.{Answer}
@@ -36,7 +36,7 @@ used_number : (h : Stored) (w : World) (node : ℕ) → Stands h w → is_used h
 used_number h w node stands used =
     let birth = birth_at h.table node in
     let slot = birth_is h.table node used in
-    cond-true _ _ _ (stands.shows.objects node birth slot)
+    cond-true _ _ _ (ap is_some (stands.contents node birth slot))
     ∙ ap (λ (slots : List (Option ℕ)). number_in slots birth) stands.numbers
     ∙ number_in_is h.table.objects node birth slot (λ other is. stands.sound.distinct other node birth is slot)
 
@@ -56,11 +56,11 @@ planned_number h w (plan.Reply r) o a stands known agrees = ap (numbered w) agre
 planned_number h w (plan.Node node act keep_table) o a stands known agrees = ap (numbered w) agrees ∙ ap (λ n. Some n) (stands_number h w node stands known.0)
 
 -- the number of the object that a call locks is that of the lock machine
-pub number_known : (h : Stored) (w : World) (call : Call) (carried : Carried) → Stands h w → numbered w (locked_object w.object call carried) ≡ number_locked h call
-number_known h w call carried stands =
+pub number_known : (h : Stored) (w : World) (call : Call) → Stands h w → numbered w (locked_object w.object call) ≡ number_locked h call
+number_known h w call stands =
     let settings : Settings = record { patience = 1; door_cost = 1 } in
-    planned_number h w (planned h.table call) (locked_object w.object call carried) (step settings w.object call None carried).answer stands (known-planned h.table call stands.sound)
-    (plans-as_step h.table call stands.sound stands.described settings w.object None carried stands.shows)
+    planned_number h w (planned h.table call) (locked_object w.object call) (step settings w.object call None nothing_carried).answer stands (known-planned h.table call stands.sound)
+    (plans-as_step h.table call stands.sound stands.described settings w.object None nothing_carried stands.shows)
 
 -- ## At the start
 
@@ -92,12 +92,10 @@ stands_first =
             paths = λ path. fin.get-empty path_cmp path ∙ sym (ap (option_map (shown_node empty_table)) (fin.get-empty path_cmp path));
             objects = λ node birth is. nothing _ birth (slot_none limit.OBJECTS node) is;
             numbered = λ birth there. not_there _ (fin.get-empty nat_cmp birth) there;
-            ends = λ key d is. nothing _ d (fin.get-empty nat_cmp key) is;
-            files = λ path node is. nothing _ (FileNode node) (fin.get-empty path_cmp path) is;
             next_description = refl;
             next_object = refl;
           };
       offsets = λ key d is. nothing _ d (fin.get-empty nat_cmp key) is;
-      contents = λ node birth is content got. nothing _ birth (slot_none limit.OBJECTS node) is;
+      contents = λ node birth is. nothing _ birth (slot_none limit.OBJECTS node) is;
       numbers = refl;
     }

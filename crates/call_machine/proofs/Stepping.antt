@@ -1,5 +1,5 @@
 -- What the table promises of a call is enough for the store to stand for the world behind it.
-use Rattle.std.proofs.Common.{◌≡◌, ◌≢◌, ℕ, zero, suc, ◌+◌, ◌-◌, ◌<◌, ◌≤◌, List, [], ◌∷◌, length, map, set, Option, Some, None, Bool, true, false, ◌⊎◌, inl, inr, refl, sym, ap, ◌∙◌, subst, arith, ⊎_elim}
+use Rattle.std.proofs.Common.{◌≡◌, ◌≢◌, ℕ, zero, suc, ◌+◌, ◌-◌, ◌<◌, List, [], ◌∷◌, length, map, set, Option, Some, None, Bool, true, false, ◌⊎◌, inl, inr, refl, sym, ap, ◌∙◌, subst, arith, ⊎_elim}
 use Rattle.std.proofs.lemmas.Bool.{cases_Bool, cases_eq, cond-true, cond-false, false≢true}
 use Rattle.std.proofs.lemmas.Option.{none-some, same_Some}
 use Rattle.std.proofs.lemmas.List.{get_or-set_same, get_or-set_other, length-set, map-id}
@@ -12,8 +12,7 @@ use Rattle.file_descriptions.specs.Descriptions as held
 use Rattle.file_descriptions.specs.Descriptions.{AreSound, ContainsKey, description_at}
 use Rattle.file_descriptions.specs.declared.description.Description.{Description}
 use Rattle.file_descriptions.proofs.SoundLemmas.{AreSound-changed}
-use Rattle.call_machine.specs.Bodies.{Kept, first_kept, kept_as}
-use Rattle.descriptor_table.specs.Acts.{Holds, IsOther, IsStill, OthersStay, offset_at}
+use Rattle.descriptor_table.specs.Acts.{HoldsFile, IsOther, IsStill, OthersStay, offset_at}
 use Rattle.descriptor_table.specs.Agreement.{IsBorn, NumbersStay, OffsetsStay}
 use Rattle.descriptor_table.specs.Plans.{IsKnownNumber}
 use Rattle.descriptor_table.specs.Shows.{Shows, birth_at, birth_of, shown}
@@ -28,7 +27,7 @@ use Rattle.descriptor_table.proofs.PathLemmas.{birth_is}
 use Rattle.descriptor_table.proofs.SoundLemmas.{get-insert_other, get-insert_same, known_at, sound-kept}
 use Rattle.lock_model.specs.Numbers.{first_free, if_there, with_births, world_with}
 use Rattle.lock_model.specs.Terms.{World}
-use Rattle.call_machine.specs.Store.{Stands, Stored, kept_at}
+use Rattle.call_machine.specs.Store.{Stands, Stored, body_at}
 use Rattle.call_machine.proofs.Lists.{maps_agree}
 use Rattle.call_machine.proofs.Numbering.{first_free_is, lowest_is_free, next_is_new}
 
@@ -42,9 +41,6 @@ list_ext xs ys d count each = sym (map-id xs) ∙ maps_agree (λ (o : Option ℕ
 
 not_below : (n : ℕ) → n < n → ⊥
 not_below n l = omega arith
-
-not_under : (n k : ℕ) → n ≤ k → k < n → ⊥
-not_under n k a b = omega arith
 
 -- the table after a call, and what the sequential object left
 pub record Leaves (t u : TableState) (p : Plan) (s after : State) : Type 0 where
@@ -64,19 +60,19 @@ module _ (h : Stored) (w : World) (st : Stands h w) (u : TableState) (p : Plan) 
       let at : offset_at after d.birth ≡ Some there.0 = ap (option_map (λ (x : posix.Description). x.offset)) there.1 in
       there.1 ∙ ap (λ (n : ℕ). Some (shown u d n)) (by_both there.0 (m.offsets key d is) (m.others.offsets d.birth there.0 still at))
     where
-      by_both : (n : ℕ) → ((e : Description) × (fin.get h.table.descriptions.by_key key ≡ Some e) × (e.birth ≡ d.birth) × (e.offset ≡ d.offset)) ⊎ ((h.table.descriptions.made ≤ d.birth) × (d.offset ≡ 0))
-          → (offset_at w.object d.birth ≡ Some n) ⊎ ((w.object.next_description ≤ d.birth) × (n ≡ 0)) → n ≡ d.offset
+      by_both : (n : ℕ) → ((e : Description) × (fin.get h.table.descriptions.by_key key ≡ Some e) × (e.birth ≡ d.birth) × (e.offset ≡ d.offset)) ⊎ ((d.birth ≡ h.table.descriptions.made) × (d.offset ≡ 0))
+          → (offset_at w.object d.birth ≡ Some n) ⊎ ((d.birth ≡ w.object.next_description) × (n ≡ 0)) → n ≡ d.offset
       by_both n (inl (e, got, birth, same)) (inl was) =
           same_Some n e.offset (sym was ∙ ap (offset_at w.object) (sym birth) ∙ ap (option_map (λ (x : posix.Description). x.offset)) (st.offsets key e got)) ∙ same
       by_both n (inl (e, got, birth, same)) (inr (next, start)) =
-          absurd (not_under h.table.descriptions.made d.birth (subst (λ (k : ℕ). k ≤ d.birth) st.shows.next_description next) (subst (λ (k : ℕ). k < h.table.descriptions.made) birth (st.described.born key e got)))
+          absurd (not_below h.table.descriptions.made (subst (λ (k : ℕ). k < h.table.descriptions.made) (birth ∙ next ∙ st.shows.next_description) (st.described.born key e got)))
       by_both n (inr (made, first)) (inl was) = by_found (fin.get w.object.descriptions d.birth) refl was
         where
           by_found : (o : Option posix.Description) → fin.get w.object.descriptions d.birth ≡ o → option_map (λ (x : posix.Description). x.offset) o ≡ Some n → n ≡ d.offset
           by_found None is none = absurd (none-some n none)
           by_found (Some x) is some =
-              let found = st.shows.described d.birth (ap (λ (o : Option posix.Description). is_some o) is) in
-              absurd (not_under h.table.descriptions.made d.birth made (subst (λ (k : ℕ). k < h.table.descriptions.made) found.3 (st.described.born found.0 found.1 found.2)))
+              let found = st.shows.described h.table.descriptions.made (ap (λ (o : Option posix.Description). is_some o) (ap (fin.get w.object.descriptions) (sym made) ∙ is)) in
+              absurd (not_below h.table.descriptions.made (subst (λ (k : ℕ). k < h.table.descriptions.made) found.3 (st.described.born found.0 found.1 found.2)))
       by_both n (inr (made, first)) (inr (next, start)) = start ∙ sym first
 
   -- ## Numbers
@@ -187,12 +183,17 @@ module _ (h : Stored) (w : World) (st : Stands h w) (u : TableState) (p : Plan) 
 
   -- ## Contents
 
+  some_of : (b : ℕ) (o : Option Content) → fin.get after.objects b ≡ o → is_some o ≡ true → (x : Content) × (fin.get after.objects b ≡ Some x)
+  some_of b None is there = absurd (false≢true there)
+  some_of b (Some x) is there = (x, is)
+
   -- an object that is not the plan's was there, and holds what it held
-  other_content : (k b : ℕ) → slice_index_or u.objects k None ≡ Some b → IsOther h.table p b → (content : Content) → fin.get after.objects b ≡ Some content → content ≡ kept_as content (kept_at h k)
-  other_content k b is other content got =
-      let was = m.others.files b content other got in
+  other_content : (k b : ℕ) → slice_index_or u.objects k None ≡ Some b → IsOther h.table p b → fin.get after.objects b ≡ Some (File (body_at h k))
+  other_content k b is other =
+      let x = some_of b (fin.get after.objects b) refl (m.shows.objects k b is) in
+      let was = m.others.files b x.0 other x.1 in
       ⊎_elim
-      (λ (had : slice_index_or h.table.objects k None ≡ Some b). st.contents k b had content was)
+      (λ (had : slice_index_or h.table.objects k None ≡ Some b). x.1 ∙ sym was ∙ st.contents k b had)
       (λ (new : (free_object h.table ≡ Some k) × (b ≡ h.table.made_objects)). absurd (false≢true (sym (next_is_new h w st) ∙ ap (λ (o : Option Content). is_some o) (ap (fin.get w.object.objects) (sym new.1) ∙ was))))
       (m.numbers.numbers k b is)
 
@@ -206,19 +207,19 @@ reply_stands h w u r after st m =
       described = m.described;
       shows = m.shows;
       offsets = λ key d is. offset_agrees h w st u (plan.Reply r) after m key d is tt;
-      contents = λ k b is content got. other_content h w st u (plan.Reply r) after m k b is tt content got;
+      contents = λ k b is. other_content h w st u (plan.Reply r) after m k b is tt;
       numbers = numbers_follow h w st u (plan.Reply r) after m;
     }
 
 -- ## A call that acts on an object
 
--- the bodies, of which this one alone may be another, and has this content
-pub record Rewrites (h : Stored) (node : ℕ) (content : Content) (bodies : List Kept) : Type 0 where
-  pub here : content ≡ kept_as content (slice_index_or bodies node first_kept)
-  pub others : (k : ℕ) → k ≢ node → slice_index_or bodies k first_kept ≡ kept_at h k
+-- the bodies, of which this one alone may be another
+pub record Rewrites (h : Stored) (node : ℕ) (bytes : List ℕ) (bodies : List (List ℕ)) : Type 0 where
+  pub here : slice_index_or bodies node [] ≡ bytes
+  pub others : (k : ℕ) → k ≢ node → slice_index_or bodies k [] ≡ body_at h k
 
 module _ (h : Stored) (w : World) (st : Stands h w) (u : TableState) (node : ℕ) (act : Op) (keep : Bool) (after : State) (m : Leaves h.table u (plan.Node node act keep) w.object after)
-    (known : IsKnownNumber h.table node) (content : Content) (holds : Holds after (birth_at h.table node) content) (bodies : List Kept) (rewrites : Rewrites h node content bodies) where
+    (known : IsKnownNumber h.table node) (bytes : List ℕ) (file : HoldsFile after (birth_at h.table node) bytes) (bodies : List (List ℕ)) (rewrites : Rewrites h node bytes bodies) where
   -- the birth of the plan's object, if it is new
   new_birth : free_object h.table ≡ Some node → birth_at h.table node ≡ h.table.made_objects
   new_birth free = ap (λ (o : Option ℕ). unwrap_or o h.table.made_objects) (lowest_is_free h.table.objects 48 0 node free)
@@ -247,15 +248,15 @@ module _ (h : Stored) (w : World) (st : Stands h w) (u : TableState) (node : ℕ
       known.1)
       (m.numbers.numbers k b is)
 
-  content_at : (k b : ℕ) → slice_index_or u.objects k None ≡ Some b → (c : Content) → fin.get after.objects b ≡ Some c → c ≡ kept_as c (slice_index_or bodies k first_kept)
-  content_at k b is c got =
+  content_at : (k b : ℕ) → slice_index_or u.objects k None ≡ Some b → fin.get after.objects b ≡ Some (File (slice_index_or bodies k []))
+  content_at k b is =
       elim (cases_eq k node) [
         | inl at ↦ (
             let here : slice_index_or u.objects node None ≡ Some b = ap (λ (i : ℕ). slice_index_or u.objects i None) (sym at) ∙ is in
-            let same : c ≡ content = holds c (ap (fin.get after.objects) (birth_here b here) ∙ got) in
-            subst (λ (i : ℕ). c ≡ kept_as c (slice_index_or bodies i first_kept)) (sym at) (subst (λ (x : Content). x ≡ kept_as x (slice_index_or bodies node first_kept)) (sym same) rewrites.here))
+            let x = some_of h w st u (plan.Node node act keep) after m b (fin.get after.objects b) refl (m.shows.objects k b is) in
+            x.1 ∙ ap (λ (c : Content). Some c) (file x.0 (ap (fin.get after.objects) (birth_here b here) ∙ x.1)) ∙ ap (λ (l : List ℕ). Some (File l)) (sym rewrites.here) ∙ ap (λ (i : ℕ). Some (File (slice_index_or bodies i []))) (sym at))
         | inr apart ↦ (
-            other_content h w st u (plan.Node node act keep) after m k b is (is_other k b apart is) c got ∙ ap (kept_as c) (sym (rewrites.others k apart)))
+            other_content h w st u (plan.Node node act keep) after m k b is (is_other k b apart is) ∙ ap (λ (l : List ℕ). Some (File l)) (sym (rewrites.others k apart)))
       ]
 
   -- the act moves no offset

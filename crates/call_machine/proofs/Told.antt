@@ -57,11 +57,10 @@ first_threads input k =
     (shown_past input k))
     (cases_lt k n)
 
-pub first_shows : (input : Inputs) → Shows input (first_whole input.settings.patience input.scripts) (first_state input)
+pub first_shows : (input : Inputs) → Shows input (first_whole input.scripts) (first_state input)
 unfolding new_thread
 first_shows input =
     record {
-      patience = refl;
       count = length_replicate (length input.scripts) new_thread ∙ sym (length-map input.scripts first_thread);
       threads = first_threads input;
       table = refl;
@@ -75,10 +74,9 @@ first_shows input =
 
 ended_phase : (input : Inputs) (i : ℕ) (rows : List Row) (t : Thread) (u : lock.Thread) (p : Phase) → PhaseShows input i rows t u p → has_ended u.phase ≡ is_ended p
 ended_phase input i rows t u phase.Working h = ap has_ended h.0
-ended_phase input i rows t u (phase.WantsTable call turns) h = ap has_ended h.0
-ended_phase input i rows t u (phase.WantsObject call turns clock object) h = ap has_ended h.0
-ended_phase input i rows t u (phase.Granted place object blocked) h = ap has_ended h.1.0
-ended_phase input i rows t u (phase.Blocked call turns) h = ap has_ended h.0
+ended_phase input i rows t u (phase.WantsTable call) h = ap has_ended h.0
+ended_phase input i rows t u (phase.WantsObject call clock object) h = ap has_ended h.0
+ended_phase input i rows t u (phase.Granted place object) h = ap has_ended h.1.0
 ended_phase input i rows t u phase.Stuck h = ap has_ended h.0
 ended_phase input i rows t u phase.Ended h = ap has_ended h
 

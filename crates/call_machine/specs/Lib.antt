@@ -2,12 +2,10 @@ pub mod History
 pub mod Lives
 pub mod Threads
 pub mod Views
-pub mod Bodies
 pub mod Store
 pub mod StoreCode
 pub mod Acting
 pub mod Asking
-pub mod Patience
 pub mod Events
 pub mod Setup
 pub mod Shows

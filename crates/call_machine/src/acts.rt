@@ -5,22 +5,21 @@ ghost use Rattle.posix_terms.specs.declared.limits.TheConstants.Limits as limit;
 ghost use Rattle.file_descriptions.specs.Descriptions.{ContainsKey};
 ghost use Rattle.posix_terms.specs.declared.reply.ObjectKind.TheVariants.{File};
 ghost use Rattle.posix_terms.specs.declared.reply.Reply.TheVariants.{Data, Done, Stat};
-ghost use Rattle.descriptor_table.specs.Acts.{numbers_reply};
+ghost use Rattle.descriptor_table.specs.Acts.{number_reply};
 ghost use Rattle.call_machine.specs.Acting.{Seeks, Writes, cut_bodies, release_reply, moved, offset_of_key, rewritten, start_at};
 ghost use Rattle.descriptor_table.specs.declared.plan.Op.TheVariants as op;
-ghost use Rattle.call_machine.specs.Store.{EndsTurn, IsPlanned, Replies, body_at};
+ghost use Rattle.call_machine.specs.Store.{IsPlanned, Makes, body_at};
 
-use crate::patience::Ending;
 use crate::store::Store;
-use descriptor_table::{NewNumbers, Opened};
+use descriptor_table::Opened;
 use memory_files::FileBody;
 use posix_terms::{Bytes, Call, Errno, ObjectKind, Reply, Whence};
 use std::alloc::{AllocError, Global};
 
 // What calls do with the file whose lock they took, by the file's number and the key of the description.
 impl Store {
-    // POSIX.1-2017, `read` of a file. Without memory nothing changes.
-    pub fn read_file(
+    // POSIX.1-2017, `read`. Without memory nothing changes.
+    pub fn read(
         &mut self,
         alloc: Global,
         node: usize,
@@ -34,7 +33,7 @@ impl Store {
         ensures err { OnErr result (self.new ≡ self.old) }
     {
         let offset = self.table.offset(from.key);
-        let bytes = file_bytes(alloc, &self.bodies[node].file, offset, count)?;
+        let bytes = file_bytes(alloc, &self.bodies[node], offset, count)?;
         self.table
             .set_offset(from.key, offset + bytes.as_slice().len() as u64);
         Ok(Reply::Data(bytes))
@@ -51,22 +50,22 @@ impl Store {
         requires { node < limit.OBJECTS }
         ensures { IfOk result (λ reply. reply ≡ Data (bytes_at (body_at self.now node) position count)) }
     {
-        Ok(Reply::Data(file_bytes(alloc, &self.bodies[node].file, position, count)?))
+        Ok(Reply::Data(file_bytes(alloc, &self.bodies[node], position, count)?))
     }
 
-    // POSIX.1-2017, `write` of some bytes to a file.
-    pub fn write_file(&mut self, node: usize, to: Opened, bytes: &[u8]) -> Reply
+    // POSIX.1-2017, `write` of some bytes.
+    pub fn write(&mut self, node: usize, to: Opened, bytes: &[u8]) -> Reply
         requires inside { node < limit.OBJECTS }
         requires known { ContainsKey self.old.table.descriptions to.key }
         requires some { (length bytes.now == 0) ≡ false }
         ensures { Writes (written (body_at self.old node) (start_at self.old to node) bytes.now) self.old (λ count. moved self.old to.key (start_at self.old to node + count)) node result self.new }
     {
         let start = if to.flags.append {
-            self.bodies[node].file.len()
+            self.bodies[node].len()
         } else {
             self.table.offset(to.key)
         };
-        match self.bodies[node].file.write_at(start, bytes) {
+        match self.bodies[node].write_at(start, bytes) {
             Ok(count) => {
                 self.table.set_offset(to.key, start + count as u64);
                 Reply::Count(count as u64)
@@ -81,7 +80,7 @@ impl Store {
         requires some { (length bytes.now == 0) ≡ false }
         ensures { Writes (written (body_at self.old node) position bytes.now) self.old (λ count. self.old) node result self.new }
     {
-        match self.bodies[node].file.write_at(position, bytes) {
+        match self.bodies[node].write_at(position, bytes) {
             Ok(count) => Reply::Count(count as u64),
             Err(error) => Reply::Fail(error),
         }
@@ -96,7 +95,7 @@ impl Store {
         let base = match whence {
             Whence::Set => 0,
             Whence::Current => self.table.offset(from.key),
-            Whence::End => self.bodies[node].file.len(),
+            Whence::End => self.bodies[node].len(),
         };
         match sought(base, offset) {
             Ok(to) => {
@@ -114,7 +113,7 @@ impl Store {
         ensures reply { result ≡ Done }
         ensures rewritten { self.new ≡ rewritten self.old node (resized (body_at self.old node) size) }
     {
-        self.bodies[node].file.set_len(size as u64);
+        self.bodies[node].set_len(size as u64);
         Reply::Done
     }
 
@@ -125,7 +124,7 @@ impl Store {
     {
         Reply::Stat {
             kind: ObjectKind::File,
-            number: self.bodies[node].file.len(),
+            number: self.bodies[node].len(),
             links: links as u64,
         }
     }
@@ -134,16 +133,22 @@ impl Store {
 // What calls do whose operands the plan does not hold.
 impl Store {
     // A write, which of no bytes does nothing.
-    pub fn write_call(&mut self, call: &Call, node: usize, to: Opened) -> Ending
+    pub fn write_call(&mut self, call: &Call, node: usize, to: Opened) -> Reply
         requires inside { node < limit.OBJECTS }
         requires bodies { length self.old.bodies ≡ limit.OBJECTS }
         requires known { ContainsKey self.old.table.descriptions to.key }
         requires planned { IsPlanned self.old call.now node (op.Write to) }
-        ensures ends { EndsTurn self.old call.now result self.new }
+        ensures reply { Makes self.old call.now result self.new }
         ensures births { (self.new.table.descriptions.made ≡ self.old.table.descriptions.made) × (self.new.table.made_objects ≡ self.old.table.made_objects) }
     {
         match call {
-            Call::Write { bytes, .. } => self.write(node, to, bytes.as_slice()),
+            Call::Write { bytes, .. } => {
+                let bytes = bytes.as_slice();
+                if bytes.is_empty() {
+                    return Reply::Count(0);
+                }
+                self.write(node, to, bytes)
+            }
             _ => unreachable!(),
         }
     }
@@ -152,7 +157,7 @@ impl Store {
         requires inside { node < limit.OBJECTS }
         requires bodies { length self.old.bodies ≡ limit.OBJECTS }
         requires planned { IsPlanned self.old call.now node (op.Pwrite position) }
-        ensures reply { Replies self.old call.now result self.new }
+        ensures reply { Makes self.old call.now result self.new }
         ensures births { (self.new.table.descriptions.made ≡ self.old.table.descriptions.made) × (self.new.table.made_objects ≡ self.old.table.made_objects) }
     {
         match call {
@@ -171,7 +176,7 @@ impl Store {
         requires inside { node < limit.OBJECTS }
         requires known { ContainsKey self.old.table.descriptions from.key }
         requires planned { IsPlanned self.old call.now node (op.Lseek from) }
-        ensures reply { Replies self.old call.now result self.new }
+        ensures reply { Makes self.old call.now result self.new }
         ensures births { (self.new.table.descriptions.made ≡ self.old.table.descriptions.made) × (self.new.table.made_objects ≡ self.old.table.made_objects) }
     {
         match call {
@@ -187,13 +192,13 @@ impl Store {
         requires inside { node < limit.OBJECTS }
         requires bodies { length self.old.bodies ≡ limit.OBJECTS }
         requires planned { IsPlanned self.old call.now node (op.Open cut) }
-        ensures reply { Replies self.old call.now result self.new }
-        ensures births { (self.new.table.descriptions.made ≤ self.old.table.descriptions.made + 2) × (self.new.table.made_objects ≤ self.old.table.made_objects + 1) }
+        ensures reply { Makes self.old call.now result self.new }
+        ensures births { (self.new.table.descriptions.made ≤ self.old.table.descriptions.made + 1) × (self.new.table.made_objects ≤ self.old.table.made_objects + 1) }
     {
         let plan = self.table.plan(call);
-        let given = self.change(call, &plan);
+        let number = self.change(call, &plan);
         self.cut_body(node, cut);
-        numbers_reply(given)
+        number_reply(number)
     }
 
     // Leaves a file without bytes, if it is to be cut.
@@ -202,7 +207,7 @@ impl Store {
         ensures { self.new ≡ record self.old { bodies = cut_bodies self.old node cut } }
     {
         if cut {
-            self.bodies[node].file.clear();
+            self.bodies[node].clear();
         }
     }
 
@@ -211,8 +216,8 @@ impl Store {
         requires descriptions { self.old.table.descriptions.made < 2 ^ 127 }
         requires objects { self.old.table.made_objects < 2 ^ 127 }
         requires planned { (node : ℕ) × IsPlanned self.old call.now node op.Release }
-        ensures reply { Replies self.old call.now result self.new }
-        ensures births { (self.new.table.descriptions.made ≤ self.old.table.descriptions.made + 2) × (self.new.table.made_objects ≤ self.old.table.made_objects + 1) }
+        ensures reply { Makes self.old call.now result self.new }
+        ensures births { (self.new.table.descriptions.made ≤ self.old.table.descriptions.made + 1) × (self.new.table.made_objects ≤ self.old.table.made_objects + 1) }
     {
         let plan = self.table.plan(call);
         let _ = self.change(call, &plan);
@@ -230,14 +235,13 @@ fn release_reply(call: &Call) -> Reply
     }
 }
 
-// The reply with the numbers of new descriptors.
-pub fn numbers_reply(given: NewNumbers) -> Reply
-    ensures { result ≡ numbers_reply given }
+// The reply with the number of a new descriptor.
+fn number_reply(number: Option<i64>) -> Reply
+    ensures { result ≡ number_reply number }
 {
-    match given {
-        NewNumbers::One(number) => Reply::Number(number),
-        NewNumbers::Two(first, second) => Reply::Pair(first, second),
-        NewNumbers::None => Reply::Done,
+    match number {
+        Some(number) => Reply::Number(number),
+        None => Reply::Done,
     }
 }
 

@@ -4,7 +4,6 @@
 mod acts;
 mod advance;
 mod ask;
-mod body;
 mod drive;
 mod events;
 mod fault;
@@ -12,12 +11,10 @@ mod finish;
 mod history;
 mod log;
 mod machine;
-mod patience;
 mod plain;
 mod run;
 mod start;
 mod store;
-mod streams;
 #[cfg(test)]
 mod tests;
 mod thread;

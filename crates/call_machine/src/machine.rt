@@ -1,4 +1,4 @@
-ghost use Rattle.std.specs.Prelude.{◌≡◌, ◌≤◌, ◌*◌, length};
+ghost use Rattle.std.specs.Prelude.{◌≡◌, ◌≤◌, length};
 ghost use Rattle.call_machine.specs.Lives.{Agree};
 
 use crate::store::Store;
@@ -14,8 +14,8 @@ pub struct Shared {
     pub store: Store,
     pub rows: Vec<HistoryRow>,
 
-    // each call makes two descriptions and one object at most
-    ghost descriptions: { store.table.descriptions.made ≤ 2 * length rows.items },
+    // each call makes one description and one object at most
+    ghost descriptions: { store.table.descriptions.made ≤ length rows.items },
     ghost objects: { store.table.made_objects ≤ length rows.items },
 }
 
@@ -23,8 +23,6 @@ pub struct Shared {
 // is used again keeps its lock.
 #[derive(Drop)]
 pub struct Machine {
-    // a call that is blocked for so many turns is not made again
-    pub patience: u32,
     pub threads: Vec<Thread>,
     pub clocks: Clocks,
     pub shared: Shared,

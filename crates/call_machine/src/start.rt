@@ -15,14 +15,13 @@ use thread_scripts::{Script, ScriptActor};
 
 impl Machine {
     // A thread for each script, over a table with nothing open and only the root.
-    pub fn new(alloc: Global, scripts: Vec<Script>, patience: u32) -> Result<Machine, AllocError>
+    pub fn new(alloc: Global, scripts: Vec<Script>) -> Result<Machine, AllocError>
         requires some { 1 ≤ length scripts.items }
         requires within_limit { length scripts.items ≤ limit.THREADS }
-        ensures { IfOk result (λ machine. whole_of machine ≡ first_whole patience scripts.items) }
+        ensures { IfOk result (λ machine. whole_of machine ≡ first_whole scripts.items) }
     {
         let clocks = Clocks::new(alloc, scripts.len())?;
         Ok(Machine {
-            patience,
             threads: first_threads(alloc, scripts)?,
             clocks,
             shared: Shared {

@@ -3,20 +3,19 @@ ghost use Rattle.posix_terms.specs.declared.limits.TheConstants.Limits as limit;
 ghost use Rattle.descriptor_table.specs.Plans.{MovesKnown, planned};
 ghost use Rattle.descriptor_table.specs.declared.plan.Plan.TheVariants as plan;
 ghost use Rattle.descriptor_table.specs.Agreement.{TellsAsStep};
-ghost use Rattle.call_machine.specs.Store.{EndsTurn, IsPlanned, Makes, Replies, TableMade, first_stored, number_locked};
+ghost use Rattle.call_machine.specs.Store.{IsPlanned, Makes, TableMade, first_stored, number_locked};
 
-use crate::body::Body;
-use crate::patience::{Ending, TurnEnd, blocked};
-use descriptor_table::{NewNumbers, Op, Plan, Table};
+use descriptor_table::{Op, Plan, Table};
+use memory_files::FileBody;
 use posix_terms::{Call, Limits, Reply};
 use std::alloc::{AllocError, Global};
 use std::marker::Model;
 
-// The shared table, and by object number the bodies of the objects.
+// The shared table, and by object number the bodies of the files.
 #[derive(Drop)]
 pub struct Store {
     pub table: Table,
-    pub bodies: Vec<Body>,
+    pub bodies: Vec<FileBody>,
     ghost count: { length bodies.items ≡ limit.OBJECTS },
 }
 
@@ -38,7 +37,7 @@ impl Store {
     {
         let mut bodies = Vec::new(alloc);
         for _ in 0..Limits::OBJECTS {
-            bodies.push(Body::new(alloc)?)?;
+            bodies.push(FileBody::new(alloc)?)?;
         }
         Ok(Store {
             table: Table::new(alloc)?,
@@ -57,26 +56,17 @@ impl Store {
         }
     }
 
-    // Makes a turn of a call that was blocked for so many turns. Without memory nothing changes.
-    pub fn make(
-        &mut self,
-        alloc: Global,
-        call: &Call,
-        patience: u32,
-        turns: u32,
-    ) -> Result<TurnEnd, AllocError>
+    // Makes a call, and gives its reply. Without memory nothing changes.
+    pub fn make(&mut self, alloc: Global, call: &Call) -> Result<Reply, AllocError>
         requires descriptions { self.old.table.descriptions.made < 2 ^ 127 }
         requires objects { self.old.table.made_objects < 2 ^ 127 }
-        ensures makes { IfOk result (λ ends. Makes patience turns self.old call.now ends self.new) }
+        ensures reply { IfOk result (λ reply. Makes self.old call.now reply self.new) }
         ensures err { OnErr result (self.new ≡ self.old) }
-        ensures births { (self.new.table.descriptions.made ≤ self.old.table.descriptions.made + 2) × (self.new.table.made_objects ≤ self.old.table.made_objects + 1) }
+        ensures births { (self.new.table.descriptions.made ≤ self.old.table.descriptions.made + 1) × (self.new.table.made_objects ≤ self.old.table.made_objects + 1) }
     {
         match self.table.plan(call) {
-            Plan::Reply(reply) => Ok(TurnEnd::Reply(self.settle(call, reply))),
-            Plan::Node { node, op, .. } => Ok(match self.act(alloc, call, node, op)? {
-                Ending::Reply(reply) => TurnEnd::Reply(reply),
-                Ending::Waits => blocked(patience, turns),
-            }),
+            Plan::Reply(reply) => Ok(self.settle(call, reply)),
+            Plan::Node { node, op, .. } => self.act(alloc, call, node, op),
         }
     }
 
@@ -85,8 +75,8 @@ impl Store {
         requires descriptions { self.old.table.descriptions.made < 2 ^ 127 }
         requires objects { self.old.table.made_objects < 2 ^ 127 }
         requires planned { planned self.old.table call.now ≡ plan.Reply reply }
-        ensures reply { Replies self.old call.now result self.new }
-        ensures births { (self.new.table.descriptions.made ≤ self.old.table.descriptions.made + 2) × (self.new.table.made_objects ≤ self.old.table.made_objects + 1) }
+        ensures reply { Makes self.old call.now result self.new }
+        ensures births { (self.new.table.descriptions.made ≤ self.old.table.descriptions.made + 1) × (self.new.table.made_objects ≤ self.old.table.made_objects + 1) }
     {
         let plan = Plan::Reply(reply);
         let _ = self.change(call, &plan);
@@ -98,48 +88,43 @@ impl Store {
 
     // Makes the table's change of a call that it planned so. It gives the number of a new descriptor where the
     // plan has not told it.
-    pub fn change(&mut self, call: &Call, plan: &Plan) -> NewNumbers
+    pub fn change(&mut self, call: &Call, plan: &Plan) -> Option<i64>
         requires descriptions { self.old.table.descriptions.made < 2 ^ 127 }
         requires objects { self.old.table.made_objects < 2 ^ 127 }
         requires planned { plan.now ≡ planned self.old.table call.now }
         ensures made { TableMade self.old call.now self.new.table }
         ensures bodies { self.new.bodies ≡ self.old.bodies }
         ensures tells { TellsAsStep self.old.table call.now result }
-        ensures births { (self.new.table.descriptions.made ≤ self.old.table.descriptions.made + 2) × (self.new.table.made_objects ≤ self.old.table.made_objects + 1) }
+        ensures births { (self.new.table.descriptions.made ≤ self.old.table.descriptions.made + 1) × (self.new.table.made_objects ≤ self.old.table.made_objects + 1) }
     {
-        let given = self.table.apply(call, plan, None);
+        let number = self.table.apply(call, plan, None);
         // What holds of every table holds of this one.
         let _ = self.table.made();
-        given
+        number
     }
 
-    // Makes a turn of a call that acts on the object with this number.
-    fn act(&mut self, alloc: Global, call: &Call, node: usize, op: Op) -> Result<Ending, AllocError>
+    // Makes a call that acts on the object with this number.
+    fn act(&mut self, alloc: Global, call: &Call, node: usize, op: Op) -> Result<Reply, AllocError>
         requires descriptions { self.old.table.descriptions.made < 2 ^ 127 }
         requires objects { self.old.table.made_objects < 2 ^ 127 }
         requires planned { IsPlanned self.old call.now node op }
         requires inside { node < limit.OBJECTS }
         requires bodies { length self.old.bodies ≡ limit.OBJECTS }
         requires known { MovesKnown self.old.table op }
-        ensures ends { IfOk result (λ e. EndsTurn self.old call.now e self.new) }
+        ensures reply { IfOk result (λ reply. Makes self.old call.now reply self.new) }
         ensures err { OnErr result (self.new ≡ self.old) }
-        ensures births { (self.new.table.descriptions.made ≤ self.old.table.descriptions.made + 2) × (self.new.table.made_objects ≤ self.old.table.made_objects + 1) }
+        ensures births { (self.new.table.descriptions.made ≤ self.old.table.descriptions.made + 1) × (self.new.table.made_objects ≤ self.old.table.made_objects + 1) }
     {
         match op {
+            Op::Open { cut } => Ok(self.open(call, node, cut)),
+            Op::Release => Ok(self.release(call)),
             Op::Read { from, count } => self.read(alloc, node, from, count),
+            Op::Pread { count, position } => self.pread(alloc, node, count, position),
+            Op::Ftruncate { size } => Ok(self.ftruncate(node, size)),
+            Op::Fstat { links } => Ok(self.fstat(node, links)),
             Op::Write { to } => Ok(self.write_call(call, node, to)),
-            Op::Open { cut } => Ok(Ending::Reply(self.open(call, node, cut))),
-            Op::Release => Ok(Ending::Reply(self.release(call))),
-            Op::Pread { count, position } => {
-                Ok(Ending::Reply(self.pread(alloc, node, count, position)?))
-            }
-            Op::Ftruncate { size } => Ok(Ending::Reply(self.ftruncate(node, size))),
-            Op::Fstat { links } => Ok(Ending::Reply(self.fstat(node, links))),
-            Op::Pwrite { position } => Ok(Ending::Reply(self.pwrite_call(call, node, position))),
-            Op::Lseek { at } => Ok(Ending::Reply(self.lseek_call(call, node, at))),
-            Op::Pipe => Ok(Ending::Reply(self.open_pipe(call, node))),
-            Op::Socketpair => Ok(Ending::Reply(self.open_pair(call, node))),
-            Op::Shutdown { side, how } => Ok(Ending::Reply(self.shutdown(node, side, how))),
+            Op::Pwrite { position } => Ok(self.pwrite_call(call, node, position)),
+            Op::Lseek { at } => Ok(self.lseek_call(call, node, at)),
         }
     }
 }

@@ -53,9 +53,6 @@ A script is ASCII text, one of these a line. Lines that are empty or start with 
   unlink PATH
   mkdir PATH
   rmdir PATH
-  pipe                          its reply: the end to read from and the end to write to
-  socketpair                    its reply: both sockets
-  shutdown NUM HOW              HOW is read, write or both
   work N                        adds 0 to 1000000 to the clock
   set rA NUM                    puts a number in a register
   add rA NUM                    adds to it, modulo 2^64

@@ -1,6 +1,5 @@
 mod limits;
 mod refusals;
-mod streams;
 
 use crate::plain::plain_over;
 use crate::show::show_over;
@@ -38,18 +37,7 @@ fn run(
 
 // Whether scripts print this, with these replies in order. Where memory is wanted they may say so.
 fn print(alloc: Global, turns: bool, scripts: &[&[u8]], wanted: &str) -> io::Result<bool> {
-    print_with(alloc, DEFAULTS, turns, scripts, wanted)
-}
-
-// The same under these settings.
-fn print_with(
-    alloc: Global,
-    settings: Settings,
-    turns: bool,
-    scripts: &[&[u8]],
-    wanted: &str,
-) -> io::Result<bool> {
-    let (status, output, errors) = run(alloc, settings, turns, scripts)?;
+    let (status, output, errors) = run(alloc, DEFAULTS, turns, scripts)?;
     if status == 4 && errors.as_slice() == b"no memory\n".as_slice() {
         return Ok(output.is_empty());
     }

@@ -46,14 +46,6 @@ pub enum Whence {
     End,
 }
 
-/// What `shutdown` shuts (`SHUT_RD`, `SHUT_WR`, `SHUT_RDWR`).
-#[derive(Clone, Copy, Debug, PartialEq, Eq, Hash)]
-pub enum ShutdownHow {
-    Read,
-    Write,
-    Both,
-}
-
 /// One call, with its arguments as the thread gave them. Descriptors, counts, positions, sizes and
 /// offsets may be any numbers, and a path any bytes: what is wrong with them is told by the reply.
 #[derive(Clone, Debug, PartialEq, Eq, Drop)]
@@ -133,13 +125,6 @@ pub enum Call {
     Rmdir {
         path: Bytes,
     },
-    Pipe,
-    /// A pair of connected stream sockets in memory.
-    Socketpair,
-    Shutdown {
-        descriptor: i64,
-        how: ShutdownHow,
-    },
 }
 
 /// Which call it is.
@@ -163,9 +148,6 @@ pub enum CallKind {
     Unlink,
     Mkdir,
     Rmdir,
-    Pipe,
-    Socketpair,
-    Shutdown,
 }
 
 impl Call {
@@ -192,9 +174,6 @@ impl Call {
             Call::Unlink { .. } => CallKind::Unlink,
             Call::Mkdir { .. } => CallKind::Mkdir,
             Call::Rmdir { .. } => CallKind::Rmdir,
-            Call::Pipe => CallKind::Pipe,
-            Call::Socketpair => CallKind::Socketpair,
-            Call::Shutdown { .. } => CallKind::Shutdown,
         }
     }
 
@@ -208,7 +187,7 @@ impl Call {
 
 impl CallKind {
     /// All calls.
-    pub const ALL: [CallKind; 21] = [
+    pub const ALL: [CallKind; 18] = [
         CallKind::Open,
         CallKind::Close,
         CallKind::Read,
@@ -227,9 +206,6 @@ impl CallKind {
         CallKind::Unlink,
         CallKind::Mkdir,
         CallKind::Rmdir,
-        CallKind::Pipe,
-        CallKind::Socketpair,
-        CallKind::Shutdown,
     ];
 
     /// The name of the call in scripts and in printed transcripts, for example `lseek`.
@@ -255,9 +231,6 @@ impl CallKind {
             CallKind::Unlink => "unlink",
             CallKind::Mkdir => "mkdir",
             CallKind::Rmdir => "rmdir",
-            CallKind::Pipe => "pipe",
-            CallKind::Socketpair => "socketpair",
-            CallKind::Shutdown => "shutdown",
         }
     }
 }

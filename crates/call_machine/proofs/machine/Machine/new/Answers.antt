@@ -25,7 +25,6 @@ returns c =
     let table : c.in_ok-new.field-0 ≡ first_stored = search rules in
     let rows : c.new-4.result.items ≡ [] = search rules in
     λ i. record {
-      patience = c.args.patience;
       threads = (ap₂ joined threads clocks ∙ joined_first scripts) i;
       lock = c.new-2.ensures i;
       objects = objects i;

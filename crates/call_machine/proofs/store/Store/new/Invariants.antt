@@ -1,6 +1,5 @@
-use Rattle.std.proofs.Common.{◌≡◌, replicate}
-use Rattle.call_machine.specs.Bodies.{first_kept}
+use Rattle.std.proofs.Common.{◌≡◌, [], replicate}
 use Rattle.call_machine.proofs.store.Store.new.Given as goal
 
 abbrev pub invariant-loop : goal.invariant-loop
-invariant-loop l = l.bodies.items ≡ replicate l.counter first_kept
+invariant-loop l = l.bodies.items ≡ replicate l.counter []

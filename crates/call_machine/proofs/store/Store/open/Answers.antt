@@ -2,7 +2,7 @@ use Rattle.std.proofs.Common.{◌≡◌, ◌<◌, ℕ, length, sym, ◌∙◌, s
 use Rattle.posix_terms.specs.declared.reply.Reply.{Reply}
 use Rattle.descriptor_table.specs.Agreement.{TellsAsStep}
 use Rattle.call_machine.specs.Acting.{cut_bodies}
-use Rattle.call_machine.specs.Store.{Replies, Stored, TableMade}
+use Rattle.call_machine.specs.Store.{Makes, Stored, TableMade}
 use Rattle.call_machine.proofs.Making.{cut_changed, open_makes}
 use Rattle.call_machine.proofs.store.Store.open.Goals as goal
 
@@ -10,12 +10,12 @@ pub returns-clause-reply : goal.returns-clause-reply
 returns-clause-reply c =
     let h = c.args.self.now in
     let call = c.args.call.now in
-    let new = c.change-given.new.self in
+    let new = c.change-number.new.self in
     let inside : c.args.node < length h.bodies = subst (λ (n : ℕ). c.args.node < n) (sym c.requires.bodies) c.requires.inside in
     let made : TableMade h call new.table = search rules in
     let bodies : new.bodies ≡ h.bodies = search rules in
-    let tells : TellsAsStep h.table call c.change-given.result = search rules in
+    let tells : TellsAsStep h.table call c.change-number.result = search rules in
     let cut : c.cut_body.new.self ≡ record new { bodies = cut_bodies new c.args.node c.args.cut } = search rules in
-    subst (λ (z : Stored). Replies h call c.numbers_reply.result z) (cut_changed h new c.args.node c.args.cut bodies ∙ sym cut)
-    (subst (λ (r : Reply). Replies h call r (record { table = new.table; bodies = cut_bodies h c.args.node c.args.cut })) (sym c.numbers_reply.ensures)
-    (open_makes h call c.args.node c.args.cut new.table c.change-given.result c.requires.planned made tells inside))
+    subst (λ (z : Stored). Makes h call c.number_reply.result z) (cut_changed h new c.args.node c.args.cut bodies ∙ sym cut)
+    (subst (λ (r : Reply). Makes h call r (record { table = new.table; bodies = cut_bodies h c.args.node c.args.cut })) (sym c.number_reply.ensures)
+    (open_makes h call c.args.node c.args.cut new.table c.change-number.result c.requires.planned made tells inside))

@@ -1,6 +1,7 @@
 use Rattle.std.proofs.Common.{◌≡◌, sym, subst, rules}
 use Rattle.posix_terms.specs.declared.reply.Reply.{Reply}
-use Rattle.call_machine.specs.Store.{Replies, Stored, TableMade}
+use Rattle.descriptor_table.specs.Agreement.{TellsAsStep}
+use Rattle.call_machine.specs.Store.{Makes, Stored, TableMade}
 use Rattle.call_machine.proofs.Making.{changed_is, release_makes}
 use Rattle.call_machine.proofs.store.Store.release.Goals as goal
 
@@ -11,5 +12,6 @@ returns-clause-reply c =
     let new = c.change.new.self in
     let made : TableMade h call new.table = search rules in
     let bodies : new.bodies ≡ h.bodies = search rules in
-    subst (λ (z : Stored). Replies h call c.release_reply.result z) (changed_is h new bodies)
-    (subst (λ (r : Reply). Replies h call r (record h { table = new.table })) (sym c.release_reply.ensures) (release_makes h call c.requires.planned.0 new.table c.requires.planned.1 made))
+    let tells : TellsAsStep h.table call c.change.result = search rules in
+    subst (λ (z : Stored). Makes h call c.release_reply.result z) (changed_is h new bodies)
+    (subst (λ (r : Reply). Makes h call r (record h { table = new.table })) (sym c.release_reply.ensures) (release_makes h call c.requires.planned.0 new.table c.change.result c.requires.planned.1 made tells))

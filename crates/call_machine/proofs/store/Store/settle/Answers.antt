@@ -1,6 +1,6 @@
 use Rattle.std.proofs.Common.{◌≡◌, subst, rules}
 use Rattle.posix_terms.specs.declared.reply.Reply.{Reply}
-use Rattle.call_machine.specs.Store.{Replies, Stored}
+use Rattle.call_machine.specs.Store.{Makes, Stored}
 use Rattle.call_machine.proofs.Doing.{reply_makes}
 use Rattle.call_machine.proofs.Making.{changed_is}
 use Rattle.call_machine.proofs.store.Store.settle.Goals as goal
@@ -11,5 +11,5 @@ returns-clause-reply c =
     let call = c.args.call.now in
     let new = c.change.new.self in
     let same : c.args.reply ≡ c.in-Reply.reply = search rules in
-    subst (λ (z : Stored). Replies h call c.in-Reply.reply z) (changed_is h new c.change.ensures.bodies)
-    (subst (λ (r : Reply). Replies h call r (record h { table = new.table })) same (reply_makes h call c.args.reply new.table c.requires.planned c.change.ensures.made))
+    subst (λ (z : Stored). Makes h call c.in-Reply.reply z) (changed_is h new c.change.ensures.bodies)
+    (subst (λ (r : Reply). Makes h call r (record h { table = new.table })) same (reply_makes h call c.args.reply new.table c.requires.planned c.change.ensures.made))
