@@ -8,16 +8,18 @@
 #include <stdlib.h>
 #include <string.h>
 #include <time.h>
+#include <sys/socket.h>
 #include <sys/stat.h>
 #include <unistd.h>
 
 enum { ROUNDS = 30, MOST_THREADS = 8, MOST_TRIPS = 10000 };
 
-enum { OPEN, READ, WRITE, LSEEK, PREAD, PWRITE, FSTAT, GETFL, DUP, LINK, MKDIR, KINDS };
+enum { OPEN, READ, WRITE, LSEEK, PREAD, PWRITE, FSTAT, GETFL, DUP, LINK, MKDIR, PIPE, PAIR, KINDS };
 static const char *const words_of[KINDS] = {
     [OPEN] = "open, close", [READ] = "read",         [WRITE] = "write",       [LSEEK] = "lseek",
     [PREAD] = "pread",      [PWRITE] = "pwrite",     [FSTAT] = "fstat",       [GETFL] = "getfl",
     [DUP] = "dup, close",   [LINK] = "link, unlink", [MKDIR] = "mkdir, rmdir",
+    [PIPE] = "write, read of a pipe", [PAIR] = "write, read of a pair",
 };
 
 static int kind;
@@ -38,8 +40,8 @@ static void must(int good) {
   }
 }
 
-// `other` names nothing, and lies beside the file.
-static void two_calls(int fd, const char *path, const char *other) {
+// `other` names nothing, and lies beside the file; `ends` are those of a pipe or a pair.
+static void two_calls(int fd, const char *path, const char *other, const int *ends) {
   char bytes[8] = {0};
   struct stat found;
   switch (kind) {
@@ -54,6 +56,8 @@ static void two_calls(int fd, const char *path, const char *other) {
   case DUP: fd = dup(fd), must(fd >= 0 && close(fd) == 0); break;
   case LINK: must(link(path, other) == 0 && unlink(other) == 0); break;
   case MKDIR: must(mkdir(other, 0700) == 0 && rmdir(other) == 0); break;
+  case PIPE:
+  case PAIR: must(write(ends[1], bytes, 8) == 8 && read(ends[0], bytes, 8) == 8); break;
   }
 }
 
@@ -62,6 +66,8 @@ static void *thread(void *number) {
   char path[64], other[64];
   snprintf(path, sizeof path, "/dev/shm/detio-bench-%d-%ld", (int)getpid(), i);
   snprintf(other, sizeof other, "/dev/shm/detio-bench-%d-%ld-other", (int)getpid(), i);
+  int ends[2];
+  must((kind == PAIR ? socketpair(AF_UNIX, SOCK_STREAM, 0, ends) : pipe(ends)) == 0);
   int fd = open(path, O_RDWR | O_CREAT | O_EXCL, 0600);
   must(fd >= 0);
   char *bytes = calloc(16, trips);
@@ -75,7 +81,7 @@ static void *thread(void *number) {
     must(lseek(fd, 0, SEEK_SET) == 0);
     pthread_barrier_wait(&start);
     long before = now();
-    for (int t = 0; t < trips; t++) two_calls(fd, path, other);
+    for (int t = 0; t < trips; t++) two_calls(fd, path, other, ends);
     spent[round][i] = now() - before - reading;
   }
   free(bytes);

@@ -8,13 +8,12 @@ use Rattle.posix_terms.specs.Step.{step}
 use Rattle.posix_terms.specs.declared.call.Call.{Call}
 use Rattle.posix_terms.specs.declared.limits.TheConstants.Limits as limit
 use Rattle.posix_terms.specs.declared.outcome.Outcome.{Outcome}
-use Rattle.posix_terms.specs.declared.reply.Answer.TheVariants as answer
 use Rattle.posix_terms.specs.declared.reply.Reply.{Reply}
 use Rattle.posix_terms.specs.declared.transcript.HistoryRow.{HistoryRow}
 use Rattle.det_mutex.specs.Attempt.{freed, new_lock}
 use Rattle.det_mutex.specs.declared.lock.DetLock.{DetLock}
 use Rattle.lock_model.specs.CallTable.{Answer, CallTable, Plan, has_object, keeps_table}
-use Rattle.lock_model.specs.CallTable.Answer.{Gives}
+use Rattle.lock_model.specs.CallTable.Answer.{Again, Gives}
 use Rattle.lock_model.specs.Held.{AreHeld, HaveRows, holds_table, object_held, object_in, row_of}
 use Rattle.lock_model.specs.Machine as machine
 use Rattle.lock_model.specs.Machine.{Effect, Moved, advance, answered, can_advance, filled_by, first_of, is_number, is_open, late_change, lock_after, moves, moves_in, one_if, row_after, within}
@@ -22,18 +21,22 @@ use Rattle.lock_model.specs.RealCalls.{answer_in, plan_of, real_calls}
 use Rattle.lock_model.specs.ScriptPrograms.{Reached}
 use Rattle.lock_model.specs.State as lock
 use Rattle.lock_model.specs.State.{Job, Row, State, thread_of}
-use Rattle.lock_model.specs.State.Phase.{Granted, Working}
+use Rattle.lock_model.specs.State.Phase.{Granted}
 use Rattle.lock_model.specs.Terms.{World}
 use Rattle.lock_model.proofs.Commute.{lock_mine, lock_other, row_closed, row_open}
-use Rattle.call_machine.specs.Events.{Answers, AnswersIn, AnswersWith, Parts, in_time, parts, replied}
+use Rattle.call_machine.specs.Events.{Answers, AnswersIn, AnswersWith, Parts, in_time, parts, row_answered}
+use Rattle.object_store.specs.Patience.{ended}
+use Rattle.call_machine.specs.Held.{end_held, phase_behind, told_as}
 use Rattle.call_machine.specs.Setup.{Inputs, setup_of}
 use Rattle.lock_model.specs.Rows.{shown, shown_answer}
 use Rattle.call_machine.specs.Shows.{IsGranted, IsInCall, PhaseShows, Shows, ThreadShows, Whole, thread_at}
+use Rattle.object_store.specs.declared.patience.TurnEnd.{TurnEnd}
+use Rattle.object_store.specs.declared.patience.TurnEnd.TheVariants as end
 use Rattle.call_machine.specs.declared.thread.Phase.{Phase}
 use Rattle.call_machine.specs.declared.thread.Phase.TheVariants as phase
 use Rattle.call_machine.specs.Threads.{Thread}
 use Rattle.call_machine.proofs.AskShows.{within_no, within_yes}
-use Rattle.call_machine.proofs.Lists.{set_same}
+use Rattle.object_store.proofs.Lists.{set_same}
 use Rattle.call_machine.proofs.ShownThreads.{first_kept, whole_moved, whole_still}
 
 -- ## The one row that is open
@@ -99,11 +102,11 @@ locks_freed i (suc n) clock (l ∷ ls) inside mine others =
 -- ## The move
 
 -- the table is freed now where no object is held, and else later, when the thread does not hold it
-abbrev pub freeing : Option ℕ → lock.Thread → Reply → Moved
-freeing object u reply =
+abbrev pub freeing : Option ℕ → lock.Thread → Call → Answer → Moved
+freeing object u c a =
     record {
-      thread = record u { phase = Working; clock = u.clock + 1; replies = u.replies ++ reply ∷ [] };
-      effect = record { outcome = None; answer = Some (Gives reply); object_freed = Some u.clock; table_freed = Some (u.clock + one_if (is_some object)); world = None };
+      thread = answered u c (u.clock + 1) a;
+      effect = record { outcome = None; answer = Some a; object_freed = Some u.clock; table_freed = Some (u.clock + one_if (is_some object)); world = None };
     }
 
 -- the answer of a job with this plan and this answer, which makes no change
@@ -123,30 +126,34 @@ late_by : (calls : CallTable) (job : Job) (object : Option ℕ) → late_change 
 late_by calls job None = late_none calls job job.outcome
 late_by calls job (Some n) = late_none calls job job.outcome
 
-freeing_by : (u : lock.Thread) (c : Call) (object : Option ℕ) (reply : Reply) → answer_by u c (plan_of object) (Gives reply) None ≡ freeing object u reply
-freeing_by u c None reply =
-    ap (λ (n : ℕ). let m : Moved = record { thread = record u { phase = Working; clock = n; replies = u.replies ++ reply ∷ [] }; effect = record { outcome = None; answer = Some (Gives reply); object_freed = Some u.clock; table_freed = Some (u.clock + 0); world = None } } in m) (once u.clock)
+freeing_by : (u : lock.Thread) (c : Call) (object : Option ℕ) (a : Answer) → answer_by u c (plan_of object) a None ≡ freeing object u c a
+freeing_by u c None a =
+    ap (λ (n : ℕ). let m : Moved = record { thread = answered u c n a; effect = record { outcome = None; answer = Some a; object_freed = Some u.clock; table_freed = Some (u.clock + 0); world = None } } in m) (once u.clock)
   where
     once : (n : ℕ) → n + 0 + 1 ≡ n + 1
     once n = omega arith
-freeing_by u c (Some object) reply =
-    ap (λ (n : ℕ). let m : Moved = record { thread = record u { phase = Working; clock = n; replies = u.replies ++ reply ∷ [] }; effect = record { outcome = None; answer = Some (Gives reply); object_freed = Some u.clock; table_freed = Some (u.clock + 1); world = None } } in m) (once u.clock)
+freeing_by u c (Some object) a =
+    ap (λ (n : ℕ). let m : Moved = record { thread = answered u c n a; effect = record { outcome = None; answer = Some a; object_freed = Some u.clock; table_freed = Some (u.clock + 1); world = None } } in m) (once u.clock)
   where
     once : (n : ℕ) → n + 1 + 0 ≡ n + 1
     once n = omega arith
 
-answer_frees : (calls : CallTable) (u : lock.Thread) (job : Job) (object : Option ℕ) (reply : Reply) → job.plan ≡ plan_of object → calls.answer job.found job.call job.outcome job.carried ≡ Gives reply → machine.answer calls u job ≡ freeing object u reply
-answer_frees calls u job object reply plan gives =
+answer_frees : (calls : CallTable) (u : lock.Thread) (job : Job) (object : Option ℕ) (a : Answer) → job.plan ≡ plan_of object → calls.answer job.found job.call job.outcome job.carried ≡ a → machine.answer calls u job ≡ freeing object u job.call a
+answer_frees calls u job object a plan gives =
     ap (λ (p : Plan). answer_by u job.call p (calls.answer job.found job.call job.outcome job.carried) (late_change calls job job.outcome (keeps_table p))) plan
-    ∙ ap₂ (λ (a : Answer) (w : Option World). answer_by u job.call (plan_of object) a w) gives (late_by calls job object)
-    ∙ freeing_by u job.call object reply
+    ∙ ap₂ (λ (b : Answer) (w : Option World). answer_by u job.call (plan_of object) b w) gives (late_by calls job object)
+    ∙ freeing_by u job.call object a
 
-moves_granted : (input : Inputs) (i : ℕ) (u : lock.Thread) (job : Job) (object : Option ℕ) (reply : Reply) → u.phase ≡ Granted job → job.plan ≡ plan_of object → answer_in (step input.settings job.found.object job.call job.outcome job.carried) ≡ Gives reply
-    → moves (setup_of input) i u ≡ within (2 ^ 62) (Some (freeing object u reply))
+moves_granted : (input : Inputs) (i : ℕ) (u : lock.Thread) (job : Job) (object : Option ℕ) (a : Answer) → u.phase ≡ Granted job → job.plan ≡ plan_of object → answer_in (step input.settings job.found.object job.call job.outcome job.carried) ≡ a
+    → moves (setup_of input) i u ≡ within (2 ^ 62) (Some (freeing object u job.call a))
 unfolding moves
-moves_granted input i u job object reply e plan gives =
+moves_granted input i u job object a e plan gives =
     ap (λ (p : lock.Phase). within (2 ^ 62) (moves_in (setup_of input) i u p)) e
-    ∙ ap (λ (m : Moved). within (2 ^ 62) (Some m)) (answer_frees (real_calls input.settings) u job object reply plan gives)
+    ∙ ap (λ (m : Moved). within (2 ^ 62) (Some m)) (answer_frees (real_calls input.settings) u job object a plan gives)
+
+answered_clock : (u : lock.Thread) (c : Call) (n : ℕ) (a : Answer) → (answered u c n a).clock ≡ n
+answered_clock u c n (Gives reply) = refl
+answered_clock u c n (Again turns) = refl
 
 -- ## The whole
 
@@ -156,17 +163,21 @@ same_eqb a b e = ⊎_elim (λ (h : (a == b) ≡ true). h) (λ (h : (a == b) ≡ 
 open_row : (i : ℕ) (job : Job) → job.turn.thread ≡ i → is_open i (row_of job) ≡ true
 open_row i job e = ap (λ (b : Bool). b && true) (same_eqb job.turn.thread i e)
 
-shown_filled : (r : Row) (e : Effect) (reply : Reply) → e.outcome ≡ None → e.answer ≡ Some (Gives reply) → shown (filled_by e r) ≡ record (shown r) { answer = Some (answer.Reply reply) }
-shown_filled r e reply out ans k = record { call = r.call; turn = r.turn; outcome = (ap (first_of r.outcome) out ∙ first_kept r.outcome) k; answer = ap shown_answer ans k }
+shown_end : (x : TurnEnd) → shown_answer (Some (ended x)) ≡ Some (told_as x)
+shown_end (end.Reply reply) = refl
+shown_end (end.Blocked turns) = refl
 
-rows_replied : (i : ℕ) (s : State) (w : List HistoryRow) (place : ℕ) (job : Job) (e : Effect) (reply : Reply) → HaveRows s → map shown s.rows ≡ w → job.turn.thread ≡ i → slice_get s.rows place ≡ Some (row_of job)
-    → e.outcome ≡ None → e.answer ≡ Some (Gives reply)
-    → map shown (map (row_after i e) s.rows) ≡ set w place (record (shown (row_of job)) { answer = Some (answer.Reply reply) })
-rows_replied i s w place job e reply rows is mine at out ans =
+shown_filled : (r : Row) (e : Effect) (x : TurnEnd) → e.outcome ≡ None → e.answer ≡ Some (ended x) → shown (filled_by e r) ≡ record (shown r) { answer = Some (told_as x) }
+shown_filled r e x out ans k = record { call = r.call; turn = r.turn; outcome = (ap (first_of r.outcome) out ∙ first_kept r.outcome) k; answer = (ap shown_answer ans ∙ shown_end x) k }
+
+rows_answered : (i : ℕ) (s : State) (w : List HistoryRow) (place : ℕ) (job : Job) (e : Effect) (x : TurnEnd) → HaveRows s → map shown s.rows ≡ w → job.turn.thread ≡ i → slice_get s.rows place ≡ Some (row_of job)
+    → e.outcome ≡ None → e.answer ≡ Some (ended x)
+    → map shown (map (row_after i e) s.rows) ≡ set w place (record (shown (row_of job)) { answer = Some (told_as x) })
+rows_answered i s w place job e x rows is mine at out ans =
     let open_is = open_row i job mine in
     ap (map shown) (fill_one i e s.rows place (row_of job) at open_is (λ j q there o. rows.one i j place q (row_of job) there at o open_is))
     ∙ map-set shown s.rows place (filled_by e (row_of job))
-    ∙ ap₂ (λ (rs : List HistoryRow) (q : HistoryRow). set rs place q) is (shown_filled (row_of job) e reply out ans)
+    ∙ ap₂ (λ (rs : List HistoryRow) (q : HistoryRow). set rs place q) is (shown_filled (row_of job) e x out ans)
 
 -- the lock that a call with this object holds
 abbrev pub lock_held : Whole → Option ℕ → DetLock
@@ -174,32 +185,32 @@ lock_held w None = w.lock
 lock_held w (Some n) = get_or w.objects n new_lock
 
 abbrev pub with_lock : Whole → Option ℕ → DetLock → List Thread → List HistoryRow → Whole
-with_lock w None l threads rows = record { threads = threads; lock = l; objects = w.objects; table = w.table; rows = rows }
-with_lock w (Some n) l threads rows = record { threads = threads; lock = w.lock; objects = set w.objects n l; table = w.table; rows = rows }
+with_lock w None l threads rows = record { patience = w.patience; threads = threads; lock = l; objects = w.objects; table = w.table; rows = rows }
+with_lock w (Some n) l threads rows = record { patience = w.patience; threads = threads; lock = w.lock; objects = set w.objects n l; table = w.table; rows = rows }
 
 abbrev parts_at : Whole → ℕ → Option ℕ → Parts
 parts_at w i object = parts (thread_at w i) (lock_held w object) w.table w.rows
 
 -- what an answer is given for, and what it leaves
-record Answering (input : Inputs) (w : Whole) (s : State) (i place : ℕ) (object : Option ℕ) (job : Job) : Type 0 where
+record Answering (input : Inputs) (w : Whole) (s : State) (i place : ℕ) (object blocked : Option ℕ) (job : Job) : Type 0 where
   inside : i < length w.threads
   shows : Shows input w s
   held : AreHeld s
   rows : HaveRows s
   phase : (thread_of s i).phase ≡ Granted job
   call : IsInCall input i (thread_at w i) (thread_of s i)
-  granted : IsGranted input i s.rows place object (thread_at w i).last job
+  granted : IsGranted input i s.rows place object blocked (thread_at w i).last job
 
 -- whether thread i holds the table, and an object
-table_held : (input : Inputs) (w : Whole) (s : State) (i place : ℕ) (object : Option ℕ) (job : Job) → Answering input w s i place object job → is_number s.table.holder i ≡ not (is_some object)
-table_held input w s i place object job a = a.held.table i ∙ ap holds_table a.phase ∙ ap (λ (p : Plan). not (has_object p) || keeps_table p) a.granted.plan ∙ by_plan object
+table_held : (input : Inputs) (w : Whole) (s : State) (i place : ℕ) (object blocked : Option ℕ) (job : Job) → Answering input w s i place object blocked job → is_number s.table.holder i ≡ not (is_some object)
+table_held input w s i place object blocked job a = a.held.table i ∙ ap holds_table a.phase ∙ ap (λ (p : Plan). not (has_object p) || keeps_table p) a.granted.plan ∙ by_plan object
   where
     by_plan : (o : Option ℕ) → (not (has_object (plan_of o)) || keeps_table (plan_of o)) ≡ not (is_some o)
     by_plan None = refl
     by_plan (Some n) = refl
 
-one_held : (input : Inputs) (w : Whole) (s : State) (i place : ℕ) (object : Option ℕ) (job : Job) → Answering input w s i place object job → (n : ℕ) → n < length s.objects → is_number (get_or s.objects n new_lock).holder i ≡ is_number object n
-one_held input w s i place object job a n inside = a.held.objects i n inside ∙ ap (λ (p : lock.Phase). is_number (object_held p) n) a.phase ∙ ap (λ (p : Plan). is_number (object_in p) n) a.granted.plan ∙ by_plan object
+one_held : (input : Inputs) (w : Whole) (s : State) (i place : ℕ) (object blocked : Option ℕ) (job : Job) → Answering input w s i place object blocked job → (n : ℕ) → n < length s.objects → is_number (get_or s.objects n new_lock).holder i ≡ is_number object n
+one_held input w s i place object blocked job a n inside = a.held.objects i n inside ∙ ap (λ (p : lock.Phase). is_number (object_held p) n) a.phase ∙ ap (λ (p : Plan). is_number (object_in p) n) a.granted.plan ∙ by_plan object
   where
     by_plan : (o : Option ℕ) → is_number (object_in (plan_of o)) n ≡ is_number o n
     by_plan None = refl
@@ -208,11 +219,11 @@ one_held input w s i place object job a n inside = a.held.objects i n inside ∙
 object_inside : (input : Inputs) (w : Whole) (s : State) → Shows input w s → (n : ℕ) → n < limit.OBJECTS → n < length s.objects
 object_inside input w s h n l = subst (λ (k : ℕ). n < k) (sym (ap length h.objects ∙ h.object_count)) l
 
-lock_is_held : (input : Inputs) (w : Whole) (s : State) (i place : ℕ) (object : Option ℕ) (job : Job) → Answering input w s i place object job → is_number (lock_held w object).holder i ≡ true
-lock_is_held input w s i place None job a = ap (λ (l : DetLock). is_number l.holder i) (sym a.shows.table) ∙ table_held input w s i place None job a
-lock_is_held input w s i place (Some n) job a =
+lock_is_held : (input : Inputs) (w : Whole) (s : State) (i place : ℕ) (object blocked : Option ℕ) (job : Job) → Answering input w s i place object blocked job → is_number (lock_held w object).holder i ≡ true
+lock_is_held input w s i place None blocked job a = ap (λ (l : DetLock). is_number l.holder i) (sym a.shows.table) ∙ table_held input w s i place None blocked job a
+lock_is_held input w s i place (Some n) blocked job a =
     ap (λ (ls : List DetLock). is_number (get_or ls n new_lock).holder i) (sym a.shows.objects)
-    ∙ one_held input w s i place (Some n) job a n (object_inside input w s a.shows n a.granted.in_range)
+    ∙ one_held input w s i place (Some n) blocked job a n (object_inside input w s a.shows n a.granted.in_range)
     ∙ eq-eqb n n refl
 
 abbrev Answered : Inputs → Whole → State → ℕ → Option ℕ → Bool → Parts → Type 0
@@ -221,17 +232,20 @@ Answered input w s i object moved new = (can_advance (setup_of input) s i ≡ mo
 next_le : (c : ℕ) → c < 2 ^ 62 → c + 1 ≤ 2 ^ 62
 next_le c h = omega arith
 
-thread_replied : (input : Inputs) (w : Whole) (s : State) (i place : ℕ) (object : Option ℕ) (job : Job) (a : Answering input w s i place object job) (rows : List Row) → (thread_at w i).clock < 2 ^ 62
-    → ThreadShows input i rows (replied (parts_at w i object) place a.granted.reply (shown (row_of job))).thread (freeing object (thread_of s i) a.granted.reply).thread
-thread_replied input w s i place object job a rows room =
-    let t = thread_at w i in
-    let u = thread_of s i in
-    let h = a.shows.threads i in
+held_reply : (blocked : Option ℕ) (last : Option Reply) (reply : Reply) → end_held blocked last ≡ Some (end.Reply reply) → last ≡ Some reply
+held_reply (Some turns) last reply e = cc
+held_reply None (Some r) reply e = cc
+held_reply None None reply e = cc
+
+-- the thread works with its reply, or makes its call again
+thread_answered : (input : Inputs) (i : ℕ) (rows : List Row) (t : Thread) (u : lock.Thread) (c : Call) (blocked : Option ℕ) (x : TurnEnd) → end_held blocked t.last ≡ Some x → IsInCall input i t u → u.clock ≡ t.clock → t.clock < 2 ^ 62 → u.asked ≡ t.asked
+    → ThreadShows input i rows (record t { phase = phase_behind c x; clock = t.clock + 1 }) (answered u c (u.clock + 1) (ended x))
+thread_answered input i rows t u c blocked (end.Reply reply) waits call clock room asked =
     record {
-      clock = ap (λ (c : ℕ). c + 1) h.clock;
+      clock = ap (λ (n : ℕ). n + 1) clock;
       in_time = next_le t.clock room;
-      asked = h.asked;
-      phase = (refl, record { even = one_more u.replies a.granted.reply ∙ a.call.even; reached = a.call.reached a.granted.reply ∙ ap (λ (o : Option Reply). let at : Reached = record { last = o; state = t.actor } in at) (sym a.granted.waits) });
+      asked = asked;
+      phase = (refl, record { even = one_more u.replies reply ∙ call.even; reached = call.reached reply ∙ ap (λ (o : Option Reply). let at : Reached = record { last = o; state = t.actor } in at) (sym (held_reply blocked t.last reply waits)) });
     }
   where
     one_more : (rs : List Reply) (r : Reply) → length (rs ++ r ∷ []) ≡ suc (length rs)
@@ -239,94 +253,106 @@ thread_replied input w s i place object job a rows room =
       where
         plus_one : (n : ℕ) → n + 1 ≡ suc n
         plus_one n = omega arith
+thread_answered input i rows t u c blocked (end.Blocked turns) waits call clock room asked =
+    record {
+      clock = ap (λ (n : ℕ). n + 1) clock;
+      in_time = next_le t.clock room;
+      asked = asked;
+      phase = (refl, record { even = call.even; reached = call.reached });
+    }
 
-move_made : (input : Inputs) (w : Whole) (s : State) (i place : ℕ) (object : Option ℕ) (job : Job) (a : Answering input w s i place object job) → (thread_at w i).clock < 2 ^ 62
-    → moves (setup_of input) i (thread_of s i) ≡ Some (freeing object (thread_of s i) a.granted.reply)
-move_made input w s i place object job a room =
+thread_now : (input : Inputs) (w : Whole) (s : State) (i place : ℕ) (object blocked : Option ℕ) (job : Job) (a : Answering input w s i place object blocked job) (rows : List Row) → (thread_at w i).clock < 2 ^ 62
+    → ThreadShows input i rows (row_answered (parts_at w i object) place a.granted.ends (shown (row_of job))).thread (freeing object (thread_of s i) job.call (ended a.granted.ends)).thread
+thread_now input w s i place object blocked job a rows room =
+    let h = a.shows.threads i in thread_answered input i rows (thread_at w i) (thread_of s i) job.call blocked a.granted.ends a.granted.waits a.call h.clock room h.asked
+
+move_made : (input : Inputs) (w : Whole) (s : State) (i place : ℕ) (object blocked : Option ℕ) (job : Job) (a : Answering input w s i place object blocked job) → (thread_at w i).clock < 2 ^ 62
+    → moves (setup_of input) i (thread_of s i) ≡ Some (freeing object (thread_of s i) job.call (ended a.granted.ends))
+move_made input w s i place object blocked job a room =
     let u = thread_of s i in
     let fits : u.clock + 1 ≤ 2 ^ 62 = subst (λ (c : ℕ). c + 1 ≤ 2 ^ 62) (sym (a.shows.threads i).clock) (next_le (thread_at w i).clock room) in
-    moves_granted input i u job object a.granted.reply a.phase a.granted.plan a.granted.answers ∙ within_yes (2 ^ 62) (freeing object u a.granted.reply) fits
+    moves_granted input i u job object (ended a.granted.ends) a.phase a.granted.plan a.granted.answers ∙ within_yes (2 ^ 62) (freeing object u job.call (ended a.granted.ends)) (subst (λ (c : ℕ). c ≤ 2 ^ 62) (sym (answered_clock u job.call (u.clock + 1) (ended a.granted.ends))) fits)
 
-answered_yes : (input : Inputs) (w : Whole) (s : State) (i place : ℕ) (object : Option ℕ) (job : Job) (a : Answering input w s i place object job) → (thread_at w i).clock < 2 ^ 62
-    → Answered input w s i object true (replied (parts_at w i object) place a.granted.reply (shown (row_of job)))
-answered_yes input w s i place None job a room =
+answered_yes : (input : Inputs) (w : Whole) (s : State) (i place : ℕ) (object blocked : Option ℕ) (job : Job) (a : Answering input w s i place object blocked job) → (thread_at w i).clock < 2 ^ 62
+    → Answered input w s i object true (row_answered (parts_at w i object) place a.granted.ends (shown (row_of job)))
+answered_yes input w s i place None blocked job a room =
     let u = thread_of s i in
     let h = a.shows.threads i in
-    let m = freeing None u a.granted.reply in
-    let new = replied (parts_at w i None) place a.granted.reply (shown (row_of job)) in
-    let inside : (n : ℕ) → n < length s.objects → is_number (get_or s.objects n new_lock).holder i ≡ false = one_held input w s i place None job a in
-    whole_moved input w s i new.thread m new.lock w.objects new.rows a.inside a.shows (move_made input w s i place None job a room) (thread_replied input w s i place None job a (map (row_after i m.effect) s.rows) room)
-    (lock_mine i (Some (u.clock + 0)) s.table (table_held input w s i place None job a) ∙ ap freed (still u.clock ∙ h.clock))
+    let m = freeing None u job.call (ended a.granted.ends) in
+    let new = row_answered (parts_at w i None) place a.granted.ends (shown (row_of job)) in
+    let inside : (n : ℕ) → n < length s.objects → is_number (get_or s.objects n new_lock).holder i ≡ false = one_held input w s i place None blocked job a in
+    whole_moved input w s i new.thread m new.lock w.objects new.rows a.inside a.shows (move_made input w s i place None blocked job a room) (thread_now input w s i place None blocked job a (map (row_after i m.effect) s.rows) room)
+    (lock_mine i (Some (u.clock + 0)) s.table (table_held input w s i place None blocked job a) ∙ ap freed (still u.clock ∙ h.clock))
     (locks_unheld i (Some u.clock) s.objects inside ∙ a.shows.objects)
     refl
-    (rows_replied i s w.rows place job m.effect a.granted.reply a.rows a.shows.rows a.granted.thread a.granted.row refl refl)
+    (rows_answered i s w.rows place job m.effect a.granted.ends a.rows a.shows.rows a.granted.thread a.granted.row refl refl)
   where
     still : (n : ℕ) → n + 0 ≡ n
     still n = omega arith
-answered_yes input w s i place (Some n) job a room =
+answered_yes input w s i place (Some n) blocked job a room =
     let u = thread_of s i in
     let h = a.shows.threads i in
-    let m = freeing (Some n) u a.granted.reply in
-    let new = replied (parts_at w i (Some n)) place a.granted.reply (shown (row_of job)) in
+    let m = freeing (Some n) u job.call (ended a.granted.ends) in
+    let new = row_answered (parts_at w i (Some n)) place a.granted.ends (shown (row_of job)) in
     let within : n < length s.objects = object_inside input w s a.shows n a.granted.in_range in
-    whole_moved input w s i new.thread m w.lock (set w.objects n new.lock) new.rows a.inside a.shows (move_made input w s i place (Some n) job a room) (thread_replied input w s i place (Some n) job a (map (row_after i m.effect) s.rows) room)
-    (lock_other i (Some (u.clock + 1)) s.table (table_held input w s i place (Some n) job a) ∙ a.shows.table)
-    (locks_freed i n u.clock s.objects within (one_held input w s i place (Some n) job a n within ∙ eq-eqb n n refl)
-    (λ k inside apart. one_held input w s i place (Some n) job a k inside ∙ ne_eqb n k (λ e. apart (sym e)))
+    whole_moved input w s i new.thread m w.lock (set w.objects n new.lock) new.rows a.inside a.shows (move_made input w s i place (Some n) blocked job a room) (thread_now input w s i place (Some n) blocked job a (map (row_after i m.effect) s.rows) room)
+    (lock_other i (Some (u.clock + 1)) s.table (table_held input w s i place (Some n) blocked job a) ∙ a.shows.table)
+    (locks_freed i n u.clock s.objects within (one_held input w s i place (Some n) blocked job a n within ∙ eq-eqb n n refl)
+    (λ k inside apart. one_held input w s i place (Some n) blocked job a k inside ∙ ne_eqb n k (λ e. apart (sym e)))
     ∙ ap₂ (λ (ls : List DetLock) (c : ℕ). set ls n (freed c)) a.shows.objects h.clock)
     refl
-    (rows_replied i s w.rows place job m.effect a.granted.reply a.rows a.shows.rows a.granted.thread a.granted.row refl refl)
+    (rows_answered i s w.rows place job m.effect a.granted.ends a.rows a.shows.rows a.granted.thread a.granted.row refl refl)
 
 same_lock : (input : Inputs) (w : Whole) (s : State) → Shows input w s → (object : Option ℕ) (ts : List Thread) → IfSome object (λ n. n < limit.OBJECTS) → with_lock w object (lock_held w object) ts w.rows ≡ record w { threads = ts }
 same_lock input w s h None ts inside = refl
 same_lock input w s h (Some n) ts inside =
-    ap (λ (ls : List DetLock). let z : Whole = record { threads = ts; lock = w.lock; objects = ls; table = w.table; rows = w.rows } in z) (set_same w.objects n new_lock (subst (λ (k : ℕ). n < k) (sym h.object_count) inside))
+    ap (λ (ls : List DetLock). let z : Whole = record { patience = w.patience; threads = ts; lock = w.lock; objects = ls; table = w.table; rows = w.rows } in z) (set_same w.objects n new_lock (subst (λ (k : ℕ). n < k) (sym h.object_count) inside))
 
-answered_no : (input : Inputs) (w : Whole) (s : State) (i place : ℕ) (object : Option ℕ) (job : Job) → Answering input w s i place object job → 2 ^ 62 ≤ (thread_at w i).clock → Answered input w s i object false (parts_at w i object)
-answered_no input w s i place object job a full =
+answered_no : (input : Inputs) (w : Whole) (s : State) (i place : ℕ) (object blocked : Option ℕ) (job : Job) → Answering input w s i place object blocked job → 2 ^ 62 ≤ (thread_at w i).clock → Answered input w s i object false (parts_at w i object)
+answered_no input w s i place object blocked job a full =
     let t = thread_at w i in
     let u = thread_of s i in
     let h = a.shows.threads i in
-    let m = freeing object u a.granted.reply in
+    let m = freeing object u job.call (ended a.granted.ends) in
     let past : 2 ^ 62 < u.clock + 1 = subst (λ (c : ℕ). 2 ^ 62 < c + 1) (sym h.clock) (next_lt t.clock full) in
-    let still = whole_still input w s i t a.inside a.shows (moves_granted input i u job object a.granted.reply a.phase a.granted.plan a.granted.answers ∙ within_no (2 ^ 62) m past) h in
+    let still = whole_still input w s i t a.inside a.shows (moves_granted input i u job object (ended a.granted.ends) a.phase a.granted.plan a.granted.answers ∙ within_no (2 ^ 62) m (subst (λ (c : ℕ). 2 ^ 62 < c) (sym (answered_clock u job.call (u.clock + 1) (ended a.granted.ends))) past)) h in
     let P : Whole → Type 0 = λ z. Shows input z (advance (setup_of input) i s) in
     (still.0, subst P (sym (same_lock input w s a.shows object (set w.threads i t) a.granted.in_range)) still.1)
   where
     next_lt : (c : ℕ) → 2 ^ 62 ≤ c → 2 ^ 62 < c + 1
     next_lt c h = omega arith
 
-answered_by : (input : Inputs) (w : Whole) (s : State) (i place : ℕ) (object : Option ℕ) (job : Job) (moved : Bool) (new : Parts) (b : Bool) → Answering input w s i place object job → in_time (parts_at w i object) 1 ≡ b
-    → AnswersIn b moved place (parts_at w i object) new → Answered input w s i object moved new
-answered_by input w s i place object job moved new true a room h =
+answered_by : (input : Inputs) (w : Whole) (s : State) (i place : ℕ) (object blocked : Option ℕ) (job : Job) (moved : Bool) (new : Parts) (b : Bool) → Answering input w s i place object blocked job → in_time (parts_at w i object) 1 ≡ b
+    → AnswersIn b moved place blocked (parts_at w i object) new → Answered input w s i object moved new
+answered_by input w s i place object blocked job moved new true a room h =
     let old = parts_at w i object in
-    let P : Option Reply → Type 0 = λ o. AnswersWith moved place o (slice_get w.rows place) old new in
+    let P : Option TurnEnd → Type 0 = λ o. AnswersWith moved place o (slice_get w.rows place) old new in
     let there : slice_get w.rows place ≡ Some (shown (row_of job)) = ap (λ (rs : List HistoryRow). slice_get rs place) (sym a.shows.rows) ∙ slice_get-map shown s.rows place ∙ ap (option_map shown) a.granted.row in
-    let Q : Option HistoryRow → Type 0 = λ o. AnswersWith moved place (Some a.granted.reply) o old new in
-    let g : (moved ≡ true) × (new ≡ replied old place a.granted.reply (shown (row_of job))) = subst Q there (subst P a.granted.waits h) in
+    let Q : Option HistoryRow → Type 0 = λ o. AnswersWith moved place (Some a.granted.ends) o old new in
+    let g : (moved ≡ true) × (new ≡ row_answered old place a.granted.ends (shown (row_of job))) = subst Q there (subst P a.granted.waits h) in
     let R : Bool → Type 0 = λ b. Answered input w s i object b new in
     let S : Parts → Type 0 = λ p. Answered input w s i object true p in
-    subst R (sym g.0) (subst S (sym g.1) (answered_yes input w s i place object job a (fewer (thread_at w i).clock (leb-true ((thread_at w i).clock + 1) (2 ^ 62) room))))
+    subst R (sym g.0) (subst S (sym g.1) (answered_yes input w s i place object blocked job a (fewer (thread_at w i).clock (leb-true ((thread_at w i).clock + 1) (2 ^ 62) room))))
   where
     fewer : (c : ℕ) → c + 1 ≤ 2 ^ 62 → c < 2 ^ 62
     fewer c h = omega arith
-answered_by input w s i place object job moved new false a room h =
+answered_by input w s i place object blocked job moved new false a room h =
     let R : Bool → Type 0 = λ b. Answered input w s i object b new in
     let S : Parts → Type 0 = λ p. Answered input w s i object false p in
-    subst R (sym h.0) (subst S (sym h.1) (answered_no input w s i place object job a (more (thread_at w i).clock (leb-false ((thread_at w i).clock + 1) (2 ^ 62) room))))
+    subst R (sym h.0) (subst S (sym h.1) (answered_no input w s i place object blocked job a (more (thread_at w i).clock (leb-false ((thread_at w i).clock + 1) (2 ^ 62) room))))
   where
     more : (c : ℕ) → 2 ^ 62 < c + 1 → 2 ^ 62 ≤ c
     more c h = omega arith
 
-pub answer_whole : (input : Inputs) (w : Whole) (s : State) (i place : ℕ) (object : Option ℕ) (moved : Bool) (t : Thread) (l : DetLock) (rows : List HistoryRow)
-    → i < length w.threads → Shows input w s → AreHeld s → HaveRows s → (thread_at w i).phase ≡ phase.Granted place object
-    → Answers moved i place (parts_at w i object) (parts t l w.table rows)
+pub answer_whole : (input : Inputs) (w : Whole) (s : State) (i place : ℕ) (object blocked : Option ℕ) (moved : Bool) (t : Thread) (l : DetLock) (rows : List HistoryRow)
+    → i < length w.threads → Shows input w s → AreHeld s → HaveRows s → (thread_at w i).phase ≡ phase.Granted place object blocked
+    → Answers moved i place blocked (parts_at w i object) (parts t l w.table rows)
     → (can_advance (setup_of input) s i ≡ moved) × Shows input (with_lock w object l (set w.threads i t) rows) (advance (setup_of input) i s)
-answer_whole input w s i place object moved t l rows inside h held own is answers =
+answer_whole input w s i place object blocked moved t l rows inside h held own is answers =
     let P : Phase → Type 0 = λ p. PhaseShows input i s.rows (thread_at w i) (thread_of s i) p in
     let g = subst P is (h.threads i).phase in
-    let a : Answering input w s i place object g.0 = record { inside = inside; shows = h; held = held; rows = own; phase = g.1.0; call = g.1.1; granted = g.1.2 } in
+    let a : Answering input w s i place object blocked g.0 = record { inside = inside; shows = h; held = held; rows = own; phase = g.1.0; call = g.1.1; granted = g.1.2 } in
     let old = parts_at w i object in
     let new = parts t l w.table rows in
-    let Q : Bool → Type 0 = λ b. AnswersIn (b && in_time old 1) moved place old new in
-    answered_by input w s i place object g.0 moved new (in_time old 1) a refl (subst Q (lock_is_held input w s i place object g.0 a) answers)
+    let Q : Bool → Type 0 = λ b. AnswersIn (b && in_time old 1) moved place blocked old new in
+    answered_by input w s i place object blocked g.0 moved new (in_time old 1) a refl (subst Q (lock_is_held input w s i place object blocked g.0 a) answers)

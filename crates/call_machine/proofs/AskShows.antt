@@ -1,22 +1,23 @@
 -- The steps that a thread asks are those of its script.
 use Rattle.std.proofs.Common.{◌≡◌, ℕ, suc, ◌+◌, ◌<◌, ◌≤◌, ◌^◌, List, [], ◌∷◌, ◌++◌, length, Option, Some, None, Bool, true, false, sym, refl, ap, ◌∙◌, subst, arith}
 use Rattle.std.proofs.lemmas.Bool.{cond-true, cond-false, le-leb, lt-leb}
+use Rattle.posix_terms.specs.declared.call.Call.{Call}
 use Rattle.thread_scripts.specs.Meaning.{next_of}
 use Rattle.thread_scripts.specs.declared.actor.ScriptState.{ScriptState}
 use Rattle.thread_scripts.specs.declared.actor.Step.{Step}
 use Rattle.thread_scripts.specs.declared.actor.Step.TheVariants as step
-use Rattle.lock_model.specs.Machine.{Moved, after_step, ask, moves, moves_in, quietly, within}
+use Rattle.lock_model.specs.Machine.{Moved, after_step, again, ask, moves, moves_in, quietly, within}
 use Rattle.lock_model.specs.RealCalls.{real_calls}
 use Rattle.lock_model.specs.Runs.{calls_in}
 use Rattle.lock_model.specs.ScriptPrograms.{at_start, next_at, reached_after}
 use Rattle.lock_model.specs.State as lock
 use Rattle.lock_model.specs.State.{Row}
-use Rattle.lock_model.specs.State.Phase.{Working}
+use Rattle.lock_model.specs.State.Phase.{Blocked, Working}
 use Rattle.lock_model.proofs.Follows.{calls_push}
 use Rattle.lock_model.proofs.ScriptProgress.{past, reached_call, reached_work}
-use Rattle.call_machine.specs.Asking.{Asks, AsksStep, worked}
+use Rattle.call_machine.specs.Asking.{Asks, AsksStep, GoesAgain, GoesAgainIn, worked}
 use Rattle.call_machine.specs.Setup.{Inputs, script_of, setup_of}
-use Rattle.call_machine.specs.Shows.{IsBetween, PhaseShows, ThreadShows}
+use Rattle.call_machine.specs.Shows.{IsBetween, IsInCall, PhaseShows, ThreadShows}
 use Rattle.call_machine.specs.declared.thread.Phase.{Phase}
 use Rattle.call_machine.specs.declared.thread.Phase.TheVariants as phase
 use Rattle.call_machine.specs.Threads.{Thread}
@@ -125,3 +126,27 @@ ask_moves input i rows moved t v u working h asks =
       past_is = λ o. ap (past o) now.1.reached;
     })
     asks
+
+moves_again : (input : Inputs) (i : ℕ) (u : lock.Thread) (call : Call) (turns : ℕ) → u.phase ≡ Blocked call turns → moves (setup_of input) i u ≡ within (2 ^ 62) (Some (again u call turns))
+unfolding moves
+moves_again input i u call turns e = ap (λ (p : lock.Phase). within (2 ^ 62) (moves_in (setup_of input) i u p)) e
+
+-- a blocked call wants the table again
+pub again_moves : (input : Inputs) (i : ℕ) (rows : List Row) (moved : Bool) (t v : Thread) (u : lock.Thread) (call : Call) (turns : ℕ) → t.phase ≡ phase.Blocked call turns → ThreadShows input i rows t u → GoesAgain moved t v → Moving input i rows moved v u
+again_moves input i rows moved t v u call turns is h goes =
+    let P : Phase → Type 0 = λ p. PhaseShows input i rows t u p in
+    let now : (u.phase ≡ Blocked call turns) × IsInCall input i t u = subst P is h.phase in
+    let G : Phase → Type 0 = λ p. GoesAgainIn p moved t v in
+    let went : (moved ≡ true) × (v ≡ record t { phase = phase.WantsTable call turns }) = subst G is goes in
+    let m : Moved = again u call turns in
+    let fits : u.clock ≤ 2 ^ 62 = subst (λ (c : ℕ). c ≤ 2 ^ 62) (sym h.clock) h.in_time in
+    let Q : Bool → Type 0 = λ b. Moving input i rows b v u in
+    let R : Thread → Type 0 = λ y. ThreadShows input i rows y m.thread in
+    subst Q (sym went.0) (
+      m,
+      (
+        moves_again input i u call turns now.0 ∙ within_yes (2 ^ 62) m fits,
+        refl,
+        subst R (sym went.1) (record { clock = h.clock; in_time = h.in_time; asked = h.asked; phase = (refl, record { even = now.1.even; reached = now.1.reached }) }),
+      ),
+    )

@@ -4,10 +4,9 @@ use Rattle.std.proofs.lemmas.Bool.{cases_Bool, cond-true, cond-false, false≢tr
 use Rattle.std.proofs.lemmas.List.{get_or-set_same, length-map, length-set, map-append}
 use Rattle.std.specs.Prelude.{IfSome, nat_le}
 use Rattle.posix_terms.specs.Locked.{locked_object}
-use Rattle.posix_terms.specs.Step.{nothing_carried, step}
+use Rattle.posix_terms.specs.Step.{step}
 use Rattle.posix_terms.specs.declared.call.Call.{Call}
 use Rattle.posix_terms.specs.declared.limits.TheConstants.Limits as limit
-use Rattle.posix_terms.specs.declared.reply.Answer.{Answer}
 use Rattle.posix_terms.specs.declared.reply.Reply.{Reply}
 use Rattle.posix_terms.specs.declared.transcript.HistoryRow.{HistoryRow}
 use Rattle.posix_terms.specs.declared.transcript.Turn.{Turn}
@@ -19,23 +18,26 @@ use Rattle.lock_model.specs.CallTable.Way.{Inside}
 use Rattle.lock_model.specs.Held.{row_of}
 use Rattle.lock_model.specs.Machine.{attempt, can_attempt, failed, granted, new_job, planned, tried, tries, wants}
 use Rattle.lock_model.specs.Numbers.{world_with}
-use Rattle.lock_model.specs.RealCalls.{answered_with, numbered, plan_of, real_calls}
+use Rattle.lock_model.specs.RealCalls.{numbered, plan_of, real_calls}
 use Rattle.lock_model.specs.State as lock
 use Rattle.lock_model.specs.State.{Job, Row, State, live_clocks, nobody, thread_of}
 use Rattle.lock_model.specs.State.Phase.{WantsObject, WantsTable}
 use Rattle.lock_model.proofs.Arising.{slice_get-prefix, slice_get-push}
 use Rattle.lock_model.proofs.Attempt.{attempt_can, attempt_not, can_in, can_out}
-use Rattle.call_machine.specs.Store.{Stands, Stored, number_locked}
-use Rattle.call_machine.specs.Events.{Grants, Parts, PlansTo, RepliesWith, Tries, TriesIn, TriesInTime, TriesLock, granted_row, in_time, later, parts}
+use Rattle.object_store.specs.Store.{Makes, Stands, Stored, number_locked}
+use Rattle.call_machine.specs.Held.{end_held, last_behind, turns_blocked}
+use Rattle.call_machine.specs.Events.{Grants, Parts, PlansTo, Tries, TriesIn, TriesInTime, TriesLock, granted_row, in_time, later, parts}
 use Rattle.lock_model.specs.Rows.{shown}
 use Rattle.call_machine.specs.Setup.{Inputs, setup_of}
 use Rattle.call_machine.specs.Shows.{IsGranted, IsInCall, PhaseShows, Shows, ThreadShows, Whole, thread_at}
 use Rattle.call_machine.specs.Threads.{Thread}
 use Rattle.call_machine.specs.Views.{no_thread}
+use Rattle.object_store.specs.declared.patience.TurnEnd.{TurnEnd}
+use Rattle.object_store.specs.declared.patience.TurnEnd.TheVariants as end
 use Rattle.call_machine.specs.declared.thread.Phase.{Phase}
 use Rattle.call_machine.specs.declared.thread.Phase.TheVariants as phase
-use Rattle.call_machine.proofs.Lists.{set_same}
-use Rattle.call_machine.proofs.Standing.{number_known}
+use Rattle.object_store.proofs.Lists.{set_same}
+use Rattle.object_store.proofs.Standing.{number_known}
 use Rattle.call_machine.proofs.ShownThreads.{thread_rows, threads_set}
 
 -- ## Attempts that can't be made
@@ -55,7 +57,7 @@ Attempted input s i made z = (can_attempt (setup_of input) s i ≡ made) × Show
 
 -- as an attempt at the table leaves it
 abbrev pub table_tried : Whole → ℕ → Parts → Whole
-table_tried w i new = record { threads = set w.threads i new.thread; lock = new.lock; objects = w.objects; table = new.table; rows = new.rows }
+table_tried w i new = record { patience = w.patience; threads = set w.threads i new.thread; lock = new.lock; objects = w.objects; table = new.table; rows = new.rows }
 
 abbrev pub table_parts : Whole → ℕ → Parts
 table_parts w i = parts (thread_at w i) w.lock w.table w.rows
@@ -89,49 +91,52 @@ attempted_full input s i n clock past =
 slice_get-more : {A : Type 0} (xs ys : List A) (n : ℕ) (x : A) → slice_get xs n ≡ Some x → slice_get (xs ++ ys) n ≡ Some x
 slice_get-more xs ys n x h = slice_get-prefix xs (xs ++ ys) n x (ys, refl) h
 
-unfoldable pub job_of : State → Turn → Call → Option ℕ → Job
-job_of s turn call object = new_job call nothing_carried turn (plan_of object) s.world
+unfoldable pub job_of : State → Turn → Call → ℕ → Option ℕ → Job
+job_of s turn call turns object = new_job call turns turn (plan_of object) s.world
 
 -- the rows once it is granted
 abbrev pub rows_with : State → Job → List Row
 rows_with s job = s.rows ++ row_of job ∷ []
 
-granted_by : (input : Inputs) (w : Whole) (s : State) (turn : Turn) (call : Call) (object : Option ℕ) (last o : Option Reply) (table : Stored) → Stands w.table s.world → map shown s.rows ≡ w.rows
-    → IfSome object (λ n. n < limit.OBJECTS) → last ≡ o → RepliesWith w.table call o table
-    → IsGranted input turn.thread (rows_with s (job_of s turn call object)) (length w.rows) object last (job_of s turn call object) × Stands table (world_with s.world (step input.settings s.world.object call None nothing_carried).after)
+held_end : (x : TurnEnd) (last : Option Reply) → end_held (turns_blocked x) (last_behind x last) ≡ Some x
+held_end (end.Reply reply) last = refl
+held_end (end.Blocked turns) last = refl
+
+granted_by : (input : Inputs) (w : Whole) (s : State) (turn : Turn) (call : Call) (turns : ℕ) (object : Option ℕ) (last : Option Reply) (x : TurnEnd) (table : Stored) → Shows input w s
+    → IfSome object (λ n. n < limit.OBJECTS) → Makes w.patience turns w.table call x table
+    → IsGranted input turn.thread (rows_with s (job_of s turn call turns object)) (length w.rows) object (turns_blocked x) (last_behind x last) (job_of s turn call turns object) × Stands table (world_with s.world (step input.settings s.world.object call None turns).after)
 unfolding job_of
-granted_by input w s turn call object last None table world rows few waits h = absurd h
-granted_by input w s turn call object last (Some reply) table world rows few waits h =
-    let done = h input.settings s.world world in
-    let place : length w.rows ≡ length s.rows = ap length (sym rows) ∙ length-map s.rows shown in (
+granted_by input w s turn call turns object last x table h few makes =
+    let done = makes input.settings s.world h.patience h.world in
+    let place : length w.rows ≡ length s.rows = ap length (sym h.rows) ∙ length-map s.rows shown in (
       record {
         plan = refl;
         in_range = few;
         thread = refl;
-        reply = reply;
-        waits = waits;
-        answers = ap (λ (a : Answer). answered_with a (step input.settings s.world.object call None nothing_carried).carried) done.0;
-        row = ap (slice_get (rows_with s (job_of s turn call object))) place ∙ slice_get-push s.rows (row_of (job_of s turn call object));
+        ends = x;
+        waits = held_end x last;
+        answers = done.0;
+        row = ap (slice_get (rows_with s (job_of s turn call turns object))) place ∙ slice_get-push s.rows (row_of (job_of s turn call turns object));
       },
       done.1,
     )
 
 -- what a grant makes of the thread, of the world and of the rows
-pub record Granted_now (input : Inputs) (w : Whole) (s : State) (turn : Turn) (call : Call) (object : Option ℕ) (cost : ℕ) (new : Parts) : Type 0 where
-  pub thread : ThreadShows input turn.thread (rows_with s (job_of s turn call object)) new.thread (granted (thread_of s turn.thread) ((thread_of s turn.thread).clock + cost) (job_of s turn call object) false)
-  pub world : Stands new.table (world_with s.world (step input.settings s.world.object call None nothing_carried).after)
-  pub rows : map shown (rows_with s (job_of s turn call object)) ≡ new.rows
+pub record Granted_now (input : Inputs) (w : Whole) (s : State) (turn : Turn) (call : Call) (turns : ℕ) (object : Option ℕ) (cost : ℕ) (new : Parts) : Type 0 where
+  pub thread : ThreadShows input turn.thread (rows_with s (job_of s turn call turns object)) new.thread (granted (thread_of s turn.thread) ((thread_of s turn.thread).clock + cost) (job_of s turn call turns object) false)
+  pub world : Stands new.table (world_with s.world (step input.settings s.world.object call None turns).after)
+  pub rows : map shown (rows_with s (job_of s turn call turns object)) ≡ new.rows
 
-pub grant_shows : (input : Inputs) (w : Whole) (s : State) (turn : Turn) (call : Call) (object : Option ℕ) (cost : ℕ) (l : DetLock) (new : Parts) → Shows input w s → IsInCall input turn.thread (thread_at w turn.thread) (thread_of s turn.thread)
-    → IfSome object (λ n. n < limit.OBJECTS) → (thread_at w turn.thread).clock + cost ≤ 2 ^ 62 → Grants turn call object (record (later (table_parts w turn.thread) cost) { lock = l }) new → Granted_now input w s turn call object cost new
+pub grant_shows : (input : Inputs) (w : Whole) (s : State) (turn : Turn) (call : Call) (turns : ℕ) (object : Option ℕ) (cost : ℕ) (l : DetLock) (new : Parts) → Shows input w s → IsInCall input turn.thread (thread_at w turn.thread) (thread_of s turn.thread)
+    → IfSome object (λ n. n < limit.OBJECTS) → (thread_at w turn.thread).clock + cost ≤ 2 ^ 62 → Grants w.patience turn call turns object (record (later (table_parts w turn.thread) cost) { lock = l }) new → Granted_now input w s turn call turns object cost new
 unfolding job_of
-grant_shows input w s turn call object cost l new h in_call few room g =
+grant_shows input w s turn call turns object cost l new h in_call few room g =
     let i = turn.thread in
     let t = thread_at w i in
     let u = thread_of s i in
-    let job = job_of s turn call object in
-    let both = granted_by input w s turn call object new.thread.last new.thread.last new.table h.world h.rows few refl g.replies in
-    let x : Thread = record t { phase = phase.Granted (length w.rows) object; clock = t.clock + cost; last = new.thread.last } in
+    let job = job_of s turn call turns object in
+    let both = granted_by input w s turn call turns object t.last g.ends new.table h few g.makes in
+    let x : Thread = record t { phase = phase.Granted (length w.rows) object (turns_blocked g.ends); clock = t.clock + cost; last = last_behind g.ends t.last } in
     let y : lock.Thread = granted u (u.clock + cost) job false in
     let P : Thread → Type 0 = λ v. ThreadShows input i (rows_with s job) v y in
     let here : ThreadShows input i (rows_with s job) x y =
@@ -157,27 +162,27 @@ others_granted input w s i job t u inside h now =
 -- ## Attempts that fail, and attempts that succeed
 
 -- a thread that wants the table, and has the turn
-record Trying (input : Inputs) (w : Whole) (s : State) (i : ℕ) (call : Call) : Type 0 where
+record Trying (input : Inputs) (w : Whole) (s : State) (i : ℕ) (call : Call) (turns : ℕ) : Type 0 where
   inside : i < length w.threads
   shows : Shows input w s
   turn : has_turn (live_clocks s) i ≡ true
-  wanting : (thread_at w i).phase ≡ phase.WantsTable call
-  phase : (thread_of s i).phase ≡ WantsTable call nothing_carried
+  wanting : (thread_at w i).phase ≡ phase.WantsTable call turns
+  phase : (thread_of s i).phase ≡ WantsTable call turns
   call_is : IsInCall input i (thread_at w i) (thread_of s i)
 
 abbrev turn_of : State → ℕ → Turn
 turn_of s i = record { clock = (thread_of s i).clock; thread = i }
 
-tried_took : (input : Inputs) (s : State) (i : ℕ) (call : Call) → (thread_of s i).phase ≡ WantsTable call nothing_carried → takes s.table (thread_of s i).clock ≡ true
-    → tried (setup_of input) s i ≡ planned (real_calls input.settings) s i (thread_of s i) call nothing_carried (turn_of s i) (plan_of (numbered s.world (locked_object s.world.object call))) s.world
-tried_took input s i call e h = ap (tries (real_calls input.settings) s i (thread_of s i)) e ∙ cond-true _ _ _ h
+tried_took : (input : Inputs) (s : State) (i : ℕ) (call : Call) (turns : ℕ) → (thread_of s i).phase ≡ WantsTable call turns → takes s.table (thread_of s i).clock ≡ true
+    → tried (setup_of input) s i ≡ planned (real_calls input.settings) s i (thread_of s i) call turns (turn_of s i) (plan_of (numbered s.world (locked_object s.world.object call turns))) s.world
+tried_took input s i call turns e h = ap (tries (real_calls input.settings) s i (thread_of s i)) e ∙ cond-true _ _ _ h
 
-tried_failed : (input : Inputs) (s : State) (i : ℕ) (call : Call) → (thread_of s i).phase ≡ WantsTable call nothing_carried → takes s.table (thread_of s i).clock ≡ false → tried (setup_of input) s i ≡ failed s i (thread_of s i)
-tried_failed input s i call e h = ap (tries (real_calls input.settings) s i (thread_of s i)) e ∙ cond-false _ _ _ h
+tried_failed : (input : Inputs) (s : State) (i : ℕ) (call : Call) (turns : ℕ) → (thread_of s i).phase ≡ WantsTable call turns → takes s.table (thread_of s i).clock ≡ false → tried (setup_of input) s i ≡ failed s i (thread_of s i)
+tried_failed input s i call turns e h = ap (tries (real_calls input.settings) s i (thread_of s i)) e ∙ cond-false _ _ _ h
 
-planned_by : (input : Inputs) (s : State) (i : ℕ) (call : Call) (o : Option ℕ) → (thread_of s i).phase ≡ WantsTable call nothing_carried → takes s.table (thread_of s i).clock ≡ true → numbered s.world (locked_object s.world.object call) ≡ o
-    → tried (setup_of input) s i ≡ planned (real_calls input.settings) s i (thread_of s i) call nothing_carried (turn_of s i) (plan_of o) s.world
-planned_by input s i call o e h is = tried_took input s i call e h ∙ ap (λ (x : Option ℕ). planned (real_calls input.settings) s i (thread_of s i) call nothing_carried (turn_of s i) (plan_of x) s.world) is
+planned_by : (input : Inputs) (s : State) (i : ℕ) (call : Call) (turns : ℕ) (o : Option ℕ) → (thread_of s i).phase ≡ WantsTable call turns → takes s.table (thread_of s i).clock ≡ true → numbered s.world (locked_object s.world.object call turns) ≡ o
+    → tried (setup_of input) s i ≡ planned (real_calls input.settings) s i (thread_of s i) call turns (turn_of s i) (plan_of o) s.world
+planned_by input s i call turns o e h is = tried_took input s i call turns e h ∙ ap (λ (x : Option ℕ). planned (real_calls input.settings) s i (thread_of s i) call turns (turn_of s i) (plan_of x) s.world) is
 
 pub within_threads : (input : Inputs) (w : Whole) (s : State) (i : ℕ) → i < length w.threads → Shows input w s → i < length s.threads
 within_threads input w s i inside h = subst (λ (n : ℕ). i < n) (sym h.count) inside
@@ -193,6 +198,7 @@ fail_shows input w s i inside h room phase_on =
     let y : lock.Thread = record u { clock = u.clock + 1 } in
     let now : ThreadShows input i s.rows x y = record { clock = ap (λ (c : ℕ). c + 1) (h.threads i).clock; in_time = room; asked = (h.threads i).asked; phase = phase_on s.rows (h.threads i).phase } in
     record {
+      patience = h.patience;
       count = length-set s.threads i y ∙ h.count ∙ sym (length-set w.threads i x);
       threads = threads_set input s.rows w.threads s.threads i x y inside h.count now (λ k apart. h.threads k);
       table = h.table;
@@ -210,30 +216,31 @@ clock_set input w s i y inside h = ap (λ (v : lock.Thread). v.clock) (get_or-se
 pub clock_fits : (input : Inputs) (w : Whole) (s : State) (i cost : ℕ) → Shows input w s → (thread_at w i).clock + cost ≤ 2 ^ 62 → (thread_of s i).clock + cost ≤ 2 ^ 62
 clock_fits input w s i cost h room = subst (λ (c : ℕ). c + cost ≤ 2 ^ 62) (sym (h.threads i).clock) room
 
-attempt_fails : (input : Inputs) (w : Whole) (s : State) (i : ℕ) (call : Call) → Trying input w s i call → (thread_at w i).clock + 1 ≤ 2 ^ 62 → takes s.table (thread_of s i).clock ≡ false
+attempt_fails : (input : Inputs) (w : Whole) (s : State) (i : ℕ) (call : Call) (turns : ℕ) → Trying input w s i call turns → (thread_at w i).clock + 1 ≤ 2 ^ 62 → takes s.table (thread_of s i).clock ≡ false
     → Attempted input s i true (table_tried w i (later (table_parts w i) 1))
-attempt_fails input w s i call a room shut =
+attempt_fails input w s i call turns a room shut =
     let u = thread_of s i in
     let t = thread_at w i in
     let on : (rows : List Row) → PhaseShows input i rows t u t.phase → PhaseShows input i rows (record t { clock = t.clock + 1 }) (record u { clock = u.clock + 1 }) t.phase =
     λ rows h. let P : Phase → Type 0 = λ p. PhaseShows input i rows (record t { clock = t.clock + 1 }) (record u { clock = u.clock + 1 }) p in subst P (sym a.wanting) (a.phase, record { even = a.call_is.even; reached = a.call_is.reached }) in
-    attempted_yes input s (failed s i u) i (table_tried w i (later (table_parts w i) 1)) (ap wants a.phase) a.turn (tried_failed input s i call a.phase shut)
+    attempted_yes input s (failed s i u) i (table_tried w i (later (table_parts w i) 1)) (ap wants a.phase) a.turn (tried_failed input s i call turns a.phase shut)
     (subst (λ (c : ℕ). c ≤ 2 ^ 62) (sym (clock_set input w s i (record u { clock = u.clock + 1 }) a.inside a.shows)) (clock_fits input w s i 1 a.shows room))
     (fail_shows input w s i a.inside a.shows room on)
 
 -- the call is granted at once
-attempt_takes : (input : Inputs) (w : Whole) (s : State) (i : ℕ) (call : Call) (new : Parts) → Trying input w s i call → (thread_at w i).clock + 1 ≤ 2 ^ 62 → takes s.table (thread_of s i).clock ≡ true → number_locked w.table call ≡ None
-    → Grants (turn_of s i) call None (record (later (table_parts w i) 1) { lock = held i w.lock }) new → Attempted input s i true (table_tried w i new)
+attempt_takes : (input : Inputs) (w : Whole) (s : State) (i : ℕ) (call : Call) (turns : ℕ) (new : Parts) → Trying input w s i call turns → (thread_at w i).clock + 1 ≤ 2 ^ 62 → takes s.table (thread_of s i).clock ≡ true → number_locked w.table call ≡ None
+    → Grants w.patience (turn_of s i) call turns None (record (later (table_parts w i) 1) { lock = held i w.lock }) new → Attempted input s i true (table_tried w i new)
 unfolding job_of
-attempt_takes input w s i call new a room free none g =
+attempt_takes input w s i call turns new a room free none g =
     let u = thread_of s i in
-    let job = job_of s (turn_of s i) call None in
+    let job = job_of s (turn_of s i) call turns None in
     let y : lock.Thread = granted u (u.clock + 1) job false in
-    let z : State = planned (real_calls input.settings) s i u call nothing_carried (turn_of s i) No_object s.world in
-    let now = grant_shows input w s (turn_of s i) call None 1 (held i w.lock) new a.shows a.call_is tt room g in
-    attempted_yes input s z i (table_tried w i new) (ap wants a.phase) a.turn (planned_by input s i call None a.phase free (number_known w.table s.world call a.shows.world ∙ none))
+    let z : State = planned (real_calls input.settings) s i u call turns (turn_of s i) No_object s.world in
+    let now = grant_shows input w s (turn_of s i) call turns None 1 (held i w.lock) new a.shows a.call_is tt room g in
+    attempted_yes input s z i (table_tried w i new) (ap wants a.phase) a.turn (planned_by input s i call turns None a.phase free (number_known w.table s.world call turns a.shows.world ∙ none))
     (subst (λ (c : ℕ). c ≤ 2 ^ 62) (sym (clock_set input w s i y a.inside a.shows)) (clock_fits input w s i 1 a.shows room))
     (record {
+      patience = a.shows.patience;
       count = length-set s.threads i y ∙ a.shows.count ∙ sym (length-set w.threads i new.thread);
       threads = others_granted input w s i job new.thread y a.inside a.shows now.thread;
       table = ap (held i) a.shows.table ∙ sym g.lock;
@@ -244,22 +251,23 @@ attempt_takes input w s i call new a room free none g =
     })
 
 -- the call wants an object
-attempt_plans : (input : Inputs) (w : Whole) (s : State) (i n : ℕ) (call : Call) → Trying input w s i call → (thread_at w i).clock + 1 ≤ 2 ^ 62 → takes s.table (thread_of s i).clock ≡ true → number_locked w.table call ≡ Some n
+attempt_plans : (input : Inputs) (w : Whole) (s : State) (i n : ℕ) (call : Call) (turns : ℕ) → Trying input w s i call turns → (thread_at w i).clock + 1 ≤ 2 ^ 62 → takes s.table (thread_of s i).clock ≡ true → number_locked w.table call ≡ Some n
     → n < limit.OBJECTS
-    → Attempted input s i true (table_tried w i (parts (record (thread_at w i) { phase = phase.WantsObject call (thread_of s i).clock n; clock = (thread_at w i).clock + 1 }) (held i w.lock) w.table w.rows))
-attempt_plans input w s i n call a room free is few =
+    → Attempted input s i true (table_tried w i (parts (record (thread_at w i) { phase = phase.WantsObject call turns (thread_of s i).clock n; clock = (thread_at w i).clock + 1 }) (held i w.lock) w.table w.rows))
+attempt_plans input w s i n call turns a room free is few =
     let t = thread_at w i in
     let u = thread_of s i in
     let h = a.shows in
-    let x : Thread = record t { phase = phase.WantsObject call u.clock n; clock = t.clock + 1 } in
-    let y : lock.Thread = record u { phase = WantsObject call nothing_carried u.clock n Inside; clock = u.clock + 1 } in
+    let x : Thread = record t { phase = phase.WantsObject call turns u.clock n; clock = t.clock + 1 } in
+    let y : lock.Thread = record u { phase = WantsObject call turns u.clock n Inside; clock = u.clock + 1 } in
     let now : ThreadShows input i s.rows x y =
     record { clock = ap (λ (c : ℕ). c + 1) (h.threads i).clock; in_time = room; asked = (h.threads i).asked; phase = (refl, record { even = a.call_is.even; reached = a.call_is.reached }, few) } in
-    let z : State = planned (real_calls input.settings) s i u call nothing_carried (turn_of s i) (Object n Inside) s.world in
+    let z : State = planned (real_calls input.settings) s i u call turns (turn_of s i) (Object n Inside) s.world in
     attempted_yes input s z i (table_tried w i (parts x (held i w.lock) w.table w.rows)) (ap wants a.phase) a.turn
-    (planned_by input s i call (Some n) a.phase free (number_known w.table s.world call h.world ∙ is))
+    (planned_by input s i call turns (Some n) a.phase free (number_known w.table s.world call turns h.world ∙ is))
     (subst (λ (c : ℕ). c ≤ 2 ^ 62) (sym (clock_set input w s i y a.inside h)) (clock_fits input w s i 1 h room))
     (record {
+      patience = h.patience;
       count = length-set s.threads i y ∙ h.count ∙ sym (length-set w.threads i x);
       threads = threads_set input s.rows w.threads s.threads i x y a.inside h.count now (λ k apart. h.threads k);
       table = ap (held i) h.table;
@@ -271,39 +279,39 @@ attempt_plans input w s i n call a room free is few =
 
 -- ## By the phase of the thread
 
-planned_clock : (input : Inputs) (w : Whole) (s : State) (i : ℕ) (call : Call) (o : Option ℕ) → i < length w.threads → Shows input w s
-    → (thread_of (planned (real_calls input.settings) s i (thread_of s i) call nothing_carried (turn_of s i) (plan_of o) s.world) i).clock ≡ (thread_of s i).clock + 1
-planned_clock input w s i call None inside h = clock_set input w s i (granted (thread_of s i) ((thread_of s i).clock + 1) (new_job call nothing_carried (turn_of s i) No_object s.world) false) inside h
-planned_clock input w s i call (Some n) inside h = clock_set input w s i (record (thread_of s i) { phase = WantsObject call nothing_carried (thread_of s i).clock n Inside; clock = (thread_of s i).clock + 1 }) inside h
+planned_clock : (input : Inputs) (w : Whole) (s : State) (i : ℕ) (call : Call) (turns : ℕ) (o : Option ℕ) → i < length w.threads → Shows input w s
+    → (thread_of (planned (real_calls input.settings) s i (thread_of s i) call turns (turn_of s i) (plan_of o) s.world) i).clock ≡ (thread_of s i).clock + 1
+planned_clock input w s i call turns None inside h = clock_set input w s i (granted (thread_of s i) ((thread_of s i).clock + 1) (new_job call turns (turn_of s i) No_object s.world) false) inside h
+planned_clock input w s i call turns (Some n) inside h = clock_set input w s i (record (thread_of s i) { phase = WantsObject call turns (thread_of s i).clock n Inside; clock = (thread_of s i).clock + 1 }) inside h
 
-attempt_full : (input : Inputs) (w : Whole) (s : State) (i : ℕ) (call : Call) → Trying input w s i call → 2 ^ 62 < (thread_at w i).clock + 1 → can_attempt (setup_of input) s i ≡ false
-attempt_full input w s i call a full =
+attempt_full : (input : Inputs) (w : Whole) (s : State) (i : ℕ) (call : Call) (turns : ℕ) → Trying input w s i call turns → 2 ^ 62 < (thread_at w i).clock + 1 → can_attempt (setup_of input) s i ≡ false
+attempt_full input w s i call turns a full =
     let u = thread_of s i in
     let h = a.shows.threads i in
     let past : 2 ^ 62 < u.clock + 1 = subst (λ (c : ℕ). 2 ^ 62 < c + 1) (sym h.clock) full in
     attempted_full input s i (u.clock + 1)
     (⊎_elim
     (λ (free : takes s.table u.clock ≡ true).
-    ap (λ (x : State). (thread_of x i).clock) (tried_took input s i call a.phase free) ∙ planned_clock input w s i call (numbered s.world (locked_object s.world.object call)) a.inside a.shows)
+    ap (λ (x : State). (thread_of x i).clock) (tried_took input s i call turns a.phase free) ∙ planned_clock input w s i call turns (numbered s.world (locked_object s.world.object call turns)) a.inside a.shows)
     (λ (shut : takes s.table u.clock ≡ false).
-    ap (λ (x : State). (thread_of x i).clock) (tried_failed input s i call a.phase shut) ∙ clock_set input w s i (record u { clock = u.clock + 1 }) a.inside a.shows)
+    ap (λ (x : State). (thread_of x i).clock) (tried_failed input s i call turns a.phase shut) ∙ clock_set input w s i (record u { clock = u.clock + 1 }) a.inside a.shows)
     (cases_Bool (takes s.table u.clock)))
     past
 
-plan_tried : (input : Inputs) (w : Whole) (s : State) (i : ℕ) (call : Call) (new : Parts) (o : Option ℕ) → Trying input w s i call → (thread_at w i).clock + 1 ≤ 2 ^ 62 → takes s.table (thread_of s i).clock ≡ true → number_locked w.table call ≡ o
-    → PlansTo o (turn_of s i) call (record (later (table_parts w i) 1) { lock = held i w.lock }) new → Attempted input s i true (table_tried w i new)
-plan_tried input w s i call new None a room free is g = attempt_takes input w s i call new a room free is g
-plan_tried input w s i call new (Some n) a room free is (few, e) =
-    let P : Parts → Type 0 = λ p. Attempted input s i true (table_tried w i p) in subst P (sym e) (attempt_plans input w s i n call a room free is few)
+plan_tried : (input : Inputs) (w : Whole) (s : State) (i : ℕ) (call : Call) (turns : ℕ) (new : Parts) (o : Option ℕ) → Trying input w s i call turns → (thread_at w i).clock + 1 ≤ 2 ^ 62 → takes s.table (thread_of s i).clock ≡ true → number_locked w.table call ≡ o
+    → PlansTo w.patience o (turn_of s i) call turns (record (later (table_parts w i) 1) { lock = held i w.lock }) new → Attempted input s i true (table_tried w i new)
+plan_tried input w s i call turns new None a room free is g = attempt_takes input w s i call turns new a room free is g
+plan_tried input w s i call turns new (Some n) a room free is (few, e) =
+    let P : Parts → Type 0 = λ p. Attempted input s i true (table_tried w i p) in subst P (sym e) (attempt_plans input w s i n call turns a room free is few)
 
-lock_tried : (input : Inputs) (w : Whole) (s : State) (i : ℕ) (call : Call) (new : Parts) (b : Bool) → Trying input w s i call → (thread_at w i).clock + 1 ≤ 2 ^ 62 → takes w.lock (thread_at w i).clock ≡ b
-    → TriesLock b i call (table_parts w i) new → Attempted input s i true (table_tried w i new)
-lock_tried input w s i call new true a room free g =
-    let P : ℕ → Type 0 = λ clock. PlansTo (number_locked w.table call) (record { clock = clock; thread = i }) call (record (later (table_parts w i) 1) { lock = held i w.lock }) new in
-    plan_tried input w s i call new (number_locked w.table call) a room (ap₂ takes a.shows.table (a.shows.threads i).clock ∙ free) refl (subst P (sym (a.shows.threads i).clock) g)
-lock_tried input w s i call new false a room shut g =
+lock_tried : (input : Inputs) (w : Whole) (s : State) (i : ℕ) (call : Call) (turns : ℕ) (new : Parts) (b : Bool) → Trying input w s i call turns → (thread_at w i).clock + 1 ≤ 2 ^ 62 → takes w.lock (thread_at w i).clock ≡ b
+    → TriesLock w.patience b i call turns (table_parts w i) new → Attempted input s i true (table_tried w i new)
+lock_tried input w s i call turns new true a room free g =
+    let P : ℕ → Type 0 = λ clock. PlansTo w.patience (number_locked w.table call) (record { clock = clock; thread = i }) call turns (record (later (table_parts w i) 1) { lock = held i w.lock }) new in
+    plan_tried input w s i call turns new (number_locked w.table call) a room (ap₂ takes a.shows.table (a.shows.threads i).clock ∙ free) refl (subst P (sym (a.shows.threads i).clock) g)
+lock_tried input w s i call turns new false a room shut g =
     let P : Parts → Type 0 = λ p. Attempted input s i true (table_tried w i p) in
-    subst P (sym g) (attempt_fails input w s i call a room (ap₂ takes a.shows.table (a.shows.threads i).clock ∙ shut))
+    subst P (sym g) (attempt_fails input w s i call turns a room (ap₂ takes a.shows.table (a.shows.threads i).clock ∙ shut))
 
 not_made : (input : Inputs) (w : Whole) (s : State) (i : ℕ) (made : Bool) (new : Parts) → i < length w.threads → Shows input w s → can_attempt (setup_of input) s i ≡ false
     → (made ≡ false) × (new ≡ table_parts w i) → Attempted input s i made (table_tried w i new)
@@ -312,21 +320,21 @@ not_made input w s i made new inside h off g =
     let Q : Parts → Type 0 = λ p. Attempted input s i false (table_tried w i p) in
     subst P (sym g.0) (subst Q (sym g.1) (attempted_no input w s i inside h off))
 
-time_tried : (input : Inputs) (w : Whole) (s : State) (i : ℕ) (call : Call) (made : Bool) (new : Parts) (b : Bool) → Trying input w s i call → in_time (table_parts w i) 1 ≡ b
-    → TriesInTime b made i call (table_parts w i) new → Attempted input s i made (table_tried w i new)
-time_tried input w s i call made new true a room h =
+time_tried : (input : Inputs) (w : Whole) (s : State) (i : ℕ) (call : Call) (turns : ℕ) (made : Bool) (new : Parts) (b : Bool) → Trying input w s i call turns → in_time (table_parts w i) 1 ≡ b
+    → TriesInTime w.patience b made i call turns (table_parts w i) new → Attempted input s i made (table_tried w i new)
+time_tried input w s i call turns made new true a room h =
     let P : Bool → Type 0 = λ b. Attempted input s i b (table_tried w i new) in
-    subst P (sym h.0) (lock_tried input w s i call new (takes w.lock (thread_at w i).clock) a (leb-true ((thread_at w i).clock + 1) (2 ^ 62) room) refl h.1)
-time_tried input w s i call made new false a full h = not_made input w s i made new a.inside a.shows (attempt_full input w s i call a (leb-false ((thread_at w i).clock + 1) (2 ^ 62) full)) h
+    subst P (sym h.0) (lock_tried input w s i call turns new (takes w.lock (thread_at w i).clock) a (leb-true ((thread_at w i).clock + 1) (2 ^ 62) room) refl h.1)
+time_tried input w s i call turns made new false a full h = not_made input w s i made new a.inside a.shows (attempt_full input w s i call turns a (leb-false ((thread_at w i).clock + 1) (2 ^ 62) full)) h
 
 -- only a thread that wants the table makes this attempt
-pub attempt_whole : (input : Inputs) (w : Whole) (s : State) (i : ℕ) (call : Call) (made : Bool) (new : Parts) → i < length w.threads → Shows input w s → has_turn (live_clocks s) i ≡ true → (thread_at w i).phase ≡ phase.WantsTable call
-    → Tries made i (table_parts w i) new → Attempted input s i made (table_tried w i new)
-attempt_whole input w s i call made new inside h turn is tries =
+pub attempt_whole : (input : Inputs) (w : Whole) (s : State) (i : ℕ) (call : Call) (turns : ℕ) (made : Bool) (new : Parts) → i < length w.threads → Shows input w s → has_turn (live_clocks s) i ≡ true → (thread_at w i).phase ≡ phase.WantsTable call turns
+    → Tries w.patience made i (table_parts w i) new → Attempted input s i made (table_tried w i new)
+attempt_whole input w s i call turns made new inside h turn is tries =
     let P : Phase → Type 0 = λ p. PhaseShows input i s.rows (thread_at w i) (thread_of s i) p in
-    let Q : Phase → Type 0 = λ p. TriesIn p made i (table_parts w i) new in
+    let Q : Phase → Type 0 = λ p. TriesIn w.patience p made i (table_parts w i) new in
     let g = subst P is (h.threads i).phase in
-    time_tried input w s i call made new (in_time (table_parts w i) 1) (record { inside = inside; shows = h; turn = turn; wanting = is; phase = g.0; call_is = g.1 }) refl (subst Q is tries)
+    time_tried input w s i call turns made new (in_time (table_parts w i) 1) (record { inside = inside; shows = h; turn = turn; wanting = is; phase = g.0; call_is = g.1 }) refl (subst Q is tries)
 
 -- without the turn there is no attempt
 pub attempt_waits : (input : Inputs) (w : Whole) (s : State) (i : ℕ) → Shows input w s → has_turn (live_clocks s) i ≡ false → (can_attempt (setup_of input) s i ≡ false) × Shows input w (attempt (setup_of input) i s)

@@ -5,7 +5,7 @@ use Rattle.logical_clocks.specs.ThreadClocks.{no_thread, thread_at, with_clock}
 use Rattle.logical_clocks.specs.declared.clocks.ThreadClock.{ThreadClock}
 use Rattle.call_machine.specs.Lives.{is_live}
 use Rattle.call_machine.specs.Threads.{KeepsOthers}
-use Rattle.call_machine.proofs.Lists.{set_same}
+use Rattle.object_store.proofs.Lists.{set_same}
 use Rattle.call_machine.specs.declared.thread.Thread.{Thread}
 
 kept_by : (i : ℕ) (t u : Thread) (cs ds : List ThreadClock) (c : ThreadClock) → i < length cs → ds ≡ set cs i c

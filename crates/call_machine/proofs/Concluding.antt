@@ -16,7 +16,7 @@ use Rattle.call_machine.proofs.Legality.{rising_shown}
 use Rattle.call_machine.proofs.Told.{first_shows, told_shown}
 
 -- a run that was made is one to its end, of what stood at the start
-pub ends_of : (input : Inputs) (first last : Whole) → first ≡ first_whole input.scripts → ((i : Inputs) → Shows i first (first_state i) → Ends i last) → Ends input last
+pub ends_of : (input : Inputs) (first last : Whole) → first ≡ first_whole input.settings.patience input.scripts → ((i : Inputs) → Shows i first (first_state i) → Ends i last) → Ends input last
 ends_of input first last is run = let P : Whole → Type 0 = λ w. Shows input w (first_state input) in run input (subst P (sym is) (first_shows input))
 
 -- what is told of a run of as many threads as it has scripts

@@ -23,11 +23,11 @@ use Rattle.thread_scripts.specs.Meaning.{next_of}
 use Rattle.thread_scripts.specs.declared.actor.ScriptState.{ScriptState}
 use Rattle.thread_scripts.specs.declared.actor.Step.{Step}
 use Rattle.thread_scripts.specs.declared.actor.Step.TheVariants as step
-use Rattle.call_machine.specs.Asking.{Asks, AsksStep, after_want}
+use Rattle.call_machine.specs.Asking.{Asks, AsksStep, GoesAgain, after_want}
 use Rattle.call_machine.specs.Events.{Answers, Reaches, Tries, parts}
-use Rattle.call_machine.specs.Lives.{Agree}
+use Rattle.call_machine.specs.Lives.{Agree, is_live}
 use Rattle.call_machine.specs.Setup.{Inputs, setup_of}
-use Rattle.call_machine.specs.Store.{Stored}
+use Rattle.object_store.specs.Store.{Stored}
 use Rattle.call_machine.specs.Shows.{Advances, Attempts, PhaseShows, Shows, WantsIn, Whole, item_at, thread_at}
 use Rattle.call_machine.specs.Threads.{KeepsOthers, Thread, joined, timed}
 use Rattle.call_machine.specs.Views.{clocks_of, no_item, no_thread}
@@ -36,11 +36,12 @@ use Rattle.call_machine.specs.declared.thread.Phase.{Phase}
 use Rattle.call_machine.specs.declared.thread.Phase.TheVariants as phase
 use Rattle.call_machine.specs.declared.thread.Thread as declared
 use Rattle.call_machine.proofs.AnswerShows.{answer_whole, lock_held, with_lock}
-use Rattle.call_machine.proofs.AskShows.{ask_moves}
+use Rattle.call_machine.proofs.AskShows.{again_moves, ask_moves}
+use Rattle.call_machine.proofs.ClockLemmas.{kept_still}
 use Rattle.call_machine.proofs.AttemptShows.{attempt_idle, attempt_waits, attempt_whole, table_parts, table_tried}
-use Rattle.call_machine.proofs.Falling.{answer_falls, answer_stays, ask_falls, ask_stays, reach_falls, reach_stays, total_of, try_falls, try_stays}
+use Rattle.call_machine.proofs.Falling.{again_falls, again_stays, answer_falls, answer_stays, ask_falls, ask_stays, reach_falls, reach_stays, total_of, try_falls, try_stays}
 use Rattle.call_machine.proofs.Joining.{agree-kept, agree_length, get-joined, joined-kept, length-joined, live-joined}
-use Rattle.call_machine.proofs.Lists.{item_is, set_same}
+use Rattle.object_store.proofs.Lists.{item_is, set_same}
 use Rattle.call_machine.proofs.ReachShows.{lock_at, object_tried, reach_whole}
 use Rattle.call_machine.proofs.ShownThreads.{whole_quiet, whole_still}
 use Rattle.call_machine.proofs.Turning.{clocks_shown}
@@ -49,19 +50,24 @@ pub ask_event : (w : Whole) (i : ℕ) (moved : Bool) (v : Thread) → i < length
 ask_event w i moved v inside works asks input s arises h =
     whole_quiet input w s i moved v inside h (ask_moves input i s.rows moved (thread_at w i) v (thread_of s i) works (h.threads i) asks)
 
-pub answer_event : (w : Whole) (i place : ℕ) (object : Option ℕ) (moved : Bool) (v : Thread) (l : DetLock) (rows : List HistoryRow) → i < length w.threads → (thread_at w i).phase ≡ phase.Granted place object
-    → Answers moved i place (parts (thread_at w i) (lock_held w object) w.table w.rows) (parts v l w.table rows) → Advances moved i w (with_lock w object l (set w.threads i v) rows)
-answer_event w i place object moved v l rows inside is answers input s arises h =
-    answer_whole input w s i place object moved v l rows inside h
+pub again_event : (w : Whole) (i : ℕ) (call : Call) (turns : ℕ) (moved : Bool) (v : Thread) → i < length w.threads → (thread_at w i).phase ≡ phase.Blocked call turns → GoesAgain moved (thread_at w i) v → Advances moved i w (record w { threads = set w.threads i v })
+again_event w i call turns moved v inside is goes input s arises h =
+    whole_quiet input w s i moved v inside h (again_moves input i s.rows moved (thread_at w i) v (thread_of s i) call turns is (h.threads i) goes)
+
+pub answer_event : (w : Whole) (i place : ℕ) (object blocked : Option ℕ) (moved : Bool) (v : Thread) (l : DetLock) (rows : List HistoryRow) → i < length w.threads → (thread_at w i).phase ≡ phase.Granted place object blocked
+    → Answers moved i place blocked (parts (thread_at w i) (lock_held w object) w.table w.rows) (parts v l w.table rows) → Advances moved i w (with_lock w object l (set w.threads i v) rows)
+answer_event w i place object blocked moved v l rows inside is answers input s arises h =
+    answer_whole input w s i place object blocked moved v l rows inside h
     (held_arisen (setup_of input) (length input.scripts) limit.OBJECTS first_world s arises)
     (rows_arisen (setup_of input) (length input.scripts) limit.OBJECTS first_world s arises) is answers
 
 -- threads in other phases make no event without the turn
 abbrev pub Waits : Phase → Type 0
 Waits phase.Working = ⊥
-Waits (phase.WantsTable call) = Unit {0}
-Waits (phase.WantsObject call clock object) = Unit {0}
-Waits (phase.Granted place object) = ⊥
+Waits (phase.WantsTable call turns) = Unit {0}
+Waits (phase.WantsObject call turns clock object) = Unit {0}
+Waits (phase.Granted place object blocked) = ⊥
+Waits (phase.Blocked call turns) = ⊥
 Waits phase.Stuck = Unit {0}
 Waits phase.Ended = Unit {0}
 
@@ -71,9 +77,10 @@ moves_none input i u p e h = ap (λ (q : lock.Phase). within (2 ^ 62) (moves_in 
 
 waits_moves : (input : Inputs) (i : ℕ) (rows : List Row) (t : Thread) (u : lock.Thread) (p : Phase) → Waits p → PhaseShows input i rows t u p → moves (setup_of input) i u ≡ None
 waits_moves input i rows t u phase.Working waits h = absurd waits
-waits_moves input i rows t u (phase.WantsTable call) waits h = moves_none input i u (WantsTable call 0) h.0 refl
-waits_moves input i rows t u (phase.WantsObject call clock object) waits h = moves_none input i u (WantsObject call 0 clock object Inside) h.0 refl
-waits_moves input i rows t u (phase.Granted place object) waits h = absurd waits
+waits_moves input i rows t u (phase.WantsTable call turns) waits h = moves_none input i u (WantsTable call turns) h.0 refl
+waits_moves input i rows t u (phase.WantsObject call turns clock object) waits h = moves_none input i u (WantsObject call turns clock object Inside) h.0 refl
+waits_moves input i rows t u (phase.Granted place object blocked) waits h = absurd waits
+waits_moves input i rows t u (phase.Blocked call turns) waits h = absurd waits
 waits_moves input i rows t u phase.Stuck waits h = h.1
 waits_moves input i rows t u phase.Ended waits h = moves_none input i u Ended h refl
 
@@ -84,8 +91,8 @@ wait_event w i inside waits input s arises h =
     (still.0, subst P (set_same w.threads i no_thread inside) still.1)
 
 -- a call whose object is past the last number is in no run
-pub answer_past : (w : Whole) (i place n : ℕ) → (thread_at w i).phase ≡ phase.Granted place (Some n) → length w.objects ≤ n → Advances false i w w
-answer_past w i place n is past input s arises h =
+pub answer_past : (w : Whole) (i place n : ℕ) (blocked : Option ℕ) → (thread_at w i).phase ≡ phase.Granted place (Some n) blocked → length w.objects ≤ n → Advances false i w w
+answer_past w i place n blocked is past input s arises h =
     let P : Phase → Type 0 = λ p. PhaseShows input i s.rows (thread_at w i) (thread_of s i) p in
     let g = subst P is (h.threads i).phase in
     absurd (too_far n (length w.objects) g.1.2.in_range h.object_count past)
@@ -93,19 +100,19 @@ answer_past w i place n is past input s arises h =
     too_far : (n m : ℕ) → n < limit.OBJECTS → m ≡ limit.OBJECTS → m ≤ n → ⊥
     too_far n m few e past = omega arith
 
-pub table_event : (w : Whole) (i : ℕ) (call : Call) (made : Bool) (v : Thread) (l : DetLock) (table : Stored) (rows : List HistoryRow) → i < length w.threads → has_turn (clocks_of w.threads) i ≡ true → (thread_at w i).phase ≡ phase.WantsTable call
-    → Tries made i (table_parts w i) (parts v l table rows) → Attempts made i w (table_tried w i (parts v l table rows))
-table_event w i call made v l table rows inside turn is tries input s arises h =
-    attempt_whole input w s i call made (parts v l table rows) inside h (ap (λ cs. has_turn cs i) (clocks_shown input w s h) ∙ turn) is tries
+pub table_event : (w : Whole) (i : ℕ) (call : Call) (turns : ℕ) (made : Bool) (v : Thread) (l : DetLock) (table : Stored) (rows : List HistoryRow) → i < length w.threads → has_turn (clocks_of w.threads) i ≡ true → (thread_at w i).phase ≡ phase.WantsTable call turns
+    → Tries w.patience made i (table_parts w i) (parts v l table rows) → Attempts made i w (table_tried w i (parts v l table rows))
+table_event w i call turns made v l table rows inside turn is tries input s arises h =
+    attempt_whole input w s i call turns made (parts v l table rows) inside h (ap (λ cs. has_turn cs i) (clocks_shown input w s h) ∙ turn) is tries
 
-pub object_event : (w : Whole) (i n clock : ℕ) (call : Call) (made : Bool) (now : DetLock) (v : Thread) (l : DetLock) (table : Stored) (rows : List HistoryRow) → i < length w.threads → has_turn (clocks_of w.threads) i ≡ true
-    → (thread_at w i).phase ≡ phase.WantsObject call clock n
-    → Reaches made i (lock_at w n) now (table_parts w i) (parts v l table rows) → Attempts made i w (object_tried w i n now (parts v l table rows))
-object_event w i n clock call made now v l table rows inside turn is tries input s arises h =
-    reach_whole input w s i n clock call made now (parts v l table rows) inside h (ap (λ cs. has_turn cs i) (clocks_shown input w s h) ∙ turn) is tries
+pub object_event : (w : Whole) (i n clock : ℕ) (call : Call) (turns : ℕ) (made : Bool) (now : DetLock) (v : Thread) (l : DetLock) (table : Stored) (rows : List HistoryRow) → i < length w.threads → has_turn (clocks_of w.threads) i ≡ true
+    → (thread_at w i).phase ≡ phase.WantsObject call turns clock n
+    → Reaches w.patience made i (lock_at w n) now (table_parts w i) (parts v l table rows) → Attempts made i w (object_tried w i n now (parts v l table rows))
+object_event w i n clock call turns made now v l table rows inside turn is tries input s arises h =
+    reach_whole input w s i n clock call turns made now (parts v l table rows) inside h (ap (λ cs. has_turn cs i) (clocks_shown input w s h) ∙ turn) is tries
 
-pub object_past : (w : Whole) (i n clock : ℕ) (call : Call) → (thread_at w i).phase ≡ phase.WantsObject call clock n → length w.objects ≤ n → Attempts false i w w
-object_past w i n clock call is past input s arises h =
+pub object_past : (w : Whole) (i n clock : ℕ) (call : Call) (turns : ℕ) → (thread_at w i).phase ≡ phase.WantsObject call turns clock n → length w.objects ≤ n → Attempts false i w w
+object_past w i n clock call turns is past input s arises h =
     let P : Phase → Type 0 = λ p. PhaseShows input i s.rows (thread_at w i) (thread_of s i) p in
     let g = subst P is (h.threads i).phase in
     absurd (too_far n (length w.objects) g.2 h.object_count past)
@@ -119,17 +126,19 @@ no_attempt_event w i late input s arises h = attempt_waits input w s i h (ap (λ
 -- threads in other phases want no lock
 abbrev pub Idles : Phase → Type 0
 Idles phase.Working = Unit {0}
-Idles (phase.WantsTable call) = ⊥
-Idles (phase.WantsObject call clock object) = ⊥
-Idles (phase.Granted place object) = Unit {0}
+Idles (phase.WantsTable call turns) = ⊥
+Idles (phase.WantsObject call turns clock object) = ⊥
+Idles (phase.Granted place object blocked) = Unit {0}
+Idles (phase.Blocked call turns) = Unit {0}
 Idles phase.Stuck = Unit {0}
 Idles phase.Ended = Unit {0}
 
 idles_wants : (input : Inputs) (i : ℕ) (rows : List Row) (t : Thread) (u : lock.Thread) (p : Phase) → Idles p → PhaseShows input i rows t u p → wants u.phase ≡ false
 idles_wants input i rows t u phase.Working idles h = ap wants h.0
-idles_wants input i rows t u (phase.WantsTable call) idles h = absurd idles
-idles_wants input i rows t u (phase.WantsObject call clock object) idles h = absurd idles
-idles_wants input i rows t u (phase.Granted place object) idles h = ap wants h.1.0
+idles_wants input i rows t u (phase.WantsTable call turns) idles h = absurd idles
+idles_wants input i rows t u (phase.WantsObject call turns clock object) idles h = absurd idles
+idles_wants input i rows t u (phase.Granted place object blocked) idles h = ap wants h.1.0
+idles_wants input i rows t u (phase.Blocked call turns) idles h = ap wants h.0
 idles_wants input i rows t u phase.Stuck idles h = ap wants h.0
 idles_wants input i rows t u phase.Ended idles h = ap wants h
 
@@ -171,8 +180,8 @@ total_item ts cs ds i moved x v h falls stays =
     (total_of (joined ts cs) i moved (timed v (clock_at ds i)) (joined_inside ts cs i h.inside) (λ made. subst L (sym at) (falls made)) (λ made. subst M (sym at) (stays made)))
 
 -- what a run has, in its threads and clocks and in what they share
-abbrev pub whole : List declared.Thread → List ThreadClock → DetLock → List DetLock → Stored → List HistoryRow → Whole
-whole ts cs lock objects table rows = record { threads = joined ts cs; lock = lock; objects = objects; table = table; rows = rows }
+abbrev pub whole : ℕ → List declared.Thread → List ThreadClock → DetLock → List DetLock → Stored → List HistoryRow → Whole
+whole patience ts cs lock objects table rows = record { patience = patience; threads = joined ts cs; lock = lock; objects = objects; table = table; rows = rows }
 
 pub item_of : (ts : List declared.Thread) (cs : List ThreadClock) (i : ℕ) (x v : declared.Thread) (ds : List ThreadClock) → Agree ts cs → i < length ts → x ≡ get_or ts i x → KeepsOthers i x cs v ds → Item ts cs i x v ds
 item_of ts cs i x v ds agree inside at kept =
@@ -181,12 +190,12 @@ item_of ts cs i x v ds agree inside at kept =
 pub item_agrees : (ts : List declared.Thread) (cs : List ThreadClock) (i : ℕ) (x v : declared.Thread) (ds : List ThreadClock) → Agree ts cs → Item ts cs i x v ds → Agree (set ts i v) ds
 item_agrees ts cs i x v ds agree h = agree-kept ts cs ds i x v agree h.inside h.item h.kept
 
-pub ask_done : (ts : List declared.Thread) (cs ds : List ThreadClock) (lock : DetLock) (objects : List DetLock) (table : Stored) (rows : List HistoryRow) (i : ℕ) (x v : declared.Thread) (r : Result Bool AllocError) → Item ts cs i x v ds → x.phase ≡ phase.Working
-    → IfOk r (λ moved. Asks moved (timed x (clock_at cs i)) (timed v (clock_at ds i))) → IfOk r (λ moved. Advances moved i (whole ts cs lock objects table rows) (whole (set ts i v) ds lock objects table rows))
-ask_done ts cs ds lock objects table rows i x v r h works asked =
-    let w = whole ts cs lock objects table rows in
+pub ask_done : (patience : ℕ) (ts : List declared.Thread) (cs ds : List ThreadClock) (lock : DetLock) (objects : List DetLock) (table : Stored) (rows : List HistoryRow) (i : ℕ) (x v : declared.Thread) (r : Result Bool AllocError) → Item ts cs i x v ds → x.phase ≡ phase.Working
+    → IfOk r (λ moved. Asks moved (timed x (clock_at cs i)) (timed v (clock_at ds i))) → IfOk r (λ moved. Advances moved i (whole patience ts cs lock objects table rows) (whole patience (set ts i v) ds lock objects table rows))
+ask_done patience ts cs ds lock objects table rows i x v r h works asked =
+    let w = whole patience ts cs lock objects table rows in
     let P : Bool → Type 0 = λ moved. Asks moved (timed x (clock_at cs i)) (timed v (clock_at ds i)) in
-    let Q : Bool → Type 0 = λ moved. Advances moved i w (whole (set ts i v) ds lock objects table rows) in
+    let Q : Bool → Type 0 = λ moved. Advances moved i w (whole patience (set ts i v) ds lock objects table rows) in
     if_ok r P Q (λ moved a.
     let R : Thread → Type 0 = λ t. Asks moved t (timed v (clock_at ds i)) in
     let T : List Thread → Type 0 = λ l. Advances moved i w (record w { threads = l }) in
@@ -202,135 +211,159 @@ ask_lowers ts cs ds i x v r h works asked =
     (λ made. let R : Bool → Type 0 = λ b. Asks b (timed x (clock_at cs i)) (timed v (clock_at ds i)) in ask_falls (timed x (clock_at cs i)) (timed v (clock_at ds i)) works (subst R made a))
     (λ made. let R : Bool → Type 0 = λ b. Asks b (timed x (clock_at cs i)) (timed v (clock_at ds i)) in ask_stays (timed x (clock_at cs i)) (timed v (clock_at ds i)) (subst R made a))) asked
 
-pub answer_done : (ts : List declared.Thread) (cs ds : List ThreadClock) (lock : DetLock) (objects : List DetLock) (table : Stored) (rows rows_now : List HistoryRow) (i place : ℕ) (object : Option ℕ) (x v : declared.Thread) (own l : DetLock) (r : Result Bool AllocError)
-    → Item ts cs i x v ds → x.phase ≡ phase.Granted place object → own ≡ lock_held (whole ts cs lock objects table rows) object
-    → IfOk r (λ moved. (table : Stored) → Answers moved i place (parts (timed x (clock_at cs i)) own table rows) (parts (timed v (clock_at ds i)) l table rows_now))
-    → IfOk r (λ moved. Advances moved i (whole ts cs lock objects table rows) (with_lock (whole ts cs lock objects table rows) object l (joined (set ts i v) ds) rows_now))
-answer_done ts cs ds lock objects table rows rows_now i place object x v own l r h is own_is answered =
-    let w = whole ts cs lock objects table rows in
-    let P : Bool → Type 0 = λ moved. (table : Stored) → Answers moved i place (parts (timed x (clock_at cs i)) own table rows) (parts (timed v (clock_at ds i)) l table rows_now) in
+pub answer_done : (patience : ℕ) (ts : List declared.Thread) (cs ds : List ThreadClock) (lock : DetLock) (objects : List DetLock) (table : Stored) (rows rows_now : List HistoryRow) (i place : ℕ) (object blocked : Option ℕ) (x v : declared.Thread) (own l : DetLock) (r : Result Bool AllocError)
+    → Item ts cs i x v ds → x.phase ≡ phase.Granted place object blocked → own ≡ lock_held (whole patience ts cs lock objects table rows) object
+    → IfOk r (λ moved. (table : Stored) → Answers moved i place blocked (parts (timed x (clock_at cs i)) own table rows) (parts (timed v (clock_at ds i)) l table rows_now))
+    → IfOk r (λ moved. Advances moved i (whole patience ts cs lock objects table rows) (with_lock (whole patience ts cs lock objects table rows) object l (joined (set ts i v) ds) rows_now))
+answer_done patience ts cs ds lock objects table rows rows_now i place object blocked x v own l r h is own_is answered =
+    let w = whole patience ts cs lock objects table rows in
+    let P : Bool → Type 0 = λ moved. (table : Stored) → Answers moved i place blocked (parts (timed x (clock_at cs i)) own table rows) (parts (timed v (clock_at ds i)) l table rows_now) in
     let Q : Bool → Type 0 = λ moved. Advances moved i w (with_lock w object l (joined (set ts i v) ds) rows_now) in
     if_ok r P Q (λ moved a.
-    let R : Thread → Type 0 = λ t. Answers moved i place (parts t (lock_held w object) table rows) (parts (timed v (clock_at ds i)) l table rows_now) in
+    let R : Thread → Type 0 = λ t. Answers moved i place blocked (parts t (lock_held w object) table rows) (parts (timed v (clock_at ds i)) l table rows_now) in
     let T : List Thread → Type 0 = λ ts. Advances moved i w (with_lock w object l ts rows_now) in
     subst T (sym (joined-kept ts cs ds i x v h.clocked h.kept))
-    (answer_event w i place object moved (timed v (clock_at ds i)) l rows_now (joined_inside ts cs i h.inside) (item_phase ts cs i x (phase.Granted place object) h.inside h.item is) (subst R (sym (item_thread ts cs i x h.inside h.item)) (subst (λ (k : DetLock). Answers moved i place (parts (timed x (clock_at cs i)) k table rows) (parts (timed v (clock_at ds i)) l table rows_now)) own_is (a table))))) answered
+    (answer_event w i place object blocked moved (timed v (clock_at ds i)) l rows_now (joined_inside ts cs i h.inside) (item_phase ts cs i x (phase.Granted place object blocked) h.inside h.item is) (subst R (sym (item_thread ts cs i x h.inside h.item)) (subst (λ (k : DetLock). Answers moved i place blocked (parts (timed x (clock_at cs i)) k table rows) (parts (timed v (clock_at ds i)) l table rows_now)) own_is (a table))))) answered
 
-pub answer_lowers : (ts : List declared.Thread) (cs ds : List ThreadClock) (table : Stored) (rows rows_now : List HistoryRow) (i place : ℕ) (object : Option ℕ) (x v : declared.Thread) (lock l : DetLock) (r : Result Bool AllocError)
-    → Item ts cs i x v ds → x.phase ≡ phase.Granted place object
-    → IfOk r (λ moved. (table : Stored) → Answers moved i place (parts (timed x (clock_at cs i)) lock table rows) (parts (timed v (clock_at ds i)) l table rows_now))
+pub answer_lowers : (ts : List declared.Thread) (cs ds : List ThreadClock) (table : Stored) (rows rows_now : List HistoryRow) (i place : ℕ) (object blocked : Option ℕ) (x v : declared.Thread) (lock l : DetLock) (r : Result Bool AllocError)
+    → Item ts cs i x v ds → x.phase ≡ phase.Granted place object blocked
+    → IfOk r (λ moved. (table : Stored) → Answers moved i place blocked (parts (timed x (clock_at cs i)) lock table rows) (parts (timed v (clock_at ds i)) l table rows_now))
     → IfOk r (λ moved. Falls moved (joined ts cs) (joined (set ts i v) ds))
-answer_lowers ts cs ds table rows rows_now i place object x v lock l r h is answered =
+answer_lowers ts cs ds table rows rows_now i place object blocked x v lock l r h is answered =
     let old = parts (timed x (clock_at cs i)) lock table rows in
     let new = parts (timed v (clock_at ds i)) l table rows_now in
-    let P : Bool → Type 0 = λ moved. (table : Stored) → Answers moved i place (parts (timed x (clock_at cs i)) lock table rows) (parts (timed v (clock_at ds i)) l table rows_now) in
+    let P : Bool → Type 0 = λ moved. (table : Stored) → Answers moved i place blocked (parts (timed x (clock_at cs i)) lock table rows) (parts (timed v (clock_at ds i)) l table rows_now) in
     let Q : Bool → Type 0 = λ moved. Falls moved (joined ts cs) (joined (set ts i v) ds) in
     if_ok r P Q (λ moved a. total_item ts cs ds i moved x v h
-    (λ made. let R : Bool → Type 0 = λ b. Answers b i place old new in answer_falls old new i place object place is (subst R made (a table)))
-    (λ made. let R : Bool → Type 0 = λ b. Answers b i place old new in answer_stays old new i place (subst R made (a table)))) answered
+    (λ made. let R : Bool → Type 0 = λ b. Answers b i place blocked old new in answer_falls old new i place object blocked place is (subst R made (a table)))
+    (λ made. let R : Bool → Type 0 = λ b. Answers b i place blocked old new in answer_stays old new i place blocked (subst R made (a table)))) answered
+
+-- an event that leaves the clocks as they are
+pub item_still : (ts : List declared.Thread) (cs : List ThreadClock) (i : ℕ) (x v : declared.Thread) → Agree ts cs → i < length ts → x ≡ get_or ts i x → is_live x.phase ≡ is_live v.phase → Item ts cs i x v cs
+item_still ts cs i x v agree inside at live = item_of ts cs i x v cs agree inside at (kept_still i x v cs cs (subst (λ (n : ℕ). i < n) (sym (agree_length ts cs agree)) inside) refl live)
+
+pub again_done : (patience : ℕ) (ts : List declared.Thread) (cs : List ThreadClock) (lock : DetLock) (objects : List DetLock) (table : Stored) (rows : List HistoryRow) (i : ℕ) (call : Call) (turns : ℕ) (x v : declared.Thread) (moved : Bool)
+    → Item ts cs i x v cs → x.phase ≡ phase.Blocked call turns → ((clock : ℕ) → GoesAgain moved (timed x clock) (timed v clock))
+    → Advances moved i (whole patience ts cs lock objects table rows) (whole patience (set ts i v) cs lock objects table rows)
+again_done patience ts cs lock objects table rows i call turns x v moved h is goes =
+    let w = whole patience ts cs lock objects table rows in
+    let clock = clock_at cs i in
+    let R : Thread → Type 0 = λ t. GoesAgain moved t (timed v clock) in
+    let T : List Thread → Type 0 = λ l. Advances moved i w (record w { threads = l }) in
+    subst T (sym (joined-kept ts cs cs i x v h.clocked h.kept))
+    (again_event w i call turns moved (timed v clock) (joined_inside ts cs i h.inside) (item_phase ts cs i x (phase.Blocked call turns) h.inside h.item is) (subst R (sym (item_thread ts cs i x h.inside h.item)) (goes clock)))
+
+pub again_lowers : (ts : List declared.Thread) (cs : List ThreadClock) (i : ℕ) (x v : declared.Thread) (moved : Bool) → Item ts cs i x v cs → ((clock : ℕ) → GoesAgain moved (timed x clock) (timed v clock)) → Falls moved (joined ts cs) (joined (set ts i v) cs)
+again_lowers ts cs i x v moved h goes =
+    let clock = clock_at cs i in
+    let P : Bool → Type 0 = λ b. GoesAgain b (timed x clock) (timed v clock) in
+    total_item ts cs cs i moved x v h (λ yes_it. again_falls (timed x clock) (timed v clock) (subst P yes_it (goes clock))) (λ not_it. again_stays (timed x clock) (timed v clock) (subst P not_it (goes clock)))
 
 pub turn_shown : (ts : List declared.Thread) (cs : List ThreadClock) (i : ℕ) (b : Bool) → Agree ts cs → has_turn (live_clocks cs) i ≡ b → has_turn (clocks_of (joined ts cs)) i ≡ b
 turn_shown ts cs i b agree h = ap (λ (l : List (Option ℕ)). has_turn l i) (sym (live-joined ts cs agree)) ∙ h
 
-pub try_done : (ts : List declared.Thread) (cs ds : List ThreadClock) (lock : DetLock) (objects : List DetLock) (table : Stored) (rows : List HistoryRow) (i : ℕ) (call : Call) (x v : declared.Thread) (l : DetLock) (later : Stored) (rows_now : List HistoryRow) (r : Result Bool AllocError)
-    → Item ts cs i x v ds → Agree ts cs → has_turn (live_clocks cs) i ≡ true → x.phase ≡ phase.WantsTable call
-    → IfOk r (λ made. Tries made i (parts (timed x (clock_at cs i)) lock table rows) (parts (timed v (clock_at ds i)) l later rows_now))
-    → IfOk r (λ made. Attempts made i (whole ts cs lock objects table rows) (whole (set ts i v) ds l objects later rows_now))
-try_done ts cs ds lock objects table rows i call x v l later rows_now r h agree turn is tried =
-    let w = whole ts cs lock objects table rows in
+pub try_done : (patience : ℕ) (ts : List declared.Thread) (cs ds : List ThreadClock) (lock : DetLock) (objects : List DetLock) (table : Stored) (rows : List HistoryRow) (i : ℕ) (call : Call) (turns : ℕ) (x v : declared.Thread) (l : DetLock) (later : Stored) (rows_now : List HistoryRow) (r : Result Bool AllocError)
+    → Item ts cs i x v ds → Agree ts cs → has_turn (live_clocks cs) i ≡ true → x.phase ≡ phase.WantsTable call turns
+    → IfOk r (λ made. Tries patience made i (parts (timed x (clock_at cs i)) lock table rows) (parts (timed v (clock_at ds i)) l later rows_now))
+    → IfOk r (λ made. Attempts made i (whole patience ts cs lock objects table rows) (whole patience (set ts i v) ds l objects later rows_now))
+try_done patience ts cs ds lock objects table rows i call turns x v l later rows_now r h agree turn is tried =
+    let w = whole patience ts cs lock objects table rows in
     let new = parts (timed v (clock_at ds i)) l later rows_now in
-    let P : Bool → Type 0 = λ made. Tries made i (parts (timed x (clock_at cs i)) lock table rows) new in
-    let Q : Bool → Type 0 = λ made. Attempts made i w (whole (set ts i v) ds l objects later rows_now) in
+    let P : Bool → Type 0 = λ made. Tries patience made i (parts (timed x (clock_at cs i)) lock table rows) new in
+    let Q : Bool → Type 0 = λ made. Attempts made i w (whole patience (set ts i v) ds l objects later rows_now) in
     if_ok r P Q (λ made a.
-    let R : Thread → Type 0 = λ t. Tries made i (parts t lock table rows) new in
-    let T : List Thread → Type 0 = λ ts. Attempts made i w (record { threads = ts; lock = l; objects = objects; table = later; rows = rows_now }) in
+    let R : Thread → Type 0 = λ t. Tries patience made i (parts t lock table rows) new in
+    let T : List Thread → Type 0 = λ ts. Attempts made i w (record { patience = patience; threads = ts; lock = l; objects = objects; table = later; rows = rows_now }) in
     subst T (sym (joined-kept ts cs ds i x v h.clocked h.kept))
-    (table_event w i call made (timed v (clock_at ds i)) l later rows_now (joined_inside ts cs i h.inside) (turn_shown ts cs i true agree turn) (item_phase ts cs i x (phase.WantsTable call) h.inside h.item is)
+    (table_event w i call turns made (timed v (clock_at ds i)) l later rows_now (joined_inside ts cs i h.inside) (turn_shown ts cs i true agree turn) (item_phase ts cs i x (phase.WantsTable call turns) h.inside h.item is)
     (subst R (sym (item_thread ts cs i x h.inside h.item)) a))) tried
 
-pub try_lowers : (ts : List declared.Thread) (cs ds : List ThreadClock) (lock : DetLock) (table : Stored) (rows : List HistoryRow) (i : ℕ) (x v : declared.Thread) (l : DetLock) (later : Stored) (rows_now : List HistoryRow) (r : Result Bool AllocError)
+pub try_lowers : (patience : ℕ) (ts : List declared.Thread) (cs ds : List ThreadClock) (lock : DetLock) (table : Stored) (rows : List HistoryRow) (i : ℕ) (x v : declared.Thread) (l : DetLock) (later : Stored) (rows_now : List HistoryRow) (r : Result Bool AllocError)
     → Item ts cs i x v ds
-    → IfOk r (λ made. Tries made i (parts (timed x (clock_at cs i)) lock table rows) (parts (timed v (clock_at ds i)) l later rows_now))
+    → IfOk r (λ made. Tries patience made i (parts (timed x (clock_at cs i)) lock table rows) (parts (timed v (clock_at ds i)) l later rows_now))
     → IfOk r (λ made. Falls made (joined ts cs) (joined (set ts i v) ds))
-try_lowers ts cs ds lock table rows i x v l later rows_now r h tried =
+try_lowers patience ts cs ds lock table rows i x v l later rows_now r h tried =
     let old = parts (timed x (clock_at cs i)) lock table rows in
     let new = parts (timed v (clock_at ds i)) l later rows_now in
-    let P : Bool → Type 0 = λ made. Tries made i old new in
+    let P : Bool → Type 0 = λ made. Tries patience made i old new in
     let Q : Bool → Type 0 = λ made. Falls made (joined ts cs) (joined (set ts i v) ds) in
     if_ok r P Q (λ made a. total_item ts cs ds i made x v h
-    (λ yes_it. let R : Bool → Type 0 = λ b. Tries b i old new in try_falls i old new (subst R yes_it a))
-    (λ not_it. let R : Bool → Type 0 = λ b. Tries b i old new in try_stays i old new (subst R not_it a))) tried
+    (λ yes_it. let R : Bool → Type 0 = λ b. Tries patience b i old new in try_falls patience i old new (subst R yes_it a))
+    (λ not_it. let R : Bool → Type 0 = λ b. Tries patience b i old new in try_stays patience i old new (subst R not_it a))) tried
 
 abbrev WantsPhase : Phase → ℕ → Type 0
-WantsPhase p n = (call : Call) × (clock : ℕ) × (p ≡ phase.WantsObject call clock n)
+WantsPhase p n = (call : Call) × (turns : ℕ) × (clock : ℕ) × (p ≡ phase.WantsObject call turns clock n)
 
 pub wants_phase : (p : Phase) (n : ℕ) → WantsIn p n → WantsPhase p n
 wants_phase phase.Working n h = absurd h
-wants_phase (phase.WantsTable call) n h = absurd h
-wants_phase (phase.WantsObject call clock object) n h = (call, clock, ap (phase.WantsObject call clock) h)
-wants_phase (phase.Granted place object) n h = absurd h
+wants_phase (phase.WantsTable call turns) n h = absurd h
+wants_phase (phase.WantsObject call turns clock object) n h = (call, turns, clock, ap (phase.WantsObject call turns clock) h)
+wants_phase (phase.Granted place object blocked) n h = absurd h
+wants_phase (phase.Blocked call turns) n h = absurd h
 wants_phase phase.Stuck n h = absurd h
 wants_phase phase.Ended n h = absurd h
 
-pub reach_done : (ts : List declared.Thread) (cs ds : List ThreadClock) (lock : DetLock) (objects : List DetLock) (table : Stored) (rows : List HistoryRow) (i n : ℕ) (x v : declared.Thread) (l before own : DetLock) (later : Stored) (rows_now : List HistoryRow) (r : Result Bool AllocError)
+pub reach_done : (patience : ℕ) (ts : List declared.Thread) (cs ds : List ThreadClock) (lock : DetLock) (objects : List DetLock) (table : Stored) (rows : List HistoryRow) (i n : ℕ) (x v : declared.Thread) (l before own : DetLock) (later : Stored) (rows_now : List HistoryRow) (r : Result Bool AllocError)
     → Item ts cs i x v ds → Agree ts cs → has_turn (live_clocks cs) i ≡ true → WantsIn x.phase n → before ≡ get_or objects n new_lock
-    → IfOk r (λ made. Reaches made i before own (parts (timed x (clock_at cs i)) lock table rows) (parts (timed v (clock_at ds i)) l later rows_now))
-    → IfOk r (λ made. Attempts made i (whole ts cs lock objects table rows) (whole (set ts i v) ds l (set objects n own) later rows_now))
-reach_done ts cs ds lock objects table rows i n x v l before own later rows_now r h agree turn wanting before_is tried =
-    let w = whole ts cs lock objects table rows in
+    → IfOk r (λ made. Reaches patience made i before own (parts (timed x (clock_at cs i)) lock table rows) (parts (timed v (clock_at ds i)) l later rows_now))
+    → IfOk r (λ made. Attempts made i (whole patience ts cs lock objects table rows) (whole patience (set ts i v) ds l (set objects n own) later rows_now))
+reach_done patience ts cs ds lock objects table rows i n x v l before own later rows_now r h agree turn wanting before_is tried =
+    let w = whole patience ts cs lock objects table rows in
     let new = parts (timed v (clock_at ds i)) l later rows_now in
     let found = wants_phase x.phase n wanting in
-    let P : Bool → Type 0 = λ made. Reaches made i before own (parts (timed x (clock_at cs i)) lock table rows) new in
-    let Q : Bool → Type 0 = λ made. Attempts made i w (whole (set ts i v) ds l (set objects n own) later rows_now) in
+    let P : Bool → Type 0 = λ made. Reaches patience made i before own (parts (timed x (clock_at cs i)) lock table rows) new in
+    let Q : Bool → Type 0 = λ made. Attempts made i w (whole patience (set ts i v) ds l (set objects n own) later rows_now) in
     if_ok r P Q (λ made a.
-    let R : Thread → Type 0 = λ t. Reaches made i (get_or objects n new_lock) own (parts t lock table rows) new in
-    let T : List Thread → Type 0 = λ ts. Attempts made i w (record { threads = ts; lock = l; objects = set objects n own; table = later; rows = rows_now }) in
+    let R : Thread → Type 0 = λ t. Reaches patience made i (get_or objects n new_lock) own (parts t lock table rows) new in
+    let T : List Thread → Type 0 = λ ts. Attempts made i w (record { patience = patience; threads = ts; lock = l; objects = set objects n own; table = later; rows = rows_now }) in
     subst T (sym (joined-kept ts cs ds i x v h.clocked h.kept))
-    (object_event w i n found.1 found.0 made own (timed v (clock_at ds i)) l later rows_now (joined_inside ts cs i h.inside) (turn_shown ts cs i true agree turn) (item_phase ts cs i x (phase.WantsObject found.0 found.1 n) h.inside h.item found.2)
-    (subst R (sym (item_thread ts cs i x h.inside h.item)) (subst (λ (k : DetLock). Reaches made i k own (parts (timed x (clock_at cs i)) lock table rows) new) before_is a)))) tried
+    (object_event w i n found.2 found.0 found.1 made own (timed v (clock_at ds i)) l later rows_now (joined_inside ts cs i h.inside) (turn_shown ts cs i true agree turn) (item_phase ts cs i x (phase.WantsObject found.0 found.1 found.2 n) h.inside h.item found.3)
+    (subst R (sym (item_thread ts cs i x h.inside h.item)) (subst (λ (k : DetLock). Reaches patience made i k own (parts (timed x (clock_at cs i)) lock table rows) new) before_is a)))) tried
 
-pub reach_lowers : (ts : List declared.Thread) (cs ds : List ThreadClock) (lock : DetLock) (table : Stored) (rows : List HistoryRow) (i : ℕ) (x v : declared.Thread) (l before own : DetLock) (later : Stored) (rows_now : List HistoryRow) (r : Result Bool AllocError)
+pub reach_lowers : (patience : ℕ) (ts : List declared.Thread) (cs ds : List ThreadClock) (lock : DetLock) (table : Stored) (rows : List HistoryRow) (i : ℕ) (x v : declared.Thread) (l before own : DetLock) (later : Stored) (rows_now : List HistoryRow) (r : Result Bool AllocError)
     → Item ts cs i x v ds
-    → IfOk r (λ made. Reaches made i before own (parts (timed x (clock_at cs i)) lock table rows) (parts (timed v (clock_at ds i)) l later rows_now))
+    → IfOk r (λ made. Reaches patience made i before own (parts (timed x (clock_at cs i)) lock table rows) (parts (timed v (clock_at ds i)) l later rows_now))
     → IfOk r (λ made. Falls made (joined ts cs) (joined (set ts i v) ds))
-reach_lowers ts cs ds lock table rows i x v l before own later rows_now r h tried =
+reach_lowers patience ts cs ds lock table rows i x v l before own later rows_now r h tried =
     let old = parts (timed x (clock_at cs i)) lock table rows in
     let new = parts (timed v (clock_at ds i)) l later rows_now in
-    let P : Bool → Type 0 = λ made. Reaches made i before own old new in
+    let P : Bool → Type 0 = λ made. Reaches patience made i before own old new in
     let Q : Bool → Type 0 = λ made. Falls made (joined ts cs) (joined (set ts i v) ds) in
     if_ok r P Q (λ made a. total_item ts cs ds i made x v h
-    (λ yes_it. let R : Bool → Type 0 = λ b. Reaches b i before own old new in reach_falls i before own old new (subst R yes_it a))
-    (λ not_it. let R : Bool → Type 0 = λ b. Reaches b i before own old new in reach_stays i before own old new (subst R not_it a))) tried
+    (λ yes_it. let R : Bool → Type 0 = λ b. Reaches patience b i before own old new in reach_falls patience i before own old new (subst R yes_it a))
+    (λ not_it. let R : Bool → Type 0 = λ b. Reaches patience b i before own old new in reach_stays patience i before own old new (subst R not_it a))) tried
 
 -- ## Where nothing is done
 
-waiting : (p : Phase) → (p ≡ phase.Working → ⊥) → ((place : ℕ) (object : Option ℕ) → p ≡ phase.Granted place object → ⊥) → Waits p
-waiting phase.Working works grants = works refl
-waiting (phase.WantsTable call) works grants = tt
-waiting (phase.WantsObject call clock object) works grants = tt
-waiting (phase.Granted place object) works grants = grants place object refl
-waiting phase.Stuck works grants = tt
-waiting phase.Ended works grants = tt
+waiting : (p : Phase) → (p ≡ phase.Working → ⊥) → ((place : ℕ) (object blocked : Option ℕ) → p ≡ phase.Granted place object blocked → ⊥) → ((call : Call) (turns : ℕ) → p ≡ phase.Blocked call turns → ⊥) → Waits p
+waiting phase.Working works grants blocks = works refl
+waiting (phase.WantsTable call turns) works grants blocks = tt
+waiting (phase.WantsObject call turns clock object) works grants blocks = tt
+waiting (phase.Granted place object blocked) works grants blocks = grants place object blocked refl
+waiting (phase.Blocked call turns) works grants blocks = blocks call turns refl
+waiting phase.Stuck works grants blocks = tt
+waiting phase.Ended works grants blocks = tt
 
-pub wait_done : (ts : List declared.Thread) (cs : List ThreadClock) (lock : DetLock) (objects : List DetLock) (table : Stored) (rows : List HistoryRow) (i : ℕ) (x : declared.Thread) → i < length ts → x ≡ get_or ts i x → (x.phase ≡ phase.Working → ⊥) → ((place : ℕ) (object : Option ℕ) → x.phase ≡ phase.Granted place object → ⊥)
-    → Advances false i (whole ts cs lock objects table rows) (whole ts cs lock objects table rows)
-wait_done ts cs lock objects table rows i x inside at works grants =
-    let w = whole ts cs lock objects table rows in
-    wait_event w i (joined_inside ts cs i inside) (subst Waits (sym (item_phase ts cs i x x.phase inside (item_is ts i x no_item inside at) refl)) (waiting x.phase works grants))
+pub wait_done : (patience : ℕ) (ts : List declared.Thread) (cs : List ThreadClock) (lock : DetLock) (objects : List DetLock) (table : Stored) (rows : List HistoryRow) (i : ℕ) (x : declared.Thread) → i < length ts → x ≡ get_or ts i x → (x.phase ≡ phase.Working → ⊥) → ((place : ℕ) (object blocked : Option ℕ) → x.phase ≡ phase.Granted place object blocked → ⊥) → ((call : Call) (turns : ℕ) → x.phase ≡ phase.Blocked call turns → ⊥)
+    → Advances false i (whole patience ts cs lock objects table rows) (whole patience ts cs lock objects table rows)
+wait_done patience ts cs lock objects table rows i x inside at works grants blocks =
+    let w = whole patience ts cs lock objects table rows in
+    wait_event w i (joined_inside ts cs i inside) (subst Waits (sym (item_phase ts cs i x x.phase inside (item_is ts i x no_item inside at) refl)) (waiting x.phase works grants blocks))
 
-idling : (p : Phase) → ((call : Call) → p ≡ phase.WantsTable call → ⊥) → ((call : Call) (clock object : ℕ) → p ≡ phase.WantsObject call clock object → ⊥) → Idles p
+idling : (p : Phase) → ((call : Call) (turns : ℕ) → p ≡ phase.WantsTable call turns → ⊥) → ((call : Call) (turns clock object : ℕ) → p ≡ phase.WantsObject call turns clock object → ⊥) → Idles p
 idling phase.Working tables objects = tt
-idling (phase.WantsTable call) tables objects = tables call refl
-idling (phase.WantsObject call clock object) tables objects = objects call clock object refl
-idling (phase.Granted place object) tables objects = tt
+idling (phase.WantsTable call turns) tables objects = tables call turns refl
+idling (phase.WantsObject call turns clock object) tables objects = objects call turns clock object refl
+idling (phase.Granted place object blocked) tables objects = tt
+idling (phase.Blocked call turns) tables objects = tt
 idling phase.Stuck tables objects = tt
 idling phase.Ended tables objects = tt
 
-pub idle_done : (ts : List declared.Thread) (cs : List ThreadClock) (lock : DetLock) (objects : List DetLock) (table : Stored) (rows : List HistoryRow) (i : ℕ) (x : declared.Thread) → i < length ts → x ≡ get_or ts i x
-    → ((call : Call) → x.phase ≡ phase.WantsTable call → ⊥) → ((call : Call) (clock object : ℕ) → x.phase ≡ phase.WantsObject call clock object → ⊥)
-    → Attempts false i (whole ts cs lock objects table rows) (whole ts cs lock objects table rows)
-idle_done ts cs lock objects table rows i x inside at no_table no_object =
-    let w = whole ts cs lock objects table rows in
+pub idle_done : (patience : ℕ) (ts : List declared.Thread) (cs : List ThreadClock) (lock : DetLock) (objects : List DetLock) (table : Stored) (rows : List HistoryRow) (i : ℕ) (x : declared.Thread) → i < length ts → x ≡ get_or ts i x
+    → ((call : Call) (turns : ℕ) → x.phase ≡ phase.WantsTable call turns → ⊥) → ((call : Call) (turns clock object : ℕ) → x.phase ≡ phase.WantsObject call turns clock object → ⊥)
+    → Attempts false i (whole patience ts cs lock objects table rows) (whole patience ts cs lock objects table rows)
+idle_done patience ts cs lock objects table rows i x inside at no_table no_object =
+    let w = whole patience ts cs lock objects table rows in
     idle_event w i (subst Idles (sym (item_phase ts cs i x x.phase inside (item_is ts i x no_item inside at) refl)) (idling x.phase no_table no_object))
 
 -- the item that is changed is the one that was looked at
@@ -347,21 +380,21 @@ pub wants_at : (ts : List declared.Thread) (i n : ℕ) (x : declared.Thread) →
 wants_at ts i n x inside at h = let P : declared.Thread → Type 0 = λ t. WantsIn t.phase n in subst P (item_is ts i x no_item inside at) h
 
 -- a call past the last number of objects
-pub answer_none : (ts : List declared.Thread) (cs : List ThreadClock) (lock : DetLock) (objects : List DetLock) (table : Stored) (rows : List HistoryRow) (i place n : ℕ) → i < length ts → (let t : declared.Thread = item_at ts i in t.phase) ≡ phase.Granted place (Some n) → length objects ≤ n
-    → Advances false i (whole ts cs lock objects table rows) (whole ts cs lock objects table rows)
-answer_none ts cs lock objects table rows i place n inside is past =
-    answer_past (whole ts cs lock objects table rows) i place n (item_phase ts cs i (item_at ts i) (phase.Granted place (Some n)) inside refl is) past
+pub answer_none : (patience : ℕ) (ts : List declared.Thread) (cs : List ThreadClock) (lock : DetLock) (objects : List DetLock) (table : Stored) (rows : List HistoryRow) (i place n : ℕ) (blocked : Option ℕ) → i < length ts → (let t : declared.Thread = item_at ts i in t.phase) ≡ phase.Granted place (Some n) blocked → length objects ≤ n
+    → Advances false i (whole patience ts cs lock objects table rows) (whole patience ts cs lock objects table rows)
+answer_none patience ts cs lock objects table rows i place n blocked inside is past =
+    answer_past (whole patience ts cs lock objects table rows) i place n blocked (item_phase ts cs i (item_at ts i) (phase.Granted place (Some n) blocked) inside refl is) past
 
-pub reach_none : (ts : List declared.Thread) (cs : List ThreadClock) (lock : DetLock) (objects : List DetLock) (table : Stored) (rows : List HistoryRow) (i n : ℕ) → i < length ts → (let t : declared.Thread = item_at ts i in WantsIn t.phase n) → length objects ≤ n
-    → Attempts false i (whole ts cs lock objects table rows) (whole ts cs lock objects table rows)
-reach_none ts cs lock objects table rows i n inside wanting past =
+pub reach_none : (patience : ℕ) (ts : List declared.Thread) (cs : List ThreadClock) (lock : DetLock) (objects : List DetLock) (table : Stored) (rows : List HistoryRow) (i n : ℕ) → i < length ts → (let t : declared.Thread = item_at ts i in WantsIn t.phase n) → length objects ≤ n
+    → Attempts false i (whole patience ts cs lock objects table rows) (whole patience ts cs lock objects table rows)
+reach_none patience ts cs lock objects table rows i n inside wanting past =
     let x = item_at ts i in
     let found = wants_phase x.phase n wanting in
-    object_past (whole ts cs lock objects table rows) i n found.1 found.0 (item_phase ts cs i x (phase.WantsObject found.0 found.1 n) inside refl found.2) past
+    object_past (whole patience ts cs lock objects table rows) i n found.2 found.0 found.1 (item_phase ts cs i x (phase.WantsObject found.0 found.1 found.2 n) inside refl found.3) past
 
-pub no_turn : (ts : List declared.Thread) (cs : List ThreadClock) (lock : DetLock) (objects : List DetLock) (table : Stored) (rows : List HistoryRow) (i : ℕ) → Agree ts cs → has_turn (live_clocks cs) i ≡ false
-    → Attempts false i (whole ts cs lock objects table rows) (whole ts cs lock objects table rows)
-no_turn ts cs lock objects table rows i agree late = no_attempt_event (whole ts cs lock objects table rows) i (turn_shown ts cs i false agree late)
+pub no_turn : (patience : ℕ) (ts : List declared.Thread) (cs : List ThreadClock) (lock : DetLock) (objects : List DetLock) (table : Stored) (rows : List HistoryRow) (i : ℕ) → Agree ts cs → has_turn (live_clocks cs) i ≡ false
+    → Attempts false i (whole patience ts cs lock objects table rows) (whole patience ts cs lock objects table rows)
+no_turn patience ts cs lock objects table rows i agree late = no_attempt_event (whole patience ts cs lock objects table rows) i (turn_shown ts cs i false agree late)
 
 -- a call is asked: its clock stands still
 pub asked_want : (r : Result Bool AllocError) (clock : ℕ) (call : Call) (state : ScriptState) (old mid new : declared.Thread) → step.Call call ≡ (let o : declared.Thread = old in (next_of o.last o.actor).0) → state ≡ (let o : declared.Thread = old in (next_of o.last o.actor).1) → mid ≡ record old { actor = state }

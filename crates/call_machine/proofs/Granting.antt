@@ -3,7 +3,7 @@ use Rattle.std.proofs.Common.{◌≡◌, ℕ, ◌+◌, Option, Some, None, Bool,
 use Rattle.std.proofs.lemmas.Option.{none-some, same_Some}
 use Rattle.std.specs.Prelude.{IfOk, Result, Ok, Err}
 use Rattle.std.specs.declared.alloc.AllocError.{AllocError}
-use Rattle.call_machine.specs.Store.{number_locked}
+use Rattle.object_store.specs.Store.{number_locked}
 use Rattle.posix_terms.specs.declared.call.Call.{Call}
 use Rattle.posix_terms.specs.declared.transcript.Turn.{Turn}
 use Rattle.det_mutex.specs.Attempt.{freed, held, takes}
@@ -14,49 +14,49 @@ use Rattle.call_machine.specs.declared.thread.Phase.TheVariants as phase
 
 -- ## Whatever the phase of the thread was
 
-regranted : (turn : Turn) (call : Call) (object : Option ℕ) (p : Phase) (old new : Parts) → Grants turn call object (record old { thread = record old.thread { phase = p } }) new → Grants turn call object old new
-regranted turn call object p old new g = record { replies = g.replies; thread = g.thread; lock = g.lock; rows = g.rows }
+regranted : (patience : ℕ) (turn : Turn) (call : Call) (turns : ℕ) (object : Option ℕ) (p : Phase) (old new : Parts) → Grants patience turn call turns object (record old { thread = record old.thread { phase = p } }) new → Grants patience turn call turns object old new
+regranted patience turn call turns object p old new g = record { ends = g.ends; makes = g.makes; thread = g.thread; lock = g.lock; rows = g.rows }
 
-replanned : (o : Option ℕ) (turn : Turn) (call : Call) (p : Phase) (old new : Parts) → PlansTo o turn call (record old { thread = record old.thread { phase = p } }) new → PlansTo o turn call old new
-replanned None turn call p old new g = regranted turn call None p old new g
-replanned (Some object) turn call p old new g = g
+replanned : (patience : ℕ) (o : Option ℕ) (turn : Turn) (call : Call) (turns : ℕ) (p : Phase) (old new : Parts) → PlansTo patience o turn call turns (record old { thread = record old.thread { phase = p } }) new → PlansTo patience o turn call turns old new
+replanned patience None turn call turns p old new g = regranted patience turn call turns None p old new g
+replanned patience (Some object) turn call turns p old new g = g
 
 -- ## Put together
 
-pub planned_none : (r : Result (Unit {0}) AllocError) (o : Option ℕ) (turn : Turn) (call : Call) (old new : ℕ → Parts) → o ≡ None → IfOk r (λ _. (clock : ℕ) → Grants turn call None (old clock) (new clock)) → IfOk r (λ _. (clock : ℕ) → PlansTo o turn call (old clock) (new clock))
-planned_none (Ok u) o turn call old new none h = λ clock. let P : Option ℕ → Type 0 = λ x. PlansTo x turn call (old clock) (new clock) in subst P (sym none) (h clock)
-planned_none (Err e) o turn call old new none h = tt
+pub planned_none : (patience : ℕ) (r : Result (Unit {0}) AllocError) (o : Option ℕ) (turn : Turn) (call : Call) (turns : ℕ) (old new : ℕ → Parts) → o ≡ None → IfOk r (λ _. (clock : ℕ) → Grants patience turn call turns None (old clock) (new clock)) → IfOk r (λ _. (clock : ℕ) → PlansTo patience o turn call turns (old clock) (new clock))
+planned_none patience (Ok u) o turn call turns old new none h = λ clock. let P : Option ℕ → Type 0 = λ x. PlansTo patience x turn call turns (old clock) (new clock) in subst P (sym none) (h clock)
+planned_none patience (Err e) o turn call turns old new none h = tt
 
-pub tried_planned : (i now : ℕ) (call : Call) (p : Phase) (turn : Turn) (lock : DetLock) (old new : Parts) → old.thread.phase ≡ phase.WantsTable call → in_time old 1 ≡ true → takes old.lock old.thread.clock ≡ true
+pub tried_planned : (patience i now : ℕ) (call : Call) (turns : ℕ) (p : Phase) (turn : Turn) (lock : DetLock) (old new : Parts) → old.thread.phase ≡ phase.WantsTable call turns → in_time old 1 ≡ true → takes old.lock old.thread.clock ≡ true
     → now ≡ old.thread.clock + 1 → turn ≡ record { clock = old.thread.clock; thread = i } → lock ≡ held i old.lock
-    → PlansTo (number_locked old.table call) turn call (parts (record old.thread { phase = p; clock = now }) lock old.table old.rows) new → Tries true i old new
-tried_planned i now call p turn lock old new is room free clock turn_is held_is h =
-    let P : ℕ → Type 0 = λ n. PlansTo (number_locked old.table call) turn call (parts (record old.thread { phase = p; clock = n }) lock old.table old.rows) new in
-    let Q : Turn → Type 0 = λ t. PlansTo (number_locked old.table call) t call (parts (record old.thread { phase = p; clock = old.thread.clock + 1 }) lock old.table old.rows) new in
-    let R : DetLock → Type 0 = λ l. PlansTo (number_locked old.table call) (record { clock = old.thread.clock; thread = i }) call (parts (record old.thread { phase = p; clock = old.thread.clock + 1 }) l old.table old.rows) new in
-    let plans = replanned (number_locked old.table call) (record { clock = old.thread.clock; thread = i }) call p (record (later old 1) { lock = held i old.lock }) new (subst R held_is (subst Q turn_is (subst P clock h))) in
-    let F : Bool → Type 0 = λ b. TriesLock b i call old new in
-    let T : Bool → Type 0 = λ b. TriesInTime b true i call old new in
-    let U : Phase → Type 0 = λ q. TriesIn q true i old new in
+    → PlansTo patience (number_locked old.table call) turn call turns (parts (record old.thread { phase = p; clock = now }) lock old.table old.rows) new → Tries patience true i old new
+tried_planned patience i now call turns p turn lock old new is room free clock turn_is held_is h =
+    let P : ℕ → Type 0 = λ n. PlansTo patience (number_locked old.table call) turn call turns (parts (record old.thread { phase = p; clock = n }) lock old.table old.rows) new in
+    let Q : Turn → Type 0 = λ t. PlansTo patience (number_locked old.table call) t call turns (parts (record old.thread { phase = p; clock = old.thread.clock + 1 }) lock old.table old.rows) new in
+    let R : DetLock → Type 0 = λ l. PlansTo patience (number_locked old.table call) (record { clock = old.thread.clock; thread = i }) call turns (parts (record old.thread { phase = p; clock = old.thread.clock + 1 }) l old.table old.rows) new in
+    let plans = replanned patience (number_locked old.table call) (record { clock = old.thread.clock; thread = i }) call turns p (record (later old 1) { lock = held i old.lock }) new (subst R held_is (subst Q turn_is (subst P clock h))) in
+    let F : Bool → Type 0 = λ b. TriesLock patience b i call turns old new in
+    let T : Bool → Type 0 = λ b. TriesInTime patience b true i call turns old new in
+    let U : Phase → Type 0 = λ q. TriesIn patience q true i old new in
     subst U (sym is) (subst T (sym room) (refl, subst F (sym free) plans))
 
-pub granted_object : (r : Result (Unit {0}) AllocError) (q p : Phase) (i : ℕ) (call : Call) (clock object : ℕ) (old new : ℕ → Parts) → q ≡ phase.WantsObject call clock object
-    → IfOk r (λ _. (now : ℕ) → Grants (record { clock = clock; thread = i }) call (Some object) (record (old now) { thread = record (old now).thread { phase = p } }) (new now)) → IfOk r (λ _. (now : ℕ) → GrantsObject q i (old now) (new now))
-granted_object (Ok u) q p i call clock object old new is h =
-    λ now. let U : Phase → Type 0 = λ x. GrantsObject x i (old now) (new now) in subst U (sym is) (regranted (record { clock = clock; thread = i }) call (Some object) p (old now) (new now) (h now))
-granted_object (Err e) q p i call clock object old new is h = tt
+pub granted_object : (patience : ℕ) (r : Result (Unit {0}) AllocError) (q p : Phase) (i : ℕ) (call : Call) (turns clock object : ℕ) (old new : ℕ → Parts) → q ≡ phase.WantsObject call turns clock object
+    → IfOk r (λ _. (now : ℕ) → Grants patience (record { clock = clock; thread = i }) call turns (Some object) (record (old now) { thread = record (old now).thread { phase = p } }) (new now)) → IfOk r (λ _. (now : ℕ) → GrantsObject patience q i (old now) (new now))
+granted_object patience (Ok u) q p i call turns clock object old new is h =
+    λ now. let U : Phase → Type 0 = λ x. GrantsObject patience x i (old now) (new now) in subst U (sym is) (regranted patience (record { clock = clock; thread = i }) call turns (Some object) p (old now) (new now) (h now))
+granted_object patience (Err e) q p i call turns clock object old new is h = tt
 
-pub reached_granted : (i now : ℕ) (call : Call) (clock object : ℕ) (lock own later_own : DetLock) (old new : Parts) → old.thread.phase ≡ phase.WantsObject call clock object → takes_object i own old ≡ true → in_time old 2 ≡ true
+pub reached_granted : (patience i now : ℕ) (call : Call) (turns clock object : ℕ) (lock own later_own : DetLock) (old new : Parts) → old.thread.phase ≡ phase.WantsObject call turns clock object → takes_object i own old ≡ true → in_time old 2 ≡ true
     → now ≡ old.thread.clock + 2 → lock ≡ freed (old.thread.clock + 1) → later_own ≡ held i own
-    → GrantsObject old.thread.phase i (parts (record old.thread { clock = now }) lock old.table old.rows) new → Reaches true i own later_own old new
-reached_granted i now call clock object lock own later_own old new is taken room clock_is freed_is held_is h =
-    let W : Phase → Type 0 = λ q. GrantsObject q i (parts (record old.thread { clock = now }) lock old.table old.rows) new in
-    let P : ℕ → Type 0 = λ n. Grants (record { clock = clock; thread = i }) call (Some object) (parts (record old.thread { clock = n }) lock old.table old.rows) new in
-    let R : DetLock → Type 0 = λ l. Grants (record { clock = clock; thread = i }) call (Some object) (parts (record old.thread { clock = old.thread.clock + 2 }) l old.table old.rows) new in
+    → GrantsObject patience old.thread.phase i (parts (record old.thread { clock = now }) lock old.table old.rows) new → Reaches patience true i own later_own old new
+reached_granted patience i now call turns clock object lock own later_own old new is taken room clock_is freed_is held_is h =
+    let W : Phase → Type 0 = λ q. GrantsObject patience q i (parts (record old.thread { clock = now }) lock old.table old.rows) new in
+    let P : ℕ → Type 0 = λ n. Grants patience (record { clock = clock; thread = i }) call turns (Some object) (parts (record old.thread { clock = n }) lock old.table old.rows) new in
+    let R : DetLock → Type 0 = λ l. Grants patience (record { clock = clock; thread = i }) call turns (Some object) (parts (record old.thread { clock = old.thread.clock + 2 }) l old.table old.rows) new in
     let grants = subst R freed_is (subst P clock_is (subst W is h)) in
-    let T : Bool → Type 0 = λ b. ObjectInTime b true true i (record { clock = clock; thread = i }) call object own later_own old new in
-    let F : Bool → Type 0 = λ b. ObjectInTime (in_time old (object_cost b)) b true i (record { clock = clock; thread = i }) call object own later_own old new in
-    let U : Phase → Type 0 = λ q. ReachesIn q true i own later_own old new in
+    let T : Bool → Type 0 = λ b. ObjectInTime patience b true true i (record { clock = clock; thread = i }) call turns object own later_own old new in
+    let F : Bool → Type 0 = λ b. ObjectInTime patience (in_time old (object_cost b)) b true i (record { clock = clock; thread = i }) call turns object own later_own old new in
+    let U : Phase → Type 0 = λ q. ReachesIn patience q true i own later_own old new in
     subst U (sym is) (subst F (sym taken) (subst T (sym room) (refl, (held_is, grants))))
 
 pub taken_some : (b : Bool) (i : ℕ) (object taken : DetLock) → object_taken b i object ≡ Some taken → (b ≡ true) × (taken ≡ held i object)

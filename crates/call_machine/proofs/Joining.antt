@@ -43,9 +43,10 @@ agree_parts b c t h = ap (λ (b : Bool). let o : Option ℕ = if b then Some c.c
   where
     by_phase : (p : Phase) (n : ℕ) → (let o : Option ℕ = if is_live p then Some n else None in o) ≡ live_in p n
     by_phase phase.Working n = refl
-    by_phase (phase.WantsTable call) n = refl
-    by_phase (phase.WantsObject call clock object) n = refl
-    by_phase (phase.Granted place object) n = refl
+    by_phase (phase.WantsTable call turns) n = refl
+    by_phase (phase.WantsObject call turns clock object) n = refl
+    by_phase (phase.Granted place object blocked) n = refl
+    by_phase (phase.Blocked call turns) n = refl
     by_phase phase.Stuck n = refl
     by_phase phase.Ended n = refl
 

@@ -1,10 +1,3 @@
-pub mod Numbering
-pub mod Shapes
-pub mod Stepping
-pub mod Doing
-pub mod Making
-pub mod Standing
-pub mod Lists
 pub mod ClockLemmas
 pub mod Joining
 pub mod ShownThreads

@@ -15,13 +15,13 @@ use Rattle.lock_model.specs.Terms.{World}
 use Rattle.lock_model.proofs.Commute.{advance_move, lock_mine, lock_other, row_closed, row_open, row_other, world_mine, world_other}
 use Rattle.call_machine.specs.Setup.{Inputs, setup_of}
 use Rattle.lock_model.specs.Rows.{shown}
-use Rattle.call_machine.specs.Store.{Stands}
+use Rattle.object_store.specs.Store.{Stands}
 use Rattle.call_machine.specs.Shows.{IsGranted, PhaseShows, Shows, ThreadShows, Whole}
 use Rattle.call_machine.specs.Views.{no_thread}
 use Rattle.call_machine.specs.Threads.{Thread}
 use Rattle.call_machine.specs.declared.thread.Phase.{Phase}
 use Rattle.call_machine.specs.declared.thread.Phase.TheVariants as phase
-use Rattle.call_machine.proofs.Lists.{set_same}
+use Rattle.object_store.proofs.Lists.{set_same}
 
 -- ## Other rows
 
@@ -31,10 +31,11 @@ KeepsRows k rows more = (place : ℕ) (job : Job) → job.turn.thread ≡ k → 
 
 phase_rows : (input : Inputs) (k : ℕ) (rows more : List Row) (t : Thread) (u : lock.Thread) (p : Phase) → KeepsRows k rows more → PhaseShows input k rows t u p → PhaseShows input k more t u p
 phase_rows input k rows more t u phase.Working keeps h = h
-phase_rows input k rows more t u (phase.WantsTable call) keeps h = h
-phase_rows input k rows more t u (phase.WantsObject call clock object) keeps h = h
-phase_rows input k rows more t u (phase.Granted place object) keeps (job, h) =
-    let g : IsGranted input k rows place object t.last job = h.2 in (job, (h.0, h.1, record { plan = g.plan; in_range = g.in_range; thread = g.thread; reply = g.reply; waits = g.waits; answers = g.answers; row = keeps place job g.thread g.row }))
+phase_rows input k rows more t u (phase.WantsTable call turns) keeps h = h
+phase_rows input k rows more t u (phase.WantsObject call turns clock object) keeps h = h
+phase_rows input k rows more t u (phase.Granted place object blocked) keeps (job, h) =
+    let g : IsGranted input k rows place object blocked t.last job = h.2 in (job, (h.0, h.1, record { plan = g.plan; in_range = g.in_range; thread = g.thread; ends = g.ends; waits = g.waits; answers = g.answers; row = keeps place job g.thread g.row }))
+phase_rows input k rows more t u (phase.Blocked call turns) keeps h = h
 phase_rows input k rows more t u phase.Stuck keeps h = h
 phase_rows input k rows more t u phase.Ended keeps h = h
 
@@ -79,13 +80,14 @@ pub whole_moved : (input : Inputs) (w : Whole) (s : State) (i : ℕ) (t : Thread
     → i < length w.threads → Shows input w s → moves (setup_of input) i (thread_of s i) ≡ Some m
     → ThreadShows input i (map (row_after i m.effect) s.rows) t m.thread
     → lock_after i m.effect.table_freed s.table ≡ l → map (lock_after i m.effect.object_freed) s.objects ≡ ls → m.effect.world ≡ None → map shown (map (row_after i m.effect) s.rows) ≡ rows
-    → (can_advance (setup_of input) s i ≡ true) × Shows input (record { threads = set w.threads i t; lock = l; objects = ls; table = w.table; rows = rows }) (advance (setup_of input) i s)
+    → (can_advance (setup_of input) s i ≡ true) × Shows input (record { patience = w.patience; threads = set w.threads i t; lock = l; objects = ls; table = w.table; rows = rows }) (advance (setup_of input) i s)
 whole_moved input w s i t m l ls rows inside h is shows lock_is objects_is world_is rows_is =
     let next : advance (setup_of input) i s ≡ move i (Some m) s = advance_move (setup_of input) i s ∙ ap (λ (o : Option Moved). move i o s) is in
-    let P : State → Type 0 = Shows input (record { threads = set w.threads i t; lock = l; objects = ls; table = w.table; rows = rows }) in (
+    let P : State → Type 0 = Shows input (record { patience = w.patience; threads = set w.threads i t; lock = l; objects = ls; table = w.table; rows = rows }) in (
       ap is_some is,
       subst P (sym next)
           (record {
+            patience = h.patience;
             count = length-set s.threads i m.thread ∙ h.count ∙ sym (length-set w.threads i t);
             threads = threads_set input (map (row_after i m.effect) s.rows) w.threads s.threads i t m.thread inside h.count shows
                 (λ k apart. thread_rows input k s.rows (map (row_after i m.effect) s.rows) (get_or w.threads k no_thread) (thread_of s k) (keeps_other i k m.effect s.rows apart) (h.threads k));
@@ -145,6 +147,7 @@ whole_still input w s i t inside h is shows =
       ap is_some is,
       subst P (sym next)
           (record {
+            patience = h.patience;
             count = h.count ∙ sym (length-set w.threads i t);
             threads = subst R (set_same s.threads i nobody within) (threads_set input s.rows w.threads s.threads i t (thread_of s i) inside h.count shows (λ k apart. h.threads k));
             table = h.table;

@@ -1,7 +1,7 @@
 -- What a run shows at its start, and tells at its end.
 use Rattle.std.proofs.Common.{◌≡◌, ℕ, zero, suc, ◌<◌, ◌≤◌, List, [], length, map, replicate, get_or, sym, refl, ap, ap₂, ◌∙◌, subst, arith, ⊎_elim, lit≤}
 use Rattle.std.proofs.lemmas.Bool.{cases_lt}
-use Rattle.std.proofs.lemmas.List.{get_or-map, get_or_past, length-map}
+use Rattle.std.proofs.lemmas.List.{get_or-map, get_or_past, length-map, length-replicate}
 use Rattle.det_mutex.specs.Attempt.{new_lock}
 use Rattle.posix_terms.specs.declared.limits.TheConstants.Limits as limit
 use Rattle.lock_model.specs.State as lock
@@ -18,15 +18,11 @@ use Rattle.call_machine.specs.Views.{no_thread}
 use Rattle.call_machine.specs.declared.thread.Phase.{Phase}
 use Rattle.call_machine.specs.declared.thread.Phase.TheVariants as phase
 use Rattle.call_machine.specs.Threads.{Thread}
-use Rattle.call_machine.proofs.Lists.{maps_agree}
-use Rattle.call_machine.proofs.Standing.{stands_first}
+use Rattle.object_store.proofs.Lists.{maps_agree}
+use Rattle.object_store.proofs.Standing.{stands_first}
 use Rattle.call_machine.proofs.ShownThreads.{thread_along}
 
 -- ## At the start
-
-pub length_replicate : {A : Type 0} (n : ℕ) (x : A) → length (replicate n x) ≡ n
-length_replicate zero x = refl
-length_replicate (suc n) x = ap suc (length_replicate n x)
 
 get_replicate : {A : Type 0} (n k : ℕ) (x d : A) → k < n → get_or (replicate n x) k d ≡ x
 get_replicate zero k x d h = absurd (omega arith)
@@ -53,19 +49,20 @@ first_threads input k =
     (λ (l : n ≤ k).
     thread_along input k k [] (get_or (map first_thread input.scripts) k no_thread) no_thread (get_or (replicate n new_thread) k nobody) nobody refl
     (get_or_past (map first_thread input.scripts) k no_thread (subst (λ (m : ℕ). m ≤ k) (sym (length-map input.scripts first_thread)) l))
-    (get_or_past (replicate n new_thread) k nobody (subst (λ (m : ℕ). m ≤ k) (sym (length_replicate n new_thread)) l))
+    (get_or_past (replicate n new_thread) k nobody (subst (λ (m : ℕ). m ≤ k) (sym (length-replicate n new_thread)) l))
     (shown_past input k))
     (cases_lt k n)
 
-pub first_shows : (input : Inputs) → Shows input (first_whole input.scripts) (first_state input)
+pub first_shows : (input : Inputs) → Shows input (first_whole input.settings.patience input.scripts) (first_state input)
 unfolding new_thread
 first_shows input =
     record {
-      count = length_replicate (length input.scripts) new_thread ∙ sym (length-map input.scripts first_thread);
+      patience = refl;
+      count = length-replicate (length input.scripts) new_thread ∙ sym (length-map input.scripts first_thread);
       threads = first_threads input;
       table = refl;
       objects = refl;
-      object_count = length_replicate limit.OBJECTS new_lock;
+      object_count = length-replicate limit.OBJECTS new_lock;
       world = stands_first;
       rows = refl;
     }
@@ -74,9 +71,10 @@ first_shows input =
 
 ended_phase : (input : Inputs) (i : ℕ) (rows : List Row) (t : Thread) (u : lock.Thread) (p : Phase) → PhaseShows input i rows t u p → has_ended u.phase ≡ is_ended p
 ended_phase input i rows t u phase.Working h = ap has_ended h.0
-ended_phase input i rows t u (phase.WantsTable call) h = ap has_ended h.0
-ended_phase input i rows t u (phase.WantsObject call clock object) h = ap has_ended h.0
-ended_phase input i rows t u (phase.Granted place object) h = ap has_ended h.1.0
+ended_phase input i rows t u (phase.WantsTable call turns) h = ap has_ended h.0
+ended_phase input i rows t u (phase.WantsObject call turns clock object) h = ap has_ended h.0
+ended_phase input i rows t u (phase.Granted place object blocked) h = ap has_ended h.1.0
+ended_phase input i rows t u (phase.Blocked call turns) h = ap has_ended h.0
 ended_phase input i rows t u phase.Stuck h = ap has_ended h.0
 ended_phase input i rows t u phase.Ended h = ap has_ended h
 

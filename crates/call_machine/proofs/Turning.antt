@@ -9,13 +9,14 @@ use Rattle.call_machine.specs.Views.{clocks_of, live_clock_of, live_in, no_threa
 use Rattle.call_machine.specs.declared.thread.Phase.{Phase}
 use Rattle.call_machine.specs.declared.thread.Phase.TheVariants as phase
 use Rattle.call_machine.specs.Threads.{Thread}
-use Rattle.call_machine.proofs.Lists.{maps_agree}
+use Rattle.object_store.proofs.Lists.{maps_agree}
 
 live_phase : (input : Inputs) (i : ℕ) (rows : List Row) (t : Thread) (u : lock.Thread) (p : Phase) (c : ℕ) → PhaseShows input i rows t u p → live_clock_in u.phase c ≡ live_in p c
 live_phase input i rows t u phase.Working c h = ap (λ (p : lock.Phase). live_clock_in p c) h.0
-live_phase input i rows t u (phase.WantsTable call) c h = ap (λ (p : lock.Phase). live_clock_in p c) h.0
-live_phase input i rows t u (phase.WantsObject call clock object) c h = ap (λ (p : lock.Phase). live_clock_in p c) h.0
-live_phase input i rows t u (phase.Granted place object) c h = ap (λ (p : lock.Phase). live_clock_in p c) h.1.0
+live_phase input i rows t u (phase.WantsTable call turns) c h = ap (λ (p : lock.Phase). live_clock_in p c) h.0
+live_phase input i rows t u (phase.WantsObject call turns clock object) c h = ap (λ (p : lock.Phase). live_clock_in p c) h.0
+live_phase input i rows t u (phase.Granted place object blocked) c h = ap (λ (p : lock.Phase). live_clock_in p c) h.1.0
+live_phase input i rows t u (phase.Blocked call turns) c h = ap (λ (p : lock.Phase). live_clock_in p c) h.0
 live_phase input i rows t u phase.Stuck c h = ap (λ (p : lock.Phase). live_clock_in p c) h.0
 live_phase input i rows t u phase.Ended c h = ap (λ (p : lock.Phase). live_clock_in p c) h
 

@@ -1,9 +1,11 @@
--- What a thread's next step makes of it.
+-- What a thread's next step makes of it, and what comes of a blocked call.
 use Rattle.std.specs.Prelude.{◌≡◌, ℕ, ◌+◌, ◌<◌, ◌≤◌, ◌^◌, [], ◌∷◌, ◌++◌, None, Bool, true, false}
+use Rattle.posix_terms.specs.Step.{nothing_carried}
 use Rattle.posix_terms.specs.declared.call.Call.{Call}
 use Rattle.thread_scripts.specs.Meaning.{next_of}
 use Rattle.thread_scripts.specs.declared.actor.Step.{Step}
 use Rattle.thread_scripts.specs.declared.actor.Step.TheVariants as step
+use Rattle.call_machine.specs.declared.thread.Phase.{Phase}
 use Rattle.call_machine.specs.declared.thread.Phase.TheVariants as phase
 use Rattle.call_machine.specs.Threads.{Thread}
 
@@ -15,7 +17,7 @@ Works true n old new = (old.clock + n ≤ 2 ^ 62) × (new ≡ worked n old)
 Works false n old new = (2 ^ 62 < old.clock + n) × (new ≡ record old { phase = phase.Stuck })
 
 abbrev pub after_want : Call → Thread → Thread
-after_want call t = record t { phase = phase.WantsTable call; asked = t.asked ++ step.Call call ∷ [] }
+after_want call t = record t { phase = phase.WantsTable call nothing_carried; asked = t.asked ++ step.Call call ∷ [] }
 
 abbrev pub after_end : Thread → Thread
 after_end t = record t { phase = phase.Ended; asked = t.asked ++ step.End ∷ [] }
@@ -28,3 +30,11 @@ AsksStep moved step.End old new = (moved ≡ true) × (new ≡ after_end old)
 
 abbrev pub Asks : Bool → Thread → Thread → Type 0
 Asks moved old new = let next = next_of old.last old.actor in AsksStep moved next.0 (record old { actor = next.1 }) new
+
+-- a blocked call wants the table again
+abbrev pub GoesAgainIn : Phase → Bool → Thread → Thread → Type 0
+GoesAgainIn (phase.Blocked call turns) moved old new = (moved ≡ true) × (new ≡ record old { phase = phase.WantsTable call turns })
+GoesAgainIn p moved old new = (moved ≡ false) × (new ≡ old)
+
+abbrev pub GoesAgain : Bool → Thread → Thread → Type 0
+GoesAgain moved old new = GoesAgainIn old.phase moved old new

@@ -2,15 +2,15 @@
 use Rattle.std.specs.Prelude.{◌≡◌, ℕ, ◌+◌, ◌<◌, ◌^◌, List, [], ◌∷◌, ◌++◌, length, Option, Some, None, Bool, true, false, ◌&&◌, nat_le, slice_get, slice_set}
 use Rattle.posix_terms.specs.declared.call.Call.{Call}
 use Rattle.posix_terms.specs.declared.limits.TheConstants.Limits as limit
-use Rattle.posix_terms.specs.declared.reply.Answer.TheVariants as answer
-use Rattle.posix_terms.specs.declared.reply.Reply.{Reply}
 use Rattle.posix_terms.specs.declared.transcript.HistoryRow.{HistoryRow}
 use Rattle.posix_terms.specs.declared.transcript.Turn.{Turn}
 use Rattle.det_mutex.specs.Attempt.{freed, held, takes}
 use Rattle.det_mutex.specs.declared.lock.DetLock.{DetLock}
 use Rattle.lock_model.specs.Machine.{is_number}
-use Rattle.call_machine.specs.Store.{Makes, Stored, number_locked}
+use Rattle.call_machine.specs.Held.{end_held, turn_ended, phase_behind, told_as}
+use Rattle.object_store.specs.Store.{Makes, Stored, number_locked}
 use Rattle.call_machine.specs.Threads.{Thread}
+use Rattle.object_store.specs.declared.patience.TurnEnd.{TurnEnd}
 use Rattle.call_machine.specs.declared.thread.Phase.{Phase}
 use Rattle.call_machine.specs.declared.thread.Phase.TheVariants as phase
 
@@ -33,65 +33,63 @@ later p cost = record p { thread = record p.thread { clock = p.thread.clock + co
 
 -- ## `answer`, with the lock that the call holds
 
-abbrev pub replied : Parts → ℕ → Reply → HistoryRow → Parts
-replied p row reply q =
+-- the row has its answer, by how the turn ended
+abbrev pub row_answered : Parts → ℕ → TurnEnd → HistoryRow → Parts
+row_answered p row e q =
     record {
-      thread = record p.thread { phase = phase.Working; clock = p.thread.clock + 1 };
+      thread = record p.thread { phase = phase_behind q.call e; clock = p.thread.clock + 1 };
       lock = freed p.thread.clock;
       table = p.table;
-      rows = slice_set p.rows row (record q { answer = Some (answer.Reply reply) });
+      rows = slice_set p.rows row (record q { answer = Some (told_as e) });
     }
 
-abbrev pub AnswersWith : Bool → ℕ → Option Reply → Option HistoryRow → Parts → Parts → Type 0
-AnswersWith moved row (Some reply) (Some q) old new = (moved ≡ true) × (new ≡ replied old row reply q)
-AnswersWith moved row (Some reply) None old new = (moved ≡ false) × (new ≡ old)
+abbrev pub AnswersWith : Bool → ℕ → Option TurnEnd → Option HistoryRow → Parts → Parts → Type 0
+AnswersWith moved row (Some e) (Some q) old new = (moved ≡ true) × (new ≡ row_answered old row e q)
+AnswersWith moved row (Some e) None old new = (moved ≡ false) × (new ≡ old)
 AnswersWith moved row None q old new = (moved ≡ false) × (new ≡ old)
 
-abbrev pub AnswersIn : Bool → Bool → ℕ → Parts → Parts → Type 0
-AnswersIn true moved row old new = AnswersWith moved row old.thread.last (slice_get old.rows row) old new
-AnswersIn false moved row old new = (moved ≡ false) × (new ≡ old)
+abbrev pub AnswersIn : Bool → Bool → ℕ → Option ℕ → Parts → Parts → Type 0
+AnswersIn true moved row blocked old new = AnswersWith moved row (end_held blocked old.thread.last) (slice_get old.rows row) old new
+AnswersIn false moved row blocked old new = (moved ≡ false) × (new ≡ old)
 
-abbrev pub Answers : Bool → ℕ → ℕ → Parts → Parts → Type 0
-Answers moved i row old new = AnswersIn (is_number old.lock.holder i && in_time old 1) moved row old new
+abbrev pub Answers : Bool → ℕ → ℕ → Option ℕ → Parts → Parts → Type 0
+Answers moved i row blocked old new = AnswersIn (is_number old.lock.holder i && in_time old 1) moved row blocked old new
 
 -- ## The grant
-
-abbrev pub RepliesWith : Stored → Call → Option Reply → Stored → Type 0
-RepliesWith old call (Some reply) new = Makes old call reply new
-RepliesWith old call None new = ⊥
 
 abbrev pub granted_row : Turn → Call → HistoryRow
 granted_row turn call = record { call = call; turn = turn; outcome = None; answer = None }
 
--- the call is made, and its reply waits for the answer
-pub record Grants (turn : Turn) (call : Call) (object : Option ℕ) (old new : Parts) : Type 0 where
-  pub replies : RepliesWith old.table call new.thread.last new.table
-  pub thread : new.thread ≡ record old.thread { phase = phase.Granted (length old.rows) object; last = new.thread.last }
+-- a turn of a call that was blocked for so many turns is made, and how it ended waits for the answer
+pub record Grants (patience : ℕ) (turn : Turn) (call : Call) (turns : ℕ) (object : Option ℕ) (old new : Parts) : Type 0 where
+  pub ends : TurnEnd
+  pub makes : Makes patience turns old.table call ends new.table
+  pub thread : new.thread ≡ turn_ended (length old.rows) object ends old.thread
   pub lock : new.lock ≡ old.lock
   pub rows : new.rows ≡ old.rows ++ granted_row turn call ∷ []
 
 -- ## `try_table`, with the lock of the table
 
 -- the call takes the lock of the object with this number, or of none
-abbrev pub PlansTo : Option ℕ → Turn → Call → Parts → Parts → Type 0
-PlansTo None turn call old new = Grants turn call None old new
-PlansTo (Some object) turn call old new =
-    (object < limit.OBJECTS) × (new ≡ record old { thread = record old.thread { phase = phase.WantsObject call turn.clock object } })
+abbrev pub PlansTo : ℕ → Option ℕ → Turn → Call → ℕ → Parts → Parts → Type 0
+PlansTo patience None turn call turns old new = Grants patience turn call turns None old new
+PlansTo patience (Some object) turn call turns old new =
+    (object < limit.OBJECTS) × (new ≡ record old { thread = record old.thread { phase = phase.WantsObject call turns turn.clock object } })
 
-abbrev pub TriesLock : Bool → ℕ → Call → Parts → Parts → Type 0
-TriesLock true i call old new = PlansTo (number_locked old.table call) (record { clock = old.thread.clock; thread = i }) call (record (later old 1) { lock = held i old.lock }) new
-TriesLock false i call old new = new ≡ later old 1
+abbrev pub TriesLock : ℕ → Bool → ℕ → Call → ℕ → Parts → Parts → Type 0
+TriesLock patience true i call turns old new = PlansTo patience (number_locked old.table call) (record { clock = old.thread.clock; thread = i }) call turns (record (later old 1) { lock = held i old.lock }) new
+TriesLock patience false i call turns old new = new ≡ later old 1
 
-abbrev pub TriesInTime : Bool → Bool → ℕ → Call → Parts → Parts → Type 0
-TriesInTime true made i call old new = (made ≡ true) × TriesLock (takes old.lock old.thread.clock) i call old new
-TriesInTime false made i call old new = (made ≡ false) × (new ≡ old)
+abbrev pub TriesInTime : ℕ → Bool → Bool → ℕ → Call → ℕ → Parts → Parts → Type 0
+TriesInTime patience true made i call turns old new = (made ≡ true) × TriesLock patience (takes old.lock old.thread.clock) i call turns old new
+TriesInTime patience false made i call turns old new = (made ≡ false) × (new ≡ old)
 
-abbrev pub TriesIn : Phase → Bool → ℕ → Parts → Parts → Type 0
-TriesIn (phase.WantsTable call) made i old new = TriesInTime (in_time old 1) made i call old new
-TriesIn p made i old new = (made ≡ false) × (new ≡ old)
+abbrev pub TriesIn : ℕ → Phase → Bool → ℕ → Parts → Parts → Type 0
+TriesIn patience (phase.WantsTable call turns) made i old new = TriesInTime patience (in_time old 1) made i call turns old new
+TriesIn patience p made i old new = (made ≡ false) × (new ≡ old)
 
-abbrev pub Tries : Bool → ℕ → Parts → Parts → Type 0
-Tries made i old new = TriesIn old.thread.phase made i old new
+abbrev pub Tries : ℕ → Bool → ℕ → Parts → Parts → Type 0
+Tries patience made i old new = TriesIn patience old.thread.phase made i old new
 
 -- ## `try_object`, with the lock of the table, and that of an object before and after
 
@@ -110,22 +108,22 @@ object_cost true = 2
 object_cost false = 1
 
 -- a call that wants an object is granted with it
-abbrev pub GrantsObject : Phase → ℕ → Parts → Parts → Type 0
-GrantsObject (phase.WantsObject call clock object) i old new = Grants (record { clock = clock; thread = i }) call (Some object) old new
-GrantsObject p i old new = new ≡ old
+abbrev pub GrantsObject : ℕ → Phase → ℕ → Parts → Parts → Type 0
+GrantsObject patience (phase.WantsObject call turns clock object) i old new = Grants patience (record { clock = clock; thread = i }) call turns (Some object) old new
+GrantsObject patience p i old new = new ≡ old
 
-abbrev pub TriesObject : Bool → ℕ → Turn → Call → ℕ → DetLock → DetLock → Parts → Parts → Type 0
-TriesObject true i turn call object lock now old new = (now ≡ held i lock) × Grants turn call (Some object) (record (later old 2) { lock = freed (old.thread.clock + 1) }) new
-TriesObject false i turn call object lock now old new = (now ≡ lock) × (new ≡ later old 1)
+abbrev pub TriesObject : ℕ → Bool → ℕ → Turn → Call → ℕ → ℕ → DetLock → DetLock → Parts → Parts → Type 0
+TriesObject patience true i turn call turns object lock now old new = (now ≡ held i lock) × Grants patience turn call turns (Some object) (record (later old 2) { lock = freed (old.thread.clock + 1) }) new
+TriesObject patience false i turn call turns object lock now old new = (now ≡ lock) × (new ≡ later old 1)
 
-abbrev pub ObjectInTime : Bool → Bool → Bool → ℕ → Turn → Call → ℕ → DetLock → DetLock → Parts → Parts → Type 0
-ObjectInTime true takes made i turn call object lock now old new = (made ≡ true) × TriesObject takes i turn call object lock now old new
-ObjectInTime false takes made i turn call object lock now old new = (made ≡ false) × (now ≡ lock) × (new ≡ old)
+abbrev pub ObjectInTime : ℕ → Bool → Bool → Bool → ℕ → Turn → Call → ℕ → ℕ → DetLock → DetLock → Parts → Parts → Type 0
+ObjectInTime patience true takes made i turn call turns object lock now old new = (made ≡ true) × TriesObject patience takes i turn call turns object lock now old new
+ObjectInTime patience false takes made i turn call turns object lock now old new = (made ≡ false) × (now ≡ lock) × (new ≡ old)
 
-abbrev pub ReachesIn : Phase → Bool → ℕ → DetLock → DetLock → Parts → Parts → Type 0
-ReachesIn (phase.WantsObject call clock object) made i lock now old new =
-    let taken = takes_object i lock old in ObjectInTime (in_time old (object_cost taken)) taken made i (record { clock = clock; thread = i }) call object lock now old new
-ReachesIn p made i lock now old new = (made ≡ false) × (now ≡ lock) × (new ≡ old)
+abbrev pub ReachesIn : ℕ → Phase → Bool → ℕ → DetLock → DetLock → Parts → Parts → Type 0
+ReachesIn patience (phase.WantsObject call turns clock object) made i lock now old new =
+    let taken = takes_object i lock old in ObjectInTime patience (in_time old (object_cost taken)) taken made i (record { clock = clock; thread = i }) call turns object lock now old new
+ReachesIn patience p made i lock now old new = (made ≡ false) × (now ≡ lock) × (new ≡ old)
 
-abbrev pub Reaches : Bool → ℕ → DetLock → DetLock → Parts → Parts → Type 0
-Reaches made i lock now old new = ReachesIn old.thread.phase made i lock now old new
+abbrev pub Reaches : ℕ → Bool → ℕ → DetLock → DetLock → Parts → Parts → Type 0
+Reaches patience made i lock now old new = ReachesIn patience old.thread.phase made i lock now old new

@@ -2,10 +2,8 @@ pub mod History
 pub mod Lives
 pub mod Threads
 pub mod Views
-pub mod Store
-pub mod StoreCode
-pub mod Acting
 pub mod Asking
+pub mod Held
 pub mod Events
 pub mod Setup
 pub mod Shows

@@ -1,8 +1,8 @@
 -- A run at its start, and what it comes to.
-use Rattle.std.specs.Prelude.{List, [], length, map, replicate, None, Bool, true, false}
+use Rattle.std.specs.Prelude.{ℕ, List, [], length, map, replicate, None, Bool, true, false}
 use Rattle.input_log.specs.Format.{text_of}
 use Rattle.input_log.specs.declared.log.Header.{Header}
-use Rattle.call_machine.specs.Store.{first_stored}
+use Rattle.object_store.specs.Store.{first_stored}
 use Rattle.posix_terms.specs.declared.limits.TheConstants.Limits as limit
 use Rattle.thread_scripts.specs.Meaning.{start_of}
 use Rattle.thread_scripts.specs.declared.line.Line.{Line}
@@ -23,8 +23,8 @@ first_item script = record { phase = phase.Working; asked = []; actor = start_of
 abbrev pub first_thread : List Line → Thread
 first_thread script = record { phase = phase.Working; clock = 1; asked = []; actor = start_of script; last = None }
 
-abbrev pub first_whole : List (List Line) → Whole
-first_whole scripts = record { threads = map first_thread scripts; lock = new_lock; objects = replicate limit.OBJECTS new_lock; table = first_stored; rows = [] }
+abbrev pub first_whole : ℕ → List (List Line) → Whole
+first_whole patience scripts = record { patience = patience; threads = map first_thread scripts; lock = new_lock; objects = replicate limit.OBJECTS new_lock; table = first_stored; rows = [] }
 
 abbrev pub is_ended : Phase → Bool
 is_ended phase.Ended = true

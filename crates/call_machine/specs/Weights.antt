@@ -8,9 +8,10 @@ use Rattle.call_machine.specs.Threads.{Thread}
 
 abbrev pub left_in : Phase → ℕ → ℕ
 left_in phase.Working lines = 2 * lines + 1
-left_in (phase.WantsTable call) lines = 2 * lines + 2
-left_in (phase.WantsObject call clock object) lines = 2 * lines + 2
-left_in (phase.Granted row object) lines = 2 * lines + 2
+left_in (phase.WantsTable call turns) lines = 2 * lines + 2
+left_in (phase.WantsObject call turns clock object) lines = 2 * lines + 2
+left_in (phase.Granted row object blocked) lines = 2 * lines + 2
+left_in (phase.Blocked call turns) lines = 2 * lines + 3
 left_in phase.Stuck lines = 0
 left_in phase.Ended lines = 0
 

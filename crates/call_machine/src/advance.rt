@@ -20,15 +20,26 @@ impl Machine {
     {
         match self.threads[i].phase {
             Phase::Working => self.threads[i].ask(&mut self.clocks, i),
-            Phase::Granted { row, object } => self.answer(i, row, object),
+            Phase::Granted {
+                row,
+                object,
+                blocked,
+            } => self.answer(i, row, object, blocked),
+            Phase::Blocked { .. } => Ok(self.threads[i].again()),
             _ => Ok(false),
         }
     }
 
-    // The call of thread i, granted with this row and object, has its reply.
-    fn answer(&mut self, i: usize, row: usize, object: Option<usize>) -> Result<bool, AllocError>
+    // The call of thread i, granted with this row and object, has its answer.
+    fn answer(
+        &mut self,
+        i: usize,
+        row: usize,
+        object: Option<usize>,
+        blocked: Option<u32>,
+    ) -> Result<bool, AllocError>
         requires inside { i < length self.old.threads.items }
-        requires granted { IsGrantedAt self.old.threads.items i row object }
+        requires granted { IsGrantedAt self.old.threads.items i row object blocked }
         ensures event { IfOk result (λ moved. Advances moved i (whole_of self.old) (whole_of self.new)) }
         ensures falls { IfOk result (λ moved. Lowers moved (whole_of self.old) (whole_of self.new)) }
         ensures count { length self.new.threads.items ≡ length self.old.threads.items }
@@ -39,6 +50,7 @@ impl Machine {
                 &mut self.threads[i],
                 &mut self.clocks,
                 row,
+                blocked,
                 &mut self.shared.lock,
                 &mut self.shared.rows,
             ),
@@ -51,6 +63,7 @@ impl Machine {
                     &mut self.threads[i],
                     &mut self.clocks,
                     row,
+                    blocked,
                     lock,
                     &mut self.shared.rows,
                 )
@@ -68,8 +81,9 @@ impl Machine {
             return Ok(false);
         }
         match self.threads[i].phase {
-            Phase::WantsTable(_) => try_table(
+            Phase::WantsTable { .. } => try_table(
                 alloc,
+                self.patience,
                 i,
                 &mut self.threads[i],
                 &mut self.clocks,
@@ -93,6 +107,7 @@ impl Machine {
         };
         try_object(
             alloc,
+            self.patience,
             i,
             &mut self.threads[i],
             &mut self.clocks,

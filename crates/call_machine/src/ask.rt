@@ -1,6 +1,6 @@
 ghost use Rattle.std.specs.Prelude.{◌≡◌, ◌<◌, ℕ, true, IfOk, length};
 ghost use Rattle.logical_clocks.specs.ThreadClocks.{clock_at};
-ghost use Rattle.call_machine.specs.Asking.{Asks, Works, after_end, after_want};
+ghost use Rattle.call_machine.specs.Asking.{Asks, GoesAgain, Works, after_end, after_want};
 ghost use Rattle.call_machine.specs.Lives.{is_live};
 ghost use Rattle.call_machine.specs.Threads.{KeepsOthers, timed};
 
@@ -8,6 +8,7 @@ use crate::thread::{Phase, Thread};
 use logical_clocks::Clocks;
 use posix_terms::Call;
 use std::alloc::AllocError;
+use std::mem;
 use thread_scripts::{Actor, Step};
 
 impl Thread {
@@ -46,7 +47,7 @@ impl Thread {
         ensures live { is_live self.old.phase ≡ true → is_live self.new.phase ≡ true }
     {
         self.asked.push(Step::Call(call.try_clone()?))?;
-        self.phase = Phase::WantsTable(call);
+        self.phase = Phase::WantsTable { call, turns: 0 };
         Ok(true)
     }
 
@@ -60,5 +61,22 @@ impl Thread {
         self.phase = Phase::Ended;
         clocks.end(i);
         Ok(true)
+    }
+
+    // Makes a blocked call again.
+    pub fn again(&mut self) -> bool
+        ensures event { (clock : ℕ) → GoesAgain result (timed self.old clock) (timed self.new clock) }
+        ensures live { is_live self.old.phase ≡ is_live self.new.phase }
+    {
+        match mem::replace(&mut self.phase, Phase::Stuck) {
+            Phase::Blocked { call, turns } => {
+                self.phase = Phase::WantsTable { call, turns };
+                true
+            }
+            phase => {
+                self.phase = phase;
+                false
+            }
+        }
     }
 }

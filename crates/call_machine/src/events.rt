@@ -1,43 +1,47 @@
-ghost use Rattle.std.specs.Prelude.{◌≡◌, ◌<◌, ◌&&◌, ℕ, true, IfOk, length};
+ghost use Rattle.std.specs.Option.{option_map};
+ghost use Rattle.std.specs.Prelude.{◌≡◌, ◌<◌, ◌&&◌, ℕ, true, IfOk, IfSome, length};
 ghost use Rattle.det_mutex.specs.Attempt.{takes};
 ghost use Rattle.lock_model.specs.Machine.{is_number};
 ghost use Rattle.logical_clocks.specs.ThreadClocks.{clock_at};
 ghost use Rattle.call_machine.specs.Events.{Answers, Grants, GrantsObject, PlansTo, Reaches, Tries, object_taken, parts};
 ghost use Rattle.call_machine.specs.Lives.{is_live};
+ghost use Rattle.call_machine.specs.Held.{end_held, turn_ended, phase_behind, told_as};
 ghost use Rattle.call_machine.specs.Threads.{KeepsOthers, timed};
-ghost use Rattle.call_machine.specs.Store.{Stored, number_locked};
+ghost use Rattle.object_store.specs.Store.{Stored, number_locked};
 
 use crate::machine::Shared;
 use crate::thread::{Phase, Thread};
 use det_mutex::DetLock;
 use logical_clocks::Clocks;
+use object_store::TurnEnd;
 use posix_terms::{Answer, Call, HistoryRow, Turn};
 use std::alloc::{AllocError, Global};
 use std::mem;
 
-// `answer`: the call of thread i has its reply, and the lock that it holds is free.
+// `answer`: the call of thread i has its reply, or is to be made again where it was blocked for so many turns; and
+// the lock that it holds is free.
 pub fn answer(
     i: usize,
     thread: &mut Thread,
     clocks: &mut Clocks,
     row: usize,
+    blocked: Option<u32>,
     lock: &mut DetLock,
     rows: &mut Vec<HistoryRow>,
 ) -> Result<bool, AllocError>
     requires inside { i < length clocks.old }
     requires live { is_live thread.old.phase ≡ true }
-    ensures event { IfOk result (λ moved. (table : Stored) → Answers moved i row (parts (timed thread.old (clock_at clocks.old i)) lock.old table rows.old.items) (parts (timed thread.new (clock_at clocks.new i)) lock.new table rows.new.items)) }
+    ensures event { IfOk result (λ moved. (table : Stored) → Answers moved i row blocked (parts (timed thread.old (clock_at clocks.old i)) lock.old table rows.old.items) (parts (timed thread.new (clock_at clocks.new i)) lock.new table rows.new.items)) }
     ensures others { KeepsOthers i thread.old clocks.old thread.new clocks.new }
     ensures rows { length rows.new.items ≡ length rows.old.items }
 {
     if !holds(*lock, i) {
         return Ok(false);
     }
-    let Some(last) = thread.last.as_ref() else {
+    let Some(row) = rows.get_mut(row) else {
         return Ok(false);
     };
-    let answer = Answer::Reply(last.try_clone()?);
-    let Some(row) = rows.get_mut(row) else {
+    let Some((answer, phase)) = answered(thread, blocked, &row.call)? else {
         return Ok(false);
     };
     let clock = clocks.clock(i);
@@ -46,8 +50,27 @@ pub fn answer(
     }
     row.answer = Some(answer);
     lock.free(i, clock);
-    thread.phase = Phase::Working;
+    thread.phase = phase;
     Ok(true)
+}
+
+// The answer of a call that this thread is in, and the thread's phase behind it.
+fn answered(
+    thread: &Thread,
+    blocked: Option<u32>,
+    call: &Call,
+) -> Result<Option<(Answer, Phase)>, AllocError>
+    ensures ends { IfOk result (λ found. found ≡ option_map (λ e. (told_as e, phase_behind call.now e)) (end_held blocked thread.now.last)) }
+    ensures live { IfOk result (λ found. IfSome found (λ x. is_live x.1 ≡ true)) }
+{
+    if let Some(turns) = blocked {
+        let call = call.try_clone()?;
+        return Ok(Some((Answer::Again, Phase::Blocked { call, turns })));
+    }
+    let Some(last) = thread.last.as_ref() else {
+        return Ok(None);
+    };
+    Ok(Some((Answer::Reply(last.try_clone()?), Phase::Working)))
 }
 
 // Whether thread i holds a lock.
@@ -64,26 +87,28 @@ fn holds(lock: DetLock, i: usize) -> bool
 // takes no object is granted at once.
 pub fn try_table(
     alloc: Global,
+    patience: u32,
     i: usize,
     thread: &mut Thread,
     clocks: &mut Clocks,
     shared: &mut Shared,
 ) -> Result<bool, AllocError>
     requires { i < length clocks.old }
-    ensures event { IfOk result (λ made. Tries made i (parts (timed thread.old (clock_at clocks.old i)) shared.old.lock shared.old.store shared.old.rows.items) (parts (timed thread.new (clock_at clocks.new i)) shared.new.lock shared.new.store shared.new.rows.items)) }
+    ensures event { IfOk result (λ made. Tries patience made i (parts (timed thread.old (clock_at clocks.old i)) shared.old.lock shared.old.store shared.old.rows.items) (parts (timed thread.new (clock_at clocks.new i)) shared.new.lock shared.new.store shared.new.rows.items)) }
     ensures others { KeepsOthers i thread.old clocks.old thread.new clocks.new }
 {
     match mem::replace(&mut thread.phase, Phase::Stuck) {
-        Phase::WantsTable(call) => {
+        Phase::WantsTable { call, turns } => {
             let clock = clocks.clock(i);
             if clocks.add(i, 1).is_err() {
-                thread.phase = Phase::WantsTable(call);
+                thread.phase = Phase::WantsTable { call, turns };
                 return Ok(false);
             }
             if shared.lock.attempt(i, clock) {
-                plan(alloc, Turn { clock, thread: i }, call, thread, shared)?;
+                let turn = Turn { clock, thread: i };
+                plan(alloc, patience, turn, call, turns, thread, shared)?;
             } else {
-                thread.phase = Phase::WantsTable(call);
+                thread.phase = Phase::WantsTable { call, turns };
             }
             Ok(true)
         }
@@ -97,19 +122,22 @@ pub fn try_table(
 // What a call takes beside the table: the lock of an object, or it is granted.
 fn plan(
     alloc: Global,
+    patience: u32,
     turn: Turn,
     call: Call,
+    turns: u32,
     thread: &mut Thread,
     shared: &mut Shared,
 ) -> Result<(), AllocError>
-    ensures event { IfOk result (λ _. (clock : ℕ) → PlansTo (number_locked shared.old.store call) turn call (parts (timed thread.old clock) shared.old.lock shared.old.store shared.old.rows.items) (parts (timed thread.new clock) shared.new.lock shared.new.store shared.new.rows.items)) }
+    ensures event { IfOk result (λ _. (clock : ℕ) → PlansTo patience (number_locked shared.old.store call) turn call turns (parts (timed thread.old clock) shared.old.lock shared.old.store shared.old.rows.items) (parts (timed thread.new clock) shared.new.lock shared.new.store shared.new.rows.items)) }
     ensures live { is_live thread.old.phase ≡ true → is_live thread.new.phase ≡ true }
 {
     match shared.store.number_locked(&call) {
-        None => grant(alloc, turn, call, None, thread, shared),
+        None => grant(alloc, patience, turn, call, turns, None, thread, shared),
         Some(object) => {
             thread.phase = Phase::WantsObject {
                 call,
+                turns,
                 clock: turn.clock,
                 object,
             };
@@ -122,6 +150,7 @@ fn plan(
 // is free, for 1 more, and the call is granted.
 pub fn try_object(
     alloc: Global,
+    patience: u32,
     i: usize,
     thread: &mut Thread,
     clocks: &mut Clocks,
@@ -129,7 +158,7 @@ pub fn try_object(
     shared: &mut Shared,
 ) -> Result<bool, AllocError>
     requires { i < length clocks.old }
-    ensures event { IfOk result (λ made. Reaches made i lock.old lock.new (parts (timed thread.old (clock_at clocks.old i)) shared.old.lock shared.old.store shared.old.rows.items) (parts (timed thread.new (clock_at clocks.new i)) shared.new.lock shared.new.store shared.new.rows.items)) }
+    ensures event { IfOk result (λ made. Reaches patience made i lock.old lock.new (parts (timed thread.old (clock_at clocks.old i)) shared.old.lock shared.old.store shared.old.rows.items) (parts (timed thread.new (clock_at clocks.new i)) shared.new.lock shared.new.store shared.new.rows.items)) }
     ensures others { KeepsOthers i thread.old clocks.old thread.new clocks.new }
 {
     let Phase::WantsObject { .. } = thread.phase else {
@@ -146,29 +175,33 @@ pub fn try_object(
     };
     *lock = taken;
     shared.lock.free(i, now + 1);
-    grant_object(alloc, i, thread, shared)?;
+    grant_object(alloc, patience, i, thread, shared)?;
     Ok(true)
 }
 
 // Grants the call of thread i that wants an object.
 fn grant_object(
     alloc: Global,
+    patience: u32,
     i: usize,
     thread: &mut Thread,
     shared: &mut Shared,
 ) -> Result<(), AllocError>
-    ensures event { IfOk result (λ _. (clock : ℕ) → GrantsObject thread.old.phase i (parts (timed thread.old clock) shared.old.lock shared.old.store shared.old.rows.items) (parts (timed thread.new clock) shared.new.lock shared.new.store shared.new.rows.items)) }
+    ensures event { IfOk result (λ _. (clock : ℕ) → GrantsObject patience thread.old.phase i (parts (timed thread.old clock) shared.old.lock shared.old.store shared.old.rows.items) (parts (timed thread.new clock) shared.new.lock shared.new.store shared.new.rows.items)) }
     ensures live { is_live thread.old.phase ≡ true → is_live thread.new.phase ≡ true }
 {
     match mem::replace(&mut thread.phase, Phase::Stuck) {
         Phase::WantsObject {
             call,
+            turns,
             clock,
             object,
         } => grant(
             alloc,
+            patience,
             Turn { clock, thread: i },
             call,
+            turns,
             Some(object),
             thread,
             shared,
@@ -193,25 +226,23 @@ fn taken_object(table: DetLock, object: DetLock, i: usize, clock: u64) -> Option
     }
 }
 
-// A call gets its turn and a row of the history, and is made.
+// A call that was blocked for so many turns gets its turn and a row of the history, and is made.
 fn grant(
     alloc: Global,
+    patience: u32,
     turn: Turn,
     call: Call,
+    turns: u32,
     object: Option<usize>,
     thread: &mut Thread,
     shared: &mut Shared,
 ) -> Result<(), AllocError>
-    ensures event { IfOk result (λ _. (clock : ℕ) → Grants turn call object (parts (timed thread.old clock) shared.old.lock shared.old.store shared.old.rows.items) (parts (timed thread.new clock) shared.new.lock shared.new.store shared.new.rows.items)) }
+    ensures event { IfOk result (λ _. (clock : ℕ) → Grants patience turn call turns object (parts (timed thread.old clock) shared.old.lock shared.old.store shared.old.rows.items) (parts (timed thread.new clock) shared.new.lock shared.new.store shared.new.rows.items)) }
     ensures live { is_live thread.old.phase ≡ true → is_live thread.new.phase ≡ true }
 {
     shared.rows.reserve(1)?;
-    let reply = shared.store.make(alloc, &call)?;
-    thread.last = Some(reply);
-    thread.phase = Phase::Granted {
-        row: shared.rows.len(),
-        object,
-    };
+    let ends = shared.store.make(alloc, &call, patience, turns)?;
+    hold(thread, shared.rows.len(), object, ends);
     shared
         .rows
         .push(HistoryRow {
@@ -222,4 +253,23 @@ fn grant(
         })
         .unwrap();
     Ok(())
+}
+
+// A turn ended so, which has this row: its reply waits, or the number of its blocked turns.
+fn hold(thread: &mut Thread, row: usize, object: Option<usize>, ends: TurnEnd)
+    ensures holds { (clock : ℕ) → timed thread.new clock ≡ turn_ended row object ends (timed thread.old clock) }
+    ensures live { is_live thread.new.phase ≡ true }
+{
+    let blocked = match ends {
+        TurnEnd::Reply(reply) => {
+            thread.last = Some(reply);
+            None
+        }
+        TurnEnd::Blocked(turns) => Some(turns),
+    };
+    thread.phase = Phase::Granted {
+        row,
+        object,
+        blocked,
+    };
 }

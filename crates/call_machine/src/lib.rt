@@ -1,7 +1,6 @@
 //! Runs calls of threads against one shared table of descriptors.
 #![tactic(auto)]
 
-mod acts;
 mod advance;
 mod ask;
 mod drive;
@@ -14,7 +13,6 @@ mod machine;
 mod plain;
 mod run;
 mod start;
-mod store;
 #[cfg(test)]
 mod tests;
 mod thread;

@@ -1,21 +1,21 @@
-ghost use Rattle.std.specs.Prelude.{◌≡◌, ◌≤◌, length};
+ghost use Rattle.std.specs.Prelude.{◌≡◌, ◌≤◌, ◌*◌, length};
 ghost use Rattle.call_machine.specs.Lives.{Agree};
 
-use crate::store::Store;
 use crate::thread::Thread;
 use det_mutex::DetLock;
 use logical_clocks::Clocks;
+use object_store::Store;
 use posix_terms::HistoryRow;
 
-// The table with its lock and the bodies of the files, and the rows of what was granted so far.
+// The table with its lock and the bodies of the objects, and the rows of what was granted so far.
 #[derive(Drop)]
 pub struct Shared {
     pub lock: DetLock,
     pub store: Store,
     pub rows: Vec<HistoryRow>,
 
-    // each call makes one description and one object at most
-    ghost descriptions: { store.table.descriptions.made ≤ length rows.items },
+    // each call makes two descriptions and one object at most
+    ghost descriptions: { store.table.descriptions.made ≤ 2 * length rows.items },
     ghost objects: { store.table.made_objects ≤ length rows.items },
 }
 
@@ -23,6 +23,8 @@ pub struct Shared {
 // is used again keeps its lock.
 #[derive(Drop)]
 pub struct Machine {
+    // a call that is blocked for so many turns is not made again
+    pub patience: u32,
     pub threads: Vec<Thread>,
     pub clocks: Clocks,
     pub shared: Shared,

@@ -39,7 +39,7 @@ pub fn plain_run(
         patience: settings.patience,
         door_cost: settings.door_cost,
     };
-    let mut machine = Machine::new(alloc, scripts)?;
+    let mut machine = Machine::new(alloc, scripts, settings.patience)?;
     machine.run(alloc)?;
     Ok(machine.finish(alloc, header)?)
 }

@@ -5,23 +5,24 @@ ghost use Rattle.call_machine.specs.Starting.{first_item, first_whole};
 
 use crate::history::Steps;
 use crate::machine::{Machine, Shared};
-use crate::store::Store;
 use crate::thread::{Phase, Thread};
 use det_mutex::DetLock;
 use logical_clocks::Clocks;
+use object_store::Store;
 use posix_terms::Limits;
 use std::alloc::{AllocError, Global};
 use thread_scripts::{Script, ScriptActor};
 
 impl Machine {
     // A thread for each script, over a table with nothing open and only the root.
-    pub fn new(alloc: Global, scripts: Vec<Script>) -> Result<Machine, AllocError>
+    pub fn new(alloc: Global, scripts: Vec<Script>, patience: u32) -> Result<Machine, AllocError>
         requires some { 1 ≤ length scripts.items }
         requires within_limit { length scripts.items ≤ limit.THREADS }
-        ensures { IfOk result (λ machine. whole_of machine ≡ first_whole scripts.items) }
+        ensures { IfOk result (λ machine. whole_of machine ≡ first_whole patience scripts.items) }
     {
         let clocks = Clocks::new(alloc, scripts.len())?;
         Ok(Machine {
+            patience,
             threads: first_threads(alloc, scripts)?,
             clocks,
             shared: Shared {

@@ -1,5 +1,5 @@
 use crate::{Plain, PlainFault, plain_run};
-use posix_terms::{Outcomes, Settings, Turn};
+use posix_terms::{Answer, Errno, Outcomes, Reply, Settings, Turn};
 use std::alloc::Global;
 use std::test::Fail;
 use thread_scripts::{ScriptFault, Step, parse};
@@ -131,5 +131,31 @@ fn rows_stand_in_the_order_of_their_turns(rt: HostRuntime) -> Result<(), Fail> {
             thread: 0
         }
     );
+    Ok(())
+}
+
+// A call has a row for each turn at which it is blocked, and one for its last.
+#[test]
+fn blocked_turns_have_rows(rt: HostRuntime) -> Result<(), Fail> {
+    let settings = Settings {
+        patience: 3,
+        door_cost: 100,
+    };
+    let plain = match run(rt.alloc(), &["pipe\nread 0 4"], 1, settings) {
+        Err(PlainFault::Memory) => return Ok(()),
+        run => run?,
+    };
+    let answers = [
+        Answer::Reply(Reply::Pair(0, 1)),
+        Answer::Again,
+        Answer::Again,
+        Answer::Reply(Reply::Fail(Errno::EINTR)),
+    ];
+    let rows = plain.history.rows();
+    assert_eq!(rt; rows.len(), 4);
+    for (row, (clock, answer)) in rows.iter().zip([1, 5, 9, 13].into_iter().zip(answers)) {
+        assert_eq!(rt; row.turn, Turn { clock, thread: 0 });
+        assert_eq!(rt; row.answer, Some(answer));
+    }
     Ok(())
 }

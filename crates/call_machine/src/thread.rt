@@ -6,17 +6,29 @@ use thread_scripts::ScriptActor;
 #[derive(Drop)]
 pub enum Phase {
     Working,
-    WantsTable(Call),
+    // wants the table, for a call that was blocked for so many turns
+    WantsTable {
+        call: Call,
+        turns: u32,
+    },
     // holds the table, which it took at this clock, and wants the lock of the object with this number
     WantsObject {
         call: Call,
+        turns: u32,
         clock: u64,
         object: usize,
     },
-    // in a call that has this row of the history; it holds the lock of its object or, without one, the table
+    // in a call that has this row of the history; it holds the lock of its object or, without one, the table. Its
+    // reply waits, or it is blocked, for so many turns with this one
     Granted {
         row: usize,
         object: Option<usize>,
+        blocked: Option<u32>,
+    },
+    // in a call that was blocked for so many turns, which it makes again
+    Blocked {
+        call: Call,
+        turns: u32,
     },
     // its next step would bring its clock past the limit
     Stuck,

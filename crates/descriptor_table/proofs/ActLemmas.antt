@@ -1,5 +1,5 @@
 -- The act of each plan, beside what the sequential object does with the file.
-use Rattle.std.proofs.Common.{◌≡◌, ℕ, ◌+◌, ◌-◌, ◌==◌, ◌&&◌, ◌||◌, List, [], ◌∷◌, length, map, Option, Some, None, is_some, unwrap_or, Result, Ok, Err, Bool, true, false, cond, not, if◌then◌else◌, count_by, refl, sym, ap, ◌∙◌, inl, inr}
+use Rattle.std.proofs.Common.{◌≡◌, ℕ, ◌+◌, ◌-◌, ◌==◌, ◌&&◌, ◌||◌, List, [], ◌∷◌, length, map, Option, Some, None, is_some, unwrap_or, Result, Ok, Err, Bool, true, false, cond, not, if◌then◌else◌, count_by, refl, sym, ap, ◌∙◌, subst, inl, inr}
 use Rattle.std.proofs.lemmas.Bool.{cases_eq, false≢true, true≢false}
 use Rattle.std.proofs.lemmas.List.Sums.{sum_by-cons}
 use Rattle.std.proofs.lemmas.Option.{none-some, same_Some}
@@ -13,23 +13,33 @@ use Rattle.posix_terms.specs.Descriptors as posix
 use Rattle.posix_terms.specs.Descriptors.{close_result, is_file, open_result}
 use Rattle.posix_terms.specs.Duplicates as duplicates
 use Rattle.posix_terms.specs.Duplicates.{dup2_result, descriptor_number}
-use Rattle.posix_terms.specs.Effects.{Effect, Completes}
+use Rattle.posix_terms.specs.Effects.{Effect, Blocks, Completes}
 use Rattle.posix_terms.specs.Files.{bytes_at, resized, written}
 use Rattle.posix_terms.specs.Names.{PathMap, file_named, file_node, links_of, removed, removed_dir, unlink_result, with_paths}
 use Rattle.posix_terms.specs.Paths.{node_at, resolved}
-use Rattle.posix_terms.specs.Object.{State, Content, File, Node, FileNode, Directory, with_content}
+use Rattle.posix_terms.specs.Object.{State, Content, File, Pipe, Pair, Node, FileNode, Directory, with_content}
 use Rattle.posix_terms.specs.Object as object
 use Rattle.posix_terms.specs.Refusals.{◌>>=◌, count_of, position_of, refuse_if, some_or}
-use Rattle.posix_terms.specs.Status.{fstat_result}
+use Rattle.posix_terms.specs.Ends.{side_of}
+use Rattle.posix_terms.specs.Sockets as sockets
+use Rattle.posix_terms.specs.Sockets.{NewEnd, pair_in, pipe_result, shutdown_result, socketpair_result}
+use Rattle.posix_terms.specs.Status.{fstat_result, stat_of}
+use Rattle.posix_terms.specs.Streams.{PairState, Reading, Reads, Ends, NothingYet, Writing, Writes, Breaks, NoRoom, new_pair, pair_read, pair_write, peer_of, shut, stream_read, stream_write, with_waiting}
 use Rattle.posix_terms.specs.Step.{Carried, Stepped, concluded, step}
-use Rattle.posix_terms.specs.Transfers.{base_of, content_of, file_in, offset_of, read_content, seek_content, write_at, write_content, read_result, write_result, pread_result, pwrite_result, lseek_result, ftruncate_result, size_of, start_of}
+use Rattle.posix_terms.specs.Transfers.{base_of, content_of, file_in, has_peer, offset_of, read_content, read_done, seek_content, write_at, write_content, write_done, read_result, write_result, pread_result, pwrite_result, lseek_result, ftruncate_result, size_of, start_of}
 use Rattle.posix_terms.specs.declared.call.Access.{Access}
+use Rattle.posix_terms.specs.declared.call.Access.TheVariants.{ReadOnly, WriteOnly, ReadWrite}
 use Rattle.posix_terms.specs.declared.call.Call.{Call}
 use Rattle.posix_terms.specs.declared.call.Call.TheVariants as call
 use Rattle.posix_terms.specs.declared.call.OpenFlags.{OpenFlags}
+use Rattle.posix_terms.specs.declared.call.ShutdownHow.{ShutdownHow}
 use Rattle.posix_terms.specs.declared.call.Whence.{Whence}
 use Rattle.posix_terms.specs.declared.errno.Errno.{Errno}
-use Rattle.posix_terms.specs.declared.errno.Errno.TheVariants.{EBADF, EEXIST, EINVAL, EMFILE, ENOENT, ENOSPC, ESPIPE}
+use Rattle.posix_terms.specs.declared.errno.Errno.TheVariants.{EAGAIN, EBADF, EEXIST, EINVAL, EMFILE, ENFILE, ENOENT, ENOSPC, ENOTSOCK, ESPIPE}
+use Rattle.posix_terms.specs.declared.object.End.{End}
+use Rattle.posix_terms.specs.declared.object.End.TheVariants as part
+use Rattle.posix_terms.specs.declared.object.Side.{Side}
+use Rattle.posix_terms.specs.declared.object.Side.TheVariants.{Side0, Side1}
 use Rattle.posix_terms.specs.declared.outcome.Outcome.{Outcome}
 use Rattle.posix_terms.specs.declared.reply.Answer.TheVariants as answer
 use Rattle.posix_terms.specs.declared.reply.Reply.TheVariants as reply
@@ -38,54 +48,58 @@ use Rattle.posix_terms.specs.declared.transcript.Settings.{Settings}
 use Rattle.file_descriptions.specs.Descriptions.{AreSound}
 use Rattle.file_descriptions.specs.declared.description.Description.{Description}
 use Rattle.descriptor_table.proofs.ChangeLemmas.{birth_got}
+use Rattle.descriptor_table.proofs.EndLemmas.{Kind, IsFile, IsPipe, IsPair, has_end_shown, kind_of, moves_file, moves_stream, of_file_file, of_file_stream, socket_stream}
 use Rattle.descriptor_table.proofs.EntryLemmas.{standing_in}
-use Rattle.descriptor_table.proofs.KnownLemmas.{equal_nat}
-use Rattle.descriptor_table.proofs.PathLemmas.{entries_shown, names_shown, node_shown, one_object, resolved_shown}
-use Rattle.descriptor_table.proofs.PlanLemmas.{full_shown, lowest_none}
+use Rattle.descriptor_table.proofs.FollowLemmas.{waited_after}
+use Rattle.descriptor_table.proofs.PathLemmas.{births_alike, entries_shown, names_shown, node_shown, resolved_shown}
+use Rattle.descriptor_table.proofs.PlanLemmas.{full_shown, lowest_none, two_shown}
 use Rattle.descriptor_table.proofs.ShownLemmas.{FoundBoth, Shut, Open, found_both, lowest_shown}
-use Rattle.descriptor_table.proofs.SoundLemmas.{get-insert_same, get-remove_other, get-remove_same, paths_total, same_nat}
-use Rattle.descriptor_table.specs.Acts.{ActsAsStep, HoldsFile, IsActed, StandsAt, acted, offset_at, replied, sought, wrote}
-use Rattle.descriptor_table.specs.Agreement.{number_told}
-use Rattle.descriptor_table.specs.Plans.{answered, close_plan, fstat_plan, ftruncate_plan, locks, lseek_plan, pread_plan, pwrite_plan, read_plan, seen, write_plan, addable, dup2_plan, dup_from_plan, dup_plan, getfl_plan, link_plan, mkdir_plan, open_new, open_node, open_plan, open_there, planned, replaced, rmdir_plan, setfl_plan, unlink_plan}
-use Rattle.descriptor_table.specs.Shows.{Shows, birth_at, birth_of, shown, shown_node}
-use Rattle.descriptor_table.specs.Table.{TableState, IsSound, described, free_object, is_last_name, is_used, lowest_from}
+use Rattle.descriptor_table.proofs.SoundLemmas.{get-insert_same, get-remove_other, get-remove_same, paths_total}
+use Rattle.descriptor_table.specs.Acts.{Acted, ActsAsStep, Holds, IsActed, Replies, StandsAt, Waits, acted, ended, has_read, has_written, is_open, offset_at, read_acted, replied, sought, write_acted, wrote}
+use Rattle.descriptor_table.specs.Agreement.{numbers_told}
+use Rattle.descriptor_table.specs.Plans.{answered, close_plan, fstat_plan, ftruncate_plan, locks, lseek_plan, moves, of_file, shutdown_plan, socket_side, stat_plan, stream_kind, two_ends_plan, pread_plan, pwrite_plan, read_plan, seen, write_plan, addable, dup2_plan, dup_from_plan, dup_plan, getfl_plan, link_plan, mkdir_plan, open_new, open_node, open_plan, open_there, planned, replaced, rmdir_plan, setfl_plan, unlink_plan}
+use Rattle.descriptor_table.specs.Shows.{Shows, birth_at, birth_of, is_of, shown, shown_node}
+use Rattle.descriptor_table.specs.Table.{TableState, IsSound, described, free_object, is_last_name, is_used, lowest_from, two_numbers}
+use Rattle.descriptor_table.specs.declared.plan.NewNumbers.TheVariants as numbers
+use Rattle.descriptor_table.specs.declared.plan.Op.{Op}
 use Rattle.descriptor_table.specs.declared.plan.Op.TheVariants as op
+use Rattle.descriptor_table.specs.declared.plan.Opened.{Opened}
 use Rattle.descriptor_table.specs.declared.plan.Plan.{Plan}
 use Rattle.descriptor_table.specs.declared.plan.Plan.TheVariants as plan
 
--- ## Files
+-- ## Contents
 
-pub same_file : (s : State) (birth : ℕ) (file : List ℕ) → content_of s birth ≡ File file → HoldsFile s birth file
-same_file s birth file is content at = sym (ap (λ (o : Option Content). unwrap_or o (File [])) at) ∙ is
+pub same_content : (s : State) (birth : ℕ) (content : Content) → content_of s birth ≡ content → Holds s birth content
+same_content s birth content is other at = sym (ap (λ (o : Option Content). unwrap_or o (File [])) at) ∙ is
 
 -- what stays when an object leaves the map, or not
-kept_file : (s : State) (birth other : ℕ) (file : List ℕ) → HoldsFile s birth file → HoldsFile (record s { objects = fin.remove s.objects other }) birth file
-kept_file s birth other file holds content at =
+kept_content : (s : State) (birth other : ℕ) (content : Content) → Holds s birth content → Holds (record s { objects = fin.remove s.objects other }) birth content
+kept_content s birth other content holds now at =
     elim (cases_eq birth other) [
       | inl e ↦ absurd (none-some _ (sym (ap (fin.get (fin.remove s.objects other)) e ∙ get-remove_same s.objects other) ∙ at))
-      | inr apart ↦ holds content (sym (get-remove_other s.objects other birth apart) ∙ at)
+      | inr apart ↦ holds now (sym (get-remove_other s.objects other birth apart) ∙ at)
     ]
 
-put_file : (s : State) (birth : ℕ) (file : List ℕ) → HoldsFile (with_content s birth (File file)) birth file
-put_file s birth file content at = same_Some _ _ (sym at ∙ get-insert_same s.objects birth (File file))
+put_content : (s : State) (birth : ℕ) (content : Content) → Holds (with_content s birth content) birth content
+put_content s birth content now at = same_Some _ _ (sym at ∙ get-insert_same s.objects birth content)
 
-unused_file : (s : State) (birth other : ℕ) (file : List ℕ) → HoldsFile s birth file → HoldsFile (posix.without_unused s other) birth file
-unused_file s birth other file holds = by_used (posix.has_description s other || posix.has_path s other)
+unused_content : (s : State) (birth other : ℕ) (content : Content) → Holds s birth content → Holds (posix.without_unused s other) birth content
+unused_content s birth other content holds = by_used (posix.has_description s other || posix.has_path s other)
   where
-    by_used : (b : Bool) → HoldsFile (if b then s else record s { objects = fin.remove s.objects other }) birth file
+    by_used : (b : Bool) → Holds (if b then s else record s { objects = fin.remove s.objects other }) birth content
     by_used true = holds
-    by_used false = kept_file s birth other file holds
+    by_used false = kept_content s birth other content holds
 
-released_file : (s : State) (key birth : ℕ) (d : object.Description) (file : List ℕ) → HoldsFile s birth file → HoldsFile (posix.released s key d) birth file
-released_file s key birth d file holds = by_last (posix.has_descriptor s key)
+released_content : (s : State) (key birth : ℕ) (d : object.Description) (content : Content) → Holds s birth content → Holds (posix.released s key d) birth content
+released_content s key birth d content holds = by_last (posix.has_descriptor s key)
   where
-    by_last : (b : Bool) → HoldsFile (if b then s else posix.without_unused (record s { descriptions = fin.remove s.descriptions key }) d.object) birth file
+    by_last : (b : Bool) → Holds (if b then s else posix.without_unused (record s { descriptions = fin.remove s.descriptions key }) d.object) birth content
     by_last true = holds
-    by_last false = unused_file (record s { descriptions = fin.remove s.descriptions key }) birth d.object file holds
+    by_last false = unused_content (record s { descriptions = fin.remove s.descriptions key }) birth d.object content holds
 
-freed_file : (s : State) (descriptor : ℤ) (birth : ℕ) (file : List ℕ) → HoldsFile s birth file → HoldsFile (posix.freed s descriptor) birth file
-freed_file s (pos n) birth file holds = holds
-freed_file s (negsuc n) birth file holds = holds
+freed_content : (s : State) (descriptor : ℤ) (birth : ℕ) (content : Content) → Holds s birth content → Holds (posix.freed s descriptor) birth content
+freed_content s (pos n) birth content holds = holds
+freed_content s (negsuc n) birth content holds = holds
 
 -- ## How many names a file has
 
@@ -121,21 +135,13 @@ links_shown t s node sound shows used =
     ∙ count_mapped (λ (e : List (List ℕ) × Node). (e.0, shown_node t e.1)) (λ (e : List (List ℕ) × Node). is_file e.1 (birth_at t node)) (fin.entries t.paths)
     ∙ count_alike (λ (e : List (List ℕ) × Node). is_file (shown_node t e.1) (birth_at t node)) (λ (e : List (List ℕ) × Node). is_file e.1 node) (fin.entries t.paths) (none_differs (list_any (λ (e : List (List ℕ) × Node). differs (is_file (shown_node t e.1) (birth_at t node)) (is_file e.1 node)) (fin.entries t.paths)) refl)
   where
-    alike : (n : ℕ) → is_used t n ≡ true → (birth_at t n == birth_at t node) ≡ (n == node)
-    alike n its = by_test (birth_at t n == birth_at t node) refl (n == node) refl
-      where
-        by_test : (a : Bool) → (birth_at t n == birth_at t node) ≡ a → (b : Bool) → (n == node) ≡ b → (birth_at t n == birth_at t node) ≡ (n == node)
-        by_test true x b y = x ∙ sym (same_nat n node (one_object t n node sound its used (equal_nat (birth_at t n) (birth_at t node) x)))
-        by_test false x true y = absurd (false≢true (sym x ∙ same_nat (birth_at t n) (birth_at t node) (ap (birth_at t) (equal_nat n node y))))
-        by_test false x false y = x ∙ sym y
-
     not_differs : (b : Bool) → differs b b ≡ false
     not_differs true = refl
     not_differs false = refl
 
     same_there : (path : List (List ℕ)) (x : Node) → fin.get t.paths path ≡ Some x → differs (is_file (shown_node t x) (birth_at t node)) (is_file x node) ≡ false
     same_there path Directory at = refl
-    same_there path (FileNode n) at = ap (λ (b : Bool). differs b (n == node)) (alike n (sound.named_objects path n at)) ∙ not_differs (n == node)
+    same_there path (FileNode n) at = ap (λ (b : Bool). differs b (n == node)) (births_alike t n node sound (sound.named_objects path n at) used) ∙ not_differs (n == node)
 
     none_differs : (b : Bool) → list_any (λ (e : List (List ℕ) × Node). differs (is_file (shown_node t e.1) (birth_at t node)) (is_file e.1 node)) (fin.entries t.paths) ≡ b → list_any (λ (e : List (List ℕ) × Node). differs (is_file (shown_node t e.1) (birth_at t node)) (is_file e.1 node)) (fin.entries t.paths) ≡ false
     none_differs false is = is
@@ -148,15 +154,35 @@ without_name s components object = Ok (fin.remove s.paths components, object)
 
 -- ## Each call
 
--- an act on the file of a plan
-abbrev pub ActsOn : TableState → State → Call → Plan → Stepped → Type 0
-ActsOn t s c (plan.Reply r) stepped = Unit {0}
-ActsOn t s c (plan.Node node act keep_table) stepped =
-    (file : List ℕ) (offset : ℕ) → content_of s (birth_at t node) ≡ File file → StandsAt t s act offset → IsActed t node act (acted act c (number_told c stepped.answer) file offset) stepped
+-- an act on the object of a plan
+abbrev pub ActsOn : TableState → State → Settings → Carried → Call → Plan → Stepped → Type 0
+ActsOn t s settings carried c (plan.Reply r) stepped = Unit {0}
+ActsOn t s settings carried c (plan.Node node act keep_table) stepped =
+    (content : Content) (offset : ℕ) → content_of s (birth_at t node) ≡ content → StandsAt t s act offset
+    → let done : Acted = acted t node act c (numbers_told c stepped.answer) content offset in
+    IsActed t node act done (ended settings s carried done.ending) stepped
 
 module _ (t : TableState) (s : State) (settings : Settings) (outcome : Option Outcome) (carried : Carried) (sound : IsSound t) (all : AreSound t.descriptions) (shows : Shows t s) where
+  abbrev Does : Call → Plan → Result Effect Errno → Type 0
+  Does c p does = ActsOn t s settings carried c p (concluded settings s outcome carried does)
+
   abbrev Acts : Call → Result Plan Errno → Result Effect Errno → Type 0
-  Acts c p does = ActsOn t s c (answered p) (concluded settings s outcome carried does)
+  Acts c p does = Does c (answered p) does
+
+  -- what an act leaves is what is concluded
+  abbrev Ended : ℕ → Op → Acted → Result Effect Errno → Type 0
+  Ended node act done does = IsActed t node act done (ended settings s carried done.ending) (concluded settings s outcome carried does)
+
+  -- a plan that is another one, for a content that is another one
+  does_as : (call : Call) (p q : Plan) (c e : Content) (f : Content → Result Effect Errno) → p ≡ q → c ≡ e → Does call q (f e) → Does call p (f c)
+  does_as call p q c e f plans contents does = subst (λ (x : Plan). Does call x (f c)) (sym plans) (subst (λ (x : Content). Does call q (f x)) (sym contents) does)
+
+  kind_at : (key : ℕ) (d : Description) → fin.get t.descriptions.by_key key ≡ Some d → Kind d.«end» (content_of s (birth_at t d.node))
+  kind_at key d got = kind_of d.«end» (content_of s (birth_at t d.node)) (shows.ends key d got)
+
+  -- whether an end is open, in both
+  open_at : (key : ℕ) (d : Description) (which : End) → fin.get t.descriptions.by_key key ≡ Some d → is_of which (content_of s (birth_at t d.node)) ≡ true → posix.has_end s (birth_at t d.node) which ≡ is_open t d.node which
+  open_at key d which got has = has_end_shown t s d.node which sound all shows (sound.described_objects key d got) has
 
   -- the offset of a description is the one that the act is told
   offset_same : (key offset other : ℕ) (d : Description) → fin.get t.descriptions.by_key key ≡ Some d → fin.get s.descriptions d.birth ≡ Some (shown t d offset) → offset_at s (birth_of t key) ≡ Some other → offset ≡ other
@@ -168,133 +194,284 @@ module _ (t : TableState) (s : State) (settings : Settings) (outcome : Option Ou
       ap (λ (b : ℕ). option_map (λ (x : object.Description). x.offset) (fin.get (fin.insert s.descriptions d.birth (shown t d offset)) b)) (birth_got t.descriptions key d got)
       ∙ ap (option_map (λ (x : object.Description). x.offset)) (get-insert_same s.descriptions d.birth (shown t d offset))
 
+  -- a stream that cannot go on
+  stopped_as : (node : ℕ) (act : Op) (at : Opened) (content : Content) (offset : ℕ) → content_of s (birth_at t node) ≡ content → StandsAt t s act offset → (b : Bool)
+      → Ended node act (record { ending = if b then Replies (reply.Fail EAGAIN) else Waits; content = content; offset = offset }) (if b then Err EAGAIN else Ok Blocks)
+  stopped_as node act at content offset is stands true = record { answer_is = refl; carried_is = refl; content_is = same_content s (birth_at t node) content is; offset_is = stands }
+  stopped_as node act at content offset is stands false = record {
+    answer_is = refl;
+    carried_is = refl;
+    content_is = subst (λ (a : State). Holds a (birth_at t node) content) (sym (waited_after settings s carried)) (same_content s (birth_at t node) content is);
+    offset_is = subst (λ (a : State). StandsAt t a act offset) (sym (waited_after settings s carried)) stands;
+  }
+
   acts-read : (descriptor count : ℤ) → FoundBoth t s descriptor → Acts (call.Read descriptor count) (read_plan t descriptor count) (read_result s descriptor count)
   unfolding read_plan read_result
   acts-read descriptor count (Shut table state) = rw table tt
   acts-read descriptor count (Open key d offset at got there table state) = rw (table, state) (by_access (not (can_read d.access)) (count_of count))
     where
-      by_content : (n : ℕ) (c : Content) (file : List ℕ) (other : ℕ) → content_of s (birth_at t d.node) ≡ File file → c ≡ File file → offset ≡ other → IsActed t d.node (op.Read (seen key d) n) (acted (op.Read (seen key d) n) (call.Read descriptor count) None file other) (concluded settings s outcome carried (read_content s d.birth (shown t d offset) n c))
-      by_content n c file other holds is same = rw (is, ← same) (record {
+      by_file : (n : ℕ) (file : List ℕ) (content : Content) (other : ℕ) → content_of s (birth_at t d.node) ≡ File file → content ≡ File file → offset ≡ other → Ended d.node (op.Read (seen key d) n) (read_acted t d.node (seen key d) n content other) (read_content s d.birth (shown t d offset) n (File file))
+      by_file n file content other is its same = rw (its, ← same) (record {
         answer_is = refl;
-        file_is = same_file s (birth_at t d.node) file holds;
+        carried_is = refl;
+        content_is = same_content s (birth_at t d.node) (File file) is;
         offset_is = moved_to key (offset + length (bytes_at file offset n)) d got;
       })
 
-      by_access : (b : Bool) (r : Result ℕ Errno) → Acts (call.Read descriptor count) (refuse_if b EBADF >>= (λ _. r >>= (λ n. Ok (locks d.node (op.Read (seen key d) n))))) ((refuse_if b EBADF >>= (λ _. Ok (d.birth, shown t d offset))) >>= (λ (found : ℕ × object.Description). r >>= (λ n. read_content s found.0 found.1 n (content_of s found.1.object))))
+      by_reading : (n : ℕ) (holds : List ℕ → Content) (was : Content) (other : ℕ) (r : Reading) → content_of s (birth_at t d.node) ≡ was → offset_at s (birth_of t key) ≡ Some other → Ended d.node (op.Read (seen key d) n) (has_read (seen key d) holds was other r) (read_done s (shown t d offset) holds r)
+      by_reading n holds was other (Reads bytes left) is stands = record { answer_is = refl; carried_is = refl; content_is = put_content s (birth_at t d.node) (holds left); offset_is = stands }
+      by_reading n holds was other Ends is stands = record { answer_is = refl; carried_is = refl; content_is = same_content s (birth_at t d.node) was is; offset_is = stands }
+      by_reading n holds was other NothingYet is stands = stopped_as d.node (op.Read (seen key d) n) (seen key d) was other is stands d.flags.nonblock
+
+      by_pipe : (n : ℕ) (waiting : List ℕ) (content : Content) (other : ℕ) → content_of s (birth_at t d.node) ≡ Pipe waiting → content ≡ Pipe waiting → offset_at s (birth_of t key) ≡ Some other
+          → Ended d.node (op.Read (seen key d) n) (read_acted t d.node (seen key d) n content other) (read_done s (shown t d offset) (λ left. Pipe left) (stream_read waiting n (posix.has_end s (birth_at t d.node) part.Write)))
+      by_pipe n waiting content other is its stands =
+          rw (its, open_at key d part.Write got (ap (is_of part.Write) is)) (by_reading n (λ left. Pipe left) (Pipe waiting) other (stream_read waiting n (is_open t d.node part.Write)) is stands)
+
+      by_pair : (n : ℕ) (p : PairState) (side : Side) (content : Content) (other : ℕ) → side ≡ side_of d.«end» → content_of s (birth_at t d.node) ≡ Pair p → content ≡ Pair p → offset_at s (birth_of t key) ≡ Some other
+          → Ended d.node (op.Read (seen key d) n) (read_acted t d.node (seen key d) n content other) (read_done s (shown t d offset) (λ left. Pair (with_waiting p (side_of d.«end») left)) (pair_read p (side_of d.«end») n (posix.has_end s (birth_at t d.node) (part.Socket (peer_of (side_of d.«end»))))))
+      by_pair n p side content other same is its stands =
+          rw (its, open_at key d (part.Socket (peer_of (side_of d.«end»))) got (ap (is_of (part.Socket (peer_of (side_of d.«end»)))) is))
+          (by_reading n (λ left. Pair (with_waiting p (side_of d.«end») left)) (Pair p) other (pair_read p (side_of d.«end») n (is_open t d.node (part.Socket (peer_of (side_of d.«end»))))) is stands)
+
+      by_zero : (n : ℕ) (b : Bool) (does : Result Effect Errno) → Does (call.Read descriptor count) (locks d.node (op.Read (seen key d) n)) does
+          → Does (call.Read descriptor count) (if b then plan.Reply (reply.Data []) else locks d.node (op.Read (seen key d) n)) (if b then Ok (Completes s (reply.Data [])) else does)
+      by_zero n true does acts = tt
+      by_zero n false does acts = acts
+
+      by_kind : (n : ℕ) → Kind d.«end» (content_of s (birth_at t d.node)) → Does (call.Read descriptor count) (moves d n (reply.Data []) (op.Read (seen key d) n)) (read_content s d.birth (shown t d offset) n (content_of s (birth_at t d.node)))
+      by_kind n (IsFile file its is) =
+          does_as (call.Read descriptor count) _ (locks d.node (op.Read (seen key d) n)) _ (File file) (read_content s d.birth (shown t d offset) n) (moves_file d n (reply.Data []) (op.Read (seen key d) n) its) is
+          (λ content other holds stands. by_file n file content other is (sym holds ∙ is) (offset_same key offset other d got there stands))
+      by_kind n (IsPipe waiting stream told no_side is) =
+          does_as (call.Read descriptor count) _ (if n == 0 then plan.Reply (reply.Data []) else locks d.node (op.Read (seen key d) n)) _ (Pipe waiting) (read_content s d.birth (shown t d offset) n) (moves_stream d n (reply.Data []) (op.Read (seen key d) n) stream) is
+          (by_zero n (n == 0) (read_done s (shown t d offset) (λ left. Pipe left) (stream_read waiting n (posix.has_end s (birth_at t d.node) part.Write))) (λ content other holds stands. by_pipe n waiting content other is (sym holds ∙ is) stands))
+      by_kind n (IsPair p side its is) =
+          does_as (call.Read descriptor count) _ (if n == 0 then plan.Reply (reply.Data []) else locks d.node (op.Read (seen key d) n)) _ (Pair p) (read_content s d.birth (shown t d offset) n) (moves_stream d n (reply.Data []) (op.Read (seen key d) n) (socket_stream d.«end» side its)) is
+          (by_zero n (n == 0) (read_done s (shown t d offset) (λ left. Pair (with_waiting p (side_of d.«end») left)) (pair_read p (side_of d.«end») n (has_peer s (birth_at t d.node) (side_of d.«end»)))) (λ content other holds stands. by_pair n p side content other (sym (ap side_of its)) is (sym holds ∙ is) stands))
+
+      by_access : (b : Bool) (r : Result ℕ Errno) → Acts (call.Read descriptor count) (refuse_if b EBADF >>= (λ _. r >>= (λ n. Ok (moves d n (reply.Data []) (op.Read (seen key d) n))))) ((refuse_if b EBADF >>= (λ _. Ok (d.birth, shown t d offset))) >>= (λ (found : ℕ × object.Description). r >>= (λ n. read_content s found.0 found.1 n (content_of s found.1.object))))
       by_access true r = tt
       by_access false (Err e) = tt
-      by_access false (Ok n) = λ file other holds stands. by_content n (content_of s (birth_at t d.node)) file other holds holds (offset_same key offset other d got there stands)
+      by_access false (Ok n) = by_kind n (kind_at key d got)
 
   acts-write : (descriptor : ℤ) (bytes : List ℕ) → FoundBoth t s descriptor → Acts (call.Write descriptor bytes) (write_plan t descriptor (length bytes)) (write_result s descriptor bytes)
   unfolding write_plan write_result
   acts-write descriptor bytes (Shut table state) = rw table tt
   acts-write descriptor bytes (Open key d offset at got there table state) = rw (table, state) (by_refusals (not (can_write d.access)) (nat_lt 32767 (length bytes)))
     where
-      start : List ℕ → ℕ
-      start file = start_of (shown t d offset) file
-
       by_written : (file : List ℕ) (r : Result (List ℕ × ℕ) Errno) → content_of s (birth_at t d.node) ≡ File file
-          → IsActed t d.node (op.Write (seen key d)) (wrote r file offset (λ count. start_of (shown t d offset) file + count)) (concluded settings s outcome carried (r >>= (λ w. Ok (Completes (with_content (record s { descriptions = fin.insert s.descriptions d.birth (shown t d (start_of (shown t d offset) file + w.1)) }) (birth_at t d.node) (File w.0)) (reply.Count w.1)))))
-      by_written file (Ok w) holds = record {
+          → Ended d.node (op.Write (seen key d)) (wrote r file offset (λ count. start_of (shown t d offset) file + count)) (r >>= (λ w. Ok (Completes (with_content (record s { descriptions = fin.insert s.descriptions d.birth (shown t d (start_of (shown t d offset) file + w.1)) }) (birth_at t d.node) (File w.0)) (reply.Count w.1))))
+      by_written file (Ok w) is = record {
         answer_is = refl;
-        file_is = put_file (record s { descriptions = fin.insert s.descriptions d.birth (shown t d (start_of (shown t d offset) file + w.1)) }) (birth_at t d.node) w.0;
+        carried_is = refl;
+        content_is = put_content (record s { descriptions = fin.insert s.descriptions d.birth (shown t d (start_of (shown t d offset) file + w.1)) }) (birth_at t d.node) (File w.0);
         offset_is = moved_to key (start_of (shown t d offset) file + w.1) d got;
       }
-      by_written file (Err e) holds = record {
+      by_written file (Err e) is = record {
         answer_is = refl;
-        file_is = same_file s (birth_at t d.node) file holds;
+        carried_is = refl;
+        content_is = same_content s (birth_at t d.node) (File file) is;
         offset_is = ap (offset_at s) (birth_got t.descriptions key d got) ∙ ap (option_map (λ (x : object.Description). x.offset)) there;
       }
 
       by_length : (file : List ℕ) (b : Bool) → content_of s (birth_at t d.node) ≡ File file
-          → IsActed t d.node (op.Write (seen key d)) (if b then replied (reply.Count 0) file offset else wrote (written file (start_of (shown t d offset) file) bytes) file offset (λ count. start_of (shown t d offset) file + count))
-          (concluded settings s outcome carried (if b then Ok (Completes s (reply.Count 0)) else write_content s d.birth (shown t d offset) bytes (File file)))
-      by_length file true holds = record {
+          → Ended d.node (op.Write (seen key d)) (if b then replied (reply.Count 0) (File file) offset else wrote (written file (start_of (shown t d offset) file) bytes) file offset (λ count. start_of (shown t d offset) file + count))
+          (if b then Ok (Completes s (reply.Count 0)) else write_content s d.birth (shown t d offset) bytes (File file))
+      by_length file true is = record {
         answer_is = refl;
-        file_is = same_file s (birth_at t d.node) file holds;
+        carried_is = refl;
+        content_is = same_content s (birth_at t d.node) (File file) is;
         offset_is = ap (offset_at s) (birth_got t.descriptions key d got) ∙ ap (option_map (λ (x : object.Description). x.offset)) there;
       }
-      by_length file false holds = by_written file (written file (start_of (shown t d offset) file) bytes) holds
+      by_length file false is = by_written file (written file (start_of (shown t d offset) file) bytes) is
 
-      by_content : (c : Content) (file : List ℕ) (other : ℕ) → content_of s (birth_at t d.node) ≡ File file → c ≡ File file → offset ≡ other
-          → IsActed t d.node (op.Write (seen key d)) (acted (op.Write (seen key d)) (call.Write descriptor bytes) None file other) (concluded settings s outcome carried (if length bytes == 0 then Ok (Completes s (reply.Count 0)) else write_content s d.birth (shown t d offset) bytes c))
-      by_content c file other holds is same = rw (is, ← same) (by_length file (length bytes == 0) holds)
+      by_file : (file : List ℕ) (content : Content) (other : ℕ) → content_of s (birth_at t d.node) ≡ File file → content ≡ File file → offset ≡ other
+          → Ended d.node (op.Write (seen key d)) (write_acted t d.node (seen key d) bytes content other) (if length bytes == 0 then Ok (Completes s (reply.Count 0)) else write_content s d.birth (shown t d offset) bytes (File file))
+      by_file file content other is its same = rw (its, ← same) (by_length file (length bytes == 0) is)
 
-      by_refusals : (a b : Bool) → Acts (call.Write descriptor bytes) (refuse_if a EBADF >>= (λ _. refuse_if b EINVAL >>= (λ _. Ok (locks d.node (op.Write (seen key d)))))) ((refuse_if a EBADF >>= (λ _. refuse_if b EINVAL >>= (λ _. Ok (d.birth, shown t d offset)))) >>= (λ (found : ℕ × object.Description). if length bytes == 0 then Ok (Completes s (reply.Count 0)) else write_content s found.0 found.1 bytes (content_of s found.1.object)))
+      by_writing : (holds : List ℕ → Content) (was : Content) (other : ℕ) (w : Writing) → content_of s (birth_at t d.node) ≡ was → offset_at s (birth_of t key) ≡ Some other → Ended d.node (op.Write (seen key d)) (has_written (seen key d) holds was other (length bytes) w) (write_done s (shown t d offset) (length bytes) holds w)
+      by_writing holds was other (Writes left) is stands = record { answer_is = refl; carried_is = refl; content_is = put_content s (birth_at t d.node) (holds left); offset_is = stands }
+      by_writing holds was other Breaks is stands = record { answer_is = refl; carried_is = refl; content_is = same_content s (birth_at t d.node) was is; offset_is = stands }
+      by_writing holds was other NoRoom is stands = stopped_as d.node (op.Write (seen key d)) (seen key d) was other is stands d.flags.nonblock
+
+      by_pipe : (waiting : List ℕ) (content : Content) (other : ℕ) → content_of s (birth_at t d.node) ≡ Pipe waiting → content ≡ Pipe waiting → offset_at s (birth_of t key) ≡ Some other
+          → Ended d.node (op.Write (seen key d)) (write_acted t d.node (seen key d) bytes content other) (write_done s (shown t d offset) (length bytes) (λ left. Pipe left) (stream_write waiting bytes (posix.has_end s (birth_at t d.node) part.Read)))
+      by_pipe waiting content other is its stands =
+          rw (its, open_at key d part.Read got (ap (is_of part.Read) is)) (by_writing (λ left. Pipe left) (Pipe waiting) other (stream_write waiting bytes (is_open t d.node part.Read)) is stands)
+
+      by_pair : (p : PairState) (content : Content) (other : ℕ) → content_of s (birth_at t d.node) ≡ Pair p → content ≡ Pair p → offset_at s (birth_of t key) ≡ Some other
+          → Ended d.node (op.Write (seen key d)) (write_acted t d.node (seen key d) bytes content other) (write_done s (shown t d offset) (length bytes) (λ left. Pair (with_waiting p (peer_of (side_of d.«end»)) left)) (pair_write p (side_of d.«end») bytes (posix.has_end s (birth_at t d.node) (part.Socket (peer_of (side_of d.«end»))))))
+      by_pair p content other is its stands =
+          rw (its, open_at key d (part.Socket (peer_of (side_of d.«end»))) got (ap (is_of (part.Socket (peer_of (side_of d.«end»)))) is))
+          (by_writing (λ left. Pair (with_waiting p (peer_of (side_of d.«end»)) left)) (Pair p) other (pair_write p (side_of d.«end») bytes (is_open t d.node (part.Socket (peer_of (side_of d.«end»))))) is stands)
+
+      by_zero : (b : Bool) (does : Result Effect Errno) → Does (call.Write descriptor bytes) (locks d.node (op.Write (seen key d))) does
+          → Does (call.Write descriptor bytes) (if b then plan.Reply (reply.Count 0) else locks d.node (op.Write (seen key d))) (if b then Ok (Completes s (reply.Count 0)) else does)
+      by_zero true does acts = tt
+      by_zero false does acts = acts
+
+      by_kind : Kind d.«end» (content_of s (birth_at t d.node)) → Does (call.Write descriptor bytes) (moves d (length bytes) (reply.Count 0) (op.Write (seen key d))) (if length bytes == 0 then Ok (Completes s (reply.Count 0)) else write_content s d.birth (shown t d offset) bytes (content_of s (birth_at t d.node)))
+      by_kind (IsFile file its is) =
+          does_as (call.Write descriptor bytes) _ (locks d.node (op.Write (seen key d))) _ (File file) (λ c. if length bytes == 0 then Ok (Completes s (reply.Count 0)) else write_content s d.birth (shown t d offset) bytes c) (moves_file d (length bytes) (reply.Count 0) (op.Write (seen key d)) its) is
+          (λ content other holds stands. by_file file content other is (sym holds ∙ is) (offset_same key offset other d got there stands))
+      by_kind (IsPipe waiting stream told no_side is) =
+          does_as (call.Write descriptor bytes) _ (if length bytes == 0 then plan.Reply (reply.Count 0) else locks d.node (op.Write (seen key d))) _ (Pipe waiting) (λ c. if length bytes == 0 then Ok (Completes s (reply.Count 0)) else write_content s d.birth (shown t d offset) bytes c) (moves_stream d (length bytes) (reply.Count 0) (op.Write (seen key d)) stream) is
+          (by_zero (length bytes == 0) (write_done s (shown t d offset) (length bytes) (λ left. Pipe left) (stream_write waiting bytes (posix.has_end s (birth_at t d.node) part.Read))) (λ content other holds stands. by_pipe waiting content other is (sym holds ∙ is) stands))
+      by_kind (IsPair p side its is) =
+          does_as (call.Write descriptor bytes) _ (if length bytes == 0 then plan.Reply (reply.Count 0) else locks d.node (op.Write (seen key d))) _ (Pair p) (λ c. if length bytes == 0 then Ok (Completes s (reply.Count 0)) else write_content s d.birth (shown t d offset) bytes c) (moves_stream d (length bytes) (reply.Count 0) (op.Write (seen key d)) (socket_stream d.«end» side its)) is
+          (by_zero (length bytes == 0) (write_done s (shown t d offset) (length bytes) (λ left. Pair (with_waiting p (peer_of (side_of d.«end»)) left)) (pair_write p (side_of d.«end») bytes (has_peer s (birth_at t d.node) (side_of d.«end»)))) (λ content other holds stands. by_pair p content other is (sym holds ∙ is) stands))
+
+      by_refusals : (a b : Bool) → Acts (call.Write descriptor bytes) (refuse_if a EBADF >>= (λ _. refuse_if b EINVAL >>= (λ _. Ok (moves d (length bytes) (reply.Count 0) (op.Write (seen key d)))))) ((refuse_if a EBADF >>= (λ _. refuse_if b EINVAL >>= (λ _. Ok (d.birth, shown t d offset)))) >>= (λ (found : ℕ × object.Description). if length bytes == 0 then Ok (Completes s (reply.Count 0)) else write_content s found.0 found.1 bytes (content_of s found.1.object)))
       by_refusals true b = tt
       by_refusals false true = tt
-      by_refusals false false = λ file other holds stands. by_content (content_of s (birth_at t d.node)) file other holds holds (offset_same key offset other d got there stands)
+      by_refusals false false = by_kind (kind_at key d got)
 
   acts-lseek : (descriptor to : ℤ) (whence : Whence) → FoundBoth t s descriptor → Acts (call.Lseek descriptor to whence) (lseek_plan t descriptor) (lseek_result s descriptor to whence)
   unfolding lseek_plan lseek_result
   acts-lseek descriptor to whence (Shut table state) = rw table tt
-  acts-lseek descriptor to whence (Open key d offset at got there table state) = rw (table, state) (λ file other holds stands. by_content (content_of s (birth_at t d.node)) file other holds holds (offset_same key offset other d got there stands))
+  acts-lseek descriptor to whence (Open key d offset at got there table state) = rw (table, state) (by_kind (kind_at key d got))
     where
-      by_offset : (file : List ℕ) (r : Result ℕ Errno) → content_of s (birth_at t d.node) ≡ File file → IsActed t d.node (op.Lseek (seen key d)) (sought r file offset) (concluded settings s outcome carried (r >>= (λ to. Ok (Completes (record s { descriptions = fin.insert s.descriptions d.birth (shown t d to) }) (reply.Number (pos to))))))
-      by_offset file (Ok to) holds = record { answer_is = refl; file_is = same_file s (birth_at t d.node) file holds; offset_is = moved_to key to d got }
-      by_offset file (Err e) holds = record {
+      by_offset : (file : List ℕ) (r : Result ℕ Errno) → content_of s (birth_at t d.node) ≡ File file → Ended d.node (op.Lseek (seen key d)) (sought r file offset) (r >>= (λ to. Ok (Completes (record s { descriptions = fin.insert s.descriptions d.birth (shown t d to) }) (reply.Number (pos to)))))
+      by_offset file (Ok to) is = record { answer_is = refl; carried_is = refl; content_is = same_content s (birth_at t d.node) (File file) is; offset_is = moved_to key to d got }
+      by_offset file (Err e) is = record {
         answer_is = refl;
-        file_is = same_file s (birth_at t d.node) file holds;
+        carried_is = refl;
+        content_is = same_content s (birth_at t d.node) (File file) is;
         offset_is = ap (offset_at s) (birth_got t.descriptions key d got) ∙ ap (option_map (λ (x : object.Description). x.offset)) there;
       }
 
-      by_content : (c : Content) (file : List ℕ) (other : ℕ) → content_of s (birth_at t d.node) ≡ File file → c ≡ File file → offset ≡ other
-          → IsActed t d.node (op.Lseek (seen key d)) (acted (op.Lseek (seen key d)) (call.Lseek descriptor to whence) None file other) (concluded settings s outcome carried (seek_content s d.birth (shown t d offset) to whence c))
-      by_content c file other holds is same = rw (is, ← same) (by_offset file (offset_of (pos (base_of whence offset (length file)) +ℤ to)) holds)
+      by_file : (file : List ℕ) (content : Content) (other : ℕ) → content_of s (birth_at t d.node) ≡ File file → content ≡ File file → offset ≡ other
+          → Ended d.node (op.Lseek (seen key d)) (acted t d.node (op.Lseek (seen key d)) (call.Lseek descriptor to whence) numbers.None content other) (seek_content s d.birth (shown t d offset) to whence (File file))
+      by_file file content other is its same = rw (its, ← same) (by_offset file (offset_of (pos (base_of whence offset (length file)) +ℤ to)) is)
+
+      by_kind : Kind d.«end» (content_of s (birth_at t d.node)) → Acts (call.Lseek descriptor to whence) (of_file d ESPIPE >>= (λ _. Ok (locks d.node (op.Lseek (seen key d))))) (seek_content s d.birth (shown t d offset) to whence (content_of s (birth_at t d.node)))
+      by_kind (IsFile file its is) = does_as (call.Lseek descriptor to whence) _ (locks d.node (op.Lseek (seen key d))) _ (File file) (seek_content s d.birth (shown t d offset) to whence)
+          (ap (λ (r : Result (Unit {0}) Errno). answered (r >>= (λ _. Ok (locks d.node (op.Lseek (seen key d)))))) (of_file_file d ESPIPE its)) is
+          (λ content other holds stands. by_file file content other is (sym holds ∙ is) (offset_same key offset other d got there stands))
+      by_kind (IsPipe waiting stream told no_side is) = rw (of_file_stream d ESPIPE stream) tt
+      by_kind (IsPair p side its is) = rw (of_file_stream d ESPIPE (socket_stream d.«end» side its)) tt
 
   acts-fstat : (descriptor : ℤ) → FoundBoth t s descriptor → Acts (call.Fstat descriptor) (fstat_plan t descriptor) (fstat_result s descriptor)
   unfolding fstat_plan fstat_result
   acts-fstat descriptor (Shut table state) = rw table tt
-  acts-fstat descriptor (Open key d offset at got there table state) = rw (table, state) (λ file other holds stands. rw holds (record {
-    answer_is = ap (λ (n : ℕ). answer.Reply (reply.Stat kind.File (length file) n)) (links_shown t s d.node sound shows (sound.described_objects key d got));
-    file_is = same_file s (birth_at t d.node) file holds;
-    offset_is = tt;
-  }))
+  acts-fstat descriptor (Open key d offset at got there table state) = rw (table, state) (by_kind (kind_at key d got))
+    where
+      by_file : (file : List ℕ) (content : Content) (other : ℕ) → content_of s (birth_at t d.node) ≡ File file → content ≡ File file
+          → Ended d.node (op.Fstat (links_of t.paths d.node)) (acted t d.node (op.Fstat (links_of t.paths d.node)) (call.Fstat descriptor) numbers.None content other) (Ok (Completes s (stat_of s (birth_at t d.node) (File file))))
+      by_file file content other is its = rw its (record {
+        answer_is = ap (λ (n : ℕ). answer.Reply (reply.Stat kind.File (length file) n)) (links_shown t s d.node sound shows (sound.described_objects key d got));
+        carried_is = refl;
+        content_is = same_content s (birth_at t d.node) (File file) is;
+        offset_is = tt;
+      })
+
+      by_kind : Kind d.«end» (content_of s (birth_at t d.node)) → Does (call.Fstat descriptor) (stat_plan d (links_of t.paths d.node) (stream_kind d.«end»)) (Ok (Completes s (stat_of s (birth_at t d.node) (content_of s (birth_at t d.node)))))
+      by_kind (IsFile file its is) = does_as (call.Fstat descriptor) _ (locks d.node (op.Fstat (links_of t.paths d.node))) _ (File file) (λ c. Ok (Completes s (stat_of s (birth_at t d.node) c)))
+          (ap (λ (e : End). stat_plan d (links_of t.paths d.node) (stream_kind e)) its) is
+          (λ content other holds stands. by_file file content other is (sym holds ∙ is))
+      by_kind (IsPipe waiting stream told no_side is) = rw told tt
+      by_kind (IsPair p side its is) = subst (λ (e : End). Does (call.Fstat descriptor) (stat_plan d (links_of t.paths d.node) (stream_kind e)) (Ok (Completes s (stat_of s (birth_at t d.node) (content_of s (birth_at t d.node)))))) (sym its) tt
 
   acts-pread : (descriptor count position : ℤ) → FoundBoth t s descriptor → Acts (call.Pread descriptor count position) (pread_plan t descriptor count position) (pread_result s descriptor count position)
   unfolding pread_plan pread_result
   acts-pread descriptor count position (Shut table state) = rw table tt
-  acts-pread descriptor count position (Open key d offset at got there table state) = rw (table, state) (by_refusals (not (can_read d.access)) (count_of count) (position_of position))
+  acts-pread descriptor count position (Open key d offset at got there table state) = rw (table, state) (by_kind (kind_at key d got))
     where
-      by_refusals : (a : Bool) (r p : Result ℕ Errno) → Acts (call.Pread descriptor count position) (refuse_if a EBADF >>= (λ _. r >>= (λ n. p >>= (λ start. Ok (locks d.node (op.Pread n start))))))
-          (file_in (content_of s (birth_at t d.node)) ESPIPE >>= (λ file. refuse_if a EBADF >>= (λ _. r >>= (λ n. p >>= (λ start. Ok (Completes s (reply.Data (bytes_at file start n))))))))
-      by_refusals true r p = tt
-      by_refusals false (Err e) p = tt
-      by_refusals false (Ok n) (Err e) = tt
-      by_refusals false (Ok n) (Ok start) = λ file other holds stands. rw holds (record { answer_is = refl; file_is = same_file s (birth_at t d.node) file holds; offset_is = tt })
+      by_file : (n start : ℕ) (file : List ℕ) (content : Content) (other : ℕ) → content_of s (birth_at t d.node) ≡ File file → content ≡ File file
+          → Ended d.node (op.Pread n start) (acted t d.node (op.Pread n start) (call.Pread descriptor count position) numbers.None content other) (Ok (Completes s (reply.Data (bytes_at file start n))))
+      by_file n start file content other is its = rw its (record { answer_is = refl; carried_is = refl; content_is = same_content s (birth_at t d.node) (File file) is; offset_is = tt })
+
+      by_refusals : (file : List ℕ) → content_of s (birth_at t d.node) ≡ File file → (a : Bool) (r p : Result ℕ Errno) → Acts (call.Pread descriptor count position) (refuse_if a EBADF >>= (λ _. r >>= (λ n. p >>= (λ start. Ok (locks d.node (op.Pread n start))))))
+          (refuse_if a EBADF >>= (λ _. r >>= (λ n. p >>= (λ start. Ok (Completes s (reply.Data (bytes_at file start n)))))))
+      by_refusals file is true r p = tt
+      by_refusals file is false (Err e) p = tt
+      by_refusals file is false (Ok n) (Err e) = tt
+      by_refusals file is false (Ok n) (Ok start) = λ content other holds stands. by_file n start file content other is (sym holds ∙ is)
+
+      by_kind : Kind d.«end» (content_of s (birth_at t d.node)) → Acts (call.Pread descriptor count position) (of_file d ESPIPE >>= (λ _. refuse_if (not (can_read d.access)) EBADF >>= (λ _. count_of count >>= (λ n. position_of position >>= (λ start. Ok (locks d.node (op.Pread n start)))))))
+          (file_in (content_of s (birth_at t d.node)) ESPIPE >>= (λ file. refuse_if (not (can_read d.access)) EBADF >>= (λ _. count_of count >>= (λ n. position_of position >>= (λ start. Ok (Completes s (reply.Data (bytes_at file start n))))))))
+      by_kind (IsFile file its is) = rw (of_file_file d ESPIPE its, file_found file ESPIPE is) (by_refusals file is (not (can_read d.access)) (count_of count) (position_of position))
+        where
+          file_found : (file : List ℕ) (e : Errno) → content_of s (birth_at t d.node) ≡ File file → file_in (content_of s (birth_at t d.node)) e ≡ Ok file
+          file_found file e is = ap (λ (c : Content). file_in c e) is
+      by_kind (IsPipe waiting stream told no_side is) = rw (of_file_stream d ESPIPE stream) tt
+      by_kind (IsPair p side its is) = rw (of_file_stream d ESPIPE (socket_stream d.«end» side its)) tt
 
   acts-pwrite : (descriptor : ℤ) (bytes : List ℕ) (position : ℤ) → FoundBoth t s descriptor → Acts (call.Pwrite descriptor bytes position) (pwrite_plan t descriptor (length bytes) position) (pwrite_result s descriptor bytes position)
   unfolding pwrite_plan pwrite_result
   acts-pwrite descriptor bytes position (Shut table state) = rw table tt
-  acts-pwrite descriptor bytes position (Open key d offset at got there table state) = rw (table, state) (by_refusals (not (can_write d.access)) (nat_lt 32767 (length bytes)) (position_of position))
+  acts-pwrite descriptor bytes position (Open key d offset at got there table state) = rw (table, state) (by_kind (kind_at key d got))
     where
       by_written : (file : List ℕ) (start other : ℕ) (r : Result (List ℕ × ℕ) Errno) → content_of s (birth_at t d.node) ≡ File file
-          → IsActed t d.node (op.Pwrite start) (wrote r file other (λ count. other)) (concluded settings s outcome carried (r >>= (λ w. Ok (Completes (with_content s (birth_at t d.node) (File w.0)) (reply.Count w.1)))))
-      by_written file start other (Ok w) holds = record { answer_is = refl; file_is = put_file s (birth_at t d.node) w.0; offset_is = tt }
-      by_written file start other (Err e) holds = record { answer_is = refl; file_is = same_file s (birth_at t d.node) file holds; offset_is = tt }
+          → Ended d.node (op.Pwrite start) (wrote r file other (λ count. other)) (r >>= (λ w. Ok (Completes (with_content s (birth_at t d.node) (File w.0)) (reply.Count w.1))))
+      by_written file start other (Ok w) is = record { answer_is = refl; carried_is = refl; content_is = put_content s (birth_at t d.node) (File w.0); offset_is = tt }
+      by_written file start other (Err e) is = record { answer_is = refl; carried_is = refl; content_is = same_content s (birth_at t d.node) (File file) is; offset_is = tt }
 
       by_length : (file : List ℕ) (start other : ℕ) (b : Bool) → content_of s (birth_at t d.node) ≡ File file
-          → IsActed t d.node (op.Pwrite start) (if b then replied (reply.Count 0) file other else wrote (written file start bytes) file other (λ count. other)) (concluded settings s outcome carried (if b then Ok (Completes s (reply.Count 0)) else write_at s (birth_at t d.node) file start bytes))
-      by_length file start other true holds = record { answer_is = refl; file_is = same_file s (birth_at t d.node) file holds; offset_is = tt }
-      by_length file start other false holds = by_written file start other (written file start bytes) holds
+          → Ended d.node (op.Pwrite start) (if b then replied (reply.Count 0) (File file) other else wrote (written file start bytes) file other (λ count. other)) (if b then Ok (Completes s (reply.Count 0)) else write_at s (birth_at t d.node) file start bytes)
+      by_length file start other true is = record { answer_is = refl; carried_is = refl; content_is = same_content s (birth_at t d.node) (File file) is; offset_is = tt }
+      by_length file start other false is = by_written file start other (written file start bytes) is
 
-      by_refusals : (a b : Bool) (p : Result ℕ Errno) → Acts (call.Pwrite descriptor bytes position) (refuse_if a EBADF >>= (λ _. refuse_if b EINVAL >>= (λ _. p >>= (λ start. Ok (locks d.node (op.Pwrite start))))))
-          (file_in (content_of s (birth_at t d.node)) ESPIPE >>= (λ file. refuse_if a EBADF >>= (λ _. refuse_if b EINVAL >>= (λ _. p >>= (λ start. if length bytes == 0 then Ok (Completes s (reply.Count 0)) else write_at s (birth_at t d.node) file start bytes)))))
-      by_refusals true b p = tt
-      by_refusals false true p = tt
-      by_refusals false false (Err e) = tt
-      by_refusals false false (Ok start) = λ file other holds stands. rw holds (by_length file start other (length bytes == 0) holds)
+      by_file : (file : List ℕ) (start : ℕ) (content : Content) (other : ℕ) → content_of s (birth_at t d.node) ≡ File file → content ≡ File file
+          → Ended d.node (op.Pwrite start) (acted t d.node (op.Pwrite start) (call.Pwrite descriptor bytes position) numbers.None content other) (if length bytes == 0 then Ok (Completes s (reply.Count 0)) else write_at s (birth_at t d.node) file start bytes)
+      by_file file start content other is its = rw its (by_length file start other (length bytes == 0) is)
+
+      by_refusals : (file : List ℕ) → content_of s (birth_at t d.node) ≡ File file → (a b : Bool) (p : Result ℕ Errno) → Acts (call.Pwrite descriptor bytes position) (refuse_if a EBADF >>= (λ _. refuse_if b EINVAL >>= (λ _. p >>= (λ start. Ok (locks d.node (op.Pwrite start))))))
+          (refuse_if a EBADF >>= (λ _. refuse_if b EINVAL >>= (λ _. p >>= (λ start. if length bytes == 0 then Ok (Completes s (reply.Count 0)) else write_at s (birth_at t d.node) file start bytes))))
+      by_refusals file is true b p = tt
+      by_refusals file is false true p = tt
+      by_refusals file is false false (Err e) = tt
+      by_refusals file is false false (Ok start) = λ content other holds stands. by_file file start content other is (sym holds ∙ is)
+
+      by_kind : Kind d.«end» (content_of s (birth_at t d.node)) → Acts (call.Pwrite descriptor bytes position) (of_file d ESPIPE >>= (λ _. refuse_if (not (can_write d.access)) EBADF >>= (λ _. refuse_if (nat_lt 32767 (length bytes)) EINVAL >>= (λ _. position_of position >>= (λ start. Ok (locks d.node (op.Pwrite start)))))))
+          (file_in (content_of s (birth_at t d.node)) ESPIPE >>= (λ file. refuse_if (not (can_write d.access)) EBADF >>= (λ _. refuse_if (nat_lt 32767 (length bytes)) EINVAL >>= (λ _. position_of position >>= (λ start. if length bytes == 0 then Ok (Completes s (reply.Count 0)) else write_at s (birth_at t d.node) file start bytes)))))
+      by_kind (IsFile file its is) = rw (of_file_file d ESPIPE its, file_found file ESPIPE is) (by_refusals file is (not (can_write d.access)) (nat_lt 32767 (length bytes)) (position_of position))
+        where
+          file_found : (file : List ℕ) (e : Errno) → content_of s (birth_at t d.node) ≡ File file → file_in (content_of s (birth_at t d.node)) e ≡ Ok file
+          file_found file e is = ap (λ (c : Content). file_in c e) is
+      by_kind (IsPipe waiting stream told no_side is) = rw (of_file_stream d ESPIPE stream) tt
+      by_kind (IsPair p side its is) = rw (of_file_stream d ESPIPE (socket_stream d.«end» side its)) tt
 
   acts-ftruncate : (descriptor size : ℤ) → FoundBoth t s descriptor → Acts (call.Ftruncate descriptor size) (ftruncate_plan t descriptor size) (ftruncate_result s descriptor size)
   unfolding ftruncate_plan ftruncate_result
   acts-ftruncate descriptor size (Shut table state) = rw table tt
-  acts-ftruncate descriptor size (Open key d offset at got there table state) = rw (table, state) (by_refusals (not (can_write d.access)) (size_of size))
+  acts-ftruncate descriptor size (Open key d offset at got there table state) = rw (table, state) (by_kind (not (can_write d.access)) (kind_at key d got))
     where
-      by_refusals : (a : Bool) (r : Result ℕ Errno) → Acts (call.Ftruncate descriptor size) (refuse_if a EINVAL >>= (λ _. r >>= (λ n. Ok (locks d.node (op.Ftruncate n)))))
-          (refuse_if a EINVAL >>= (λ _. file_in (content_of s (birth_at t d.node)) EINVAL >>= (λ file. r >>= (λ n. Ok (Completes (with_content s (birth_at t d.node) (File (resized file n))) reply.Done)))))
-      by_refusals true r = tt
-      by_refusals false (Err e) = tt
-      by_refusals false (Ok n) = λ file other holds stands. rw holds (record { answer_is = refl; file_is = put_file s (birth_at t d.node) (resized file n); offset_is = tt })
+      by_file : (n : ℕ) (file : List ℕ) (content : Content) (other : ℕ) → content_of s (birth_at t d.node) ≡ File file → content ≡ File file
+          → Ended d.node (op.Ftruncate n) (acted t d.node (op.Ftruncate n) (call.Ftruncate descriptor size) numbers.None content other) (Ok (Completes (with_content s (birth_at t d.node) (File (resized file n))) reply.Done))
+      by_file n file content other is its = rw its (record { answer_is = refl; carried_is = refl; content_is = put_content s (birth_at t d.node) (File (resized file n)); offset_is = tt })
+
+      by_size : (file : List ℕ) → content_of s (birth_at t d.node) ≡ File file → (r : Result ℕ Errno) → Acts (call.Ftruncate descriptor size) (r >>= (λ n. Ok (locks d.node (op.Ftruncate n)))) (r >>= (λ n. Ok (Completes (with_content s (birth_at t d.node) (File (resized file n))) reply.Done)))
+      by_size file is (Err e) = tt
+      by_size file is (Ok n) = λ content other holds stands. by_file n file content other is (sym holds ∙ is)
+
+      by_kind : (a : Bool) → Kind d.«end» (content_of s (birth_at t d.node)) → Acts (call.Ftruncate descriptor size) (refuse_if a EINVAL >>= (λ _. of_file d EINVAL >>= (λ _. size_of size >>= (λ n. Ok (locks d.node (op.Ftruncate n))))))
+          (refuse_if a EINVAL >>= (λ _. file_in (content_of s (birth_at t d.node)) EINVAL >>= (λ file. size_of size >>= (λ n. Ok (Completes (with_content s (birth_at t d.node) (File (resized file n))) reply.Done)))))
+      by_kind true k = tt
+      by_kind false (IsFile file its is) = rw (of_file_file d EINVAL its, file_found file EINVAL is) (by_size file is (size_of size))
+        where
+          file_found : (file : List ℕ) (e : Errno) → content_of s (birth_at t d.node) ≡ File file → file_in (content_of s (birth_at t d.node)) e ≡ Ok file
+          file_found file e is = ap (λ (c : Content). file_in c e) is
+      by_kind false (IsPipe waiting stream told no_side is) = rw (of_file_stream d EINVAL stream) tt
+      by_kind false (IsPair p side its is) = rw (of_file_stream d EINVAL (socket_stream d.«end» side its)) tt
+
+  acts-shutdown : (descriptor : ℤ) (how : ShutdownHow) → FoundBoth t s descriptor → Acts (call.Shutdown descriptor how) (shutdown_plan t descriptor how) (shutdown_result s descriptor how)
+  unfolding shutdown_plan shutdown_result
+  acts-shutdown descriptor how (Shut table state) = rw table tt
+  acts-shutdown descriptor how (Open key d offset at got there table state) = rw (table, state) (by_kind d.«end» (kind_at key d got))
+    where
+      by_pair : (side : Side) (p : PairState) (content : Content) (other : ℕ) → content ≡ Pair p
+          → Ended d.node (op.Shutdown side how) (acted t d.node (op.Shutdown side how) (call.Shutdown descriptor how) numbers.None content other) (Ok (Completes (with_content s (birth_at t d.node) (Pair (shut p side how))) reply.Done))
+      by_pair side p content other its = rw its (record { answer_is = refl; carried_is = refl; content_is = put_content s (birth_at t d.node) (Pair (shut p side how)); offset_is = tt })
+
+      by_kind : (e : End) → Kind e (content_of s (birth_at t d.node)) → Acts (call.Shutdown descriptor how) (socket_side e >>= (λ side. Ok (locks d.node (op.Shutdown side how)))) (pair_in (content_of s (birth_at t d.node)) ENOTSOCK >>= (λ p. Ok (Completes (with_content s (birth_at t d.node) (Pair (shut p (side_of e) how))) reply.Done)))
+      by_kind e (IsFile file its is) = rw its tt
+      by_kind e (IsPipe waiting stream told no_side is) = rw no_side tt
+      by_kind e (IsPair p side its is) = rw (its, pair_found p is) (λ content other holds stands. by_pair side p content other (sym holds ∙ is))
+        where
+          pair_found : (p : PairState) → content_of s (birth_at t d.node) ≡ Pair p → pair_in (content_of s (birth_at t d.node)) ENOTSOCK ≡ Ok p
+          pair_found p is = ap (λ (c : Content). pair_in c ENOTSOCK) is
 
   -- ## Letting go
 
@@ -303,28 +480,29 @@ module _ (t : TableState) (s : State) (settings : Settings) (outcome : Option Ou
   acts-close descriptor (Shut table state) = rw table tt
   acts-close descriptor (Open key d offset at got there table state) = rw (table, state) (by_last (d.holders == 1))
     where
-      by_last : (b : Bool) → ActsOn t s (call.Close descriptor) (if b then locks d.node op.Release else plan.Reply reply.Done) (concluded settings s outcome carried (Ok (Completes (posix.released (posix.freed s descriptor) d.birth (shown t d offset)) reply.Done)))
-      by_last true = λ file other holds stands. record {
+      by_last : (b : Bool) → ActsOn t s settings carried (call.Close descriptor) (if b then locks d.node op.Release else plan.Reply reply.Done) (concluded settings s outcome carried (Ok (Completes (posix.released (posix.freed s descriptor) d.birth (shown t d offset)) reply.Done)))
+      by_last true = λ content other holds stands. record {
         answer_is = refl;
-        file_is = released_file (posix.freed s descriptor) d.birth (birth_at t d.node) (shown t d offset) file (freed_file s descriptor (birth_at t d.node) file (same_file s (birth_at t d.node) file holds));
+        carried_is = refl;
+        content_is = released_content (posix.freed s descriptor) d.birth (birth_at t d.node) (shown t d offset) content (freed_content s descriptor (birth_at t d.node) content (same_content s (birth_at t d.node) content holds));
         offset_is = tt;
       }
       by_last false = tt
 
-  closed_file : (target : ℤ) (birth : ℕ) (file : List ℕ) (r : Result (ℕ × object.Description) Errno) → HoldsFile s birth file → HoldsFile (duplicates.closed s target r) birth file
-  closed_file target birth file (Ok found) holds = released_file (posix.freed s target) found.0 birth found.1 file (freed_file s target birth file holds)
-  closed_file target birth file (Err e) holds = holds
+  closed_content : (target : ℤ) (birth : ℕ) (content : Content) (r : Result (ℕ × object.Description) Errno) → Holds s birth content → Holds (duplicates.closed s target r) birth content
+  closed_content target birth content (Ok found) holds = released_content (posix.freed s target) found.0 birth found.1 content (freed_content s target birth content holds)
+  closed_content target birth content (Err e) holds = holds
 
   acts-dup2 : (descriptor target : ℤ) → FoundBoth t s descriptor → FoundBoth t s target → Acts (call.Dup2 descriptor target) (dup2_plan t descriptor target) (dup2_result s descriptor target)
   unfolding dup2_plan dup2_result
   acts-dup2 descriptor target (Shut table state) other = rw table tt
   acts-dup2 descriptor target (Open key d offset at got there table state) other = rw (table, state) (by_number (descriptor_number target EBADF))
     where
-      released_as : (e : Description) (n : ℕ) (b : Bool) → ActsOn t s (call.Dup2 descriptor target) (if b then locks e.node op.Release else plan.Reply (reply.Number target)) (concluded settings s outcome carried (Ok (Completes (duplicates.shared (duplicates.closed s target (posix.described s target)) n d.birth) (reply.Number target))))
-      released_as e n true = λ file other holds stands. record { answer_is = refl; file_is = closed_file target (birth_at t e.node) file (posix.described s target) (same_file s (birth_at t e.node) file holds); offset_is = tt }
+      released_as : (e : Description) (n : ℕ) (b : Bool) → ActsOn t s settings carried (call.Dup2 descriptor target) (if b then locks e.node op.Release else plan.Reply (reply.Number target)) (concluded settings s outcome carried (Ok (Completes (duplicates.shared (duplicates.closed s target (posix.described s target)) n d.birth) (reply.Number target))))
+      released_as e n true = λ content other holds stands. record { answer_is = refl; carried_is = refl; content_is = closed_content target (birth_at t e.node) content (posix.described s target) (same_content s (birth_at t e.node) content holds); offset_is = tt }
       released_as e n false = tt
 
-      by_target : (n : ℕ) (found : Result (ℕ × Description) Errno) → ActsOn t s (call.Dup2 descriptor target) (replaced found (reply.Number target)) (concluded settings s outcome carried (Ok (Completes (duplicates.shared (duplicates.closed s target (posix.described s target)) n d.birth) (reply.Number target))))
+      by_target : (n : ℕ) (found : Result (ℕ × Description) Errno) → ActsOn t s settings carried (call.Dup2 descriptor target) (replaced found (reply.Number target)) (concluded settings s outcome carried (Ok (Completes (duplicates.shared (duplicates.closed s target (posix.described s target)) n d.birth) (reply.Number target))))
       by_target n (Ok found) = released_as found.1 n (found.1.holders == 1)
       by_target n (Err e) = tt
 
@@ -340,8 +518,8 @@ module _ (t : TableState) (s : State) (settings : Settings) (outcome : Option Ou
   unfolding unlink_plan unlink_result file_named removed
   acts-unlink path = rw (resolved_shown t s path shows) (by_path (resolved t.paths path))
     where
-      by_last : (components : List (List ℕ)) (node : ℕ) (b : Bool) → ActsOn t s (call.Unlink path) (if b then locks node op.Release else plan.Reply reply.Done) (concluded settings s outcome carried (Ok (Completes (posix.without_unused (with_paths s (fin.remove s.paths components)) (birth_at t node)) reply.Done)))
-      by_last components node true = λ file other holds stands. record { answer_is = refl; file_is = unused_file (with_paths s (fin.remove s.paths components)) (birth_at t node) (birth_at t node) file (same_file s (birth_at t node) file holds); offset_is = tt }
+      by_last : (components : List (List ℕ)) (node : ℕ) (b : Bool) → ActsOn t s settings carried (call.Unlink path) (if b then locks node op.Release else plan.Reply reply.Done) (concluded settings s outcome carried (Ok (Completes (posix.without_unused (with_paths s (fin.remove s.paths components)) (birth_at t node)) reply.Done)))
+      by_last components node true = λ content other holds stands. record { answer_is = refl; carried_is = refl; content_is = unused_content (with_paths s (fin.remove s.paths components)) (birth_at t node) (birth_at t node) content (same_content s (birth_at t node) content holds); offset_is = tt }
       by_last components node false = tt
 
       by_node : (components : List (List ℕ)) (o : Option Node) → Acts (call.Unlink path) (file_node o >>= (λ node. Ok (if is_last_name t node then locks node op.Release else plan.Reply reply.Done)))
@@ -357,31 +535,32 @@ module _ (t : TableState) (s : State) (settings : Settings) (outcome : Option Ou
 
   -- ## Opening
 
-  truncated_file : (birth : ℕ) (file : List ℕ) (cut : Bool) → content_of s birth ≡ File file → HoldsFile (posix.truncated s birth cut) birth (if cut then [] else file)
-  truncated_file birth file true holds = put_file s birth []
-  truncated_file birth file false holds = same_file s birth file holds
+  truncated_content : (birth : ℕ) (content : Content) (cut : Bool) → content_of s birth ≡ content → Holds (posix.truncated s birth cut) birth (if cut then File [] else content)
+  truncated_content birth content true holds = put_content s birth (File [])
+  truncated_content birth content false holds = same_content s birth content holds
 
   acts-there : (path : List ℕ) (access : Access) (flags : OpenFlags) (node : Node) → Acts (call.Open path access flags) (open_there t node flags) (posix.open_there s (shown_node t node) access flags)
   acts-there path access flags Directory = tt
   acts-there path access flags (FileNode node) = rw (lowest_shown t s 32 0 shows) (by_number (lowest_from t.descriptors 32 0))
     where
-      by_number : (o : Option ℕ) → Acts (call.Open path access flags) (some_or o EMFILE >>= (λ n. Ok (locks node (op.Open flags.truncate)))) (some_or o EMFILE >>= (λ n. Ok (Completes (posix.opened (posix.truncated s (birth_at t node) flags.truncate) n (birth_at t node) access flags.append flags.nonblock) (reply.Number (pos n)))))
+      by_number : (o : Option ℕ) → Acts (call.Open path access flags) (some_or o EMFILE >>= (λ n. Ok (locks node (op.Open flags.truncate)))) (some_or o EMFILE >>= (λ n. Ok (Completes (posix.opened (posix.truncated s (birth_at t node) flags.truncate) n (birth_at t node) part.Only access flags.append flags.nonblock) (reply.Number (pos n)))))
       by_number None = tt
-      by_number (Some n) = λ file other holds stands. record { answer_is = refl; file_is = truncated_file (birth_at t node) file flags.truncate holds; offset_is = tt }
+      by_number (Some n) = λ content other holds stands. record { answer_is = refl; carried_is = refl; content_is = truncated_content (birth_at t node) content flags.truncate holds; offset_is = tt }
 
   acts-new : (path : List ℕ) (components : List (List ℕ)) (access : Access) (flags : OpenFlags) → Acts (call.Open path access flags) (open_new t flags) (posix.open_new s components access flags)
   acts-new path components access flags = rw (names_shown t s shows, full_shown t s sound all shows, lowest_shown t s 32 0 shows) (by_rest (not flags.create) (nat_le 64 (fin.len t.paths)) (free_object t) (lowest_from t.descriptors 32 0) (λ node is. lowest_none t.objects 48 0 node is))
     where
       by_rest : (a b : Bool) (o number : Option ℕ) → ((node : ℕ) → o ≡ Some node → slice_index_or t.objects node None ≡ None)
           → Acts (call.Open path access flags) (refuse_if a ENOENT >>= (λ _. refuse_if b ENOSPC >>= (λ _. some_or o ENOSPC >>= (λ node. some_or number EMFILE >>= (λ _. Ok (locks node (op.Open true)))))))
-          (refuse_if a ENOENT >>= (λ _. refuse_if (b || not (is_some o)) ENOSPC >>= (λ _. some_or number EMFILE >>= (λ n. Ok (Completes (posix.opened (posix.with_file s components) n s.next_object access flags.append flags.nonblock) (reply.Number (pos n)))))))
+          (refuse_if a ENOENT >>= (λ _. refuse_if (b || not (is_some o)) ENOSPC >>= (λ _. some_or number EMFILE >>= (λ n. Ok (Completes (posix.opened (posix.with_file s components) n s.next_object part.Only access flags.append flags.nonblock) (reply.Number (pos n)))))))
       by_rest true b o number free = tt
       by_rest false true o number free = tt
       by_rest false false None number free = tt
       by_rest false false (Some node) None free = tt
-      by_rest false false (Some node) (Some n) free = λ file other holds stands. record {
+      by_rest false false (Some node) (Some n) free = λ content other holds stands. record {
         answer_is = refl;
-        file_is = λ content at. same_Some _ _ (sym at ∙ ap (fin.get (fin.insert s.objects s.next_object (File []))) (ap (λ (o : Option ℕ). unwrap_or o t.made_objects) (free node refl) ∙ sym shows.next_object) ∙ get-insert_same s.objects s.next_object (File []));
+        carried_is = refl;
+        content_is = λ now at. same_Some _ _ (sym at ∙ ap (fin.get (fin.insert s.objects s.next_object (File []))) (ap (λ (o : Option ℕ). unwrap_or o t.made_objects) (free node refl) ∙ sym shows.next_object) ∙ get-insert_same s.objects s.next_object (File []));
         offset_is = tt;
       }
 
@@ -402,44 +581,75 @@ module _ (t : TableState) (s : State) (settings : Settings) (outcome : Option Ou
       by_rest false (Err e) = tt
       by_rest false (Ok components) = rw (node_shown t s components shows) (by_node components (node_at t.paths components))
 
+  -- ## Opening both ends
+
+  acts-two : (c : Call) (act : Op) (content : Content) (one other : NewEnd)
+      → ((first second : ℤ) (held : Content) (offset : ℕ) → acted t (unwrap_or (free_object t) 0) act c (numbers_told c (answer.Reply (reply.Pair first second))) held offset ≡ replied (reply.Pair first second) content offset)
+      → ((after : State) (offset : ℕ) → StandsAt t after act offset)
+      → Acts c (two_ends_plan t act) (sockets.two_ends s content one other)
+  acts-two c act content one other acts stays = rw (two_shown t s sound all shows, full_shown t s sound all shows) (by_rest (two_numbers t) (free_object t) refl (λ node is. lowest_none t.objects 48 0 node is))
+    where
+      by_rest : (r : Result (ℕ × ℕ) Errno) (o : Option ℕ) → free_object t ≡ o → ((node : ℕ) → o ≡ Some node → slice_index_or t.objects node None ≡ None)
+          → Acts c (r >>= (λ _. some_or o ENFILE >>= (λ node. Ok (locks node act))))
+          (r >>= (λ numbers. refuse_if (not (is_some o)) ENFILE >>= (λ _. Ok (Completes (posix.opened (posix.opened (sockets.with_object s content) numbers.0 s.next_object one.which one.access false false) numbers.1 s.next_object other.which other.access false false) (reply.Pair (pos numbers.0) (pos numbers.1))))))
+      by_rest (Err e) o at free = tt
+      by_rest (Ok two) None at free = tt
+      by_rest (Ok two) (Some node) at free = λ held offset holds stands.
+          let done : acted t node act c (numbers_told c (answer.Reply (reply.Pair (pos two.0) (pos two.1)))) held offset ≡ replied (reply.Pair (pos two.0) (pos two.1)) content offset =
+          subst (λ (n : ℕ). acted t n act c (numbers_told c (answer.Reply (reply.Pair (pos two.0) (pos two.1)))) held offset ≡ replied (reply.Pair (pos two.0) (pos two.1)) content offset) (ap (λ (o : Option ℕ). unwrap_or o 0) at) (acts (pos two.0) (pos two.1) held offset) in
+          rw done (record {
+            answer_is = refl;
+            carried_is = refl;
+            content_is = λ now is. same_Some _ _ (sym is ∙ ap (fin.get (fin.insert s.objects s.next_object content)) (ap (λ (o : Option ℕ). unwrap_or o t.made_objects) (free node refl) ∙ sym shows.next_object) ∙ get-insert_same s.objects s.next_object content);
+            offset_is = stays (posix.opened (posix.opened (sockets.with_object s content) two.0 s.next_object one.which one.access false false) two.1 s.next_object other.which other.access false false) offset;
+          })
+
+  acts-pipe : Acts call.Pipe (two_ends_plan t op.Pipe) (pipe_result s)
+  unfolding pipe_result
+  acts-pipe = acts-two call.Pipe op.Pipe (Pipe []) (record { which = part.Read; access = ReadOnly }) (record { which = part.Write; access = WriteOnly }) (λ first second held offset. refl) (λ after offset. tt)
+
+  acts-socketpair : Acts call.Socketpair (two_ends_plan t op.Socketpair) (socketpair_result s)
+  unfolding socketpair_result
+  acts-socketpair = acts-two call.Socketpair op.Socketpair (Pair new_pair) (record { which = part.Socket Side0; access = ReadWrite }) (record { which = part.Socket Side1; access = ReadWrite }) (λ first second held offset. refl) (λ after offset. tt)
+
   -- ## Calls that lock nothing
 
-  alone : (c : Call) {A : Type 0} (r : Result A Errno) (f : A → Result Plan Errno) (stepped : Stepped) → ((x : A) → ActsOn t s c (answered (f x)) stepped) → ActsOn t s c (answered (r >>= f)) stepped
+  alone : (c : Call) {A : Type 0} (r : Result A Errno) (f : A → Result Plan Errno) (stepped : Stepped) → ((x : A) → ActsOn t s settings carried c (answered (f x)) stepped) → ActsOn t s settings carried c (answered (r >>= f)) stepped
   alone c (Ok x) f stepped each = each x
   alone c (Err e) f stepped each = tt
 
-  acts-dup : (descriptor : ℤ) (stepped : Stepped) → ActsOn t s (call.Dup descriptor) (answered (dup_plan t descriptor)) stepped
+  acts-dup : (descriptor : ℤ) (stepped : Stepped) → ActsOn t s settings carried (call.Dup descriptor) (answered (dup_plan t descriptor)) stepped
   unfolding dup_plan
   acts-dup descriptor stepped = alone (call.Dup descriptor) (described t descriptor) _ stepped (λ found. alone (call.Dup descriptor) (some_or (lowest_from t.descriptors 32 0) EMFILE) _ stepped (λ n. tt))
 
-  acts-dup_from : (descriptor least : ℤ) (stepped : Stepped) → ActsOn t s (call.DupFrom descriptor least) (answered (dup_from_plan t descriptor least)) stepped
+  acts-dup_from : (descriptor least : ℤ) (stepped : Stepped) → ActsOn t s settings carried (call.DupFrom descriptor least) (answered (dup_from_plan t descriptor least)) stepped
   unfolding dup_from_plan
   acts-dup_from descriptor least stepped = alone (call.DupFrom descriptor least) (described t descriptor) _ stepped (λ found. alone (call.DupFrom descriptor least) (descriptor_number least EINVAL) _ stepped (λ first. alone (call.DupFrom descriptor least) (some_or (lowest_from t.descriptors (32 - first) first) EMFILE) _ stepped (λ n. tt)))
 
-  acts-getfl : (descriptor : ℤ) (stepped : Stepped) → ActsOn t s (call.Getfl descriptor) (answered (getfl_plan t descriptor)) stepped
+  acts-getfl : (descriptor : ℤ) (stepped : Stepped) → ActsOn t s settings carried (call.Getfl descriptor) (answered (getfl_plan t descriptor)) stepped
   unfolding getfl_plan
   acts-getfl descriptor stepped = alone (call.Getfl descriptor) (described t descriptor) _ stepped (λ found. tt)
 
-  acts-setfl : (descriptor : ℤ) (append nonblock : Bool) (stepped : Stepped) → ActsOn t s (call.Setfl descriptor append nonblock) (answered (setfl_plan t descriptor)) stepped
+  acts-setfl : (descriptor : ℤ) (append nonblock : Bool) (stepped : Stepped) → ActsOn t s settings carried (call.Setfl descriptor append nonblock) (answered (setfl_plan t descriptor)) stepped
   unfolding setfl_plan
   acts-setfl descriptor append nonblock stepped = alone (call.Setfl descriptor append nonblock) (described t descriptor) _ stepped (λ found. tt)
 
-  acts-link : (old_path new_path : List ℕ) (stepped : Stepped) → ActsOn t s (call.Link old_path new_path) (answered (link_plan t old_path new_path)) stepped
+  acts-link : (old_path new_path : List ℕ) (stepped : Stepped) → ActsOn t s settings carried (call.Link old_path new_path) (answered (link_plan t old_path new_path)) stepped
   unfolding link_plan
   acts-link old_path new_path stepped = alone (call.Link old_path new_path) (file_named t.paths old_path) _ stepped (λ node. alone (call.Link old_path new_path) (addable t.paths new_path) _ stepped (λ a. tt))
 
-  acts-mkdir : (path : List ℕ) (stepped : Stepped) → ActsOn t s (call.Mkdir path) (answered (mkdir_plan t path)) stepped
+  acts-mkdir : (path : List ℕ) (stepped : Stepped) → ActsOn t s settings carried (call.Mkdir path) (answered (mkdir_plan t path)) stepped
   unfolding mkdir_plan
   acts-mkdir path stepped = alone (call.Mkdir path) (addable t.paths path) _ stepped (λ a. tt)
 
-  acts-rmdir : (path : List ℕ) (stepped : Stepped) → ActsOn t s (call.Rmdir path) (answered (rmdir_plan t path)) stepped
+  acts-rmdir : (path : List ℕ) (stepped : Stepped) → ActsOn t s settings carried (call.Rmdir path) (answered (rmdir_plan t path)) stepped
   unfolding rmdir_plan
   acts-rmdir path stepped = alone (call.Rmdir path) (removed_dir t.paths path) _ stepped (λ a. tt)
 
   found_at : (descriptor : ℤ) → FoundBoth t s descriptor
   found_at descriptor = found_both t s descriptor sound shows
 
-  acts_call : (c : Call) → ActsOn t s c (planned t c) (step settings s c outcome carried)
+  acts_call : (c : Call) → ActsOn t s settings carried c (planned t c) (step settings s c outcome carried)
   acts_call (call.Open path access flags) = acts-open path access flags
   acts_call (call.Close descriptor) = acts-close descriptor (found_at descriptor)
   acts_call (call.Read descriptor count) = acts-read descriptor count (found_at descriptor)
@@ -458,10 +668,13 @@ module _ (t : TableState) (s : State) (settings : Settings) (outcome : Option Ou
   acts_call (call.Unlink path) = acts-unlink path
   acts_call (call.Mkdir path) = acts-mkdir path (step settings s (call.Mkdir path) outcome carried)
   acts_call (call.Rmdir path) = acts-rmdir path (step settings s (call.Rmdir path) outcome carried)
+  acts_call call.Pipe = acts-pipe
+  acts_call call.Socketpair = acts-socketpair
+  acts_call (call.Shutdown descriptor how) = acts-shutdown descriptor how (found_at descriptor)
 
-by_plan : (t : TableState) (c : Call) (p : Plan) → ((settings : Settings) (s : State) (outcome : Option Outcome) (carried : Carried) → Shows t s → ActsOn t s c p (step settings s c outcome carried)) → ActsAsStep t c p
+by_plan : (t : TableState) (c : Call) (p : Plan) → ((settings : Settings) (s : State) (outcome : Option Outcome) (carried : Carried) → Shows t s → ActsOn t s settings carried c p (step settings s c outcome carried)) → ActsAsStep t c p
 by_plan t c (plan.Reply r) each = tt
-by_plan t c (plan.Node node act keep_table) each = λ settings s outcome carried file offset shows holds stands. each settings s outcome carried shows file offset holds stands
+by_plan t c (plan.Node node act keep_table) each = λ settings s outcome carried content offset shows holds stands. each settings s outcome carried shows content offset holds stands
 
 pub acts-as_step : (t : TableState) (c : Call) → IsSound t → AreSound t.descriptions → ActsAsStep t c (planned t c)
 acts-as_step t c sound all = by_plan t c (planned t c) (λ settings s outcome carried shows. acts_call t s settings outcome carried sound all shows c)

@@ -11,22 +11,26 @@ use Rattle.std.specs.Prelude.{pos, slice_index_or, slice_set}
 use Rattle.posix_terms.specs.Descriptors as posix
 use Rattle.posix_terms.specs.Descriptors.{is_key}
 use Rattle.posix_terms.specs.Duplicates as duplicates
-use Rattle.posix_terms.specs.Names.{PathMap, links_of}
+use Rattle.posix_terms.specs.Names.{links_of}
 use Rattle.posix_terms.specs.Object as object
 use Rattle.posix_terms.specs.Object.{State, Content, File, Node, FileNode, Directory, path_cmp}
 use Rattle.file_descriptions.proofs.SoundLemmas.{AreSound-removed}
 use Rattle.file_descriptions.specs.Descriptions.{AreSound, ContainsKey, DescriptionMap, description_at, new_description, no_description, with_description, with_holder, with_new, with_offset, without}
 use Rattle.file_descriptions.specs.declared.description.Description.{Description}
-use Rattle.file_descriptions.specs.declared.description.End.TheVariants as part
+use Rattle.posix_terms.specs.Sockets as sockets
+use Rattle.posix_terms.specs.Transfers.{content_of}
+use Rattle.posix_terms.specs.declared.object.End.{End}
+use Rattle.posix_terms.specs.declared.object.End.TheVariants as part
 use Rattle.file_descriptions.specs.declared.description.StatusFlags.{StatusFlags}
 use Rattle.posix_terms.specs.declared.call.Access.{Access}
+use Rattle.descriptor_table.proofs.EndLemmas.{HasEndsOf}
 use Rattle.descriptor_table.proofs.KnownLemmas.{some_inside}
 use Rattle.descriptor_table.proofs.ObjectLemmas.{IsNew, IsOld, Taken, freed_slot, taken_slot}
-use Rattle.descriptor_table.proofs.PathLemmas.{birth_is, closed_shown, first_of_any, linked_shown}
+use Rattle.descriptor_table.proofs.PathLemmas.{birth_below, birth_is, closed_shown, first_of_any, linked_shown, one_object}
 use Rattle.descriptor_table.proofs.ShownLemmas.{key_known, last_shown}
 use Rattle.descriptor_table.proofs.SoundLemmas.{get-insert_other, get-insert_same, get-remove_other, get-remove_same, not_described, not_named, is_zero, known_at, none_past, paths_total, same_nat, sound-let_go}
-use Rattle.descriptor_table.specs.Changes.{closed, opened, shared, with_file, without_gone}
-use Rattle.descriptor_table.specs.Shows.{Shows, birth_at, birth_of, shown, shown_node}
+use Rattle.descriptor_table.specs.Changes.{closed, opened, shared, with_file, with_object, without_gone}
+use Rattle.descriptor_table.specs.Shows.{Shows, birth_at, birth_of, is_of, shown, shown_node}
 use Rattle.descriptor_table.specs.Table.{TableState, IsSound, is_closed, is_gone, is_used}
 
 -- ## Descriptions
@@ -89,6 +93,24 @@ describes_less t m sd key d all was got = record { there = there; own = own }
               let before = was.own birth (sym (ap (λ (o : Option object.Description). is_some o) (get-remove_other sd d.birth birth apart)) ∙ is) in
               (before.0, before.1, get-remove_other m.by_key key before.0 (λ e. apart (sym before.3 ∙ ap (λ (x : Description). x.birth) (same_Some _ _ (sym before.2 ∙ ap (fin.get m.by_key) e ∙ got)))) ∙ before.2, before.3))
         ]
+
+-- the part of the ends
+abbrev pub HaveEnds : TableState → State → DescriptionMap → Type 0
+HaveEnds t s m = (key : ℕ) (d : Description) → fin.get m.by_key key ≡ Some d → is_of d.«end» (content_of s (birth_at t d.node)) ≡ true
+
+pub ends_put : (t : TableState) (s : State) (m : DescriptionMap) (key : ℕ) (d : Description) → HaveEnds t s m → is_of d.«end» (content_of s (birth_at t d.node)) ≡ true → HaveEnds t s (with_description m key d)
+ends_put t s m key d was here q e is =
+    elim (cases_eq q key) [
+      | inl at ↦ (let new : d ≡ e = same_Some _ _ (sym (ap (fin.get (fin.insert m.by_key key d)) at ∙ get-insert_same m.by_key key d) ∙ is) in subst (λ (x : Description). is_of x.«end» (content_of s (birth_at t x.node)) ≡ true) new here)
+      | inr apart ↦ was q e (sym (get-insert_other m.by_key key d q apart) ∙ is)
+    ]
+
+pub ends_less : (t : TableState) (s : State) (m : DescriptionMap) (key : ℕ) → HaveEnds t s m → HaveEnds t s (without m key)
+ends_less t s m key was q e is =
+    elim (cases_eq q key) [
+      | inl at ↦ absurd (none-some _ (sym (ap (fin.get (fin.remove m.by_key key)) at ∙ get-remove_same m.by_key key) ∙ is))
+      | inr apart ↦ was q e (sym (get-remove_other m.by_key key q apart) ∙ is)
+    ]
 
 -- the birth of the description under a key
 abbrev pub birth_in : DescriptionMap → ℕ → ℕ
@@ -162,6 +184,8 @@ shows-shared t s n key d all shows inside got =
       paths = shows.paths;
       objects = shows.objects;
       numbered = shows.numbered;
+      ends = ends_put t s t.descriptions key (record (description_at t.descriptions key) { holders = (description_at t.descriptions key).holders + 1 }) shows.ends (shows.ends key (description_at t.descriptions key) (got ∙ ap (λ (x : Description). Some x) (sym (description_got t.descriptions key d got))));
+      files = shows.files;
       next_description = shows.next_description;
       next_object = shows.next_object;
     }
@@ -186,6 +210,8 @@ module _ (t : TableState) (s : State) (n key : ℕ) (d : Description) (sound : I
         paths = shows.paths;
         objects = shows.objects;
         numbered = shows.numbered;
+        ends = ends_put t s t.descriptions key (record d { holders = d.holders - 1 }) shows.ends (shows.ends key d got);
+        files = shows.files;
         next_description = shows.next_description;
         next_object = shows.next_object;
       }
@@ -206,6 +232,8 @@ module _ (t : TableState) (s : State) (n key : ℕ) (d : Description) (sound : I
         paths = shows.paths;
         objects = shows.objects;
         numbered = shows.numbered;
+        ends = ends_less t s t.descriptions key shows.ends;
+        files = shows.files;
         next_description = shows.next_description;
         next_object = shows.next_object;
       }
@@ -226,16 +254,23 @@ shows-freed t s node sound shows used undescribed unnamed =
     record {
       descriptors = shows.descriptors;
       descriptions = λ key d got. (let there = shows.descriptions key d got in
-          (there.0, there.1 ∙ ap (λ (b : ℕ). Some (record { object = b; access = d.access; offset = there.0; append = d.flags.append; nonblock = d.flags.nonblock })) (sym (birth_apart t node d.node (undescribed key d got)))));
+          (there.0, there.1 ∙ ap (λ (b : ℕ). Some (record { object = b; «end» = d.«end»; access = d.access; offset = there.0; append = d.flags.append; nonblock = d.flags.nonblock })) (sym (birth_apart t node d.node (undescribed key d got)))));
       described = shows.described;
       paths = λ path. shows.paths path ∙ names (fin.get t.paths path) (λ n is. unnamed path n is);
       objects = λ n birth is. (let was = freed_slot t.objects node n birth is in
           ap (λ (o : Option Content). is_some o) (get-remove_other s.objects (birth_at t node) birth (λ same. was.1 (sound.distinct n node birth was.0 (birth_is t node used ∙ ap (λ (b : ℕ). Some b) (sym same))))) ∙ shows.objects n birth was.0);
       numbered = λ birth is. numbered birth is;
+      ends = λ key d got. ap (is_of d.«end») (content_apart d.node (sound.described_objects key d got) (undescribed key d got)) ∙ shows.ends key d got;
+      files = λ path n is. ap (is_of part.Only) (content_apart n (sound.named_objects path n is) (unnamed path n is)) ∙ shows.files path n is;
       next_description = shows.next_description;
       next_object = shows.next_object;
     }
   where
+    content_apart : (n : ℕ) → is_used t n ≡ true → n ≢ node → content_of (record s { objects = fin.remove s.objects (birth_at t node) }) (birth_at (record t { objects = slice_set t.objects node None }) n) ≡ content_of s (birth_at t n)
+    content_apart n its apart =
+        ap (λ (b : ℕ). unwrap_or (fin.get (fin.remove s.objects (birth_at t node)) b) (File [])) (birth_apart t node n apart)
+        ∙ ap (λ (o : Option Content). unwrap_or o (File [])) (get-remove_other s.objects (birth_at t node) (birth_at t n) (λ same. apart (one_object t n node sound its used same)))
+
     names : (o : Option Node) → ((n : ℕ) → o ≡ Some (FileNode n) → n ≢ node) → option_map (shown_node t) o ≡ option_map (shown_node (record t { objects = slice_set t.objects node None })) o
     names None apart = refl
     names (Some Directory) apart = refl
@@ -324,6 +359,8 @@ shows-flags t s key offset d flags all shows got =
       paths = shows.paths;
       objects = shows.objects;
       numbered = shows.numbered;
+      ends = ends_put t s t.descriptions key new shows.ends (shows.ends key d got);
+      files = shows.files;
       next_description = shows.next_description;
       next_object = shows.next_object;
     }
@@ -348,6 +385,8 @@ shows-offset t s key offset d all shows got =
       paths = shows.paths;
       objects = shows.objects;
       numbered = shows.numbered;
+      ends = shows.ends;
+      files = shows.files;
       next_description = shows.next_description;
       next_object = shows.next_object;
     }
@@ -370,8 +409,8 @@ shows-offset t s key offset d all shows got =
         ]
 
 -- whatever the objects hold
-pub shows-content : (t : TableState) (s : State) (birth : ℕ) (content : Content) → Shows t s → is_some (fin.get s.objects birth) ≡ true → Shows t (object.with_content s birth content)
-shows-content t s birth content shows there =
+pub shows-content : (t : TableState) (s : State) (birth : ℕ) (content : Content) → Shows t s → is_some (fin.get s.objects birth) ≡ true → HasEndsOf content (content_of s birth) → Shows t (object.with_content s birth content)
+shows-content t s birth content shows there alike =
     record {
       descriptors = shows.descriptors;
       descriptions = shows.descriptions;
@@ -379,10 +418,19 @@ shows-content t s birth content shows there =
       paths = shows.paths;
       objects = λ node b is. kept b (shows.objects node b is);
       numbered = λ b is. shows.numbered b (was b is);
+      ends = λ key d got. kind (birth_at t d.node) d.«end» (shows.ends key d got);
+      files = λ path node is. kind (birth_at t node) part.Only (shows.files path node is);
       next_description = shows.next_description;
       next_object = shows.next_object;
     }
   where
+    kind : (b : ℕ) (which : End) → is_of which (content_of s b) ≡ true → is_of which (content_of (object.with_content s birth content) b) ≡ true
+    kind b which is =
+        elim (cases_eq b birth) [
+          | inl at ↦ ap (λ (o : Option Content). is_of which (unwrap_or o (File []))) (ap (fin.get (fin.insert s.objects birth content)) at ∙ get-insert_same s.objects birth content) ∙ alike which (ap (λ (x : ℕ). is_of which (content_of s x)) (sym at) ∙ is)
+          | inr apart ↦ ap (λ (o : Option Content). is_of which (unwrap_or o (File []))) (get-insert_other s.objects birth content b apart) ∙ is
+        ]
+
     kept : (b : ℕ) → is_some (fin.get s.objects b) ≡ true → is_some (fin.get (fin.insert s.objects birth content) b) ≡ true
     kept b is =
         elim (cases_eq b birth) [
@@ -403,8 +451,8 @@ moved : (t : TableState) (b : Bool) (node : Node) (o : Option Node) → cond b (
 moved t true node o = refl
 moved t false node o = refl
 
-pub shows-name : (t : TableState) (s : State) (path : List (List ℕ)) (node : Node) → Shows t s → Shows (record t { paths = fin.insert t.paths path node }) (record s { paths = fin.insert s.paths path (shown_node t node) })
-shows-name t s path node shows =
+pub shows-name : (t : TableState) (s : State) (path : List (List ℕ)) (node : Node) → Shows t s → ((n : ℕ) → node ≡ FileNode n → is_of part.Only (content_of s (birth_at t n)) ≡ true) → Shows (record t { paths = fin.insert t.paths path node }) (record s { paths = fin.insert s.paths path (shown_node t node) })
+shows-name t s path node shows file =
     record {
       descriptors = shows.descriptors;
       descriptions = shows.descriptions;
@@ -412,15 +460,22 @@ shows-name t s path node shows =
       paths = λ q. get-insert paths_total s.paths path (shown_node t node) q ∙ ap (cond (eq_by_cmp path_cmp q path) (Some (shown_node t node))) (shows.paths q) ∙ moved t (eq_by_cmp path_cmp q path) node (fin.get t.paths q) ∙ ap (option_map (shown_node t)) (sym (get-insert paths_total t.paths path node q));
       objects = shows.objects;
       numbered = shows.numbered;
+      ends = shows.ends;
+      files = λ q n is. by_tie q n is (eq_by_cmp path_cmp q path) refl;
       next_description = shows.next_description;
       next_object = shows.next_object;
     }
+  where
+    by_tie : (q : List (List ℕ)) (n : ℕ) → fin.get (fin.insert t.paths path node) q ≡ Some (FileNode n) → (b : Bool) → eq_by_cmp path_cmp q path ≡ b → is_of part.Only (content_of s (birth_at t n)) ≡ true
+    by_tie q n is true tied = file n (same_Some _ _ (sym (get-insert paths_total t.paths path node q ∙ ap (λ (b : Bool). cond b (Some node) (fin.get t.paths q)) tied) ∙ is))
+    by_tie q n is false tied = shows.files q n (sym (get-insert paths_total t.paths path node q ∙ ap (λ (b : Bool). cond b (Some node) (fin.get t.paths q)) tied) ∙ is)
 
 -- ## A new description
 
-pub shows-opened : (t : TableState) (s : State) (n key node : ℕ) (access : Access) (flags : StatusFlags) → IsSound t → AreSound t.descriptions → Shows t s → n < length t.descriptors → fin.get t.descriptions.by_key key ≡ None
-    → Shows (opened t n key node access flags) (posix.opened s n (birth_at t node) access flags.append flags.nonblock)
-shows-opened t s n key node access flags sound all shows inside fresh =
+pub shows-opened : (t : TableState) (s : State) (n key node : ℕ) (which : End) (access : Access) (flags : StatusFlags) → IsSound t → AreSound t.descriptions → Shows t s → n < length t.descriptors → fin.get t.descriptions.by_key key ≡ None
+    → is_of which (content_of s (birth_at t node)) ≡ true
+    → Shows (opened t n key node which access flags) (posix.opened s n (birth_at t node) which access flags.append flags.nonblock)
+shows-opened t s n key node which access flags sound all shows inside fresh has =
     record {
       descriptors = refers_set t s m (fin.insert s.descriptors n s.next_description) n (Some key) shows inside
           (get-insert_same s.descriptors n s.next_description ∙ ap (λ (b : ℕ). Some b) (shows.next_description ∙ sym (birth_here t.descriptions key new)))
@@ -431,12 +486,14 @@ shows-opened t s n key node access flags sound all shows inside fresh =
       paths = shows.paths;
       objects = shows.objects;
       numbered = shows.numbered;
+      ends = ends_put t s t.descriptions key new shows.ends has;
+      files = shows.files;
       next_description = ap (λ (k : ℕ). k + 1) shows.next_description;
       next_object = shows.next_object;
     }
   where
     new : Description
-    new = new_description node part.Only access flags t.descriptions.made
+    new = new_description node which access flags t.descriptions.made
 
     m : DescriptionMap
     m = with_new t.descriptions key new
@@ -452,68 +509,89 @@ shows-opened t s n key node access flags sound all shows inside fresh =
         (ap (fin.get after) (sym shows.next_description) ∙ get-insert_same s.descriptions s.next_description (shown t new 0))
         (λ birth apart. get-insert_other s.descriptions s.next_description (shown t new 0) birth (λ same. apart (same ∙ shows.next_description)))
 
--- ## A new file
+-- ## A new object
 
 pub birth_new : (t : TableState) (node n : ℕ) → slice_index_or t.objects node None ≡ None → is_used t n ≡ true → n ≢ node
 birth_new t node n free used same = false≢true (sym (ap (λ (o : Option ℕ). is_some o) (ap (λ (k : ℕ). slice_index_or t.objects k None) same ∙ free)) ∙ used)
 
-birth_still : (t : TableState) (paths : PathMap) (node n : ℕ) → slice_index_or t.objects node None ≡ None → is_used t n ≡ true → birth_at (with_file t paths node) n ≡ birth_at t n
-birth_still t paths node n free used =
+birth_still : (t : TableState) (node n : ℕ) → slice_index_or t.objects node None ≡ None → is_used t n ≡ true → birth_at (with_object t node) n ≡ birth_at t n
+birth_still t node n free used =
     ap (λ (o : Option ℕ). unwrap_or o (t.made_objects + 1)) (get_or-set_other t.objects node n (Some t.made_objects) None (birth_new t node n free used) ∙ birth_is t n used)
 
-pub birth_of_new : (t : TableState) (paths : PathMap) (node : ℕ) → node < length t.objects → birth_at (with_file t paths node) node ≡ t.made_objects
-birth_of_new t paths node inside = ap (λ (o : Option ℕ). unwrap_or o (t.made_objects + 1)) (get_or-set_same t.objects node (Some t.made_objects) None inside)
+pub birth_of_new : (t : TableState) (node : ℕ) → node < length t.objects → birth_at (with_object t node) node ≡ t.made_objects
+birth_of_new t node inside = ap (λ (o : Option ℕ). unwrap_or o (t.made_objects + 1)) (get_or-set_same t.objects node (Some t.made_objects) None inside)
 
-pub shows-with_file : (t : TableState) (s : State) (components : List (List ℕ)) (node : ℕ) → IsSound t → Shows t s → node < length t.objects → slice_index_or t.objects node None ≡ None
-    → Shows (with_file t (fin.insert t.paths components (FileNode node)) node) (posix.with_file s components)
-shows-with_file t s components node sound shows inside free =
+-- what a new object holds
+pub content_of_new : (t : TableState) (s : State) (node : ℕ) (content : Content) → Shows t s → node < length t.objects → content_of (sockets.with_object s content) (birth_at (with_object t node) node) ≡ content
+content_of_new t s node content shows inside =
+    ap (λ (b : ℕ). unwrap_or (fin.get (fin.insert s.objects s.next_object content) b) (File [])) (birth_of_new t node inside ∙ sym shows.next_object)
+    ∙ ap (λ (o : Option Content). unwrap_or o (File [])) (get-insert_same s.objects s.next_object content)
+
+pub shows-with_object : (t : TableState) (s : State) (content : Content) (node : ℕ) → IsSound t → Shows t s → node < length t.objects → slice_index_or t.objects node None ≡ None → Shows (with_object t node) (sockets.with_object s content)
+shows-with_object t s content node sound shows inside free =
     record {
       descriptors = shows.descriptors;
       descriptions = λ key d got. (let there = shows.descriptions key d got in
-          (there.0, there.1 ∙ ap (λ (b : ℕ). Some (record { object = b; access = d.access; offset = there.0; append = d.flags.append; nonblock = d.flags.nonblock })) (sym (birth_still t paths node d.node free (sound.described_objects key d got)))));
+          (there.0, there.1 ∙ ap (λ (b : ℕ). Some (record { object = b; «end» = d.«end»; access = d.access; offset = there.0; append = d.flags.append; nonblock = d.flags.nonblock })) (sym (birth_still t node d.node free (sound.described_objects key d got)))));
       described = shows.described;
-      paths = λ q. get-insert paths_total s.paths components (FileNode s.next_object) q ∙ ap (λ (o : Option Node). cond (eq_by_cmp path_cmp q components) (Some (FileNode s.next_object)) o) (shows.paths q) ∙ named (eq_by_cmp path_cmp q components) (fin.get t.paths q) (λ n is. sound.named_objects q n is)
-          ∙ ap (option_map (shown_node new)) (sym (get-insert paths_total t.paths components (FileNode node) q));
+      paths = λ q. shows.paths q ∙ named (fin.get t.paths q) (λ n is. sound.named_objects q n is);
       objects = λ n birth is. there n birth (taken_slot t.objects node t.made_objects n birth inside is);
       numbered = numbered;
+      ends = λ key d got. ap (is_of d.«end») (content_still d.node (sound.described_objects key d got)) ∙ shows.ends key d got;
+      files = λ path n is. ap (is_of part.Only) (content_still n (sound.named_objects path n is)) ∙ shows.files path n is;
       next_description = shows.next_description;
       next_object = ap (λ (k : ℕ). k + 1) shows.next_object;
     }
   where
-    paths : PathMap
-    paths = fin.insert t.paths components (FileNode node)
-
     new : TableState
-    new = with_file t paths node
+    new = with_object t node
 
-    own : FileNode s.next_object ≡ FileNode (birth_at new node)
-    own = ap (λ (b : ℕ). FileNode b) (shows.next_object ∙ sym (birth_of_new t paths node inside))
+    older : (n : ℕ) → is_used t n ≡ true → birth_at t n ≢ s.next_object
+    older n used same = let below : birth_at t n < t.made_objects = birth_below t n sound used in absurd (omega (arith, below, same, shows.next_object))
 
-    named : (b : Bool) (o : Option Node) → ((n : ℕ) → o ≡ Some (FileNode n) → is_used t n ≡ true) → cond b (Some (FileNode s.next_object)) (option_map (shown_node t) o) ≡ option_map (shown_node new) (cond b (Some (FileNode node)) o)
-    named true o used = ap (λ (x : Node). Some x) own
-    named false None used = refl
-    named false (Some Directory) used = refl
-    named false (Some (FileNode n)) used = ap (λ (b : ℕ). Some (FileNode b)) (sym (birth_still t paths node n free (used n refl)))
+    content_still : (n : ℕ) → is_used t n ≡ true → content_of (sockets.with_object s content) (birth_at new n) ≡ content_of s (birth_at t n)
+    content_still n used =
+        ap (λ (b : ℕ). unwrap_or (fin.get (fin.insert s.objects s.next_object content) b) (File [])) (birth_still t node n free used)
+        ∙ ap (λ (o : Option Content). unwrap_or o (File [])) (get-insert_other s.objects s.next_object content (birth_at t n) (older n used))
 
-    kept : (birth : ℕ) → is_some (fin.get s.objects birth) ≡ true → is_some (fin.get (fin.insert s.objects s.next_object (File [])) birth) ≡ true
+    named : (o : Option Node) → ((n : ℕ) → o ≡ Some (FileNode n) → is_used t n ≡ true) → option_map (shown_node t) o ≡ option_map (shown_node new) o
+    named None used = refl
+    named (Some Directory) used = refl
+    named (Some (FileNode n)) used = ap (λ (b : ℕ). Some (FileNode b)) (sym (birth_still t node n free (used n refl)))
+
+    kept : (birth : ℕ) → is_some (fin.get s.objects birth) ≡ true → is_some (fin.get (fin.insert s.objects s.next_object content) birth) ≡ true
     kept birth is =
         elim (cases_eq birth s.next_object) [
-          | inl at ↦ ap (λ (o : Option Content). is_some o) (ap (fin.get (fin.insert s.objects s.next_object (File []))) at ∙ get-insert_same s.objects s.next_object (File []))
-          | inr apart ↦ ap (λ (o : Option Content). is_some o) (get-insert_other s.objects s.next_object (File []) birth apart) ∙ is
+          | inl at ↦ ap (λ (o : Option Content). is_some o) (ap (fin.get (fin.insert s.objects s.next_object content)) at ∙ get-insert_same s.objects s.next_object content)
+          | inr apart ↦ ap (λ (o : Option Content). is_some o) (get-insert_other s.objects s.next_object content birth apart) ∙ is
         ]
 
-    there : (n birth : ℕ) → Taken t.objects node t.made_objects n birth → is_some (fin.get (fin.insert s.objects s.next_object (File [])) birth) ≡ true
-    there n birth (IsNew here is) = ap (λ (o : Option Content). is_some o) (ap (fin.get (fin.insert s.objects s.next_object (File []))) (is ∙ sym shows.next_object) ∙ get-insert_same s.objects s.next_object (File []))
+    there : (n birth : ℕ) → Taken t.objects node t.made_objects n birth → is_some (fin.get (fin.insert s.objects s.next_object content) birth) ≡ true
+    there n birth (IsNew here is) = ap (λ (o : Option Content). is_some o) (ap (fin.get (fin.insert s.objects s.next_object content)) (is ∙ sym shows.next_object) ∙ get-insert_same s.objects s.next_object content)
     there n birth (IsOld was) = kept birth (shows.objects n birth was)
 
-    numbered : (birth : ℕ) → is_some (fin.get (fin.insert s.objects s.next_object (File [])) birth) ≡ true → (n : ℕ) × (slice_index_or (slice_set t.objects node (Some t.made_objects)) n None ≡ Some birth)
+    numbered : (birth : ℕ) → is_some (fin.get (fin.insert s.objects s.next_object content) birth) ≡ true → (n : ℕ) × (slice_index_or (slice_set t.objects node (Some t.made_objects)) n None ≡ Some birth)
     numbered birth is =
         elim (cases_eq birth s.next_object) [
           | inl at ↦ (node, get_or-set_same t.objects node (Some t.made_objects) None inside ∙ ap (λ (b : ℕ). Some b) (sym (at ∙ shows.next_object)))
           | inr apart ↦ (
-              let was = shows.numbered birth (sym (ap (λ (o : Option Content). is_some o) (get-insert_other s.objects s.next_object (File []) birth apart)) ∙ is) in
+              let was = shows.numbered birth (sym (ap (λ (o : Option Content). is_some o) (get-insert_other s.objects s.next_object content birth apart)) ∙ is) in
               (was.0, get_or-set_other t.objects node was.0 (Some t.made_objects) None (λ same. none-some _ (sym free ∙ ap (λ (k : ℕ). slice_index_or t.objects k None) (sym same) ∙ was.1)) ∙ was.1))
         ]
+
+-- a new file, which has a name
+pub shows-with_file : (t : TableState) (s : State) (components : List (List ℕ)) (node : ℕ) → IsSound t → Shows t s → node < length t.objects → slice_index_or t.objects node None ≡ None
+    → Shows (with_file t (fin.insert t.paths components (FileNode node)) node) (posix.with_file s components)
+shows-with_file t s components node sound shows inside free =
+    subst (λ (b : ℕ). Shows (with_file t (fin.insert t.paths components (FileNode node)) node) (record (sockets.with_object s (File [])) { paths = fin.insert s.paths components (FileNode b) }))
+    (birth_of_new t node inside ∙ sym shows.next_object)
+    (shows-name (with_object t node) (sockets.with_object s (File [])) components (FileNode node) (shows-with_object t s (File []) node sound shows inside free) (λ n e. is_file n (same_node n e)))
+  where
+    same_node : (n : ℕ) → FileNode node ≡ FileNode n → node ≡ n
+    same_node n e = cc
+
+    is_file : (n : ℕ) → node ≡ n → is_of part.Only (content_of (sockets.with_object s (File [])) (birth_at (with_object t node) n)) ≡ true
+    is_file n same = ap (λ (k : ℕ). is_of part.Only (content_of (sockets.with_object s (File [])) (birth_at (with_object t node) k))) (sym same) ∙ ap (is_of part.Only) (content_of_new t s node (File []) shows inside)
 
 -- ## An offset that is set
 
@@ -526,6 +604,8 @@ shows-set_offset t s key offset all known shows =
       paths = shows.paths;
       objects = shows.objects;
       numbered = shows.numbered;
+      ends = ends_put t s t.descriptions key new shows.ends (shows.ends key d got);
+      files = shows.files;
       next_description = shows.next_description;
       next_object = shows.next_object;
     }

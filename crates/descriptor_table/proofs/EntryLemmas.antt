@@ -85,6 +85,10 @@ module _ {K X : Type 0} (R : K → K → Ordering) (q : X → Bool) where
   pub any_of : (m : FinMap R X) (k : K) (x : X) → fin.get m k ≡ Some x → q x ≡ true → list_any (λ (e : K × X). q e.1) (entries m) ≡ true
   any_of m k x is holds = any_found (entries m) k x (sym (get-entries m k) ∙ is) holds
 
+pub any_second : {K X : Type 0} (q : X → Bool) (es : List (K × X)) → list_any q (map (λ (e : K × X). e.1) es) ≡ list_any (λ (e : K × X). q e.1) es
+any_second q [] = refl
+any_second q (e ∷ es) = ap (λ (b : Bool). q e.1 || b) (any_second q es)
+
 -- none is counted where none is there
 pub counted_none : {X : Type 0} (p : X → Bool) (xs : List X) → (count_by p xs == 0) ≡ not (list_any p xs)
 counted_none p [] = refl

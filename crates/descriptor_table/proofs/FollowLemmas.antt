@@ -1,5 +1,5 @@
 -- The change of each call, beside what the sequential object does.
-use Rattle.std.proofs.Common.{◌≡◌, ◌≢◌, IsTrue, ℕ, ◌+◌, ◌-◌, ◌<◌, ◌≤◌, ◌==◌, ◌&&◌, ◌||◌, List, [], length, Option, Some, None, is_some, Result, Ok, Err, Bool, true, false, not, if◌then◌else◌, refl, sym, ap, ◌∙◌, subst, arith}
+use Rattle.std.proofs.Common.{◌≡◌, ◌≢◌, IsTrue, ℕ, ◌+◌, ◌-◌, ◌<◌, ◌≤◌, ◌==◌, ◌&&◌, ◌||◌, List, [], length, Option, Some, None, is_some, unwrap_or, Result, Ok, Err, Bool, true, false, not, if◌then◌else◌, refl, sym, ap, ◌∙◌, subst, arith}
 use Rattle.std.proofs.lemmas.Bool.{false≢true, true≢false}
 use Rattle.std.proofs.lemmas.Bool.Decides.{nat_tests}
 use Rattle.std.proofs.lemmas.Option.{same_Some}
@@ -12,77 +12,114 @@ use Rattle.posix_terms.specs.Descriptors as posix
 use Rattle.posix_terms.specs.Descriptors.{close_result, open_result}
 use Rattle.posix_terms.specs.Duplicates as duplicates
 use Rattle.posix_terms.specs.Duplicates.{dup_result, dup_from_result, dup2_result, descriptor_number}
-use Rattle.posix_terms.specs.Effects.{Effect, Completes}
-use Rattle.posix_terms.specs.Files.{bytes_at, written}
+use Rattle.posix_terms.specs.Effects.{Effect, Blocks, Completes}
+use Rattle.posix_terms.specs.Files.{bytes_at, resized, written}
 use Rattle.posix_terms.specs.Names as names
 use Rattle.posix_terms.specs.Names.{PathMap, added, file_named, file_node, has_entries, link_result, mkdir_result, removed, removed_dir, removed_dir_at, rmdir_result, unlink_result}
 use Rattle.posix_terms.specs.Paths.{node_at, resolved}
 use Rattle.std.specs.FinMap.{FinMap}
 use Rattle.std.specs.Ordering.{nat_cmp}
-use Rattle.posix_terms.specs.Object.{State, Content, File, Node, FileNode, Directory}
+use Rattle.posix_terms.specs.Object.{State, Content, File, Pipe, Pair, Node, FileNode, Directory}
 use Rattle.posix_terms.specs.Object as object
 use Rattle.posix_terms.specs.Refusals.{◌>>=◌, count_of, position_of, refuse_if, some_or}
 use Rattle.posix_terms.specs.Status.{fstat_result, getfl_result, setfl_result}
-use Rattle.posix_terms.specs.Step.{Carried, concluded, step}
-use Rattle.posix_terms.specs.Transfers.{base_of, content_of, file_in, offset_of, read_content, seek_content, write_at, write_content, read_result, write_result, pread_result, pwrite_result, lseek_result, ftruncate_result, size_of, start_of}
+use Rattle.posix_terms.specs.Ends.{side_of}
+use Rattle.posix_terms.specs.Sockets as sockets
+use Rattle.posix_terms.specs.Sockets.{pair_in, pipe_result, shutdown_result, socketpair_result}
+use Rattle.posix_terms.specs.Step.{Carried, concluded, step, waited}
+use Rattle.posix_terms.specs.Streams.{PairState, Reading, Reads, Ends, NothingYet, Writing, Writes, Breaks, NoRoom, new_pair, pair_read, pair_write, peer_of, shut, stream_read, stream_write, with_waiting}
+use Rattle.posix_terms.specs.Transfers.{base_of, content_of, file_in, has_peer, offset_of, read_content, read_done, seek_content, write_at, write_content, write_done, read_result, write_result, pread_result, pwrite_result, lseek_result, ftruncate_result, size_of, start_of}
 use Rattle.posix_terms.specs.declared.call.Access.{Access}
+use Rattle.posix_terms.specs.declared.call.Access.TheVariants.{ReadOnly, WriteOnly, ReadWrite}
 use Rattle.posix_terms.specs.declared.call.Call.{Call}
 use Rattle.posix_terms.specs.declared.call.Call.TheVariants as call
 use Rattle.posix_terms.specs.declared.call.OpenFlags.{OpenFlags}
+use Rattle.posix_terms.specs.declared.call.ShutdownHow.{ShutdownHow}
 use Rattle.posix_terms.specs.declared.call.Whence.{Whence}
 use Rattle.posix_terms.specs.declared.errno.Errno.{Errno}
-use Rattle.posix_terms.specs.declared.errno.Errno.TheVariants.{EBADF, EBUSY, EEXIST, EINVAL, EISDIR, EMFILE, ENOENT, ENOSPC, ENOTEMPTY, ESPIPE}
+use Rattle.posix_terms.specs.declared.errno.Errno.TheVariants.{EAGAIN, EBADF, EBUSY, EEXIST, EINVAL, EISDIR, EMFILE, ENFILE, ENOENT, ENOSPC, ENOTEMPTY, ENOTSOCK, ESPIPE}
+use Rattle.posix_terms.specs.declared.object.End.{End}
+use Rattle.posix_terms.specs.declared.object.End.TheVariants as part
+use Rattle.posix_terms.specs.declared.object.Side.{Side}
+use Rattle.posix_terms.specs.declared.object.Side.TheVariants.{Side0, Side1}
 use Rattle.posix_terms.specs.declared.outcome.Outcome.{Outcome}
 use Rattle.posix_terms.specs.declared.reply.Reply.{Reply}
 use Rattle.posix_terms.specs.declared.reply.Reply.TheVariants as reply
 use Rattle.posix_terms.specs.declared.transcript.Settings.{Settings}
-use Rattle.file_descriptions.specs.Descriptions.{AreSound, description_at, is_last_held, with_description, without}
+use Rattle.file_descriptions.specs.Descriptions.{AreSound, description_at, is_last_held, new_description, with_description, without}
 use Rattle.file_descriptions.specs.declared.description.Description.{Description}
-use Rattle.descriptor_table.proofs.ChangeLemmas.{birth_of_new, description_got, shows-opened, shows-with_file, shows-closed, shows-content, shows-flags, shows-name, shows-offset, shows-shared, shows-without_gone}
-use Rattle.file_descriptions.proofs.SoundLemmas.{AreSound-changed, AreSound-removed}
+use Rattle.descriptor_table.proofs.ChangeLemmas.{birth_of_new, content_of_new, description_got, shows-opened, shows-with_file, shows-with_object, shows-closed, shows-content, shows-flags, shows-name, shows-offset, shows-shared, shows-without_gone}
+use Rattle.file_descriptions.proofs.SoundLemmas.{AreSound-changed, AreSound-new, AreSound-removed}
+use Rattle.std.proofs.lemmas.List.{get_or-set_same}
+use Rattle.descriptor_table.proofs.EndLemmas.{HasEndsOf, alike_file, alike_pair, alike_pipe, file_alike}
 use Rattle.descriptor_table.proofs.KnownLemmas.{lowest_below, some_inside}
-use Rattle.descriptor_table.proofs.PathLemmas.{birth_is, has_entries_shown, names_shown, node_shown, resolved_shown}
-use Rattle.descriptor_table.proofs.PlanLemmas.{full_shown, lowest_none, named_shown, plans-as_step, shows-without_name, some_shown}
+use Rattle.descriptor_table.proofs.PathLemmas.{birth_is, file_at_name, has_entries_shown, names_shown, node_shown, resolved_shown}
+use Rattle.descriptor_table.proofs.PlanLemmas.{AreFree, full_shown, lowest_none, named_shown, plans-as_step, shows-without_name, some_shown, two_free, two_shown}
 use Rattle.descriptor_table.proofs.ShownLemmas.{FoundBoth, Shut, Open, found_both, key_known, key_shown, lowest_shown}
-use Rattle.descriptor_table.proofs.SoundLemmas.{closed_other, get-remove_other, named_at, names_without, none_past, sound-freed, sound-let_go, sound-named, sound-with_file}
-use Rattle.descriptor_table.specs.Changes.{Changes, IsOpened, file_at, is_refused, number_given, opened_number, Opening, found_or_made, opened, opening, status_flags, with_file, close_change, closed, closed_if_open, dup2_change, dup_change, dup_from_change, kept_or, let_go, link_change, mkdir_change, rmdir_change, setfl_change, shared, unlink_change, with_paths, without_gone}
+use Rattle.descriptor_table.proofs.SoundLemmas.{closed_other, get-insert_same, get-remove_other, named_as, named_at, names_without, none_past, ok_same, room_of, sound-freed, sound-let_go, sound-named, sound-opened, sound-with_file, sound-with_object}
+use Rattle.descriptor_table.specs.Changes.{AreOpened, Changes, IsOpened, TwoEnds, no_flags, two_ends, two_given, with_object, file_at, is_refused, numbers_given, opened_number, Opening, found_or_made, opened, opening, status_flags, with_file, close_change, closed, closed_if_open, dup2_change, dup_change, dup_from_change, kept_or, let_go, link_change, mkdir_change, rmdir_change, setfl_change, shared, unlink_change, with_paths, without_gone}
 use Rattle.directories.specs.Lookup.{looked_up}
-use Rattle.descriptor_table.specs.Plans.{answered, locks, planned, open_new, open_node, open_plan, open_there}
+use Rattle.descriptor_table.specs.Plans.{answered, locks, planned, open_new, open_node, open_plan, open_there, two_ends_plan}
+use Rattle.descriptor_table.specs.declared.plan.NewNumbers.{NewNumbers}
+use Rattle.descriptor_table.specs.declared.plan.NewNumbers.TheVariants as numbers
+use Rattle.descriptor_table.specs.declared.plan.Op.{Op}
 use Rattle.descriptor_table.specs.declared.plan.Op.TheVariants as op
 use Rattle.descriptor_table.specs.declared.plan.Plan.{Plan}
 use Rattle.descriptor_table.specs.declared.plan.Plan.TheVariants as plan
-use Rattle.descriptor_table.specs.Agreement.{AgreesOn, ChangesAsStep, TellsAsStep, number_told}
+use Rattle.descriptor_table.specs.Agreement.{AgreesOn, ChangesAsStep, TellsAsStep, numbers_told}
 use Rattle.posix_terms.proofs.Refused.{fail_leaves_state}
 use Rattle.posix_terms.specs.Locked.{locked_object}
 use Rattle.posix_terms.specs.declared.reply.Answer.TheVariants as answer
-use Rattle.descriptor_table.specs.Shows.{Shows, birth_at, birth_of, shown, shown_node}
-use Rattle.descriptor_table.specs.Table.{TableState, IsSound, described, free_object, is_gone, is_used, key_at, lowest_from}
+use Rattle.descriptor_table.specs.Shows.{Shows, birth_at, birth_of, is_of, shown, shown_node}
+use Rattle.descriptor_table.specs.Table.{TableState, IsSound, described, free_object, is_gone, is_used, key_at, lowest_from, two_numbers}
 
 -- both are refused, or the table after shows the state after
 abbrev pub Follows : Result TableState Errno → Result Effect Errno → Type 0
 Follows (Ok u) (Ok (Completes after r)) = Shows u after
+Follows (Ok u) (Ok Blocks) = ⊥
 Follows (Ok u) (Err e) = ⊥
 Follows (Err e) (Ok effect) = ⊥
 Follows (Err e) (Err f) = Unit {0}
 
 pub follows_after : (t : TableState) (settings : Settings) (s : State) (outcome : Option Outcome) (carried : Carried) (u : Result TableState Errno) (does : Result Effect Errno) → Shows t s → Follows u does → Shows (kept_or t u) (concluded settings s outcome carried does).after
 follows_after t settings s outcome carried (Ok u) (Ok (Completes after r)) shows follows = follows
+follows_after t settings s outcome carried (Ok u) (Ok Blocks) shows follows = absurd follows
 follows_after t settings s outcome carried (Ok u) (Err e) shows follows = absurd follows
 follows_after t settings s outcome carried (Err e) (Ok effect) shows follows = absurd follows
 follows_after t settings s outcome carried (Err e) (Err f) shows follows = shows
 
+-- a call that has to wait leaves the state as it was
+pub waited_after : (settings : Settings) (s : State) (carried : Carried) → (waited settings s carried).after ≡ s
+waited_after settings s carried = grind arith
+
 -- the table stays, and shows the state after
 abbrev pub Stays : TableState → Result Effect Errno → Type 0
 Stays t (Ok (Completes after r)) = Shows t after
+Stays t (Ok Blocks) = Unit {0}
 Stays t (Err e) = Unit {0}
 
 pub stays_after : (t : TableState) (settings : Settings) (s : State) (outcome : Option Outcome) (carried : Carried) (does : Result Effect Errno) → Shows t s → Stays t does → Shows t (concluded settings s outcome carried does).after
 stays_after t settings s outcome carried (Ok (Completes after r)) shows stays = stays
+stays_after t settings s outcome carried (Ok Blocks) shows stays = subst (Shows t) (sym (waited_after settings s carried)) shows
 stays_after t settings s outcome carried (Err e) shows stays = shows
 
 through : (t : TableState) {A : Type 0} (r : Result A Errno) (f : A → Result Effect Errno) → ((x : A) → Stays t (f x)) → Stays t (r >>= f)
 through t (Ok x) f each = each x
 through t (Err e) f each = tt
+
+through_as : (t : TableState) {A : Type 0} (r : Result A Errno) (f : A → Result Effect Errno) → ((x : A) → r ≡ Ok x → Stays t (f x)) → Stays t (r >>= f)
+through_as t (Ok x) f each = each x refl
+through_as t (Err e) f each = tt
+
+pub file_is : (c : Content) (e : Errno) (file : List ℕ) → file_in c e ≡ Ok file → c ≡ File file
+file_is (File bytes) e file is = ap (λ (bs : List ℕ). File bs) (ok_same bytes file is)
+file_is (Pipe bytes) e file is = cc
+file_is (Pair p) e file is = cc
+
+pub pair_is : (c : Content) (e : Errno) (p : PairState) → pair_in c e ≡ Ok p → c ≡ Pair p
+pair_is (Pair q) e p is = ap (λ (x : PairState). Pair x) (ok_same q p is)
+pair_is (File bytes) e p is = cc
+pair_is (Pipe bytes) e p is = cc
 
 number_below : (number : ℤ) (e : Errno) (n : ℕ) → descriptor_number number e ≡ Ok n → n < 32
 number_below (pos m) e n is = grind (arith, nat_tests)
@@ -122,32 +159,54 @@ module _ (t : TableState) (s : State) (sound : IsSound t) (all : AreSound t.desc
       through t (posix.described s descriptor) _ (λ found. through t (file_in (content_of s found.1.object) ESPIPE) _ (λ file. through t (refuse_if (not (can_read found.1.access)) EBADF) _ (λ a.
       through t (count_of count) _ (λ n. through t (position_of position) _ (λ start. shows)))))
 
+  stays_blocked : (b : Bool) → Stays t (if b then Err EAGAIN else Ok Blocks)
+  stays_blocked true = tt
+  stays_blocked false = tt
+
   stays-read : (descriptor count : ℤ) → FoundBoth t s descriptor → Stays t (read_result s descriptor count)
   unfolding read_result
   stays-read descriptor count (Shut table state) = rw state tt
   stays-read descriptor count (Open key d offset at got there table state) = rw state (by_access (not (can_read d.access)))
     where
-      by_content : (n : ℕ) (c : Content) → Stays t (read_content s d.birth (shown t d offset) n c)
-      by_content n (File file) = shows-offset t s key (offset + length (bytes_at file offset n)) d all shows got
+      by_reading : (holds : List ℕ → Content) (r : Reading) → ((left : List ℕ) → HasEndsOf (holds left) (content_of s (birth_at t d.node))) → Stays t (read_done s (shown t d offset) holds r)
+      by_reading holds (Reads bytes left) alike = shows-content t s (birth_at t d.node) (holds left) shows (object_there key d got) (alike left)
+      by_reading holds Ends alike = shows
+      by_reading holds NothingYet alike = stays_blocked d.flags.nonblock
+
+      by_stream : (b : Bool) (holds : List ℕ → Content) (r : Reading) → ((left : List ℕ) → HasEndsOf (holds left) (content_of s (birth_at t d.node))) → Stays t (if b then Ok (Completes s (reply.Data [])) else read_done s (shown t d offset) holds r)
+      by_stream true holds r alike = shows
+      by_stream false holds r alike = by_reading holds r alike
+
+      by_content : (n : ℕ) (c : Content) → content_of s (birth_at t d.node) ≡ c → Stays t (read_content s d.birth (shown t d offset) n c)
+      by_content n (File file) is = shows-offset t s key (offset + length (bytes_at file offset n)) d all shows got
+      by_content n (Pipe waiting) is = by_stream (n == 0) (λ left. Pipe left) (stream_read waiting n (posix.has_end s (birth_at t d.node) part.Write)) (λ left. alike_pipe (content_of s (birth_at t d.node)) left waiting is)
+      by_content n (Pair p) is = by_stream (n == 0) (λ left. Pair (with_waiting p (side_of d.«end») left)) (pair_read p (side_of d.«end») n (has_peer s (birth_at t d.node) (side_of d.«end»))) (λ left. alike_pair (content_of s (birth_at t d.node)) (with_waiting p (side_of d.«end») left) p is)
 
       by_access : (b : Bool) → Stays t ((refuse_if b EBADF >>= (λ _. Ok (d.birth, shown t d offset))) >>= (λ (found : ℕ × object.Description). count_of count >>= (λ n. read_content s found.0 found.1 n (content_of s found.1.object))))
       by_access true = tt
-      by_access false = through t (count_of count) _ (λ n. by_content n (content_of s (birth_at t d.node)))
+      by_access false = through t (count_of count) _ (λ n. by_content n (content_of s (birth_at t d.node)) refl)
 
   stays-write : (descriptor : ℤ) (bytes : List ℕ) → FoundBoth t s descriptor → Stays t (write_result s descriptor bytes)
   unfolding write_result
   stays-write descriptor bytes (Shut table state) = rw state tt
   stays-write descriptor bytes (Open key d offset at got there table state) = rw state (by_refusals (not (can_write d.access)) (nat_lt 32767 (length bytes)) (length bytes == 0))
     where
-      by_content : (c : Content) → Stays t (write_content s d.birth (shown t d offset) bytes c)
-      by_content (File file) = through t (written file (start_of (shown t d offset) file) bytes) _ (λ w. shows-content t (record s { descriptions = fin.insert s.descriptions d.birth (shown t d (start_of (shown t d offset) file + w.1)) }) (birth_at t d.node) (File w.0)
-          (shows-offset t s key (start_of (shown t d offset) file + w.1) d all shows got) (object_there key d got))
+      by_writing : (holds : List ℕ → Content) (w : Writing) → ((left : List ℕ) → HasEndsOf (holds left) (content_of s (birth_at t d.node))) → Stays t (write_done s (shown t d offset) (length bytes) holds w)
+      by_writing holds (Writes left) alike = shows-content t s (birth_at t d.node) (holds left) shows (object_there key d got) (alike left)
+      by_writing holds Breaks alike = tt
+      by_writing holds NoRoom alike = stays_blocked d.flags.nonblock
+
+      by_content : (c : Content) → content_of s (birth_at t d.node) ≡ c → Stays t (write_content s d.birth (shown t d offset) bytes c)
+      by_content (File file) is = through t (written file (start_of (shown t d offset) file) bytes) _ (λ w. shows-content t (record s { descriptions = fin.insert s.descriptions d.birth (shown t d (start_of (shown t d offset) file + w.1)) }) (birth_at t d.node) (File w.0)
+          (shows-offset t s key (start_of (shown t d offset) file + w.1) d all shows got) (object_there key d got) (alike_file (content_of s (birth_at t d.node)) w.0 file is))
+      by_content (Pipe waiting) is = by_writing (λ left. Pipe left) (stream_write waiting bytes (posix.has_end s (birth_at t d.node) part.Read)) (λ left. alike_pipe (content_of s (birth_at t d.node)) left waiting is)
+      by_content (Pair p) is = by_writing (λ left. Pair (with_waiting p (peer_of (side_of d.«end»)) left)) (pair_write p (side_of d.«end») bytes (has_peer s (birth_at t d.node) (side_of d.«end»))) (λ left. alike_pair (content_of s (birth_at t d.node)) (with_waiting p (peer_of (side_of d.«end»)) left) p is)
 
       by_refusals : (a b c : Bool) → Stays t ((refuse_if a EBADF >>= (λ _. refuse_if b EINVAL >>= (λ _. Ok (d.birth, shown t d offset)))) >>= (λ (found : ℕ × object.Description). if c then Ok (Completes s (reply.Count 0)) else write_content s found.0 found.1 bytes (content_of s found.1.object)))
       by_refusals true b c = tt
       by_refusals false true c = tt
       by_refusals false false true = shows
-      by_refusals false false false = by_content (content_of s (birth_at t d.node))
+      by_refusals false false false = by_content (content_of s (birth_at t d.node)) refl
 
   stays-lseek : (descriptor offset : ℤ) (whence : Whence) → FoundBoth t s descriptor → Stays t (lseek_result s descriptor offset whence)
   unfolding lseek_result
@@ -156,24 +215,33 @@ module _ (t : TableState) (s : State) (sound : IsSound t) (all : AreSound t.desc
     where
       by_content : (c : Content) → Stays t (seek_content s d.birth (shown t d at_offset) offset whence c)
       by_content (File file) = through t (offset_of (pos (base_of whence at_offset (length file)) +ℤ offset)) _ (λ to. shows-offset t s key to d all shows got)
+      by_content (Pipe bytes) = tt
+      by_content (Pair p) = tt
 
   stays-pwrite : (descriptor : ℤ) (bytes : List ℕ) (position : ℤ) → FoundBoth t s descriptor → Stays t (pwrite_result s descriptor bytes position)
   unfolding pwrite_result
   stays-pwrite descriptor bytes position (Shut table state) = rw state tt
   stays-pwrite descriptor bytes position (Open key d offset at got there table state) =
-      rw state (through t (file_in (content_of s (birth_at t d.node)) ESPIPE) _ (λ file. through t (refuse_if (not (can_write d.access)) EBADF) _ (λ a. through t (refuse_if (nat_lt 32767 (length bytes)) EINVAL) _ (λ b.
-      through t (position_of position) _ (λ start. by_length file start (length bytes == 0))))))
+      rw state (through_as t (file_in (content_of s (birth_at t d.node)) ESPIPE) _ (λ file is. through t (refuse_if (not (can_write d.access)) EBADF) _ (λ a. through t (refuse_if (nat_lt 32767 (length bytes)) EINVAL) _ (λ b.
+      through t (position_of position) _ (λ start. by_length file start (file_is (content_of s (birth_at t d.node)) ESPIPE file is) (length bytes == 0))))))
     where
-      by_length : (file : List ℕ) (start : ℕ) (b : Bool) → Stays t (if b then Ok (Completes s (reply.Count 0)) else write_at s (birth_at t d.node) file start bytes)
-      by_length file start true = shows
-      by_length file start false = through t (written file start bytes) _ (λ w. shows-content t s (birth_at t d.node) (File w.0) shows (object_there key d got))
+      by_length : (file : List ℕ) (start : ℕ) → content_of s (birth_at t d.node) ≡ File file → (b : Bool) → Stays t (if b then Ok (Completes s (reply.Count 0)) else write_at s (birth_at t d.node) file start bytes)
+      by_length file start is true = shows
+      by_length file start is false = through t (written file start bytes) _ (λ w. shows-content t s (birth_at t d.node) (File w.0) shows (object_there key d got) (alike_file (content_of s (birth_at t d.node)) w.0 file is))
 
   stays-ftruncate : (descriptor size : ℤ) → FoundBoth t s descriptor → Stays t (ftruncate_result s descriptor size)
   unfolding ftruncate_result
   stays-ftruncate descriptor size (Shut table state) = rw state tt
   stays-ftruncate descriptor size (Open key d offset at got there table state) =
-      rw state (through t (refuse_if (not (can_write d.access)) EINVAL) _ (λ a. through t (file_in (content_of s (birth_at t d.node)) EINVAL) _ (λ file. through t (size_of size) _ (λ n.
-      shows-content t s (birth_at t d.node) _ shows (object_there key d got)))))
+      rw state (through t (refuse_if (not (can_write d.access)) EINVAL) _ (λ a. through_as t (file_in (content_of s (birth_at t d.node)) EINVAL) _ (λ file is. through t (size_of size) _ (λ n.
+      shows-content t s (birth_at t d.node) (File (resized file n)) shows (object_there key d got) (alike_file (content_of s (birth_at t d.node)) (resized file n) file (file_is (content_of s (birth_at t d.node)) EINVAL file is))))))
+
+  stays-shutdown : (descriptor : ℤ) (how : ShutdownHow) → FoundBoth t s descriptor → Stays t (shutdown_result s descriptor how)
+  unfolding shutdown_result
+  stays-shutdown descriptor how (Shut table state) = rw state tt
+  stays-shutdown descriptor how (Open key d offset at got there table state) =
+      rw state (through_as t (pair_in (content_of s (birth_at t d.node)) ENOTSOCK) _ (λ p is.
+      shows-content t s (birth_at t d.node) (Pair (shut p (side_of d.«end») how)) shows (object_there key d got) (alike_pair (content_of s (birth_at t d.node)) (shut p (side_of d.«end») how) p (pair_is (content_of s (birth_at t d.node)) ENOTSOCK p is))))
 
   -- ## Descriptors
 
@@ -334,14 +402,14 @@ module _ (t : TableState) (s : State) (sound : IsSound t) (all : AreSound t.desc
 
   -- ## Names
 
-  follows-add : (path : List ℕ) (node : Node) → Follows (added t.paths path node >>= (λ paths. Ok (with_paths t paths))) (added s.paths path (shown_node t node) >>= (λ paths. Ok (Completes (names.with_paths s paths) reply.Done)))
+  follows-add : (path : List ℕ) (node : Node) → ((n : ℕ) → node ≡ FileNode n → is_of part.Only (content_of s (birth_at t n)) ≡ true) → Follows (added t.paths path node >>= (λ paths. Ok (with_paths t paths))) (added s.paths path (shown_node t node) >>= (λ paths. Ok (Completes (names.with_paths s paths) reply.Done)))
   unfolding added
-  follows-add path node = rw (resolved_shown t s path shows) (by_path (resolved t.paths path))
+  follows-add path node file = rw (resolved_shown t s path shows) (by_path (resolved t.paths path))
     where
       by_refusals : (components : List (List ℕ)) (a b : Bool) → Follows ((refuse_if a EEXIST >>= (λ _. refuse_if b ENOSPC >>= (λ _. Ok (fin.insert t.paths components node)))) >>= (λ paths. Ok (with_paths t paths))) ((refuse_if a EEXIST >>= (λ _. refuse_if b ENOSPC >>= (λ _. Ok (fin.insert s.paths components (shown_node t node))))) >>= (λ paths. Ok (Completes (names.with_paths s paths) reply.Done)))
       by_refusals components true b = tt
       by_refusals components false true = tt
-      by_refusals components false false = shows-name t s components node shows
+      by_refusals components false false = shows-name t s components node shows file
 
       by_path : (r : Result (List (List ℕ)) Errno) → Follows ((r >>= (λ components. refuse_if (is_some (node_at t.paths components)) EEXIST >>= (λ _. refuse_if (nat_le 64 (fin.len t.paths)) ENOSPC >>= (λ _. Ok (fin.insert t.paths components node))))) >>= (λ paths. Ok (with_paths t paths))) ((r >>= (λ components. refuse_if (is_some (node_at s.paths components)) EEXIST >>= (λ _. refuse_if (nat_le 64 (fin.len s.paths)) ENOSPC >>= (λ _. Ok (fin.insert s.paths components (shown_node t node)))))) >>= (λ paths. Ok (Completes (names.with_paths s paths) reply.Done)))
       by_path (Err e) = tt
@@ -349,15 +417,21 @@ module _ (t : TableState) (s : State) (sound : IsSound t) (all : AreSound t.desc
 
   follows-mkdir : (path : List ℕ) → Follows (mkdir_change t path) (mkdir_result s path)
   unfolding mkdir_change mkdir_result
-  follows-mkdir path = follows-add path Directory
+  follows-mkdir path = follows-add path Directory (λ n e. cc)
 
   follows-link : (old_path new_path : List ℕ) → Follows (link_change t old_path new_path) (link_result s old_path new_path)
   unfolding link_change link_result
-  follows-link old_path new_path = rw (named_shown t s sound all shows old_path) (by_file (file_named t.paths old_path))
+  follows-link old_path new_path = rw (named_shown t s sound all shows old_path) (by_file (file_named t.paths old_path) refl)
     where
-      by_file : (r : Result ℕ Errno) → Follows (r >>= (λ node. added t.paths new_path (FileNode node) >>= (λ paths. Ok (with_paths t paths)))) ((r >>= (λ node. Ok (birth_at t node))) >>= (λ object. added s.paths new_path (FileNode object) >>= (λ paths. Ok (Completes (names.with_paths s paths) reply.Done))))
-      by_file (Ok node) = follows-add new_path (FileNode node)
-      by_file (Err e) = tt
+      same_node : (n m : ℕ) → FileNode n ≡ FileNode m → n ≡ m
+      same_node n m e = cc
+
+      named_file : (node : ℕ) → file_named t.paths old_path ≡ Ok node → is_of part.Only (content_of s (birth_at t node)) ≡ true
+      named_file node is = let at = named_as t.paths old_path node is in file_at_name t s at.0 node shows at.1
+
+      by_file : (r : Result ℕ Errno) → file_named t.paths old_path ≡ r → Follows (r >>= (λ node. added t.paths new_path (FileNode node) >>= (λ paths. Ok (with_paths t paths)))) ((r >>= (λ node. Ok (birth_at t node))) >>= (λ object. added s.paths new_path (FileNode object) >>= (λ paths. Ok (Completes (names.with_paths s paths) reply.Done))))
+      by_file (Ok node) is = follows-add new_path (FileNode node) (λ n e. subst (λ (k : ℕ). is_of part.Only (content_of s (birth_at t k)) ≡ true) (same_node node n e) (named_file node is))
+      by_file (Err e) is = tt
 
   follows-rmdir : (path : List ℕ) → Follows (rmdir_change t path) (rmdir_result s path)
   unfolding rmdir_change rmdir_result removed_dir
@@ -408,30 +482,35 @@ module _ (t : TableState) (s : State) (sound : IsSound t) (all : AreSound t.desc
 
   -- a call that is planned is made, under any key that is free, and then the table shows the state after
   abbrev OpensAs : Access → OpenFlags → Result Plan Errno → Result Opening Errno → Result Effect Errno → Type 0
-  OpensAs access flags (Ok p) (Ok o) (Ok (Completes after r)) = ((key : ℕ) → fin.get t.descriptions.by_key key ≡ None → Shows (opened o.ready o.number key o.node access (status_flags flags)) after) × (r ≡ reply.Number (pos o.number))
+  OpensAs access flags (Ok p) (Ok o) (Ok (Completes after r)) = ((key : ℕ) → fin.get t.descriptions.by_key key ≡ None → Shows (opened o.ready o.number key o.node part.Only access (status_flags flags)) after) × (r ≡ reply.Number (pos o.number))
+  OpensAs access flags (Ok p) (Ok o) (Ok Blocks) = ⊥
   OpensAs access flags (Ok p) (Ok o) (Err e) = ⊥
   OpensAs access flags (Ok p) (Err e) does = ⊥
   OpensAs access flags (Err e) o does = Unit {0}
 
-  truncated_shown : (node : ℕ) (b : Bool) → is_used t node ≡ true → Shows t (posix.truncated s (birth_at t node) b)
-  truncated_shown node true used = shows-content t s (birth_at t node) (File []) shows (shows.objects node (birth_at t node) (birth_is t node used))
-  truncated_shown node false used = shows
+  truncated_shown : (node : ℕ) (b : Bool) → is_used t node ≡ true → is_of part.Only (content_of s (birth_at t node)) ≡ true → Shows t (posix.truncated s (birth_at t node) b)
+  truncated_shown node true used file = shows-content t s (birth_at t node) (File []) shows (shows.objects node (birth_at t node) (birth_is t node used)) (file_alike (content_of s (birth_at t node)) [] file)
+  truncated_shown node false used file = shows
+
+  truncated_file : (node : ℕ) (b : Bool) → is_of part.Only (content_of s (birth_at t node)) ≡ true → is_of part.Only (content_of (posix.truncated s (birth_at t node) b) (birth_at t node)) ≡ true
+  truncated_file node true file = ap (λ (o : Option Content). is_of part.Only (unwrap_or o (File []))) (get-insert_same s.objects (birth_at t node) (File []))
+  truncated_file node false file = file
 
   -- a file that is there
-  opens-there : (access : Access) (flags : OpenFlags) (node : ℕ) → is_used t node ≡ true
+  opens-there : (access : Access) (flags : OpenFlags) (node : ℕ) → is_used t node ≡ true → is_of part.Only (content_of s (birth_at t node)) ≡ true
       → OpensAs access flags (refuse_if (flags.create && flags.exclusive) EEXIST >>= (λ _. open_there t (FileNode node) flags))
       (some_or (lowest_from t.descriptors 32 0) EMFILE >>= (λ n. Ok (record { number = n; node = node; ready = t })))
       (refuse_if (flags.create && flags.exclusive) EEXIST >>= (λ _. posix.open_there s (FileNode (birth_at t node)) access flags))
-  opens-there access flags node used = rw (lowest_shown t s 32 0 shows) (by_refusal (flags.create && flags.exclusive) (lowest_from t.descriptors 32 0) (λ n is. lowest_below t.descriptors 32 0 n is))
+  opens-there access flags node used file = rw (lowest_shown t s 32 0 shows) (by_refusal (flags.create && flags.exclusive) (lowest_from t.descriptors 32 0) (λ n is. lowest_below t.descriptors 32 0 n is))
     where
       by_refusal : (b : Bool) (o : Option ℕ) → ((n : ℕ) → o ≡ Some n → n < 0 + 32) → OpensAs access flags (refuse_if b EEXIST >>= (λ _. some_or o EMFILE >>= (λ _. Ok (locks node (op.Open flags.truncate)))))
           (some_or o EMFILE >>= (λ n. Ok (record { number = n; node = node; ready = t })))
-          (refuse_if b EEXIST >>= (λ _. some_or o EMFILE >>= (λ n. Ok (Completes (posix.opened (posix.truncated s (birth_at t node) flags.truncate) n (birth_at t node) access flags.append flags.nonblock) (reply.Number (pos n))))))
+          (refuse_if b EEXIST >>= (λ _. some_or o EMFILE >>= (λ n. Ok (Completes (posix.opened (posix.truncated s (birth_at t node) flags.truncate) n (birth_at t node) part.Only access flags.append flags.nonblock) (reply.Number (pos n))))))
       by_refusal true o below = tt
       by_refusal false None below = tt
       by_refusal false (Some n) below = (
         λ key fresh. let inside : n < 0 + 32 = below n refl in
-            shows-opened t (posix.truncated s (birth_at t node) flags.truncate) n key node access (status_flags flags) sound all (truncated_shown node flags.truncate used) (omega (arith, inside, long)) fresh,
+            shows-opened t (posix.truncated s (birth_at t node) flags.truncate) n key node part.Only access (status_flags flags) sound all (truncated_shown node flags.truncate used file) (omega (arith, inside, long)) fresh (truncated_file node flags.truncate file),
         refl,
       )
 
@@ -450,7 +529,7 @@ module _ (t : TableState) (s : State) (sound : IsSound t) (all : AreSound t.desc
           → ((node : ℕ) → adding node ≡ (refuse_if b ENOSPC >>= (λ _. Ok (fin.insert t.paths components (FileNode node)))))
           → OpensAs access flags (refuse_if a ENOENT >>= (λ _. refuse_if b ENOSPC >>= (λ _. some_or o ENOSPC >>= (λ node. some_or number EMFILE >>= (λ _. Ok (locks node (op.Open true)))))))
           (some_or number EMFILE >>= (λ n. (some_or o ENOSPC >>= (λ node. adding node >>= (λ paths. made_file paths node))) >>= (λ (file : TableState × ℕ). Ok (record { number = n; node = file.1; ready = file.0 }))))
-          (refuse_if a ENOENT >>= (λ _. refuse_if (b || not (is_some o)) ENOSPC >>= (λ _. some_or number EMFILE >>= (λ n. Ok (Completes (posix.opened (posix.with_file s components) n s.next_object access flags.append flags.nonblock) (reply.Number (pos n)))))))
+          (refuse_if a ENOENT >>= (λ _. refuse_if (b || not (is_some o)) ENOSPC >>= (λ _. some_or number EMFILE >>= (λ n. Ok (Completes (posix.opened (posix.with_file s components) n s.next_object part.Only access flags.append flags.nonblock) (reply.Number (pos n)))))))
       by_rest true b o number free below adds = tt
       by_rest false true o number free below adds = tt
       by_rest false false None number free below adds = tt
@@ -458,16 +537,16 @@ module _ (t : TableState) (s : State) (sound : IsSound t) (all : AreSound t.desc
       by_rest false false (Some node) (Some n) free below adds = rw (adds node) (opens_here node n (below n refl) (free node refl))
         where
           opens_here : (node n : ℕ) → n < 0 + 32 → (slice_index_or t.objects node None ≡ None) × (node < 0 + 48)
-              → ((key : ℕ) → fin.get t.descriptions.by_key key ≡ None → Shows (opened (with_file t (fin.insert t.paths components (FileNode node)) node) n key node access (status_flags flags)) (posix.opened (posix.with_file s components) n s.next_object access flags.append flags.nonblock))
+              → ((key : ℕ) → fin.get t.descriptions.by_key key ≡ None → Shows (opened (with_file t (fin.insert t.paths components (FileNode node)) node) n key node part.Only access (status_flags flags)) (posix.opened (posix.with_file s components) n s.next_object part.Only access flags.append flags.nonblock))
               × ◌≡◌ {A = Reply} (reply.Number (pos n)) (reply.Number (pos n))
           opens_here node n inside at =
               let low : node < 0 + 48 = at.1 in
               let objects : length t.objects ≡ 48 = sound.object_numbers in
               let within : node < length t.objects = omega (arith, low, objects) in
               let ready : TableState = with_file t (fin.insert t.paths components (FileNode node)) node in (
-                λ key fresh. subst (λ (b : ℕ). Shows (opened ready n key node access (status_flags flags)) (posix.opened (posix.with_file s components) n b access flags.append flags.nonblock))
-                    (birth_of_new t (fin.insert t.paths components (FileNode node)) node within ∙ sym shows.next_object)
-                    (shows-opened ready (posix.with_file s components) n key node access (status_flags flags) (sound-with_file t components node within at.0 sound) all (shows-with_file t s components node sound shows within at.0) (omega (arith, inside, long)) fresh),
+                λ key fresh. subst (λ (b : ℕ). Shows (opened ready n key node part.Only access (status_flags flags)) (posix.opened (posix.with_file s components) n b part.Only access flags.append flags.nonblock))
+                    (birth_of_new t node within ∙ sym shows.next_object)
+                    (shows-opened ready (posix.with_file s components) n key node part.Only access (status_flags flags) (sound-with_file t components node within at.0 sound) all (shows-with_file t s components node sound shows within at.0) (omega (arith, inside, long)) fresh (ap (is_of part.Only) (content_of_new t s node (File []) shows within))),
                 refl,
               )
 
@@ -487,7 +566,7 @@ module _ (t : TableState) (s : State) (sound : IsSound t) (all : AreSound t.desc
           → OpensAs access flags (refuse_if b EINVAL >>= (λ _. open_node t o flags)) (some_or (lowest_from t.descriptors 32 0) EMFILE >>= (λ n. file_at t path o >>= (λ (file : TableState × ℕ). Ok (record { number = n; node = file.1; ready = file.0 })))) (refuse_if b EINVAL >>= (λ _. posix.open_node s components (option_map (shown_node t) o) access flags))
       by_node components true o is at = tt
       by_node components false None is at = opens-new components access flags (λ node. added t.paths path (FileNode node)) (adds path components is at)
-      by_node components false (Some (FileNode node)) is at = opens-there access flags node (named_at t components node sound at)
+      by_node components false (Some (FileNode node)) is at = opens-there access flags node (named_at t components node sound at) (file_at_name t s components node shows at)
       by_node components false (Some Directory) is at = by_exclusive (flags.create && flags.exclusive)
         where
           by_exclusive : (b : Bool) → OpensAs access flags (refuse_if b EEXIST >>= (λ _. Err EISDIR)) (some_or (lowest_from t.descriptors 32 0) EMFILE >>= (λ n. Err EISDIR)) (refuse_if b EEXIST >>= (λ _. Err EISDIR))
@@ -501,10 +580,118 @@ module _ (t : TableState) (s : State) (sound : IsSound t) (all : AreSound t.desc
       by_path (Err e) is = by_refused (flags.truncate && not (can_write access)) e _ _
       by_path (Ok components) is = rw (node_shown t s components shows) (by_node components (flags.truncate && not (can_write access)) (node_at t.paths components) is refl)
 
+-- ## Opening both ends
+
+module _ (t : TableState) (s : State) (sound : IsSound t) (all : AreSound t.descriptions) (shows : Shows t s) (content : Content) (one other : End × Access) where
+  -- the table where both ends are open
+  abbrev one_opened : ℕ → ℕ → ℕ → TableState
+  one_opened node first key = opened (with_object t node) first key node one.0 one.1 no_flags
+
+  abbrev both_opened : ℕ → ℕ → ℕ → ℕ → ℕ → TableState
+  both_opened node first second key next = opened (one_opened node first key) second next node other.0 other.1 no_flags
+
+  -- and the state
+  abbrev opened_both : ℕ → ℕ → ℕ → State
+  opened_both birth first second = posix.opened (posix.opened (sockets.with_object s content) first birth one.0 one.1 false false) second birth other.0 other.1 false false
+
+  shows-two : (node first second key next : ℕ) → node < 48 → slice_index_or t.objects node None ≡ None → AreFree t.descriptors first second
+      → fin.get t.descriptions.by_key key ≡ None → fin.get (one_opened node first key).descriptions.by_key next ≡ None
+      → is_of one.0 content ≡ true → is_of other.0 content ≡ true
+      → Shows (both_opened node first second key next) (opened_both s.next_object first second)
+  shows-two node first second key next low free two fresh fresh_too has has_too =
+      subst (λ (b : ℕ). Shows (both_opened node first second key next) (opened_both b first second)) (birth_of_new t node inside ∙ sym shows.next_object)
+      (shows-opened between (posix.opened (sockets.with_object s content) first (birth_at made node) one.0 one.1 false false) second next node other.0 other.1 no_flags sound_between all_between shown_between
+      (omega (arith, two.high, sound_between.numbers)) fresh_too (ap (is_of other.0) (content_of_new t s node content shows inside) ∙ has_too))
+    where
+      made : TableState
+      made = with_object t node
+
+      between : TableState
+      between = one_opened node first key
+
+      new : Description
+      new = new_description node one.0 one.1 no_flags t.descriptions.made
+
+      inside : node < length t.objects
+      inside = let objects : length t.objects ≡ 48 = sound.object_numbers in omega (arith, objects)
+
+      sound_made : IsSound made
+      sound_made = sound-with_object t node low free sound
+
+      sound_between : IsSound between
+      sound_between = sound-opened made first key new sound_made two.low two.first_free fresh refl (ap (λ (o : Option ℕ). is_some o) (get_or-set_same t.objects node (Some t.made_objects) None inside))
+
+      all_between : AreSound between.descriptions
+      all_between = AreSound-new t.descriptions key new all fresh (room_of t first sound all two.low two.first_free) refl refl
+
+      shown_between : Shows between (posix.opened (sockets.with_object s content) first (birth_at made node) one.0 one.1 false false)
+      shown_between =
+          shows-opened made (sockets.with_object s content) first key node one.0 one.1 no_flags sound_made all (shows-with_object t s content node sound shows inside free)
+          (omega (arith, two.low, sound_made.numbers)) fresh (ap (is_of one.0) (content_of_new t s node content shows inside) ∙ has)
+
+  -- a call that is planned is made, under any keys that are free, and then the table shows the state after
+  abbrev EndsAs : Result Plan Errno → Result TwoEnds Errno → Result Effect Errno → Type 0
+  EndsAs (Ok p) (Ok two) (Ok (Completes after r)) =
+      ((key next : ℕ) → fin.get t.descriptions.by_key key ≡ None → fin.get (one_opened two.node two.first key).descriptions.by_key next ≡ None → Shows (both_opened two.node two.first two.second key next) after)
+      × (r ≡ reply.Pair (pos two.first) (pos two.second))
+  EndsAs (Ok p) (Ok two) (Ok Blocks) = ⊥
+  EndsAs (Ok p) (Ok two) (Err e) = ⊥
+  EndsAs (Ok p) (Err e) does = ⊥
+  EndsAs (Err e) two does = Unit {0}
+
+  ends_as : (act : Op) → is_of one.0 content ≡ true → is_of other.0 content ≡ true → EndsAs (two_ends_plan t act) (two_ends t) (sockets.two_ends s content (record { which = one.0; access = one.1 }) (record { which = other.0; access = other.1 }))
+  unfolding two_ends
+  ends_as act has has_too = rw (two_shown t s sound all shows, full_shown t s sound all shows) (by_rest (two_numbers t) (free_object t) (λ two is. two_free t two is) (λ node is. (lowest_none t.objects 48 0 node is, lowest_below t.objects 48 0 node is)))
+    where
+      by_rest : (r : Result (ℕ × ℕ) Errno) (o : Option ℕ) → ((two : ℕ × ℕ) → r ≡ Ok two → AreFree t.descriptors two.0 two.1) → ((node : ℕ) → o ≡ Some node → (slice_index_or t.objects node None ≡ None) × (node < 0 + 48))
+          → EndsAs (r >>= (λ _. some_or o ENFILE >>= (λ node. Ok (locks node act))))
+          (r >>= (λ two. some_or o ENFILE >>= (λ node. Ok (record { first = two.0; second = two.1; node = node }))))
+          (r >>= (λ numbers. refuse_if (not (is_some o)) ENFILE >>= (λ _. Ok (Completes (opened_both s.next_object numbers.0 numbers.1) (reply.Pair (pos numbers.0) (pos numbers.1))))))
+      by_rest (Err e) o free below = tt
+      by_rest (Ok two) None free below = tt
+      by_rest (Ok two) (Some node) free below = (λ key next fresh fresh_too. (let at = below node refl in let low : node < 0 + 48 = at.1 in shows-two node two.0 two.1 key next (omega (arith, low)) at.0 (free two refl) fresh fresh_too has has_too), refl)
+
+  -- a call that is not refused
+  two_after : (settings : Settings) (outcome : Option Outcome) (carried : Carried) (p : Result Plan Errno) (two : Result TwoEnds Errno) (does : Result Effect Errno) (after : TableState)
+      → EndsAs p two does → is_refused (answered p) ≡ false → AreOpened t one other two after → Shows after (concluded settings s outcome carried does).after
+  two_after settings outcome carried (Ok p) (Ok two) (Ok (Completes state r)) after ends made (key, fresh, (next, fresh_too, is)) = subst (λ (u : TableState). Shows u state) (sym is) (ends.0 key next fresh fresh_too)
+  two_after settings outcome carried (Ok p) (Ok two) (Ok Blocks) after ends made is = absurd ends
+  two_after settings outcome carried (Ok p) (Ok two) (Err e) after ends made is = absurd ends
+  two_after settings outcome carried (Ok p) (Err e) does after ends made is = absurd ends
+  two_after settings outcome carried (Err e) two does after ends made is = absurd (true≢false made)
+
+  -- its numbers
+  two_told : (settings : Settings) (outcome : Option Outcome) (carried : Carried) (c : Call) (p : Result Plan Errno) (two : Result TwoEnds Errno) (does : Result Effect Errno)
+      → EndsAs p two does → is_refused (answered p) ≡ false → ((first second : ℤ) → numbers_told c (answer.Reply (reply.Pair first second)) ≡ numbers.Two first second) → two_given two ≡ numbers_told c (concluded settings s outcome carried does).answer
+  two_told settings outcome carried c (Ok p) (Ok two) (Ok (Completes state r)) ends made told = sym (ap (λ (x : Reply). numbers_told c (answer.Reply x)) ends.1 ∙ told (pos two.first) (pos two.second))
+  two_told settings outcome carried c (Ok p) (Ok two) (Ok Blocks) ends made told = absurd ends
+  two_told settings outcome carried c (Ok p) (Ok two) (Err e) ends made told = absurd ends
+  two_told settings outcome carried c (Ok p) (Err e) does ends made told = absurd ends
+  two_told settings outcome carried c (Err e) two does ends made told = absurd (true≢false made)
+
+abbrev read_end : End × Access
+read_end = (part.Read, ReadOnly)
+
+abbrev write_end : End × Access
+write_end = (part.Write, WriteOnly)
+
+abbrev socket_end : Side → End × Access
+socket_end side = (part.Socket side, ReadWrite)
+
+module _ (t : TableState) (s : State) (sound : IsSound t) (all : AreSound t.descriptions) (shows : Shows t s) where
+  ends-pipe : EndsAs t s sound all shows (Pipe []) read_end write_end (two_ends_plan t op.Pipe) (two_ends t) (pipe_result s)
+  unfolding pipe_result
+  ends-pipe = ends_as t s sound all shows (Pipe []) read_end write_end op.Pipe refl refl
+
+  ends-socketpair : EndsAs t s sound all shows (Pair new_pair) (socket_end Side0) (socket_end Side1) (two_ends_plan t op.Socketpair) (two_ends t) (socketpair_result s)
+  unfolding socketpair_result
+  ends-socketpair = ends_as t s sound all shows (Pair new_pair) (socket_end Side0) (socket_end Side1) op.Socketpair refl refl
+
 -- an `open` that is not refused
 opened_after : (t : TableState) (settings : Settings) (s : State) (outcome : Option Outcome) (carried : Carried) (access : Access) (flags : OpenFlags) (p : Result Plan Errno) (o : Result Opening Errno) (does : Result Effect Errno) (after : TableState) (sound : IsSound t) (all : AreSound t.descriptions) (shows : Shows t s)
     → OpensAs t s sound all shows access flags p o does → is_refused (answered p) ≡ false → IsOpened t access flags o after → Shows after (concluded settings s outcome carried does).after
 opened_after t settings s outcome carried access flags (Ok p) (Ok o) (Ok (Completes state r)) after sound all shows opens made (key, fresh, is) = subst (λ (u : TableState). Shows u state) (sym is) (opens.0 key fresh)
+opened_after t settings s outcome carried access flags (Ok p) (Ok o) (Ok Blocks) after sound all shows opens made is = absurd opens
 opened_after t settings s outcome carried access flags (Ok p) (Ok o) (Err e) after sound all shows opens made is = absurd opens
 opened_after t settings s outcome carried access flags (Ok p) (Err e) does after sound all shows opens made is = absurd opens
 opened_after t settings s outcome carried access flags (Err e) o does after sound all shows opens made is = absurd (true≢false made)
@@ -540,16 +727,20 @@ module _ (t : TableState) (s : State) (settings : Settings) (outcome : Option Ou
   changes_call (call.Unlink path) after made is = follows_call after (unlink_change t path) (unlink_result s path) (follows-unlink t s sound all shows path) is
   changes_call (call.Mkdir path) after made is = follows_call after (mkdir_change t path) (mkdir_result s path) (follows-mkdir t s sound all shows path) is
   changes_call (call.Rmdir path) after made is = follows_call after (rmdir_change t path) (rmdir_result s path) (follows-rmdir t s sound all shows path) is
+  changes_call call.Pipe after made is = two_after t s sound all shows (Pipe []) read_end write_end settings outcome carried (two_ends_plan t op.Pipe) (two_ends t) (pipe_result s) after (ends-pipe t s sound all shows) made is
+  changes_call call.Socketpair after made is = two_after t s sound all shows (Pair new_pair) (socket_end Side0) (socket_end Side1) settings outcome carried (two_ends_plan t op.Socketpair) (two_ends t) (socketpair_result s) after (ends-socketpair t s sound all shows) made is
+  changes_call (call.Shutdown descriptor how) after made is = stays_call after (shutdown_result s descriptor how) (stays-shutdown t s sound all shows descriptor how (found_at descriptor)) is
 
 -- the number of an `open` that is not refused
 told_after : (t : TableState) (settings : Settings) (s : State) (outcome : Option Outcome) (carried : Carried) (path : List ℕ) (access : Access) (flags : OpenFlags) (p : Result Plan Errno) (o : Result Opening Errno) (does : Result Effect Errno) (sound : IsSound t) (all : AreSound t.descriptions) (shows : Shows t s)
-    → OpensAs t s sound all shows access flags p o does → is_refused (answered p) ≡ false → opened_number o ≡ number_told (call.Open path access flags) (concluded settings s outcome carried does).answer
-told_after t settings s outcome carried path access flags (Ok p) (Ok o) (Ok (Completes state r)) sound all shows opens made = ap (λ (x : Reply). number_told (call.Open path access flags) (answer.Reply x)) (sym opens.1)
+    → OpensAs t s sound all shows access flags p o does → is_refused (answered p) ≡ false → opened_number o ≡ numbers_told (call.Open path access flags) (concluded settings s outcome carried does).answer
+told_after t settings s outcome carried path access flags (Ok p) (Ok o) (Ok (Completes state r)) sound all shows opens made = ap (λ (x : Reply). numbers_told (call.Open path access flags) (answer.Reply x)) (sym opens.1)
+told_after t settings s outcome carried path access flags (Ok p) (Ok o) (Ok Blocks) sound all shows opens made = absurd opens
 told_after t settings s outcome carried path access flags (Ok p) (Ok o) (Err e) sound all shows opens made = absurd opens
 told_after t settings s outcome carried path access flags (Ok p) (Err e) does sound all shows opens made = absurd opens
 told_after t settings s outcome carried path access flags (Err e) o does sound all shows opens made = absurd (true≢false made)
 
-tells_call : (t : TableState) (settings : Settings) (s : State) (outcome : Option Outcome) (carried : Carried) → IsSound t → AreSound t.descriptions → Shows t s → (c : Call) → is_refused (planned t c) ≡ false → number_given t c ≡ number_told c (step settings s c outcome carried).answer
+tells_call : (t : TableState) (settings : Settings) (s : State) (outcome : Option Outcome) (carried : Carried) → IsSound t → AreSound t.descriptions → Shows t s → (c : Call) → is_refused (planned t c) ≡ false → numbers_given t c ≡ numbers_told c (step settings s c outcome carried).answer
 tells_call t settings s outcome carried sound all shows (call.Open path access flags) made = told_after t settings s outcome carried path access flags (open_plan t path access flags) (opening t path) (open_result s path access flags) sound all shows (opens t s sound all shows path access flags) made
 tells_call t settings s outcome carried sound all shows (call.Close descriptor) made = refl
 tells_call t settings s outcome carried sound all shows (call.Read descriptor count) made = refl
@@ -568,6 +759,9 @@ tells_call t settings s outcome carried sound all shows (call.Link old_path new_
 tells_call t settings s outcome carried sound all shows (call.Unlink path) made = refl
 tells_call t settings s outcome carried sound all shows (call.Mkdir path) made = refl
 tells_call t settings s outcome carried sound all shows (call.Rmdir path) made = refl
+tells_call t settings s outcome carried sound all shows call.Pipe made = two_told t s sound all shows (Pipe []) read_end write_end settings outcome carried call.Pipe (two_ends_plan t op.Pipe) (two_ends t) (pipe_result s) (ends-pipe t s sound all shows) made (λ first second. refl)
+tells_call t settings s outcome carried sound all shows call.Socketpair made = two_told t s sound all shows (Pair new_pair) (socket_end Side0) (socket_end Side1) settings outcome carried call.Socketpair (two_ends_plan t op.Socketpair) (two_ends t) (socketpair_result s) (ends-socketpair t s sound all shows) made (λ first second. refl)
+tells_call t settings s outcome carried sound all shows (call.Shutdown descriptor how) made = refl
 
 -- ## A call that the table refuses
 
@@ -584,7 +778,7 @@ refused_as (plan.Node node act keep_table) refused = absurd (false≢true refuse
 refused_answer : (t : TableState) (settings : Settings) (s : State) (outcome : Option Outcome) (carried : Carried) → IsSound t → AreSound t.descriptions → Shows t s → (c : Call) → is_refused (planned t c) ≡ true → (e : Errno) × ((step settings s c outcome carried).answer ≡ answer.Reply (reply.Fail e))
 refused_answer t settings s outcome carried sound all shows c refused =
     let how = refused_as (planned t c) refused in
-    let agrees : AgreesOn t (plan.Reply (reply.Fail how.0)) (locked_object s c) (step settings s c outcome carried).answer = subst (λ (p : Plan). AgreesOn t p (locked_object s c) (step settings s c outcome carried).answer) how.1 (plans-as_step t c sound all settings s outcome carried shows) in
+    let agrees : AgreesOn t (plan.Reply (reply.Fail how.0)) (locked_object s c carried) (step settings s c outcome carried).answer = subst (λ (p : Plan). AgreesOn t p (locked_object s c carried) (step settings s c outcome carried).answer) how.1 (plans-as_step t c sound all settings s outcome carried shows) in
     (how.0, agrees.1)
 
 pub changes-as_step : (t : TableState) (c : Call) (after : TableState) → IsSound t → AreSound t.descriptions → (IsTrue (is_refused (planned t c)) → after ≡ t) → (is_refused (planned t c) ≡ false → Changes t c after) → ChangesAsStep t c after
@@ -596,7 +790,7 @@ changes-as_step t c after sound all kept changed settings s outcome carried show
         let fails = refused_answer t settings s outcome carried sound all shows c refused in
         subst (λ (x : State). Shows after x) (sym (fail_leaves_state settings s c outcome carried fails.0 fails.1)) (subst (λ (u : TableState). Shows u s) (sym (kept refused)) shows)
 
-none_told : (c : Call) (e : Errno) → None ≡ number_told c (answer.Reply (reply.Fail e))
+none_told : (c : Call) (e : Errno) → numbers.None ≡ numbers_told c (answer.Reply (reply.Fail e))
 none_told (call.Open path access flags) e = refl
 none_told (call.Close descriptor) e = refl
 none_told (call.Read descriptor count) e = refl
@@ -615,12 +809,15 @@ none_told (call.Link old_path new_path) e = refl
 none_told (call.Unlink path) e = refl
 none_told (call.Mkdir path) e = refl
 none_told (call.Rmdir path) e = refl
+none_told call.Pipe e = refl
+none_told call.Socketpair e = refl
+none_told (call.Shutdown descriptor how) e = refl
 
-pub tells-as_step : (t : TableState) (c : Call) (number : Option ℤ) → IsSound t → AreSound t.descriptions → (IsTrue (is_refused (planned t c)) → number ≡ None) → (is_refused (planned t c) ≡ false → number ≡ number_given t c) → TellsAsStep t c number
+pub tells-as_step : (t : TableState) (c : Call) (number : NewNumbers) → IsSound t → AreSound t.descriptions → (IsTrue (is_refused (planned t c)) → number ≡ numbers.None) → (is_refused (planned t c) ≡ false → number ≡ numbers_given t c) → TellsAsStep t c number
 tells-as_step t c number sound all silent told settings s outcome carried shows = by_test (is_refused (planned t c)) refl
   where
-    by_test : (b : Bool) → is_refused (planned t c) ≡ b → number ≡ number_told c (step settings s c outcome carried).answer
+    by_test : (b : Bool) → is_refused (planned t c) ≡ b → number ≡ numbers_told c (step settings s c outcome carried).answer
     by_test false made = told made ∙ tells_call t settings s outcome carried sound all shows c made
     by_test true refused =
         let fails = refused_answer t settings s outcome carried sound all shows c refused in
-        silent refused ∙ none_told c fails.0 ∙ ap (number_told c) (sym fails.1)
+        silent refused ∙ none_told c fails.0 ∙ ap (numbers_told c) (sym fails.1)

@@ -1,12 +1,13 @@
 -- Each call locks an object that is there, or the one that a new file becomes.
-use Rattle.std.proofs.Common.{◌≡◌, ℕ, zero, suc, ◌+◌, ◌<◌, inl, inr, List, length, Option, Some, None, is_some, Result, Ok, Err, Bool, true, false, not, ◌&&◌, ◌==◌, ◌≤◌, subst, refl, sym, ap, ◌∙◌, arith, if◌then◌else◌}
+use Rattle.std.proofs.Common.{◌≡◌, ℕ, zero, suc, ◌+◌, ◌<◌, inl, inr, List, [], length, Option, Some, None, is_some, Result, Ok, Err, Bool, true, false, not, ◌&&◌, ◌==◌, ◌≤◌, subst, refl, sym, ap, ◌∙◌, arith, if◌then◌else◌}
 use Rattle.std.proofs.lemmas.Bool.Decides.{nat_tests}
 use Rattle.std.specs.FinMap as fin
 use Rattle.std.specs.Ordering.{int_eq}
 use Rattle.std.specs.Prelude.{ℤ, pos, negsuc, IfOk, nat_le, nat_lt, slice_index_or}
 use Rattle.posix_terms.specs.Calls.{can_read, can_write}
 use Rattle.posix_terms.specs.Duplicates.{descriptor_number}
-use Rattle.posix_terms.specs.Names.{file_named, removed_dir}
+use Rattle.posix_terms.specs.Ends.{is_end}
+use Rattle.posix_terms.specs.Names.{file_named, links_of, removed_dir}
 use Rattle.posix_terms.specs.Object.{Node, FileNode, Directory}
 use Rattle.posix_terms.specs.Paths.{node_at, resolved}
 use Rattle.posix_terms.specs.Refusals.{◌>>=◌, count_of, position_of, refuse_if, some_or}
@@ -15,16 +16,20 @@ use Rattle.posix_terms.specs.declared.call.Access.{Access}
 use Rattle.posix_terms.specs.declared.call.Call.{Call}
 use Rattle.posix_terms.specs.declared.call.Call.TheVariants as call
 use Rattle.posix_terms.specs.declared.call.OpenFlags.{OpenFlags}
+use Rattle.posix_terms.specs.declared.call.ShutdownHow.{ShutdownHow}
+use Rattle.posix_terms.specs.declared.object.End.TheVariants as part
+use Rattle.posix_terms.specs.declared.reply.ObjectKind.{ObjectKind}
 use Rattle.posix_terms.specs.declared.errno.Errno.{Errno}
 use Rattle.posix_terms.specs.declared.limits.TheConstants.Limits as limit
-use Rattle.posix_terms.specs.declared.errno.Errno.TheVariants.{EBADF, EFBIG, EINVAL, EEXIST, EMFILE, ENOENT, ENOSPC}
+use Rattle.posix_terms.specs.declared.errno.Errno.TheVariants.{EBADF, EFBIG, EINVAL, EEXIST, EMFILE, ENFILE, ENOENT, ENOSPC, ESPIPE}
 use Rattle.posix_terms.specs.declared.reply.Reply.{Reply}
 use Rattle.posix_terms.specs.declared.reply.Reply.TheVariants as reply
 use Rattle.file_descriptions.specs.Descriptions.{ContainsKey, description_at}
 use Rattle.file_descriptions.specs.declared.description.Description.{Description}
 use Rattle.descriptor_table.proofs.SoundLemmas.{known_of, named_at, none_past, used_of, used-named}
-use Rattle.descriptor_table.specs.Plans.{IsKnownNumber, LocksKnown, addable, answered, close_plan, dup2_plan, dup_from_plan, dup_plan, fstat_plan, ftruncate_plan, getfl_plan, link_plan, lseek_plan, mkdir_plan, open_new, open_node, open_plan, open_there, plan_of, planned, pread_plan, pwrite_plan, read_plan, release, replaced, rmdir_plan, setfl_plan, unlink_plan, write_plan}
-use Rattle.descriptor_table.specs.Table.{TableState, IsSound, described, free_object, is_last_name, is_used, key_at, lowest_free, lowest_from}
+use Rattle.descriptor_table.specs.Plans.{IsKnownNumber, LocksKnown, MovesKnown, addable, answered, close_plan, dup2_plan, dup_from_plan, dup_plan, fstat_plan, ftruncate_plan, getfl_plan, link_plan, lseek_plan, mkdir_plan, moves, of_file, open_new, open_node, open_plan, open_there, plan_of, planned, pread_plan, pwrite_plan, read_plan, release, replaced, rmdir_plan, seen, setfl_plan, shutdown_plan, socket_side, stat_plan, stream_kind, two_ends_plan, unlink_plan, write_plan}
+use Rattle.descriptor_table.specs.Table.{TableState, IsSound, described, free_object, is_last_name, is_used, key_at, lowest_free, lowest_from, two_numbers}
+use Rattle.descriptor_table.specs.declared.plan.Op.{Op}
 use Rattle.descriptor_table.specs.declared.plan.Op.TheVariants as op
 use Rattle.descriptor_table.specs.declared.plan.Plan.{Plan}
 use Rattle.descriptor_table.specs.declared.plan.Plan.TheVariants as plan
@@ -40,6 +45,20 @@ lowest_below slots (suc left) from n is = by_test (is_some (slice_index_or slots
     by_test : (b : Bool) → is_some (slice_index_or slots from None) ≡ b → (lowest_from slots left (from + 1) ≡ Some n → n < from + 1 + left) → n < from + suc left
     by_test true taken later =
         let h : n < from + 1 + left = later (sym (ap (λ (b : Bool). if b then lowest_from slots left (from + 1) else Some from) taken) ∙ is) in
+        omega arith
+    by_test false free later =
+        let h : Some from ≡ Some n = sym (ap (λ (b : Bool). if b then lowest_from slots left (from + 1) else Some from) free) ∙ is in
+        let same : from ≡ n = cc in
+        omega arith
+
+pub lowest_above : {X : Type 0} (slots : List (Option X)) (left from n : ℕ) → lowest_from slots left from ≡ Some n → from ≤ n
+unfolding lowest_from
+lowest_above slots zero from n is = cc
+lowest_above slots (suc left) from n is = by_test (is_some (slice_index_or slots from None)) refl (λ later. lowest_above slots left (from + 1) n later)
+  where
+    by_test : (b : Bool) → is_some (slice_index_or slots from None) ≡ b → (lowest_from slots left (from + 1) ≡ Some n → from + 1 ≤ n) → from ≤ n
+    by_test true taken later =
+        let h : from + 1 ≤ n = later (sym (ap (λ (b : Bool). if b then lowest_from slots left (from + 1) else Some from) taken) ∙ is) in
         omega arith
     by_test false free later =
         let h : Some from ≡ Some n = sym (ap (λ (b : Bool). if b then lowest_from slots left (from + 1) else Some from) free) ∙ is in
@@ -97,12 +116,27 @@ through : (t : TableState) {A : Type 0} (r : Result A Errno) (f : A → Result P
 through t (Ok x) f each = each x refl
 through t (Err e) f each = tt
 
+pub was_some : (o : Option ℕ) (e : Errno) (n : ℕ) → some_or o e ≡ Ok n → o ≡ Some n
+was_some None e n is = cc
+was_some (Some m) e n is = cc
+
 known-release : (t : TableState) (d : Description) (r : Reply) → IsKnownNumber t d.node → LocksKnown t (release d r)
 known-release t d r known = by_test (d.holders == 1)
   where
     by_test : (b : Bool) → LocksKnown t (if b then plan.Node d.node op.Release false else plan.Reply r)
     by_test true = (known, tt)
     by_test false = tt
+
+known-moves : (t : TableState) (d : Description) (count : ℕ) (none : Reply) (act : Op) → IsKnownNumber t d.node → MovesKnown t act → LocksKnown t (moves d count none act)
+known-moves t d count none act known moved = by_test ((count == 0) && not (is_end d.«end» part.Only))
+  where
+    by_test : (b : Bool) → LocksKnown t (if b then plan.Reply none else plan.Node d.node act false)
+    by_test true = tt
+    by_test false = (known, moved)
+
+known-stat : (t : TableState) (d : Description) (links : ℕ) (k : Option ObjectKind) → IsKnownNumber t d.node → LocksKnown t (stat_plan d links k)
+known-stat t d links None known = (known, tt)
+known-stat t d links (Some k) known = tt
 
 known-there : (t : TableState) (node : Node) (flags : OpenFlags) → ((n : ℕ) → node ≡ FileNode n → IsKnownNumber t n) → IfOk (open_there t node flags) (LocksKnown t)
 known-there t Directory flags known = tt
@@ -111,11 +145,16 @@ known-there t (FileNode node) flags known = through t (some_or (lowest_free t 0)
 known-new : (t : TableState) (flags : OpenFlags) → IfOk (open_new t flags) (LocksKnown t)
 known-new t flags =
     through t (refuse_if (not flags.create) ENOENT) _ (λ a x. through t (refuse_if (nat_le 64 (fin.len t.paths)) ENOSPC) _ (λ b y.
-    through t (some_or (free_object t) ENOSPC) _ (λ node is. through t (some_or (lowest_free t 0) EMFILE) _ (λ n z. (free_known t node (was_some (free_object t) node is), tt)))))
-  where
-    was_some : (o : Option ℕ) (n : ℕ) → some_or o ENOSPC ≡ Ok n → o ≡ Some n
-    was_some None n is = cc
-    was_some (Some m) n is = cc
+    through t (some_or (free_object t) ENOSPC) _ (λ node is. through t (some_or (lowest_free t 0) EMFILE) _ (λ n z. (free_known t node (was_some (free_object t) ENOSPC node is), tt)))))
+
+known-two_ends : (t : TableState) (act : Op) → MovesKnown t act → IfOk (two_ends_plan t act) (LocksKnown t)
+known-two_ends t act moved =
+    through t (two_numbers t) _ (λ two x. through t (some_or (free_object t) ENFILE) _ (λ node is. (free_known t node (was_some (free_object t) ENFILE node is), moved)))
+
+known-shutdown : (t : TableState) (descriptor : ℤ) (how : ShutdownHow) → IsSound t → IfOk (shutdown_plan t descriptor how) (LocksKnown t)
+unfolding shutdown_plan
+known-shutdown t descriptor how sound =
+    through t (described t descriptor) _ (λ found is. through t (socket_side found.1.«end») _ (λ side x. (found_known t descriptor found sound is, tt)))
 
 known-node : (t : TableState) (node : Option Node) (flags : OpenFlags) → ((n : ℕ) → node ≡ Some (FileNode n) → IsKnownNumber t n) → IfOk (open_node t node flags) (LocksKnown t)
 known-node t None flags known = known-new t flags
@@ -135,29 +174,29 @@ known-read : (t : TableState) (descriptor count : ℤ) → IsSound t → IfOk (r
 unfolding read_plan
 known-read t descriptor count sound =
     through t (described t descriptor) _ (λ found is. through t (refuse_if (not (can_read found.1.access)) EBADF) _ (λ a x.
-    through t (count_of count) _ (λ n y. (found_known t descriptor found sound is, found_key t descriptor found sound is))))
+    through t (count_of count) _ (λ n y. known-moves t found.1 n (reply.Data []) (op.Read (seen found.0 found.1) n) (found_known t descriptor found sound is) (found_key t descriptor found sound is))))
 
 known-write : (t : TableState) (descriptor : ℤ) (count : ℕ) → IsSound t → IfOk (write_plan t descriptor count) (LocksKnown t)
 unfolding write_plan
 known-write t descriptor count sound =
     through t (described t descriptor) _ (λ found is. through t (refuse_if (not (can_write found.1.access)) EBADF) _ (λ a x.
-    through t (refuse_if (nat_lt 32767 count) EINVAL) _ (λ b y. (found_known t descriptor found sound is, found_key t descriptor found sound is))))
+    through t (refuse_if (nat_lt 32767 count) EINVAL) _ (λ b y. known-moves t found.1 count (reply.Count 0) (op.Write (seen found.0 found.1)) (found_known t descriptor found sound is) (found_key t descriptor found sound is))))
 
 known-pread : (t : TableState) (descriptor count position : ℤ) → IsSound t → IfOk (pread_plan t descriptor count position) (LocksKnown t)
 unfolding pread_plan
 known-pread t descriptor count position sound =
-    through t (described t descriptor) _ (λ found is. through t (refuse_if (not (can_read found.1.access)) EBADF) _ (λ a x.
-    through t (count_of count) _ (λ n y. through t (position_of position) _ (λ p z. (found_known t descriptor found sound is, tt)))))
+    through t (described t descriptor) _ (λ found is. through t (of_file found.1 ESPIPE) _ (λ f w. through t (refuse_if (not (can_read found.1.access)) EBADF) _ (λ a x.
+    through t (count_of count) _ (λ n y. through t (position_of position) _ (λ p z. (found_known t descriptor found sound is, tt))))))
 
 known-pwrite : (t : TableState) (descriptor : ℤ) (count : ℕ) (position : ℤ) → IsSound t → IfOk (pwrite_plan t descriptor count position) (LocksKnown t)
 unfolding pwrite_plan
 known-pwrite t descriptor count position sound =
-    through t (described t descriptor) _ (λ found is. through t (refuse_if (not (can_write found.1.access)) EBADF) _ (λ a x.
-    through t (refuse_if (nat_lt 32767 count) EINVAL) _ (λ b y. through t (position_of position) _ (λ p z. (found_known t descriptor found sound is, tt)))))
+    through t (described t descriptor) _ (λ found is. through t (of_file found.1 ESPIPE) _ (λ f w. through t (refuse_if (not (can_write found.1.access)) EBADF) _ (λ a x.
+    through t (refuse_if (nat_lt 32767 count) EINVAL) _ (λ b y. through t (position_of position) _ (λ p z. (found_known t descriptor found sound is, tt))))))
 
 known-lseek : (t : TableState) (descriptor : ℤ) → IsSound t → IfOk (lseek_plan t descriptor) (LocksKnown t)
 unfolding lseek_plan
-known-lseek t descriptor sound = through t (described t descriptor) _ (λ found is. (found_known t descriptor found sound is, found_key t descriptor found sound is))
+known-lseek t descriptor sound = through t (described t descriptor) _ (λ found is. through t (of_file found.1 ESPIPE) _ (λ f w. (found_known t descriptor found sound is, found_key t descriptor found sound is)))
 
 -- a size that is taken is one that a file may have
 small_size : (size : ℤ) (n : ℕ) → size_of size ≡ Ok n → n ≤ limit.FILE_BYTES
@@ -175,11 +214,11 @@ known-ftruncate : (t : TableState) (descriptor size : ℤ) → IsSound t → IfO
 unfolding ftruncate_plan
 known-ftruncate t descriptor size sound =
     through t (described t descriptor) _ (λ found is. through t (refuse_if (not (can_write found.1.access)) EINVAL) _ (λ a x.
-    through t (size_of size) _ (λ n y. (found_known t descriptor found sound is, small_size size n y))))
+    through t (of_file found.1 EINVAL) _ (λ f w. through t (size_of size) _ (λ n y. (found_known t descriptor found sound is, small_size size n y)))))
 
 known-fstat : (t : TableState) (descriptor : ℤ) → IsSound t → IfOk (fstat_plan t descriptor) (LocksKnown t)
 unfolding fstat_plan
-known-fstat t descriptor sound = through t (described t descriptor) _ (λ found is. (found_known t descriptor found sound is, tt))
+known-fstat t descriptor sound = through t (described t descriptor) _ (λ found is. known-stat t found.1 (links_of t.paths found.1.node) (stream_kind found.1.«end») (found_known t descriptor found sound is))
 
 known-dup : (t : TableState) (descriptor : ℤ) → IfOk (dup_plan t descriptor) (LocksKnown t)
 unfolding dup_plan
@@ -251,6 +290,9 @@ known-call t (call.Link old_path new_path) sound = known-link t old_path new_pat
 known-call t (call.Unlink path) sound = known-unlink t path sound
 known-call t (call.Mkdir path) sound = known-mkdir t path
 known-call t (call.Rmdir path) sound = known-rmdir t path
+known-call t call.Pipe sound = known-two_ends t op.Pipe tt
+known-call t call.Socketpair sound = known-two_ends t op.Socketpair tt
+known-call t (call.Shutdown descriptor how) sound = known-shutdown t descriptor how sound
 
 known-answered : (t : TableState) (r : Result Plan Errno) → IfOk r (LocksKnown t) → LocksKnown t (answered r)
 known-answered t (Ok p) known = known

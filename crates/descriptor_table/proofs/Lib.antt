@@ -1,6 +1,7 @@
 pub mod ActLemmas
 pub mod Agreeing
 pub mod ChangeLemmas
+pub mod EndLemmas
 pub mod EntryLemmas
 pub mod FollowLemmas
 pub mod KnownLemmas

@@ -9,20 +9,25 @@ use Rattle.posix_terms.specs.Names.{PathMap, added, file_named, removed, removed
 use Rattle.posix_terms.specs.Object.{Node, FileNode, Directory}
 use Rattle.posix_terms.specs.Refusals.{◌>>=◌, some_or}
 use Rattle.posix_terms.specs.declared.call.Access.{Access}
+use Rattle.posix_terms.specs.declared.call.Access.TheVariants.{ReadOnly, WriteOnly, ReadWrite}
+use Rattle.posix_terms.specs.declared.object.End.{End}
+use Rattle.posix_terms.specs.declared.object.End.TheVariants as part
+use Rattle.posix_terms.specs.declared.object.Side.TheVariants.{Side0, Side1}
 use Rattle.posix_terms.specs.declared.call.Call.{Call}
 use Rattle.posix_terms.specs.declared.call.Call.TheVariants as call
 use Rattle.posix_terms.specs.declared.call.OpenFlags.{OpenFlags}
 use Rattle.posix_terms.specs.declared.errno.Errno.{Errno}
-use Rattle.posix_terms.specs.declared.errno.Errno.TheVariants.{EBADF, EINVAL, EMFILE, ENOSPC}
+use Rattle.posix_terms.specs.declared.errno.Errno.TheVariants.{EBADF, EINVAL, EMFILE, ENFILE, ENOSPC}
 use Rattle.directories.specs.Lookup.{looked_up}
 use Rattle.file_descriptions.specs.Descriptions.{description_at, is_last_held, with_description, without}
 use Rattle.file_descriptions.specs.declared.description.Description.{Description}
-use Rattle.descriptor_table.proofs.KnownLemmas.{lowest_below}
+use Rattle.descriptor_table.proofs.KnownLemmas.{lowest_below, was_some}
+use Rattle.descriptor_table.proofs.SoundLemmas.{bind_ok, ok_same}
 use Rattle.descriptor_table.proofs.PlanLemmas.{lowest_none}
 use Rattle.descriptor_table.proofs.ObjectLemmas.{IsNew, IsOld, Taken, freed_slot, taken_slot}
 use Rattle.descriptor_table.specs.Agreement.{IsBorn, NumbersStay}
-use Rattle.descriptor_table.specs.Changes.{Changes, IsOpened, Opening, close_change, closed, closed_if_open, dup2_change, dup_change, dup_from_change, file_at, found_or_made, kept_or, let_go, link_change, mkdir_change, opening, rmdir_change, setfl_change, shared, unlink_change, with_file, with_paths, without_gone}
-use Rattle.descriptor_table.specs.Table.{TableState, IsSound, described, free_object, is_gone, lowest_free}
+use Rattle.descriptor_table.specs.Changes.{AreOpened, Changes, IsOpened, TwoEnds, two_ends, with_object, Opening, close_change, closed, closed_if_open, dup2_change, dup_change, dup_from_change, file_at, found_or_made, kept_or, let_go, link_change, mkdir_change, opening, rmdir_change, setfl_change, shared, unlink_change, with_file, with_paths, without_gone}
+use Rattle.descriptor_table.specs.Table.{TableState, IsSound, described, free_object, is_gone, lowest_free, two_numbers}
 
 numbers_same : (t u : TableState) → u.objects ≡ t.objects → u.made_objects ≡ t.made_objects → u.descriptions.made ≡ t.descriptions.made → NumbersStay t u
 numbers_same t u objects made descriptions =
@@ -167,15 +172,11 @@ through_file : (t : TableState) {A : Type 0} (r : Result A Errno) (f : A → Res
 through_file t (Ok x) f each = each x refl
 through_file t (Err e) f each = tt
 
-was_some : (o : Option ℕ) (n : ℕ) → some_or o ENOSPC ≡ Ok n → o ≡ Some n
-was_some None n is = cc
-was_some (Some m) n is = cc
-
 file_ready : (t : TableState) (path : List ℕ) (node : Option Node) → IsSound t → ReadyFile t (file_at t path node)
 file_ready t path (Some (FileNode node)) sound = (numbers_same t t refl refl refl, refl)
 file_ready t path (Some Directory) sound = tt
 file_ready t path None sound =
-    through_file t (some_or (free_object t) ENOSPC) _ (λ node is. through_file t (added t.paths path (FileNode node)) _ (λ paths a. ready_file t paths node sound (was_some (free_object t) node is)))
+    through_file t (some_or (free_object t) ENOSPC) _ (λ node is. through_file t (added t.paths path (FileNode node)) _ (λ paths a. ready_file t paths node sound (was_some (free_object t) ENOSPC node is)))
 
 found_ready : (t : TableState) (path : List ℕ) → IsSound t → ReadyFile t (found_or_made t path)
 unfolding found_or_made
@@ -193,6 +194,25 @@ opening_ready t path sound = by_number (some_or (lowest_free t 0) EMFILE) (found
 opened_stay : (t after : TableState) (access : Access) (flags : OpenFlags) (o : Result Opening Errno) → ReadyOpening t o → IsOpened t access flags o after → NumbersStay t after
 opened_stay t after access flags (Err e) ready is = subst (NumbersStay t) (sym is) (numbers_same t t refl refl refl)
 opened_stay t after access flags (Ok o) ready (key, fresh, is) = subst (NumbersStay t) (sym is) (record { numbers = ready.0.numbers; objects = ready.0.objects; born = born_along t o.ready _ refl refl ready.0.born; descriptions = omega arith })
+
+-- ## Opening both ends
+
+abbrev ends_at : ℕ × ℕ → ℕ → Result TwoEnds Errno
+ends_at two node = Ok (record { first = two.0; second = two.1; node = node })
+
+-- the object is the next that was free
+two_object : (t : TableState) (two : TwoEnds) → two_ends t ≡ Ok two → free_object t ≡ Some two.node
+unfolding two_ends
+two_object t two is =
+    let numbers = bind_ok (two_numbers t) (λ n. some_or (free_object t) ENFILE >>= (λ node. ends_at n node)) two is in
+    let object = bind_ok (some_or (free_object t) ENFILE) (λ node. ends_at numbers.0 node) two numbers.1.1 in
+    was_some (free_object t) ENFILE object.0 object.1.0 ∙ ap (λ (x : TwoEnds). Some x.node) (ok_same (record { first = numbers.0.0; second = numbers.0.1; node = object.0 }) two object.1.1)
+
+two_stay : (t after : TableState) (one other : End × Access) (r : Result TwoEnds Errno) → IsSound t → two_ends t ≡ r → AreOpened t one other r after → NumbersStay t after
+two_stay t after one other (Err e) sound at is = subst (NumbersStay t) (sym is) (numbers_same t t refl refl refl)
+two_stay t after one other (Ok two) sound at (key, fresh, (next, fresh_too, is)) =
+    let ready = ready_file t t.paths two.node sound (two_object t two at) in
+    subst (NumbersStay t) (sym is) (record { numbers = ready.0.numbers; objects = ready.0.objects; born = born_along t (with_object t two.node) _ refl refl ready.0.born; descriptions = omega arith })
 
 -- ## All calls
 
@@ -215,6 +235,9 @@ numbers-stay t (call.Link old_path new_path) after sound is = kept t after (link
 numbers-stay t (call.Unlink path) after sound is = kept t after (unlink_change t path) (stay-unlink t path) is
 numbers-stay t (call.Mkdir path) after sound is = kept t after (mkdir_change t path) (stay-mkdir t path) is
 numbers-stay t (call.Rmdir path) after sound is = kept t after (rmdir_change t path) (stay-rmdir t path) is
+numbers-stay t call.Pipe after sound is = two_stay t after (part.Read, ReadOnly) (part.Write, WriteOnly) (two_ends t) sound refl is
+numbers-stay t call.Socketpair after sound is = two_stay t after (part.Socket Side0, ReadWrite) (part.Socket Side1, ReadWrite) (two_ends t) sound refl is
+numbers-stay t (call.Shutdown descriptor how) after sound is = kept t after (Ok t) (numbers_same t t refl refl refl) is
 
 pub numbers-unchanged : (t : TableState) → NumbersStay t t
 numbers-unchanged t = numbers_same t t refl refl refl

@@ -1,5 +1,5 @@
 -- Where descriptions stand after a change.
-use Rattle.std.proofs.Common.{◌≡◌, ◌≢◌, ℕ, ◌+◌, ◌-◌, ◌<◌, List, length, is_some, Option, Some, None, Result, Ok, Err, Bool, true, false, if◌then◌else◌, refl, sym, ap, ◌∙◌, subst, inl, inr, arith}
+use Rattle.std.proofs.Common.{◌≡◌, ◌≢◌, ℕ, ◌+◌, ◌-◌, ◌<◌, ◌≤◌, List, length, is_some, Option, Some, None, Result, Ok, Err, Bool, true, false, if◌then◌else◌, refl, sym, ap, ◌∙◌, subst, inl, inr, arith}
 use Rattle.std.proofs.lemmas.Bool.{cases_eq}
 use Rattle.std.proofs.lemmas.Option.{none-some, same_Some}
 use Rattle.std.specs.FinMap as fin
@@ -10,6 +10,10 @@ use Rattle.posix_terms.specs.Names.{added, file_named, removed, removed_dir}
 use Rattle.posix_terms.specs.Object.{Node, FileNode, Directory}
 use Rattle.posix_terms.specs.Refusals.{◌>>=◌, some_or}
 use Rattle.posix_terms.specs.declared.call.Access.{Access}
+use Rattle.posix_terms.specs.declared.call.Access.TheVariants.{ReadOnly, WriteOnly, ReadWrite}
+use Rattle.posix_terms.specs.declared.object.End.{End}
+use Rattle.posix_terms.specs.declared.object.Side.TheVariants.{Side0, Side1}
+use Rattle.file_descriptions.specs.declared.description.StatusFlags.{StatusFlags}
 use Rattle.posix_terms.specs.declared.call.Call.{Call}
 use Rattle.posix_terms.specs.declared.call.Call.TheVariants as call
 use Rattle.posix_terms.specs.declared.call.OpenFlags.{OpenFlags}
@@ -17,14 +21,14 @@ use Rattle.posix_terms.specs.declared.errno.Errno.{Errno}
 use Rattle.posix_terms.specs.declared.errno.Errno.TheVariants.{EBADF, EINVAL, EMFILE, ENOSPC}
 use Rattle.directories.specs.Lookup.{looked_up}
 use Rattle.file_descriptions.specs.Descriptions.{DescriptionMap, description_at, is_last_held, new_description, with_description, without}
-use Rattle.file_descriptions.specs.declared.description.End.TheVariants as part
+use Rattle.posix_terms.specs.declared.object.End.TheVariants as part
 use Rattle.file_descriptions.specs.declared.description.Description.{Description}
 use Rattle.descriptor_table.proofs.FollowLemmas.{apart_by, number_is}
 use Rattle.descriptor_table.proofs.KnownLemmas.{found_key, some_inside}
 use Rattle.descriptor_table.proofs.ShownLemmas.{key_known}
 use Rattle.descriptor_table.proofs.SoundLemmas.{closed_other, none_past, sound-freed, sound-let_go, get-insert_other, get-insert_same, get-remove_other, get-remove_same, known_at}
 use Rattle.descriptor_table.specs.Agreement.{OffsetsStay}
-use Rattle.descriptor_table.specs.Changes.{Changes, IsOpened, Opening, close_change, closed, closed_if_open, dup2_change, dup_change, dup_from_change, file_at, found_or_made, kept_or, let_go, link_change, mkdir_change, opened, opening, status_flags, rmdir_change, setfl_change, shared, unlink_change, with_paths, without_gone}
+use Rattle.descriptor_table.specs.Changes.{AreOpened, Changes, IsOpened, TwoEnds, no_flags, two_ends, with_object, Opening, close_change, closed, closed_if_open, dup2_change, dup_change, dup_from_change, file_at, found_or_made, kept_or, let_go, link_change, mkdir_change, opened, opening, status_flags, rmdir_change, setfl_change, shared, unlink_change, with_paths, without_gone}
 use Rattle.descriptor_table.specs.Table.{TableState, IsSound, described, free_object, is_gone, key_at, lowest_free}
 
 -- each description was there, with its birth and its offset
@@ -204,21 +208,31 @@ opening_kept t path = by_number (some_or (lowest_free t 0) EMFILE) (found_or_mad
     by_number (Ok n) (Err e) kept = tt
     by_number (Ok n) (Ok x) kept = kept
 
-opened_stay : (t after : TableState) (access : Access) (flags : OpenFlags) (o : Result Opening Errno) → KeptOpening t o → IsOpened t access flags o after → OffsetsStay t after
-opened_stay t after access flags (Err e) kept is = offsets_of t after (Ok t) (stood_same t.descriptions) is
-opened_stay t after access flags (Ok o) kept (key, fresh, is) = subst (OffsetsStay t) (sym is) stays
+-- a description more, which is new and stands at 0
+opened_offsets : (t u : TableState) (n key node : ℕ) (which : End) (access : Access) (flags : StatusFlags) → t.descriptions.made ≤ u.descriptions.made → OffsetsStay t u → OffsetsStay t (opened u n key node which access flags)
+opened_offsets t u n key node which access flags later stays q d got =
+    elim (cases_eq q key) [
+      | inl at ↦ (
+          let same : new ≡ d = same_Some _ _ (sym (ap (fin.get (fin.insert u.descriptions.by_key key new)) at ∙ get-insert_same u.descriptions.by_key key new) ∙ got) in
+          let born : u.descriptions.made ≡ d.birth = ap (λ (x : Description). x.birth) same in
+          inr (omega (arith, later, born), sym (ap (λ (x : Description). x.offset) same)))
+      | inr apart ↦ stays q d (sym (get-insert_other u.descriptions.by_key key new q apart) ∙ got)
+    ]
   where
     new : Description
-    new = new_description o.node part.Only access (status_flags flags) o.ready.descriptions.made
+    new = new_description node which access flags u.descriptions.made
 
-    stays : OffsetsStay t (opened o.ready o.number key o.node access (status_flags flags))
-    stays q d got =
-        elim (cases_eq q key) [
-          | inl at ↦ (
-              let same : new ≡ d = same_Some _ _ (sym (ap (fin.get (fin.insert o.ready.descriptions.by_key key new)) at ∙ get-insert_same o.ready.descriptions.by_key key new) ∙ got) in
-              inr (sym (ap (λ (x : Description). x.birth) same) ∙ ap (λ (m : DescriptionMap). m.made) kept, sym (ap (λ (x : Description). x.offset) same)))
-          | inr apart ↦ inl (d, ap (λ (m : DescriptionMap). fin.get m.by_key q) (sym kept) ∙ sym (get-insert_other o.ready.descriptions.by_key key new q apart) ∙ got, refl, refl)
-        ]
+opened_stay : (t after : TableState) (access : Access) (flags : OpenFlags) (o : Result Opening Errno) → KeptOpening t o → IsOpened t access flags o after → OffsetsStay t after
+opened_stay t after access flags (Err e) kept is = offsets_of t after (Ok t) (stood_same t.descriptions) is
+opened_stay t after access flags (Ok o) kept (key, fresh, is) =
+    subst (OffsetsStay t) (sym is) (opened_offsets t o.ready o.number key o.node part.Only access (status_flags flags) (omega (arith, ap (λ (m : DescriptionMap). m.made) kept)) (λ q d got. inl (stood_same t.descriptions q d (ap (λ (m : DescriptionMap). fin.get m.by_key q) (sym kept) ∙ got))))
+
+two_stay : (t after : TableState) (one other : End × Access) (r : Result TwoEnds Errno) → AreOpened t one other r after → OffsetsStay t after
+two_stay t after one other (Err e) is = offsets_of t after (Ok t) (stood_same t.descriptions) is
+two_stay t after one other (Ok two) (key, fresh, (next, fresh_too, is)) =
+    subst (OffsetsStay t) (sym is)
+    (opened_offsets t (opened (with_object t two.node) two.first key two.node one.0 one.1 no_flags) two.second next two.node other.0 other.1 no_flags (omega arith)
+    (opened_offsets t (with_object t two.node) two.first key two.node one.0 one.1 no_flags (omega arith) (λ q d got. inl (stood_same t.descriptions q d got))))
 
 -- ## All calls
 
@@ -244,3 +258,6 @@ offsets-stay t (call.Link old_path new_path) after sound is = offsets_of t after
 offsets-stay t (call.Unlink path) after sound is = offsets_of t after (unlink_change t path) (stay-unlink t sound path) is
 offsets-stay t (call.Mkdir path) after sound is = offsets_of t after (mkdir_change t path) (stay-mkdir t sound path) is
 offsets-stay t (call.Rmdir path) after sound is = offsets_of t after (rmdir_change t path) (stay-rmdir t sound path) is
+offsets-stay t call.Pipe after sound is = two_stay t after (part.Read, ReadOnly) (part.Write, WriteOnly) (two_ends t) is
+offsets-stay t call.Socketpair after sound is = two_stay t after (part.Socket Side0, ReadWrite) (part.Socket Side1, ReadWrite) (two_ends t) is
+offsets-stay t (call.Shutdown descriptor how) after sound is = offsets_of t after (Ok t) (stood_same t.descriptions) is

@@ -1,8 +1,10 @@
 -- What a call leaves alone: other objects, and other descriptions' offsets.
-use Rattle.std.proofs.Common.{◌≡◌, ◌≢◌, ◌⊎◌, ℕ, ◌+◌, ◌-◌, ◌==◌, ◌&&◌, ◌||◌, List, [], length, Option, Some, None, is_some, unwrap_or, Result, Ok, Err, Bool, true, false, not, if◌then◌else◌, refl, sym, ap, ◌∙◌, inl, inr}
+use Rattle.std.proofs.Common.{◌≡◌, ◌≢◌, ◌⊎◌, ◌≤◌, ℕ, ◌+◌, ◌-◌, ◌==◌, ◌&&◌, ◌||◌, List, [], length, Option, Some, None, is_some, unwrap_or, Result, Ok, Err, Bool, true, false, not, if◌then◌else◌, refl, sym, ap, ◌∙◌, inl, inr, subst, arith}
 use Rattle.std.proofs.lemmas.Bool.{cases_eq}
 use Rattle.std.proofs.lemmas.Option.{none-some, same_Some}
 use Rattle.std.specs.FinMap as fin
+use Rattle.std.specs.FinMap.{FinMap}
+use Rattle.std.specs.Ordering.{nat_cmp}
 use Rattle.std.specs.Ordering.{int_eq}
 use Rattle.std.specs.Option.{option_map}
 use Rattle.std.specs.Prelude.{ℤ, ◌+ℤ◌, pos, negsuc, nat_le, nat_lt, slice_index_or}
@@ -11,55 +13,70 @@ use Rattle.posix_terms.specs.Descriptors as posix
 use Rattle.posix_terms.specs.Descriptors.{close_result, open_result}
 use Rattle.posix_terms.specs.Duplicates as duplicates
 use Rattle.posix_terms.specs.Duplicates.{dup_result, dup_from_result, dup2_result, descriptor_number}
-use Rattle.posix_terms.specs.Effects.{Effect, Completes}
+use Rattle.posix_terms.specs.Effects.{Effect, Blocks, Completes}
 use Rattle.posix_terms.specs.Files.{bytes_at, resized, written}
 use Rattle.posix_terms.specs.Names.{PathMap, added, file_named, link_result, mkdir_result, removed, removed_dir, rmdir_result, unlink_result, with_paths}
-use Rattle.posix_terms.specs.Object.{State, Content, File, Node, FileNode, Directory, with_content}
+use Rattle.posix_terms.specs.Object.{State, Content, File, Pipe, Pair, Node, FileNode, Directory, with_content}
 use Rattle.posix_terms.specs.Object as object
+use Rattle.posix_terms.specs.Ends.{side_of}
 use Rattle.posix_terms.specs.Paths.{node_at, resolved}
 use Rattle.posix_terms.specs.Refusals.{◌>>=◌, count_of, position_of, refuse_if, some_or}
 use Rattle.posix_terms.specs.Status.{fstat_result, getfl_result, setfl_result}
+use Rattle.posix_terms.specs.Sockets as sockets
+use Rattle.posix_terms.specs.Sockets.{NewEnd, pair_in, pipe_result, shutdown_result, socketpair_result}
+use Rattle.posix_terms.specs.Streams.{PairState, Reading, Reads, Ends, NothingYet, Writing, Writes, Breaks, NoRoom, new_pair, pair_read, pair_write, peer_of, shut, stream_read, stream_write, with_waiting}
 use Rattle.posix_terms.specs.Step.{Carried, concluded, effect_of}
-use Rattle.posix_terms.specs.Transfers.{base_of, content_of, file_in, offset_of, read_content, seek_content, write_at, write_content, read_result, write_result, pread_result, pwrite_result, lseek_result, ftruncate_result, size_of, start_of}
+use Rattle.posix_terms.specs.Transfers.{base_of, content_of, file_in, has_peer, offset_of, read_content, read_done, seek_content, write_at, write_content, write_done, read_result, write_result, pread_result, pwrite_result, lseek_result, ftruncate_result, size_of, start_of}
 use Rattle.posix_terms.specs.declared.call.Access.{Access}
+use Rattle.posix_terms.specs.declared.call.Access.TheVariants.{ReadOnly, WriteOnly, ReadWrite}
 use Rattle.posix_terms.specs.declared.call.Call.{Call}
 use Rattle.posix_terms.specs.declared.call.Call.TheVariants as call
 use Rattle.posix_terms.specs.declared.call.OpenFlags.{OpenFlags}
+use Rattle.posix_terms.specs.declared.call.ShutdownHow.{ShutdownHow}
 use Rattle.posix_terms.specs.declared.call.Whence.{Whence}
 use Rattle.posix_terms.specs.declared.errno.Errno.{Errno}
-use Rattle.posix_terms.specs.declared.errno.Errno.TheVariants.{EBADF, EEXIST, EINVAL, EMFILE, ENOENT, ENOSPC, ESPIPE}
+use Rattle.posix_terms.specs.declared.errno.Errno.TheVariants.{EAGAIN, EBADF, EEXIST, EINVAL, EMFILE, ENFILE, ENOENT, ENOSPC, ENOTSOCK, ESPIPE}
+use Rattle.posix_terms.specs.declared.object.End.{End}
+use Rattle.posix_terms.specs.declared.object.End.TheVariants as part
+use Rattle.posix_terms.specs.declared.object.Side.{Side}
+use Rattle.posix_terms.specs.declared.object.Side.TheVariants.{Side0, Side1}
 use Rattle.posix_terms.specs.declared.outcome.Outcome.{Outcome}
 use Rattle.posix_terms.specs.declared.reply.Reply.TheVariants as reply
 use Rattle.posix_terms.specs.declared.transcript.Settings.{Settings}
 use Rattle.file_descriptions.specs.Descriptions.{AreSound}
 use Rattle.file_descriptions.specs.declared.description.Description.{Description}
 use Rattle.descriptor_table.proofs.ChangeLemmas.{birth_got}
+use Rattle.descriptor_table.proofs.EndLemmas.{Kind, IsFile, IsPipe, IsPair, file_only, kind_of, moves_file, moves_stream, of_file_file, pair_side, socket_stream}
+use Rattle.descriptor_table.proofs.FollowLemmas.{file_is, pair_is, waited_after}
 use Rattle.descriptor_table.proofs.PathLemmas.{names_shown, node_shown, resolved_shown}
-use Rattle.descriptor_table.proofs.PlanLemmas.{full_shown, lowest_none}
+use Rattle.descriptor_table.proofs.PlanLemmas.{full_shown, lowest_none, two_shown}
 use Rattle.descriptor_table.proofs.ShownLemmas.{FoundBoth, Shut, Open, found_both, lowest_shown}
 use Rattle.descriptor_table.proofs.SoundLemmas.{get-insert_other, get-insert_same, get-remove_other, get-remove_same}
 use Rattle.descriptor_table.specs.Acts.{OthersStay, StaysAsStep, offset_at}
-use Rattle.descriptor_table.specs.Plans.{answered, ftruncate_plan, locks, lseek_plan, open_new, open_node, open_plan, open_there, planned, pwrite_plan, read_plan, seen, write_plan}
-use Rattle.descriptor_table.specs.Shows.{Shows, birth_at, birth_of, shown, shown_node}
-use Rattle.descriptor_table.specs.Table.{TableState, IsSound, free_object, lowest_from}
+use Rattle.descriptor_table.specs.Plans.{answered, ftruncate_plan, locks, lseek_plan, moves, of_file, open_new, open_node, open_plan, open_there, planned, pwrite_plan, read_plan, seen, shutdown_plan, socket_side, two_ends_plan, write_plan}
+use Rattle.descriptor_table.specs.Shows.{Shows, birth_at, birth_of, is_of, shown, shown_node}
+use Rattle.descriptor_table.specs.Table.{TableState, IsSound, free_object, lowest_from, two_numbers}
+use Rattle.descriptor_table.specs.declared.plan.Op.{Op}
 use Rattle.descriptor_table.specs.declared.plan.Op.TheVariants as op
 use Rattle.descriptor_table.specs.declared.plan.Plan.{Plan}
+use Rattle.descriptor_table.specs.declared.plan.Plan.TheVariants as plan
 
 -- ## Nothing but less
 
 pub record Fewer (s after : State) : Type 0 where
-  pub files : (birth : ℕ) (content : Content) → fin.get after.objects birth ≡ Some content → fin.get s.objects birth ≡ Some content
+  pub contents : (birth : ℕ) (content : Content) → fin.get after.objects birth ≡ Some content → fin.get s.objects birth ≡ Some content
   pub offsets : (birth offset : ℕ) → offset_at after birth ≡ Some offset → offset_at s birth ≡ Some offset
 
 fewer_same : (s : State) → Fewer s s
-fewer_same s = record { files = λ birth content at. at; offsets = λ birth offset at. at }
+fewer_same s = record { contents = λ birth content at. at; offsets = λ birth offset at. at }
 
 -- for every plan
 fewer_others : (t : TableState) (p : Plan) (s after : State) → Fewer s after → OthersStay t p s after
-fewer_others t p s after fewer = record { files = λ birth content other at. fewer.files birth content at; offsets = λ birth offset still at. inl (fewer.offsets birth offset at) }
+fewer_others t p s after fewer = record { contents = λ birth content other at. fewer.contents birth content at; offsets = λ birth offset still at. inl (fewer.offsets birth offset at) }
 
 abbrev FewerAfter : State → Result Effect Errno → Type 0
 FewerAfter s (Ok (Completes after r)) = Fewer s after
+FewerAfter s (Ok Blocks) = Unit {0}
 FewerAfter s (Err e) = Unit {0}
 
 through : (s : State) {A : Type 0} (r : Result A Errno) (f : A → Result Effect Errno) → ((x : A) → FewerAfter s (f x)) → FewerAfter s (r >>= f)
@@ -69,16 +86,16 @@ through s (Err e) f each = tt
 fewer_unused : (s a : State) (n : ℕ) → Fewer s a → Fewer s (posix.without_unused a n)
 fewer_unused s a n fewer = by_used (posix.has_description a n || posix.has_path a n)
   where
-    files : (birth : ℕ) (content : Content) → fin.get (fin.remove a.objects n) birth ≡ Some content → fin.get s.objects birth ≡ Some content
-    files birth content at =
+    contents : (birth : ℕ) (content : Content) → fin.get (fin.remove a.objects n) birth ≡ Some content → fin.get s.objects birth ≡ Some content
+    contents birth content at =
         elim (cases_eq birth n) [
           | inl e ↦ absurd (none-some _ (sym (ap (fin.get (fin.remove a.objects n)) e ∙ get-remove_same a.objects n) ∙ at))
-          | inr apart ↦ fewer.files birth content (sym (get-remove_other a.objects n birth apart) ∙ at)
+          | inr apart ↦ fewer.contents birth content (sym (get-remove_other a.objects n birth apart) ∙ at)
         ]
 
     by_used : (b : Bool) → Fewer s (if b then a else record a { objects = fin.remove a.objects n })
     by_used true = fewer
-    by_used false = record { files = files; offsets = fewer.offsets }
+    by_used false = record { contents = contents; offsets = fewer.offsets }
 
 fewer_released : (s a : State) (key : ℕ) (d : object.Description) → Fewer s a → Fewer s (posix.released a key d)
 fewer_released s a key d fewer = by_last (posix.has_descriptor a key)
@@ -92,10 +109,10 @@ fewer_released s a key d fewer = by_last (posix.has_descriptor a key)
 
     by_last : (b : Bool) → Fewer s (if b then a else posix.without_unused (record a { descriptions = fin.remove a.descriptions key }) d.object)
     by_last true = fewer
-    by_last false = fewer_unused s (record a { descriptions = fin.remove a.descriptions key }) d.object (record { files = fewer.files; offsets = offsets })
+    by_last false = fewer_unused s (record a { descriptions = fin.remove a.descriptions key }) d.object (record { contents = fewer.contents; offsets = offsets })
 
 fewer_freed : (s : State) (descriptor : ℤ) → Fewer s (posix.freed s descriptor)
-fewer_freed s (pos n) = record { files = λ birth content at. at; offsets = λ birth offset at. at }
+fewer_freed s (pos n) = record { contents = λ birth content at. at; offsets = λ birth offset at. at }
 fewer_freed s (negsuc n) = fewer_same s
 
 fewer_closed : (s : State) (target : ℤ) (r : Result (ℕ × object.Description) Errno) → Fewer s (duplicates.closed s target r)
@@ -103,10 +120,10 @@ fewer_closed s target (Ok found) = fewer_released s (posix.freed s target) found
 fewer_closed s target (Err e) = fewer_same s
 
 fewer_shared : (s a : State) (n key : ℕ) → Fewer s a → Fewer s (duplicates.shared a n key)
-fewer_shared s a n key fewer = record { files = fewer.files; offsets = fewer.offsets }
+fewer_shared s a n key fewer = record { contents = fewer.contents; offsets = fewer.offsets }
 
 fewer_paths : (s : State) (paths : PathMap) → Fewer s (with_paths s paths)
-fewer_paths s paths = record { files = λ birth content at. at; offsets = λ birth offset at. at }
+fewer_paths s paths = record { contents = λ birth content at. at; offsets = λ birth offset at. at }
 
 module _ (s : State) where
   fewer-close : (descriptor : ℤ) → FewerAfter s (close_result s descriptor)
@@ -164,10 +181,12 @@ module _ (s : State) where
 -- what a call leaves alone, beside its plan
 abbrev pub Others : TableState → State → Plan → Result Effect Errno → Type 0
 Others t s p (Ok (Completes after r)) = OthersStay t p s after
+Others t s p (Ok Blocks) = Unit {0}
 Others t s p (Err e) = Unit {0}
 
 by_fewer : (t : TableState) (s : State) (p : Plan) (does : Result Effect Errno) → FewerAfter s does → Others t s p does
 by_fewer t s p (Ok (Completes after r)) fewer = fewer_others t p s after fewer
+by_fewer t s p (Ok Blocks) fewer = tt
 by_fewer t s p (Err e) fewer = tt
 
 module _ (t : TableState) (s : State) (sound : IsSound t) (all : AreSound t.descriptions) (shows : Shows t s) where
@@ -182,7 +201,7 @@ module _ (t : TableState) (s : State) (sound : IsSound t) (all : AreSound t.desc
   others-setfl : (p : Plan) (descriptor : ℤ) (append nonblock : Bool) → FoundBoth t s descriptor → Others t s p (setfl_result s descriptor append nonblock)
   unfolding setfl_result
   others-setfl p descriptor append nonblock (Shut table state) = rw state tt
-  others-setfl p descriptor append nonblock (Open key d offset at got there table state) = rw state (record { files = λ birth content other is. is; offsets = λ birth o still is. inl (stands birth o is) })
+  others-setfl p descriptor append nonblock (Open key d offset at got there table state) = rw state (record { contents = λ birth content other is. is; offsets = λ birth o still is. inl (stands birth o is) })
     where
       new : object.Description
       new = record (shown t d offset) { append = append; nonblock = nonblock }
@@ -194,104 +213,188 @@ module _ (t : TableState) (s : State) (sound : IsSound t) (all : AreSound t.desc
             | inr apart ↦ sym (ap (option_map (λ (x : object.Description). x.offset)) (get-insert_other s.descriptions d.birth new birth apart)) ∙ is
           ]
 
+  -- a plan that is another one, for a content that is another one
+  others_as : (p q : Plan) (c e : Content) (f : Content → Result Effect Errno) → p ≡ q → c ≡ e → Others t s q (f e) → Others t s p (f c)
+  others_as p q c e f plans contents others = subst (λ (x : Plan). Others t s x (f c)) (sym plans) (subst (λ (x : Content). Others t s q (f x)) (sym contents) others)
+
+  -- a content more
+  others_put : (node : ℕ) (act : Op) (content : Content) → OthersStay t (locks node act) s (with_content s (birth_at t node) content)
+  others_put node act content = record { contents = λ birth held other is. other_at birth (birth_at t node) held content other is; offsets = λ birth o still is. inl is }
+
+  others_nothing : (p : Plan) → OthersStay t p s s
+  others_nothing p = fewer_others t p s s (fewer_same s)
+
+  others_blocked : (p : Plan) (b : Bool) → Others t s p (if b then Err EAGAIN else Ok Blocks)
+  others_blocked p true = tt
+  others_blocked p false = tt
+
+  kind_at : (key : ℕ) (d : Description) → fin.get t.descriptions.by_key key ≡ Some d → Kind d.«end» (content_of s (birth_at t d.node))
+  kind_at key d got = kind_of d.«end» (content_of s (birth_at t d.node)) (shows.ends key d got)
+
+  -- the end of a description whose object is a file
+  only_at : (key : ℕ) (d : Description) (e : Errno) (file : List ℕ) → fin.get t.descriptions.by_key key ≡ Some d → file_in (content_of s (birth_at t d.node)) e ≡ Ok file → d.«end» ≡ part.Only
+  only_at key d e file got is = file_only d.«end» file (ap (is_of d.«end») (sym (file_is (content_of s (birth_at t d.node)) e file is)) ∙ shows.ends key d got)
+
   others-read : (descriptor count : ℤ) → FoundBoth t s descriptor → Others t s (answered (read_plan t descriptor count)) (read_result s descriptor count)
   unfolding read_plan read_result
   others-read descriptor count (Shut table state) = rw (table, state) tt
   others-read descriptor count (Open key d offset at got there table state) = rw (table, state) (by_refusals (not (can_read d.access)) (count_of count))
     where
-      by_content : (n : ℕ) (c : Content) → Others t s (locks d.node (op.Read (seen key d) n)) (read_content s d.birth (shown t d offset) n c)
-      by_content n (File file) = record { files = λ birth content other is. is; offsets = λ birth o still is. inl (still_at key birth o (offset + length (bytes_at file offset n)) d got still is) }
+      by_reading : (act : Op) (holds : List ℕ → Content) (r : Reading) → Others t s (locks d.node act) (read_done s (shown t d offset) holds r)
+      by_reading act holds (Reads bytes left) = others_put d.node act (holds left)
+      by_reading act holds Ends = others_nothing (locks d.node act)
+      by_reading act holds NothingYet = others_blocked (locks d.node act) d.flags.nonblock
 
-      by_refusals : (b : Bool) (r : Result ℕ Errno) → Others t s (answered (refuse_if b EBADF >>= (λ _. r >>= (λ n. Ok (locks d.node (op.Read (seen key d) n)))))) ((refuse_if b EBADF >>= (λ _. Ok (d.birth, shown t d offset))) >>= (λ (found : ℕ × object.Description). r >>= (λ n. read_content s found.0 found.1 n (content_of s found.1.object))))
+      by_stream : (b : Bool) (act : Op) (holds : List ℕ → Content) (r : Reading) → Others t s (if b then plan.Reply (reply.Data []) else locks d.node act) (if b then Ok (Completes s (reply.Data [])) else read_done s (shown t d offset) holds r)
+      by_stream true act holds r = others_nothing (plan.Reply (reply.Data []))
+      by_stream false act holds r = by_reading act holds r
+
+      by_kind : (n : ℕ) → Kind d.«end» (content_of s (birth_at t d.node)) → Others t s (moves d n (reply.Data []) (op.Read (seen key d) n)) (read_content s d.birth (shown t d offset) n (content_of s (birth_at t d.node)))
+      by_kind n (IsFile file its is) =
+          others_as _ (locks d.node (op.Read (seen key d) n)) _ (File file) (read_content s d.birth (shown t d offset) n) (moves_file d n (reply.Data []) (op.Read (seen key d) n) its) is
+          (record { contents = λ birth content other at. at; offsets = λ birth o still stands. inl (still_at key birth o (offset + length (bytes_at file offset n)) d got still stands) })
+      by_kind n (IsPipe waiting stream told no_side is) =
+          others_as _ (if n == 0 then plan.Reply (reply.Data []) else locks d.node (op.Read (seen key d) n)) _ (Pipe waiting) (read_content s d.birth (shown t d offset) n) (moves_stream d n (reply.Data []) (op.Read (seen key d) n) stream) is
+          (by_stream (n == 0) (op.Read (seen key d) n) (λ left. Pipe left) (stream_read waiting n (posix.has_end s (birth_at t d.node) part.Write)))
+      by_kind n (IsPair p side its is) =
+          others_as _ (if n == 0 then plan.Reply (reply.Data []) else locks d.node (op.Read (seen key d) n)) _ (Pair p) (read_content s d.birth (shown t d offset) n) (moves_stream d n (reply.Data []) (op.Read (seen key d) n) (socket_stream d.«end» side its)) is
+          (by_stream (n == 0) (op.Read (seen key d) n) (λ left. Pair (with_waiting p (side_of d.«end») left)) (pair_read p (side_of d.«end») n (has_peer s (birth_at t d.node) (side_of d.«end»))))
+
+      by_refusals : (b : Bool) (r : Result ℕ Errno) → Others t s (answered (refuse_if b EBADF >>= (λ _. r >>= (λ n. Ok (moves d n (reply.Data []) (op.Read (seen key d) n)))))) ((refuse_if b EBADF >>= (λ _. Ok (d.birth, shown t d offset))) >>= (λ (found : ℕ × object.Description). r >>= (λ n. read_content s found.0 found.1 n (content_of s found.1.object))))
       by_refusals true r = tt
       by_refusals false (Err e) = tt
-      by_refusals false (Ok n) = by_content n (content_of s (birth_at t d.node))
+      by_refusals false (Ok n) = by_kind n (kind_at key d got)
 
   others-write : (descriptor : ℤ) (bytes : List ℕ) → FoundBoth t s descriptor → Others t s (answered (write_plan t descriptor (length bytes))) (write_result s descriptor bytes)
   unfolding write_plan write_result
   others-write descriptor bytes (Shut table state) = rw (table, state) tt
-  others-write descriptor bytes (Open key d offset at got there table state) = rw (table, state) (by_refusals (not (can_write d.access)) (nat_lt 32767 (length bytes)) (length bytes == 0))
+  others-write descriptor bytes (Open key d offset at got there table state) = rw (table, state) (by_refusals (not (can_write d.access)) (nat_lt 32767 (length bytes)))
     where
-      p : Plan
-      p = locks d.node (op.Write (seen key d))
-
       by_written : (file : List ℕ) (r : Result (List ℕ × ℕ) Errno) → Others t s (locks d.node (op.Write (seen key d))) (r >>= (λ w. Ok (Completes (with_content (record s { descriptions = fin.insert s.descriptions d.birth (shown t d (start_of (shown t d offset) file + w.1)) }) (birth_at t d.node) (File w.0)) (reply.Count w.1))))
-      by_written file (Ok w) = record { files = λ birth content other is. other_at birth (birth_at t d.node) content (File w.0) other is; offsets = λ birth o still is. inl (still_at key birth o (start_of (shown t d offset) file + w.1) d got still is) }
+      by_written file (Ok w) = record { contents = λ birth content other is. other_at birth (birth_at t d.node) content (File w.0) other is; offsets = λ birth o still is. inl (still_at key birth o (start_of (shown t d offset) file + w.1) d got still is) }
       by_written file (Err e) = tt
 
-      by_content : (c : Content) → Others t s (locks d.node (op.Write (seen key d))) (write_content s d.birth (shown t d offset) bytes c)
-      by_content (File file) = by_written file (written file (start_of (shown t d offset) file) bytes)
+      by_file : (file : List ℕ) (b : Bool) → Others t s (locks d.node (op.Write (seen key d))) (if b then Ok (Completes s (reply.Count 0)) else write_content s d.birth (shown t d offset) bytes (File file))
+      by_file file true = others_nothing (locks d.node (op.Write (seen key d)))
+      by_file file false = by_written file (written file (start_of (shown t d offset) file) bytes)
 
-      by_refusals : (a b c : Bool) → Others t s (answered (refuse_if a EBADF >>= (λ _. refuse_if b EINVAL >>= (λ _. Ok (locks d.node (op.Write (seen key d))))))) ((refuse_if a EBADF >>= (λ _. refuse_if b EINVAL >>= (λ _. Ok (d.birth, shown t d offset)))) >>= (λ (found : ℕ × object.Description). if c then Ok (Completes s (reply.Count 0)) else write_content s found.0 found.1 bytes (content_of s found.1.object)))
-      by_refusals true b c = tt
-      by_refusals false true c = tt
-      by_refusals false false true = fewer_others t (locks d.node (op.Write (seen key d))) s s (fewer_same s)
-      by_refusals false false false = by_content (content_of s (birth_at t d.node))
+      by_writing : (b : Bool) (holds : List ℕ → Content) (w : Writing) → Others t s (if b then plan.Reply (reply.Count 0) else locks d.node (op.Write (seen key d))) (if b then Ok (Completes s (reply.Count 0)) else write_done s (shown t d offset) (length bytes) holds w)
+      by_writing true holds w = others_nothing (plan.Reply (reply.Count 0))
+      by_writing false holds (Writes left) = others_put d.node (op.Write (seen key d)) (holds left)
+      by_writing false holds Breaks = tt
+      by_writing false holds NoRoom = others_blocked (locks d.node (op.Write (seen key d))) d.flags.nonblock
+
+      by_kind : Kind d.«end» (content_of s (birth_at t d.node)) → Others t s (moves d (length bytes) (reply.Count 0) (op.Write (seen key d))) (if length bytes == 0 then Ok (Completes s (reply.Count 0)) else write_content s d.birth (shown t d offset) bytes (content_of s (birth_at t d.node)))
+      by_kind (IsFile file its is) =
+          others_as _ (locks d.node (op.Write (seen key d))) _ (File file) (λ c. if length bytes == 0 then Ok (Completes s (reply.Count 0)) else write_content s d.birth (shown t d offset) bytes c) (moves_file d (length bytes) (reply.Count 0) (op.Write (seen key d)) its) is
+          (by_file file (length bytes == 0))
+      by_kind (IsPipe waiting stream told no_side is) =
+          others_as _ (if length bytes == 0 then plan.Reply (reply.Count 0) else locks d.node (op.Write (seen key d))) _ (Pipe waiting) (λ c. if length bytes == 0 then Ok (Completes s (reply.Count 0)) else write_content s d.birth (shown t d offset) bytes c) (moves_stream d (length bytes) (reply.Count 0) (op.Write (seen key d)) stream) is
+          (by_writing (length bytes == 0) (λ left. Pipe left) (stream_write waiting bytes (posix.has_end s (birth_at t d.node) part.Read)))
+      by_kind (IsPair p side its is) =
+          others_as _ (if length bytes == 0 then plan.Reply (reply.Count 0) else locks d.node (op.Write (seen key d))) _ (Pair p) (λ c. if length bytes == 0 then Ok (Completes s (reply.Count 0)) else write_content s d.birth (shown t d offset) bytes c) (moves_stream d (length bytes) (reply.Count 0) (op.Write (seen key d)) (socket_stream d.«end» side its)) is
+          (by_writing (length bytes == 0) (λ left. Pair (with_waiting p (peer_of (side_of d.«end»)) left)) (pair_write p (side_of d.«end») bytes (has_peer s (birth_at t d.node) (side_of d.«end»))))
+
+      by_refusals : (a b : Bool) → Others t s (answered (refuse_if a EBADF >>= (λ _. refuse_if b EINVAL >>= (λ _. Ok (moves d (length bytes) (reply.Count 0) (op.Write (seen key d))))))) ((refuse_if a EBADF >>= (λ _. refuse_if b EINVAL >>= (λ _. Ok (d.birth, shown t d offset)))) >>= (λ (found : ℕ × object.Description). if length bytes == 0 then Ok (Completes s (reply.Count 0)) else write_content s found.0 found.1 bytes (content_of s found.1.object)))
+      by_refusals true b = tt
+      by_refusals false true = tt
+      by_refusals false false = by_kind (kind_at key d got)
 
   others-lseek : (descriptor to : ℤ) (whence : Whence) → FoundBoth t s descriptor → Others t s (answered (lseek_plan t descriptor)) (lseek_result s descriptor to whence)
   unfolding lseek_plan lseek_result
   others-lseek descriptor to whence (Shut table state) = rw (table, state) tt
-  others-lseek descriptor to whence (Open key d offset at got there table state) = rw (table, state) (by_content (content_of s (birth_at t d.node)))
+  others-lseek descriptor to whence (Open key d offset at got there table state) = rw (table, state) (by_content (content_of s (birth_at t d.node)) refl)
     where
       by_offset : (r : Result ℕ Errno) → Others t s (locks d.node (op.Lseek (seen key d))) (r >>= (λ to. Ok (Completes (record s { descriptions = fin.insert s.descriptions d.birth (shown t d to) }) (reply.Number (pos to)))))
-      by_offset (Ok to) = record { files = λ birth content other is. is; offsets = λ birth o still is. inl (still_at key birth o to d got still is) }
+      by_offset (Ok to) = record { contents = λ birth content other is. is; offsets = λ birth o still is. inl (still_at key birth o to d got still is) }
       by_offset (Err e) = tt
 
-      by_content : (c : Content) → Others t s (locks d.node (op.Lseek (seen key d))) (seek_content s d.birth (shown t d offset) to whence c)
-      by_content (File file) = by_offset (offset_of (pos (base_of whence offset (length file)) +ℤ to))
+      by_content : (c : Content) → content_of s (birth_at t d.node) ≡ c → Others t s (answered (of_file d ESPIPE >>= (λ _. Ok (locks d.node (op.Lseek (seen key d)))))) (seek_content s d.birth (shown t d offset) to whence c)
+      by_content (File file) is = rw (of_file_file d ESPIPE (file_only d.«end» file (ap (is_of d.«end») (sym is) ∙ shows.ends key d got))) (by_offset (offset_of (pos (base_of whence offset (length file)) +ℤ to)))
+      by_content (Pipe bytes) is = tt
+      by_content (Pair p) is = tt
 
   others-pwrite : (descriptor : ℤ) (bytes : List ℕ) (position : ℤ) → FoundBoth t s descriptor → Others t s (answered (pwrite_plan t descriptor (length bytes) position)) (pwrite_result s descriptor bytes position)
   unfolding pwrite_plan pwrite_result
   others-pwrite descriptor bytes position (Shut table state) = rw (table, state) tt
-  others-pwrite descriptor bytes position (Open key d offset at got there table state) = rw (table, state) (by_refusals (not (can_write d.access)) (nat_lt 32767 (length bytes)) (position_of position) (file_in (content_of s (birth_at t d.node)) ESPIPE))
+  others-pwrite descriptor bytes position (Open key d offset at got there table state) = rw (table, state) (by_file (file_in (content_of s (birth_at t d.node)) ESPIPE) refl)
     where
       by_written : (start : ℕ) (r : Result (List ℕ × ℕ) Errno) → Others t s (locks d.node (op.Pwrite start)) (r >>= (λ w. Ok (Completes (with_content s (birth_at t d.node) (File w.0)) (reply.Count w.1))))
-      by_written start (Ok w) = record { files = λ birth content other is. other_at birth (birth_at t d.node) content (File w.0) other is; offsets = λ birth o still is. inl is }
+      by_written start (Ok w) = others_put d.node (op.Pwrite start) (File w.0)
       by_written start (Err e) = tt
 
       by_length : (file : List ℕ) (start : ℕ) (b : Bool) → Others t s (locks d.node (op.Pwrite start)) (if b then Ok (Completes s (reply.Count 0)) else write_at s (birth_at t d.node) file start bytes)
-      by_length file start true = fewer_others t (locks d.node (op.Pwrite start)) s s (fewer_same s)
+      by_length file start true = others_nothing (locks d.node (op.Pwrite start))
       by_length file start false = by_written start (written file start bytes)
 
-      by_refusals : (a b : Bool) (p : Result ℕ Errno) (f : Result (List ℕ) Errno) → Others t s (answered (refuse_if a EBADF >>= (λ _. refuse_if b EINVAL >>= (λ _. p >>= (λ start. Ok (locks d.node (op.Pwrite start)))))))
-          (f >>= (λ file. refuse_if a EBADF >>= (λ _. refuse_if b EINVAL >>= (λ _. p >>= (λ start. if length bytes == 0 then Ok (Completes s (reply.Count 0)) else write_at s (birth_at t d.node) file start bytes)))))
-      by_refusals a b p (Err e) = tt
-      by_refusals true b p (Ok file) = tt
-      by_refusals false true p (Ok file) = tt
-      by_refusals false false (Err e) (Ok file) = tt
-      by_refusals false false (Ok start) (Ok file) = by_length file start (length bytes == 0)
+      by_refusals : (a b : Bool) (p : Result ℕ Errno) (file : List ℕ) → Others t s (answered (refuse_if a EBADF >>= (λ _. refuse_if b EINVAL >>= (λ _. p >>= (λ start. Ok (locks d.node (op.Pwrite start)))))))
+          (refuse_if a EBADF >>= (λ _. refuse_if b EINVAL >>= (λ _. p >>= (λ start. if length bytes == 0 then Ok (Completes s (reply.Count 0)) else write_at s (birth_at t d.node) file start bytes))))
+      by_refusals true b p file = tt
+      by_refusals false true p file = tt
+      by_refusals false false (Err e) file = tt
+      by_refusals false false (Ok start) file = by_length file start (length bytes == 0)
+
+      by_file : (f : Result (List ℕ) Errno) → file_in (content_of s (birth_at t d.node)) ESPIPE ≡ f
+          → Others t s (answered (of_file d ESPIPE >>= (λ _. refuse_if (not (can_write d.access)) EBADF >>= (λ _. refuse_if (nat_lt 32767 (length bytes)) EINVAL >>= (λ _. position_of position >>= (λ start. Ok (locks d.node (op.Pwrite start))))))))
+          (f >>= (λ file. refuse_if (not (can_write d.access)) EBADF >>= (λ _. refuse_if (nat_lt 32767 (length bytes)) EINVAL >>= (λ _. position_of position >>= (λ start. if length bytes == 0 then Ok (Completes s (reply.Count 0)) else write_at s (birth_at t d.node) file start bytes)))))
+      by_file (Err e) is = tt
+      by_file (Ok file) is = rw (of_file_file d ESPIPE (only_at key d ESPIPE file got is)) (by_refusals (not (can_write d.access)) (nat_lt 32767 (length bytes)) (position_of position) file)
 
   others-ftruncate : (descriptor size : ℤ) → FoundBoth t s descriptor → Others t s (answered (ftruncate_plan t descriptor size)) (ftruncate_result s descriptor size)
   unfolding ftruncate_plan ftruncate_result
   others-ftruncate descriptor size (Shut table state) = rw (table, state) tt
-  others-ftruncate descriptor size (Open key d offset at got there table state) = rw (table, state) (by_refusals (not (can_write d.access)) (size_of size) (file_in (content_of s (birth_at t d.node)) EINVAL))
+  others-ftruncate descriptor size (Open key d offset at got there table state) = rw (table, state) (by_file (not (can_write d.access)) (file_in (content_of s (birth_at t d.node)) EINVAL) refl)
     where
-      by_refusals : (a : Bool) (r : Result ℕ Errno) (f : Result (List ℕ) Errno) → Others t s (answered (refuse_if a EINVAL >>= (λ _. r >>= (λ n. Ok (locks d.node (op.Ftruncate n))))))
-          (refuse_if a EINVAL >>= (λ _. f >>= (λ file. r >>= (λ n. Ok (Completes (with_content s (birth_at t d.node) (File (resized file n))) reply.Done)))))
-      by_refusals true r f = tt
-      by_refusals false r (Err e) = tt
-      by_refusals false (Err e) (Ok file) = tt
-      by_refusals false (Ok n) (Ok file) = record { files = λ birth content other is. other_at birth (birth_at t d.node) content (File (resized file n)) other is; offsets = λ birth o still is. inl is }
+      by_size : (r : Result ℕ Errno) (file : List ℕ) → Others t s (answered (r >>= (λ n. Ok (locks d.node (op.Ftruncate n))))) (r >>= (λ n. Ok (Completes (with_content s (birth_at t d.node) (File (resized file n))) reply.Done)))
+      by_size (Err e) file = tt
+      by_size (Ok n) file = others_put d.node (op.Ftruncate n) (File (resized file n))
+
+      by_file : (a : Bool) (f : Result (List ℕ) Errno) → file_in (content_of s (birth_at t d.node)) EINVAL ≡ f
+          → Others t s (answered (refuse_if a EINVAL >>= (λ _. of_file d EINVAL >>= (λ _. size_of size >>= (λ n. Ok (locks d.node (op.Ftruncate n)))))))
+          (refuse_if a EINVAL >>= (λ _. f >>= (λ file. size_of size >>= (λ n. Ok (Completes (with_content s (birth_at t d.node) (File (resized file n))) reply.Done)))))
+      by_file true f is = tt
+      by_file false (Err e) is = tt
+      by_file false (Ok file) is = rw (of_file_file d EINVAL (only_at key d EINVAL file got is)) (by_size (size_of size) file)
+
+  others-shutdown : (descriptor : ℤ) (how : ShutdownHow) → FoundBoth t s descriptor → Others t s (answered (shutdown_plan t descriptor how)) (shutdown_result s descriptor how)
+  unfolding shutdown_plan shutdown_result
+  others-shutdown descriptor how (Shut table state) = rw (table, state) tt
+  others-shutdown descriptor how (Open key d offset at got there table state) = rw (table, state) (by_pair (pair_in (content_of s (birth_at t d.node)) ENOTSOCK) refl)
+    where
+      by_side : (e : End) (p : PairState) (content : Content) → (side : Side) × (e ≡ part.Socket side) → Others t s (answered (socket_side e >>= (λ side. Ok (locks d.node (op.Shutdown side how))))) (Ok (Completes (with_content s (birth_at t d.node) content) reply.Done))
+      by_side e p content its = rw its.1 (others_put d.node (op.Shutdown its.0 how) content)
+
+      by_pair : (f : Result PairState Errno) → pair_in (content_of s (birth_at t d.node)) ENOTSOCK ≡ f
+          → Others t s (answered (socket_side d.«end» >>= (λ side. Ok (locks d.node (op.Shutdown side how))))) (f >>= (λ p. Ok (Completes (with_content s (birth_at t d.node) (Pair (shut p (side_of d.«end») how))) reply.Done)))
+      by_pair (Err e) is = tt
+      by_pair (Ok p) is = by_side d.«end» p (Pair (shut p (side_of d.«end») how)) (pair_side d.«end» p (ap (is_of d.«end») (sym (pair_is (content_of s (birth_at t d.node)) ENOTSOCK p is)) ∙ shows.ends key d got))
 
   -- ## Opening
 
   -- a new description stands at 0
-  new_at : (birth o : ℕ) (new : object.Description) → new.offset ≡ 0 → option_map (λ (x : object.Description). x.offset) (fin.get (fin.insert s.descriptions s.next_description new) birth) ≡ Some o → (offset_at s birth ≡ Some o) ⊎ ((birth ≡ s.next_description) × (o ≡ 0))
-  new_at birth o new zero is =
-      elim (cases_eq birth s.next_description) [
-        | inl e ↦ inr (e, same_Some _ _ (sym is ∙ ap (option_map (λ (x : object.Description). x.offset)) (ap (fin.get (fin.insert s.descriptions s.next_description new)) e ∙ get-insert_same s.descriptions s.next_description new)) ∙ zero)
-        | inr apart ↦ inl (sym (ap (option_map (λ (x : object.Description). x.offset)) (get-insert_other s.descriptions s.next_description new birth apart)) ∙ is)
+  abbrev StandsOrIsNew : ℕ → ℕ → Type 0
+  StandsOrIsNew birth o = (offset_at s birth ≡ Some o) ⊎ ((s.next_description ≤ birth) × (o ≡ 0))
+
+  new_in : (m : FinMap nat_cmp object.Description) (k birth o : ℕ) (new : object.Description) → s.next_description ≤ k → new.offset ≡ 0 → (option_map (λ (x : object.Description). x.offset) (fin.get m birth) ≡ Some o → StandsOrIsNew birth o)
+      → option_map (λ (x : object.Description). x.offset) (fin.get (fin.insert m k new) birth) ≡ Some o → StandsOrIsNew birth o
+  new_in m k birth o new later zero old is =
+      elim (cases_eq birth k) [
+        | inl e ↦ inr (omega (arith, later, e), same_Some _ _ (sym is ∙ ap (option_map (λ (x : object.Description). x.offset)) (ap (fin.get (fin.insert m k new)) e ∙ get-insert_same m k new)) ∙ zero)
+        | inr apart ↦ old (sym (ap (option_map (λ (x : object.Description). x.offset)) (get-insert_other m k new birth apart)) ∙ is)
       ]
+
+  new_at : (birth o : ℕ) (new : object.Description) → new.offset ≡ 0 → option_map (λ (x : object.Description). x.offset) (fin.get (fin.insert s.descriptions s.next_description new) birth) ≡ Some o → StandsOrIsNew birth o
+  new_at birth o new zero is = new_in s.descriptions s.next_description birth o new (omega arith) zero (λ at. inl at) is
 
   others-there : (node : Node) (access : Access) (flags : OpenFlags) → Others t s (answered (open_there t node flags)) (posix.open_there s (shown_node t node) access flags)
   others-there Directory access flags = tt
   others-there (FileNode node) access flags = rw (lowest_shown t s 32 0 shows) (by_number (lowest_from t.descriptors 32 0))
     where
-      by_cut : (n : ℕ) (cut : Bool) → OthersStay t (locks node (op.Open flags.truncate)) s (posix.opened (posix.truncated s (birth_at t node) cut) n (birth_at t node) access flags.append flags.nonblock)
-      by_cut n true = record { files = λ birth content other is. other_at birth (birth_at t node) content (File []) other is; offsets = λ birth o still is. new_at birth o (record { object = birth_at t node; access = access; offset = 0; append = flags.append; nonblock = flags.nonblock }) refl is }
-      by_cut n false = record { files = λ birth content other is. is; offsets = λ birth o still is. new_at birth o (record { object = birth_at t node; access = access; offset = 0; append = flags.append; nonblock = flags.nonblock }) refl is }
+      by_cut : (n : ℕ) (cut : Bool) → OthersStay t (locks node (op.Open flags.truncate)) s (posix.opened (posix.truncated s (birth_at t node) cut) n (birth_at t node) part.Only access flags.append flags.nonblock)
+      by_cut n true = record { contents = λ birth content other is. other_at birth (birth_at t node) content (File []) other is; offsets = λ birth o still is. new_at birth o (record { object = birth_at t node; «end» = part.Only; access = access; offset = 0; append = flags.append; nonblock = flags.nonblock }) refl is }
+      by_cut n false = record { contents = λ birth content other is. is; offsets = λ birth o still is. new_at birth o (record { object = birth_at t node; «end» = part.Only; access = access; offset = 0; append = flags.append; nonblock = flags.nonblock }) refl is }
 
-      by_number : (o : Option ℕ) → Others t s (answered (some_or o EMFILE >>= (λ n. Ok (locks node (op.Open flags.truncate))))) (some_or o EMFILE >>= (λ n. Ok (Completes (posix.opened (posix.truncated s (birth_at t node) flags.truncate) n (birth_at t node) access flags.append flags.nonblock) (reply.Number (pos n)))))
+      by_number : (o : Option ℕ) → Others t s (answered (some_or o EMFILE >>= (λ n. Ok (locks node (op.Open flags.truncate))))) (some_or o EMFILE >>= (λ n. Ok (Completes (posix.opened (posix.truncated s (birth_at t node) flags.truncate) n (birth_at t node) part.Only access flags.append flags.nonblock) (reply.Number (pos n)))))
       by_number None = tt
       by_number (Some n) = by_cut n flags.truncate
 
@@ -300,14 +403,14 @@ module _ (t : TableState) (s : State) (sound : IsSound t) (all : AreSound t.desc
     where
       by_rest : (a b : Bool) (o number : Option ℕ) → ((node : ℕ) → o ≡ Some node → slice_index_or t.objects node None ≡ None)
           → Others t s (answered (refuse_if a ENOENT >>= (λ _. refuse_if b ENOSPC >>= (λ _. some_or o ENOSPC >>= (λ node. some_or number EMFILE >>= (λ _. Ok (locks node (op.Open true))))))))
-          (refuse_if a ENOENT >>= (λ _. refuse_if (b || not (is_some o)) ENOSPC >>= (λ _. some_or number EMFILE >>= (λ n. Ok (Completes (posix.opened (posix.with_file s components) n s.next_object access flags.append flags.nonblock) (reply.Number (pos n)))))))
+          (refuse_if a ENOENT >>= (λ _. refuse_if (b || not (is_some o)) ENOSPC >>= (λ _. some_or number EMFILE >>= (λ n. Ok (Completes (posix.opened (posix.with_file s components) n s.next_object part.Only access flags.append flags.nonblock) (reply.Number (pos n)))))))
       by_rest true b o number free = tt
       by_rest false true o number free = tt
       by_rest false false None number free = tt
       by_rest false false (Some node) None free = tt
       by_rest false false (Some node) (Some n) free = record {
-        files = λ birth content other is. other_at birth s.next_object content (File []) (λ e. other (e ∙ shows.next_object ∙ ap (λ (o : Option ℕ). unwrap_or o t.made_objects) (sym (free node refl)))) is;
-        offsets = λ birth o still is. new_at birth o (record { object = s.next_object; access = access; offset = 0; append = flags.append; nonblock = flags.nonblock }) refl is;
+        contents = λ birth content other is. other_at birth s.next_object content (File []) (λ e. other (e ∙ shows.next_object ∙ ap (λ (o : Option ℕ). unwrap_or o t.made_objects) (sym (free node refl)))) is;
+        offsets = λ birth o still is. new_at birth o (record { object = s.next_object; «end» = part.Only; access = access; offset = 0; append = flags.append; nonblock = flags.nonblock }) refl is;
       }
 
   others-open : (path : List ℕ) (access : Access) (flags : OpenFlags) → Others t s (answered (open_plan t path access flags)) (open_result s path access flags)
@@ -326,6 +429,33 @@ module _ (t : TableState) (s : State) (sound : IsSound t) (all : AreSound t.desc
       by_rest true r = tt
       by_rest false (Err e) = tt
       by_rest false (Ok components) = rw (node_shown t s components shows) (by_node components (node_at t.paths components))
+
+  others-two : (act : Op) (content : Content) (one other : NewEnd) → Others t s (answered (two_ends_plan t act)) (sockets.two_ends s content one other)
+  others-two act content one other = rw (two_shown t s sound all shows, full_shown t s sound all shows) (by_rest (two_numbers t) (free_object t) (λ node is. lowest_none t.objects 48 0 node is))
+    where
+      first : object.Description
+      first = record { object = s.next_object; «end» = one.which; access = one.access; offset = 0; append = false; nonblock = false }
+
+      second : object.Description
+      second = record { object = s.next_object; «end» = other.which; access = other.access; offset = 0; append = false; nonblock = false }
+
+      by_rest : (r : Result (ℕ × ℕ) Errno) (o : Option ℕ) → ((node : ℕ) → o ≡ Some node → slice_index_or t.objects node None ≡ None)
+          → Others t s (answered (r >>= (λ _. some_or o ENFILE >>= (λ node. Ok (locks node act)))))
+          (r >>= (λ numbers. refuse_if (not (is_some o)) ENFILE >>= (λ _. Ok (Completes (posix.opened (posix.opened (sockets.with_object s content) numbers.0 s.next_object one.which one.access false false) numbers.1 s.next_object other.which other.access false false) (reply.Pair (pos numbers.0) (pos numbers.1))))))
+      by_rest (Err e) o free = tt
+      by_rest (Ok two) None free = tt
+      by_rest (Ok two) (Some node) free = record {
+        contents = λ birth held apart is. other_at birth s.next_object held content (λ e. apart (e ∙ shows.next_object ∙ ap (λ (o : Option ℕ). unwrap_or o t.made_objects) (sym (free node refl)))) is;
+        offsets = λ birth o still is. new_in (fin.insert s.descriptions s.next_description first) (s.next_description + 1) birth o second (omega arith) refl (λ at. new_at birth o first refl at) is;
+      }
+
+  others-pipe : Others t s (answered (two_ends_plan t op.Pipe)) (pipe_result s)
+  unfolding pipe_result
+  others-pipe = others-two op.Pipe (Pipe []) (record { which = part.Read; access = ReadOnly }) (record { which = part.Write; access = WriteOnly })
+
+  others-socketpair : Others t s (answered (two_ends_plan t op.Socketpair)) (socketpair_result s)
+  unfolding socketpair_result
+  others-socketpair = others-two op.Socketpair (Pair new_pair) (record { which = part.Socket Side0; access = ReadWrite }) (record { which = part.Socket Side1; access = ReadWrite })
 
   found_at : (descriptor : ℤ) → FoundBoth t s descriptor
   found_at descriptor = found_both t s descriptor sound shows
@@ -349,9 +479,13 @@ module _ (t : TableState) (s : State) (sound : IsSound t) (all : AreSound t.desc
   others_call (call.Unlink path) carried = by_fewer t s _ (unlink_result s path) (fewer-unlink s path)
   others_call (call.Mkdir path) carried = by_fewer t s _ (mkdir_result s path) (fewer-mkdir s path)
   others_call (call.Rmdir path) carried = by_fewer t s _ (rmdir_result s path) (fewer-rmdir s path)
+  others_call call.Pipe carried = others-pipe
+  others_call call.Socketpair carried = others-socketpair
+  others_call (call.Shutdown descriptor how) carried = others-shutdown descriptor how (found_at descriptor)
 
 concluded_others : (t : TableState) (s : State) (settings : Settings) (outcome : Option Outcome) (carried : Carried) (p : Plan) (does : Result Effect Errno) → Others t s p does → OthersStay t p s (concluded settings s outcome carried does).after
 concluded_others t s settings outcome carried p (Ok (Completes after r)) others = others
+concluded_others t s settings outcome carried p (Ok Blocks) others = subst (OthersStay t p s) (sym (waited_after settings s carried)) (fewer_others t p s s (fewer_same s))
 concluded_others t s settings outcome carried p (Err e) others = fewer_others t p s s (fewer_same s)
 
 pub stays-as_step : (t : TableState) (c : Call) → IsSound t → AreSound t.descriptions → StaysAsStep t c (planned t c)

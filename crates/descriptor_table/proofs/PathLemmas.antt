@@ -19,11 +19,15 @@ use Rattle.posix_terms.specs.Object as object
 use Rattle.posix_terms.specs.Paths.{node_at, passed, path_form, resolved, walked}
 use Rattle.posix_terms.specs.Refusals.{◌>>=◌}
 use Rattle.posix_terms.specs.declared.errno.Errno.{Errno}
-use Rattle.file_descriptions.specs.Descriptions.{AreSound, has_first_end, has_second_end, is_first}
+use Rattle.posix_terms.specs.Ends.{is_first}
+use Rattle.file_descriptions.specs.Descriptions.{AreSound, has_first_end, has_second_end}
 use Rattle.file_descriptions.specs.declared.description.Description.{Description}
-use Rattle.descriptor_table.proofs.EntryLemmas.{any_of, counted_none, entries-mapped, standing_in}
+use Rattle.descriptor_table.proofs.EntryLemmas.{any_of, any_second, counted_none, entries-mapped, standing_in}
 use Rattle.descriptor_table.proofs.KnownLemmas.{equal_nat}
 use Rattle.descriptor_table.proofs.SoundLemmas.{get-remove_other, get-remove_same, not_described, paths_total, same_nat}
+use Rattle.posix_terms.specs.Transfers.{content_of}
+use Rattle.posix_terms.specs.declared.object.End.TheVariants as part
+use Rattle.descriptor_table.specs.Shows as shown_by
 use Rattle.descriptor_table.specs.Shows.{Shows, birth_at, shown, shown_node}
 use Rattle.descriptor_table.specs.Table.{TableState, IsSound, is_closed, is_used}
 
@@ -83,9 +87,23 @@ one_object t node other sound used its same = sound.distinct node other (birth_a
 pub birth_below : (t : TableState) (node : ℕ) → IsSound t → is_used t node ≡ true → birth_at t node < t.made_objects
 birth_below t node sound used = sound.born node (birth_at t node) (birth_is t node used)
 
+-- what a path names is a file
+pub file_at_name : (t : TableState) (s : State) (components : List (List ℕ)) (node : ℕ) → Shows t s → node_at t.paths components ≡ Some (FileNode node) → shown_by.is_of part.Only (content_of s (birth_at t node)) ≡ true
+file_at_name t s [] node shows at = cc
+file_at_name t s (name ∷ names) node shows at = shows.files (name ∷ names) node at
+
+-- objects have one birth just where they have one number
+pub births_alike : (t : TableState) (n node : ℕ) → IsSound t → is_used t n ≡ true → is_used t node ≡ true → (birth_at t n == birth_at t node) ≡ (n == node)
+births_alike t n node sound its used = by_test (birth_at t n == birth_at t node) refl (n == node) refl
+  where
+    by_test : (a : Bool) → (birth_at t n == birth_at t node) ≡ a → (b : Bool) → (n == node) ≡ b → (birth_at t n == birth_at t node) ≡ (n == node)
+    by_test true x b y = x ∙ sym (same_nat n node (one_object t n node sound its used (equal_nat (birth_at t n) (birth_at t node) x)))
+    by_test false x true y = absurd (false≢true (sym x ∙ same_nat (birth_at t n) (birth_at t node) (ap (birth_at t) (equal_nat n node y))))
+    by_test false x false y = x ∙ sym y
+
 -- ## What refers to an object
 
-any_of_first : (n : ℕ) (p : ℕ → Bool) → any_below n p ≡ true → (m : ℕ) × (m < n) × (p m ≡ true)
+pub any_of_first : (n : ℕ) (p : ℕ → Bool) → any_below n p ≡ true → (m : ℕ) × (m < n) × (p m ≡ true)
 any_of_first zero p any = absurd (false≢true any)
 any_of_first (suc n) p any = by_test (p n) refl (λ below. any_of_first n p below)
   where
@@ -150,10 +168,6 @@ not_of_first t node never = both (count_by (has_first_end node) (fin.values t.de
     and_left : (a b : Bool) → (a && b) ≡ true → a ≡ true
     and_left true b h = refl
     and_left false b h = h
-
-    any_second : (q : Description → Bool) (es : List (ℕ × Description)) → list_any q (map (λ (e : ℕ × Description). e.1) es) ≡ list_any (λ (e : ℕ × Description). q e.1) es
-    any_second q [] = refl
-    any_second q (e ∷ es) = ap (λ (b : Bool). q e.1 || b) (any_second q es)
 
     none : (q : Description → Bool) → ((d : Description) → q d ≡ true → (d.node == node) ≡ true) → (count_by q (fin.values t.descriptions.by_key) == 0) ≡ true
     none q each = counted_none q (fin.values t.descriptions.by_key) ∙ by_any (list_any q (fin.values t.descriptions.by_key)) refl

@@ -16,24 +16,32 @@ use Rattle.posix_terms.specs.Calls.{can_write}
 use Rattle.posix_terms.specs.Descriptors as posix
 use Rattle.posix_terms.specs.Descriptors.{close_result, is_file, open_result, opened, truncated, with_file, without_unused}
 use Rattle.posix_terms.specs.Duplicates.{dup_result, dup_from_result, dup2_result, closed, descriptor_number, shared}
-use Rattle.posix_terms.specs.Effects.{Effect, Completes}
-use Rattle.posix_terms.specs.Locked.{closed_object, locked, locked_by_open, locked_object, unless_refused, unnamed_object}
+use Rattle.posix_terms.specs.Effects.{Effect, Blocks, Completes}
+use Rattle.posix_terms.specs.Locked.{closed_object, locked, locked_by_new, locked_object, unless_refused, unnamed_object}
 use Rattle.posix_terms.specs.Names.{PathMap, added, file_named, file_node, link_result, mkdir_result, removed, removed_dir, removed_dir_at, rmdir_result, unlink_result, has_entries, links_of, with_paths}
-use Rattle.posix_terms.specs.Object.{State, Content, File, Node, FileNode, Directory}
+use Rattle.posix_terms.specs.Object.{State, Content, File, Pipe, Pair, Node, FileNode, Directory}
 use Rattle.posix_terms.specs.Paths.{node_at, resolved}
 use Rattle.posix_terms.specs.Refusals.{◌>>=◌, refuse_if, some_or}
+use Rattle.posix_terms.specs.Sockets as sockets
+use Rattle.posix_terms.specs.Sockets.{NewEnd, pipe_result, shutdown_result, socketpair_result}
+use Rattle.posix_terms.specs.Streams.{new_pair}
 use Rattle.posix_terms.specs.Status.{fstat_result, getfl_result, setfl_result}
-use Rattle.posix_terms.specs.Step.{Carried, concluded, effect_of}
+use Rattle.posix_terms.specs.Step.{Carried, concluded, effect_of, nothing_carried}
 use Rattle.posix_terms.specs.declared.outcome.Outcome.{Outcome}
 use Rattle.posix_terms.specs.declared.transcript.Settings.{Settings}
-use Rattle.posix_terms.specs.Transfers.{content_of, file_in, read_result, write_result, pread_result, pwrite_result, lseek_result, ftruncate_result}
+use Rattle.posix_terms.specs.Transfers.{content_of, read_result, write_result, pread_result, pwrite_result, lseek_result, ftruncate_result}
 use Rattle.posix_terms.specs.declared.call.Access.{Access}
+use Rattle.posix_terms.specs.declared.call.Access.TheVariants.{ReadOnly, WriteOnly, ReadWrite}
 use Rattle.posix_terms.specs.declared.call.Call.{Call}
 use Rattle.posix_terms.specs.declared.call.Call.TheVariants as call
 use Rattle.posix_terms.specs.declared.call.OpenFlags.{OpenFlags}
+use Rattle.posix_terms.specs.declared.call.ShutdownHow.{ShutdownHow}
 use Rattle.posix_terms.specs.declared.call.Whence.{Whence}
 use Rattle.posix_terms.specs.declared.errno.Errno.{Errno}
-use Rattle.posix_terms.specs.declared.errno.Errno.TheVariants.{EBADF, EEXIST, EINVAL, EBUSY, EMFILE, ENOENT, ENOSPC, ENOTEMPTY, ESPIPE}
+use Rattle.posix_terms.specs.declared.errno.Errno.TheVariants.{EBADF, EEXIST, EINVAL, EBUSY, EMFILE, ENFILE, ENOENT, ENOSPC, ENOTEMPTY}
+use Rattle.posix_terms.specs.declared.object.End.{End}
+use Rattle.posix_terms.specs.declared.object.End.TheVariants as part
+use Rattle.posix_terms.specs.declared.object.Side.TheVariants.{Side0, Side1}
 use Rattle.posix_terms.specs.declared.reply.Answer.{Answer}
 use Rattle.posix_terms.specs.declared.reply.Answer.TheVariants as answer
 use Rattle.posix_terms.specs.declared.reply.Reply.{Reply}
@@ -41,30 +49,34 @@ use Rattle.posix_terms.specs.declared.reply.Reply.TheVariants as reply
 use Rattle.file_descriptions.specs.Descriptions.{AreSound}
 use Rattle.file_descriptions.specs.declared.description.Description.{Description}
 use Rattle.descriptor_table.proofs.ShownLemmas.{FoundBoth, Shut, Open, found_both, last_shown, lowest_shown}
+use Rattle.descriptor_table.proofs.EndLemmas.{Kind, IsFile, IsPipe, IsPair, kind_of}
 use Rattle.descriptor_table.proofs.EntryLemmas.{counted-remove}
-use Rattle.descriptor_table.proofs.KnownLemmas.{lowest_below}
+use Rattle.descriptor_table.proofs.KnownLemmas.{lowest_above, lowest_below, was_some}
 use Rattle.descriptor_table.proofs.PathLemmas.{closed_shown, has_entries_shown, holds_of, linked_shown, names_shown, node_shown, objects_counted, paths_apart, resolved_shown, taken}
-use Rattle.descriptor_table.proofs.SoundLemmas.{get-insert_same, named_at, not_all_open, paths_total, same_nat, names_without, sound-named}
+use Rattle.descriptor_table.proofs.SoundLemmas.{bind_ok, get-insert_other, get-insert_same, named_at, not_all_open, ok_same, paths_total, same_nat, names_without, sound-named}
 use Rattle.descriptor_table.specs.Agreement.{AgreesOn, PlansAsStep}
-use Rattle.descriptor_table.specs.Plans.{answered, close_plan, dup_plan, dup_from_plan, dup2_plan, fstat_plan, ftruncate_plan, getfl_plan, locks, lseek_plan, pread_plan, pwrite_plan, read_plan, replaced, setfl_plan, write_plan, addable, link_plan, mkdir_plan, open_new, open_node, open_plan, open_there, plan_of, planned, rmdir_plan, unlink_plan}
-use Rattle.descriptor_table.specs.Shows.{Shows, birth_at, shown_node}
-use Rattle.descriptor_table.specs.Table.{TableState, IsSound, described, free_object, is_last_name, is_used, key_at, lowest_from}
+use Rattle.descriptor_table.specs.Plans.{answered, close_plan, dup_plan, dup_from_plan, dup2_plan, fstat_plan, ftruncate_plan, getfl_plan, locks, lseek_plan, pread_plan, pwrite_plan, read_plan, replaced, setfl_plan, write_plan, addable, link_plan, mkdir_plan, open_new, open_node, open_plan, open_there, plan_of, planned, rmdir_plan, shutdown_plan, two_ends_plan, unlink_plan}
+use Rattle.descriptor_table.specs.Shows.{Shows, birth_at, is_of, shown_node}
+use Rattle.descriptor_table.specs.Table.{TableState, IsSound, described, free_object, is_last_name, is_used, key_at, lowest_from, two_numbers}
+use Rattle.descriptor_table.specs.declared.plan.Op.{Op}
 use Rattle.descriptor_table.specs.declared.plan.Op.TheVariants as op
 use Rattle.descriptor_table.specs.declared.plan.Plan.{Plan}
 use Rattle.descriptor_table.specs.declared.plan.Plan.TheVariants as plan
 
+-- the answer, if it is one that the table can give
 abbrev pub answer_of : Result Effect Errno → Answer
 answer_of (Ok (Completes after r)) = answer.Reply r
+answer_of (Ok Blocks) = answer.Again
 answer_of (Err e) = answer.Reply (reply.Fail e)
 
 -- a plan, the object that is locked and what is done agree
 abbrev pub Ties : TableState → Result Plan Errno → Result (Option ℕ) Errno → Result Effect Errno → Type 0
 Ties t p object does = AgreesOn t (answered p) (unless_refused object) (answer_of does)
 
-file_there : (c : Content) (e : Errno) → (file : List ℕ) × (file_in c e ≡ Ok file)
-file_there (File file) e = (file, refl)
-
 -- ## The lowest number
+
+abbrev pub both : ℕ → ℕ → Result (ℕ × ℕ) Errno
+both first second = Ok (first, second)
 
 pub lowest_none : (slots : List (Option ℕ)) (left from n : ℕ) → lowest_from slots left from ≡ Some n → slice_index_or slots n None ≡ None
 unfolding lowest_from
@@ -76,6 +88,33 @@ lowest_none slots (suc left) from n is = by_slot (slice_index_or slots from None
     by_slot None free later =
         let same : from ≡ n = same_Some _ _ (sym (ap (λ (o : Option ℕ). if is_some o then lowest_from slots left (from + 1) else Some from) free) ∙ is) in
         ap (λ (k : ℕ). slice_index_or slots k None) (sym same) ∙ free
+
+-- two descriptors that are free
+pub record AreFree (slots : List (Option ℕ)) (first second : ℕ) : Type 0 where
+  pub low : first < 32
+  pub high : second < 32
+  pub order : first < second
+  pub first_free : slice_index_or slots first None ≡ None
+  pub second_free : slice_index_or slots second None ≡ None
+
+pub two_free : (t : TableState) (two : ℕ × ℕ) → two_numbers t ≡ Ok two → AreFree t.descriptors two.0 two.1
+two_free t two is =
+    let first = bind_ok (some_or (lowest_from t.descriptors 32 0) EMFILE) (λ first. some_or (lowest_from t.descriptors (32 - (first + 1)) (first + 1)) EMFILE >>= (λ second. both first second)) two is in
+    let second = bind_ok (some_or (lowest_from t.descriptors (32 - (first.0 + 1)) (first.0 + 1)) EMFILE) (λ second. both first.0 second) two first.1.1 in
+    by_numbers first.0 second.0 (ok_same (first.0, second.0) two second.1.1) (was_some (lowest_from t.descriptors 32 0) EMFILE first.0 first.1.0) (was_some (lowest_from t.descriptors (32 - (first.0 + 1)) (first.0 + 1)) EMFILE second.0 second.1.0)
+  where
+    by_numbers : (a b : ℕ) → (a, b) ≡ two → lowest_from t.descriptors 32 0 ≡ Some a → lowest_from t.descriptors (32 - (a + 1)) (a + 1) ≡ Some b → AreFree t.descriptors two.0 two.1
+    by_numbers a b same is its =
+        let low : a < 0 + 32 = lowest_below t.descriptors 32 0 a is in
+        let high : b < a + 1 + (32 - (a + 1)) = lowest_below t.descriptors (32 - (a + 1)) (a + 1) b its in
+        let above : a + 1 ≤ b = lowest_above t.descriptors (32 - (a + 1)) (a + 1) b its in
+        subst (λ (p : ℕ × ℕ). AreFree t.descriptors p.0 p.1) same (record {
+          low = omega arith;
+          high = omega arith;
+          order = omega arith;
+          first_free = lowest_none t.descriptors 32 0 a is;
+          second_free = lowest_none t.descriptors (32 - (a + 1)) (a + 1) b its;
+        })
 
 none_lowest : (slots : List (Option ℕ)) (left from : ℕ) → lowest_from slots left from ≡ None → (i : ℕ) → from ≤ i → i < from + left → is_some (slice_index_or slots i None) ≡ true
 unfolding lowest_from
@@ -108,70 +147,115 @@ shows-without_name t s path shows =
       paths = λ q. get-remove paths_total s.paths path q ∙ ap (cond (eq_by_cmp path_cmp q path) None) (shows.paths q) ∙ moved (eq_by_cmp path_cmp q path) (fin.get t.paths q) ∙ ap (option_map (shown_node t)) (sym (get-remove paths_total t.paths path q));
       objects = shows.objects;
       numbered = shows.numbered;
+      ends = shows.ends;
+      files = λ q n is. by_tie q n is (eq_by_cmp path_cmp q path) refl;
       next_description = shows.next_description;
       next_object = shows.next_object;
     }
   where
+    by_tie : (q : List (List ℕ)) (n : ℕ) → fin.get (fin.remove t.paths path) q ≡ Some (FileNode n) → (b : Bool) → eq_by_cmp path_cmp q path ≡ b → is_of part.Only (content_of s (birth_at t n)) ≡ true
+    by_tie q n is true tied = absurd (none-some _ (sym (get-remove paths_total t.paths path q ∙ ap (λ (b : Bool). cond b None (fin.get t.paths q)) tied) ∙ is))
+    by_tie q n is false tied = shows.files q n (sym (get-remove paths_total t.paths path q ∙ ap (λ (b : Bool). cond b None (fin.get t.paths q)) tied) ∙ is)
+
     moved : (b : Bool) (o : Option Node) → cond b None (option_map (shown_node t) o) ≡ option_map (shown_node t) (cond b None o)
     moved true o = refl
     moved false o = refl
 
 module _ (t : TableState) (s : State) (sound : IsSound t) (all : AreSound t.descriptions) (shows : Shows t s) where
-  ties-getfl : (descriptor : ℤ) → FoundBoth t s descriptor → Ties t (getfl_plan t descriptor) (locked s (call.Getfl descriptor)) (getfl_result s descriptor)
+  ties-getfl : (descriptor : ℤ) → FoundBoth t s descriptor → Ties t (getfl_plan t descriptor) (locked s (call.Getfl descriptor) nothing_carried) (getfl_result s descriptor)
   unfolding getfl_plan getfl_result
   ties-getfl descriptor (Shut table state) = rw (table, state) (refl, refl)
   ties-getfl descriptor (Open key d offset at got there table state) = rw (table, state) (refl, refl)
 
-  ties-setfl : (descriptor : ℤ) (append nonblock : Bool) → FoundBoth t s descriptor → Ties t (setfl_plan t descriptor) (locked s (call.Setfl descriptor append nonblock)) (setfl_result s descriptor append nonblock)
+  ties-setfl : (descriptor : ℤ) (append nonblock : Bool) → FoundBoth t s descriptor → Ties t (setfl_plan t descriptor) (locked s (call.Setfl descriptor append nonblock) nothing_carried) (setfl_result s descriptor append nonblock)
   unfolding setfl_plan setfl_result
   ties-setfl descriptor append nonblock (Shut table state) = rw (table, state) (refl, refl)
   ties-setfl descriptor append nonblock (Open key d offset at got there table state) = rw (table, state) (refl, refl)
 
-  ties-lseek : (descriptor offset : ℤ) (whence : Whence) → FoundBoth t s descriptor → Ties t (lseek_plan t descriptor) (locked s (call.Lseek descriptor offset whence)) (lseek_result s descriptor offset whence)
+  kind_at : (key : ℕ) (d : Description) → fin.get t.descriptions.by_key key ≡ Some d → Kind d.«end» (content_of s (birth_at t d.node))
+  kind_at key d got = kind_of d.«end» (content_of s (birth_at t d.node)) (shows.ends key d got)
+
+  ties-lseek : (descriptor offset : ℤ) (whence : Whence) → FoundBoth t s descriptor → Ties t (lseek_plan t descriptor) (locked s (call.Lseek descriptor offset whence) nothing_carried) (lseek_result s descriptor offset whence)
   unfolding lseek_plan lseek_result
   ties-lseek descriptor offset whence (Shut table state) = rw (table, state) (refl, refl)
-  ties-lseek descriptor offset whence (Open key d at_offset at got there table state) = rw (table, state) refl
+  ties-lseek descriptor offset whence (Open key d at_offset at got there table state) = by_kind (kind_at key d got)
+    where
+      by_kind : Kind d.«end» (content_of s (birth_at t d.node)) → Ties t (lseek_plan t descriptor) (locked s (call.Lseek descriptor offset whence) nothing_carried) (lseek_result s descriptor offset whence)
+      by_kind (IsFile file its is) = grind (arith, table, state, its, is)
+      by_kind (IsPipe waiting stream told no_side is) = grind (arith, table, state, stream, told, no_side, is)
+      by_kind (IsPair p side its is) = grind (arith, table, state, its, is)
 
-  ties-fstat : (descriptor : ℤ) → FoundBoth t s descriptor → Ties t (fstat_plan t descriptor) (locked s (call.Fstat descriptor)) (fstat_result s descriptor)
+  ties-fstat : (descriptor : ℤ) → FoundBoth t s descriptor → Ties t (fstat_plan t descriptor) (locked s (call.Fstat descriptor) nothing_carried) (fstat_result s descriptor)
   unfolding fstat_plan fstat_result
   ties-fstat descriptor (Shut table state) = rw (table, state) (refl, refl)
-  ties-fstat descriptor (Open key d offset at got there table state) = rw (table, state) refl
+  ties-fstat descriptor (Open key d at_offset at got there table state) = by_kind (kind_at key d got)
+    where
+      by_kind : Kind d.«end» (content_of s (birth_at t d.node)) → Ties t (fstat_plan t descriptor) (locked s (call.Fstat descriptor) nothing_carried) (fstat_result s descriptor)
+      by_kind (IsFile file its is) = grind (arith, table, state, its, is)
+      by_kind (IsPipe waiting stream told no_side is) = grind (arith, table, state, stream, told, no_side, is)
+      by_kind (IsPair p side its is) = grind (arith, table, state, its, is)
 
-  ties-read : (descriptor count : ℤ) → FoundBoth t s descriptor → Ties t (read_plan t descriptor count) (locked s (call.Read descriptor count)) (read_result s descriptor count)
+  ties-read : (descriptor count : ℤ) → FoundBoth t s descriptor → Ties t (read_plan t descriptor count) (locked s (call.Read descriptor count) nothing_carried) (read_result s descriptor count)
   unfolding read_plan read_result
   ties-read descriptor count (Shut table state) = rw (table, state) (refl, refl)
-  ties-read descriptor count (Open key d offset at got there table state) = grind (arith, table, state)
+  ties-read descriptor count (Open key d at_offset at got there table state) = by_kind (kind_at key d got)
+    where
+      by_kind : Kind d.«end» (content_of s (birth_at t d.node)) → Ties t (read_plan t descriptor count) (locked s (call.Read descriptor count) nothing_carried) (read_result s descriptor count)
+      by_kind (IsFile file its is) = grind (arith, table, state, its, is)
+      by_kind (IsPipe waiting stream told no_side is) = grind (arith, table, state, stream, told, no_side, is)
+      by_kind (IsPair p side its is) = grind (arith, table, state, its, is)
 
-  ties-write : (descriptor : ℤ) (bytes : List ℕ) → FoundBoth t s descriptor → Ties t (write_plan t descriptor (length bytes)) (locked s (call.Write descriptor bytes)) (write_result s descriptor bytes)
+  ties-write : (descriptor : ℤ) (bytes : List ℕ) → FoundBoth t s descriptor → Ties t (write_plan t descriptor (length bytes)) (locked s (call.Write descriptor bytes) nothing_carried) (write_result s descriptor bytes)
   unfolding write_plan write_result
   ties-write descriptor bytes (Shut table state) = rw (table, state) (refl, refl)
-  ties-write descriptor bytes (Open key d offset at got there table state) = grind (arith, table, state)
+  ties-write descriptor bytes (Open key d at_offset at got there table state) = by_kind (kind_at key d got)
+    where
+      by_kind : Kind d.«end» (content_of s (birth_at t d.node)) → Ties t (write_plan t descriptor (length bytes)) (locked s (call.Write descriptor bytes) nothing_carried) (write_result s descriptor bytes)
+      by_kind (IsFile file its is) = grind (arith, table, state, its, is)
+      by_kind (IsPipe waiting stream told no_side is) = grind (arith, table, state, stream, told, no_side, is)
+      by_kind (IsPair p side its is) = grind (arith, table, state, its, is)
 
-  ties-pread : (descriptor count position : ℤ) → FoundBoth t s descriptor → Ties t (pread_plan t descriptor count position) (locked s (call.Pread descriptor count position)) (pread_result s descriptor count position)
+  ties-pread : (descriptor count position : ℤ) → FoundBoth t s descriptor → Ties t (pread_plan t descriptor count position) (locked s (call.Pread descriptor count position) nothing_carried) (pread_result s descriptor count position)
   unfolding pread_plan pread_result
   ties-pread descriptor count position (Shut table state) = rw (table, state) (refl, refl)
-  ties-pread descriptor count position (Open key d offset at got there table state) =
-      let file = file_there (content_of s (birth_at t d.node)) ESPIPE in
-      let is : file_in (content_of s (birth_at t d.node)) ESPIPE ≡ Ok file.0 = file.1 in
-      grind (arith, table, state, is)
+  ties-pread descriptor count position (Open key d at_offset at got there table state) = by_kind (kind_at key d got)
+    where
+      by_kind : Kind d.«end» (content_of s (birth_at t d.node)) → Ties t (pread_plan t descriptor count position) (locked s (call.Pread descriptor count position) nothing_carried) (pread_result s descriptor count position)
+      by_kind (IsFile file its is) = grind (arith, table, state, its, is)
+      by_kind (IsPipe waiting stream told no_side is) = grind (arith, table, state, stream, told, no_side, is)
+      by_kind (IsPair p side its is) = grind (arith, table, state, its, is)
 
-  ties-pwrite : (descriptor : ℤ) (bytes : List ℕ) (position : ℤ) → FoundBoth t s descriptor → Ties t (pwrite_plan t descriptor (length bytes) position) (locked s (call.Pwrite descriptor bytes position)) (pwrite_result s descriptor bytes position)
+  ties-pwrite : (descriptor : ℤ) (bytes : List ℕ) (position : ℤ) → FoundBoth t s descriptor → Ties t (pwrite_plan t descriptor (length bytes) position) (locked s (call.Pwrite descriptor bytes position) nothing_carried) (pwrite_result s descriptor bytes position)
   unfolding pwrite_plan pwrite_result
   ties-pwrite descriptor bytes position (Shut table state) = rw (table, state) (refl, refl)
-  ties-pwrite descriptor bytes position (Open key d offset at got there table state) =
-      let file = file_there (content_of s (birth_at t d.node)) ESPIPE in
-      let is : file_in (content_of s (birth_at t d.node)) ESPIPE ≡ Ok file.0 = file.1 in
-      grind (arith, table, state, is)
+  ties-pwrite descriptor bytes position (Open key d at_offset at got there table state) = by_kind (kind_at key d got)
+    where
+      by_kind : Kind d.«end» (content_of s (birth_at t d.node)) → Ties t (pwrite_plan t descriptor (length bytes) position) (locked s (call.Pwrite descriptor bytes position) nothing_carried) (pwrite_result s descriptor bytes position)
+      by_kind (IsFile file its is) = grind (arith, table, state, its, is)
+      by_kind (IsPipe waiting stream told no_side is) = grind (arith, table, state, stream, told, no_side, is)
+      by_kind (IsPair p side its is) = grind (arith, table, state, its, is)
 
-  ties-ftruncate : (descriptor size : ℤ) → FoundBoth t s descriptor → Ties t (ftruncate_plan t descriptor size) (locked s (call.Ftruncate descriptor size)) (ftruncate_result s descriptor size)
+  ties-ftruncate : (descriptor size : ℤ) → FoundBoth t s descriptor → Ties t (ftruncate_plan t descriptor size) (locked s (call.Ftruncate descriptor size) nothing_carried) (ftruncate_result s descriptor size)
   unfolding ftruncate_plan ftruncate_result
   ties-ftruncate descriptor size (Shut table state) = rw (table, state) (refl, refl)
-  ties-ftruncate descriptor size (Open key d offset at got there table state) =
-      let file = file_there (content_of s (birth_at t d.node)) EINVAL in
-      let is : file_in (content_of s (birth_at t d.node)) EINVAL ≡ Ok file.0 = file.1 in
-      grind (arith, table, state, is)
+  ties-ftruncate descriptor size (Open key d at_offset at got there table state) = by_kind (kind_at key d got)
+    where
+      by_kind : Kind d.«end» (content_of s (birth_at t d.node)) → Ties t (ftruncate_plan t descriptor size) (locked s (call.Ftruncate descriptor size) nothing_carried) (ftruncate_result s descriptor size)
+      by_kind (IsFile file its is) = grind (arith, table, state, its, is)
+      by_kind (IsPipe waiting stream told no_side is) = grind (arith, table, state, stream, told, no_side, is)
+      by_kind (IsPair p side its is) = grind (arith, table, state, its, is)
 
-  ties-dup : (descriptor : ℤ) → FoundBoth t s descriptor → Ties t (dup_plan t descriptor) (locked s (call.Dup descriptor)) (dup_result s descriptor)
+  ties-shutdown : (descriptor : ℤ) (how : ShutdownHow) → FoundBoth t s descriptor → Ties t (shutdown_plan t descriptor how) (locked s (call.Shutdown descriptor how) nothing_carried) (shutdown_result s descriptor how)
+  unfolding shutdown_plan shutdown_result
+  ties-shutdown descriptor how (Shut table state) = rw (table, state) (refl, refl)
+  ties-shutdown descriptor how (Open key d at_offset at got there table state) = by_kind (kind_at key d got)
+    where
+      by_kind : Kind d.«end» (content_of s (birth_at t d.node)) → Ties t (shutdown_plan t descriptor how) (locked s (call.Shutdown descriptor how) nothing_carried) (shutdown_result s descriptor how)
+      by_kind (IsFile file its is) = grind (arith, table, state, its, is)
+      by_kind (IsPipe waiting stream told no_side is) = grind (arith, table, state, stream, told, no_side, is)
+      by_kind (IsPair p side its is) = grind (arith, table, state, its, is)
+
+  ties-dup : (descriptor : ℤ) → FoundBoth t s descriptor → Ties t (dup_plan t descriptor) (locked s (call.Dup descriptor) nothing_carried) (dup_result s descriptor)
   unfolding dup_plan dup_result
   ties-dup descriptor (Shut table state) = rw (table, state) (refl, refl)
   ties-dup descriptor (Open key d offset at got there table state) = rw (table, state, lowest_shown t s 32 0 shows) (by_number (lowest_from t.descriptors 32 0))
@@ -180,7 +264,7 @@ module _ (t : TableState) (s : State) (sound : IsSound t) (all : AreSound t.desc
       by_number None = (refl, refl)
       by_number (Some n) = (refl, refl)
 
-  ties-dup_from : (descriptor least : ℤ) → FoundBoth t s descriptor → Ties t (dup_from_plan t descriptor least) (locked s (call.DupFrom descriptor least)) (dup_from_result s descriptor least)
+  ties-dup_from : (descriptor least : ℤ) → FoundBoth t s descriptor → Ties t (dup_from_plan t descriptor least) (locked s (call.DupFrom descriptor least) nothing_carried) (dup_from_result s descriptor least)
   unfolding dup_from_plan dup_from_result
   ties-dup_from descriptor least (Shut table state) = rw (table, state) (refl, refl)
   ties-dup_from descriptor least (Open key d offset at got there table state) = rw (table, state) (by_first (descriptor_number least EINVAL))
@@ -208,7 +292,7 @@ module _ (t : TableState) (s : State) (sound : IsSound t) (all : AreSound t.desc
   released_as d r true = refl
   released_as d r false = (refl, refl)
 
-  ties-close : (descriptor : ℤ) → FoundBoth t s descriptor → Ties t (close_plan t descriptor) (locked s (call.Close descriptor)) (close_result s descriptor)
+  ties-close : (descriptor : ℤ) → FoundBoth t s descriptor → Ties t (close_plan t descriptor) (locked s (call.Close descriptor) nothing_carried) (close_result s descriptor)
   unfolding close_plan close_result
   ties-close descriptor (Shut table state) = rw (table, state) (refl, refl)
   ties-close descriptor (Open key d offset at got there table state) = rw (table, state, last_open descriptor key d at got) (released_as d reply.Done (d.holders == 1))
@@ -217,7 +301,7 @@ module _ (t : TableState) (s : State) (sound : IsSound t) (all : AreSound t.desc
   replaced_as target (Shut table state) = rw (table, state) (refl, refl)
   replaced_as target (Open key d offset at got there table state) = rw (table, state, last_open target key d at got) (released_as d (reply.Number target) (d.holders == 1))
 
-  ties-dup2 : (descriptor target : ℤ) → FoundBoth t s descriptor → FoundBoth t s target → Ties t (dup2_plan t descriptor target) (locked s (call.Dup2 descriptor target)) (dup2_result s descriptor target)
+  ties-dup2 : (descriptor target : ℤ) → FoundBoth t s descriptor → FoundBoth t s target → Ties t (dup2_plan t descriptor target) (locked s (call.Dup2 descriptor target) nothing_carried) (dup2_result s descriptor target)
   unfolding dup2_plan dup2_result
   ties-dup2 descriptor target (Shut table state) other = rw (table, state) (refl, refl)
   ties-dup2 descriptor target (Open key d offset at got there table state) other = rw (table, state) (by_number (descriptor_number target EBADF))
@@ -249,7 +333,7 @@ module _ (t : TableState) (s : State) (sound : IsSound t) (all : AreSound t.desc
       by_path (Err e) = (refl, refl)
       by_path (Ok components) = rw (node_shown t s components shows, some_shown (node_at t.paths components), names_shown t s shows) (by_refusals components (is_some (node_at t.paths components)) (nat_le 64 (fin.len t.paths)))
 
-  ties-mkdir : (path : List ℕ) → Ties t (mkdir_plan t path) (locked s (call.Mkdir path)) (mkdir_result s path)
+  ties-mkdir : (path : List ℕ) → Ties t (mkdir_plan t path) (locked s (call.Mkdir path) nothing_carried) (mkdir_result s path)
   unfolding mkdir_plan mkdir_result
   ties-mkdir path = ties-add path Directory
 
@@ -266,7 +350,7 @@ module _ (t : TableState) (s : State) (sound : IsSound t) (all : AreSound t.desc
       by_path (Ok components) = ap file_node (node_shown t s components shows) ∙ file_node_shown (node_at t.paths components)
       by_path (Err e) = refl
 
-  ties-link : (old_path new_path : List ℕ) → Ties t (link_plan t old_path new_path) (locked s (call.Link old_path new_path)) (link_result s old_path new_path)
+  ties-link : (old_path new_path : List ℕ) → Ties t (link_plan t old_path new_path) (locked s (call.Link old_path new_path) nothing_carried) (link_result s old_path new_path)
   unfolding link_plan link_result
   ties-link old_path new_path = rw (named_shown old_path) (by_file (file_named t.paths old_path))
     where
@@ -274,7 +358,7 @@ module _ (t : TableState) (s : State) (sound : IsSound t) (all : AreSound t.desc
       by_file (Ok node) = ties-add new_path (FileNode (birth_at t node))
       by_file (Err e) = (refl, refl)
 
-  ties-rmdir : (path : List ℕ) → Ties t (rmdir_plan t path) (locked s (call.Rmdir path)) (rmdir_result s path)
+  ties-rmdir : (path : List ℕ) → Ties t (rmdir_plan t path) (locked s (call.Rmdir path) nothing_carried) (rmdir_result s path)
   unfolding rmdir_plan rmdir_result removed_dir
   ties-rmdir path = rw (resolved_shown t s path shows) (by_path (resolved t.paths path))
     where
@@ -332,7 +416,7 @@ module _ (t : TableState) (s : State) (sound : IsSound t) (all : AreSound t.desc
   abbrev without_at : List (List ℕ) → ℕ → Result (PathMap × ℕ) Errno
   without_at components object = Ok (fin.remove s.paths components, object)
 
-  ties-unlink : (path : List ℕ) → Ties t (unlink_plan t path) (locked s (call.Unlink path)) (unlink_result s path)
+  ties-unlink : (path : List ℕ) → Ties t (unlink_plan t path) (locked s (call.Unlink path) nothing_carried) (unlink_result s path)
   unfolding unlink_plan unlink_result file_named removed
   ties-unlink path = rw (resolved_shown t s path shows) (by_path (resolved t.paths path))
     where
@@ -353,19 +437,19 @@ module _ (t : TableState) (s : State) (sound : IsSound t) (all : AreSound t.desc
   -- ## Opening
 
   abbrev TiesOpen : Result Plan Errno → Result Effect Errno → Type 0
-  TiesOpen p does = Ties t p (locked_by_open s does) does
+  TiesOpen p does = Ties t p (locked_by_new s does) does
 
-  made_here : (object n : ℕ) (access : Access) (append nonblock b : Bool) → option_map (λ (d : Object.Description). d.object) (fin.get (opened (truncated s object b) n object access append nonblock).descriptions s.next_description) ≡ Some object
-  made_here object n access append nonblock true = ap (option_map (λ (d : Object.Description). d.object)) (get-insert_same s.descriptions s.next_description (record { object = object; access = access; offset = 0; append = append; nonblock = nonblock }))
-  made_here object n access append nonblock false = ap (option_map (λ (d : Object.Description). d.object)) (get-insert_same s.descriptions s.next_description (record { object = object; access = access; offset = 0; append = append; nonblock = nonblock }))
+  made_here : (object n : ℕ) (which : End) (access : Access) (append nonblock b : Bool) → option_map (λ (d : Object.Description). d.object) (fin.get (opened (truncated s object b) n object which access append nonblock).descriptions s.next_description) ≡ Some object
+  made_here object n which access append nonblock true = ap (option_map (λ (d : Object.Description). d.object)) (get-insert_same s.descriptions s.next_description (record { object = object; «end» = which; access = access; offset = 0; append = append; nonblock = nonblock }))
+  made_here object n which access append nonblock false = ap (option_map (λ (d : Object.Description). d.object)) (get-insert_same s.descriptions s.next_description (record { object = object; «end» = which; access = access; offset = 0; append = append; nonblock = nonblock }))
 
   ties-there : (node : Node) (access : Access) (flags : OpenFlags) → TiesOpen (open_there t node flags) (posix.open_there s (shown_node t node) access flags)
   ties-there Directory access flags = (refl, refl)
   ties-there (FileNode node) access flags = rw (lowest_shown t s 32 0 shows) (by_number (lowest_from t.descriptors 32 0))
     where
-      by_number : (o : Option ℕ) → TiesOpen (some_or o EMFILE >>= (λ n. Ok (locks node (op.Open flags.truncate)))) (some_or o EMFILE >>= (λ n. Ok (Completes (opened (truncated s (birth_at t node) flags.truncate) n (birth_at t node) access flags.append flags.nonblock) (reply.Number (pos n)))))
+      by_number : (o : Option ℕ) → TiesOpen (some_or o EMFILE >>= (λ n. Ok (locks node (op.Open flags.truncate)))) (some_or o EMFILE >>= (λ n. Ok (Completes (opened (truncated s (birth_at t node) flags.truncate) n (birth_at t node) part.Only access flags.append flags.nonblock) (reply.Number (pos n)))))
       by_number None = (refl, refl)
-      by_number (Some n) = made_here (birth_at t node) n access flags.append flags.nonblock flags.truncate
+      by_number (Some n) = made_here (birth_at t node) n part.Only access flags.append flags.nonblock flags.truncate
 
   -- there is a number for a new object just where there are not as many as there may be
   pub full_shown : nat_le 48 (fin.len s.objects) ≡ not (is_some (free_object t))
@@ -392,13 +476,13 @@ module _ (t : TableState) (s : State) (sound : IsSound t) (all : AreSound t.desc
     where
       by_rest : (a b : Bool) (o number : Option ℕ) → ((node : ℕ) → o ≡ Some node → slice_index_or t.objects node None ≡ None)
           → TiesOpen (refuse_if a ENOENT >>= (λ _. refuse_if b ENOSPC >>= (λ _. some_or o ENOSPC >>= (λ node. some_or number EMFILE >>= (λ _. Ok (locks node (op.Open true)))))))
-          (refuse_if a ENOENT >>= (λ _. refuse_if (b || not (is_some o)) ENOSPC >>= (λ _. some_or number EMFILE >>= (λ n. Ok (Completes (opened (with_file s components) n s.next_object access flags.append flags.nonblock) (reply.Number (pos n)))))))
+          (refuse_if a ENOENT >>= (λ _. refuse_if (b || not (is_some o)) ENOSPC >>= (λ _. some_or number EMFILE >>= (λ n. Ok (Completes (opened (with_file s components) n s.next_object part.Only access flags.append flags.nonblock) (reply.Number (pos n)))))))
       by_rest true b o number free = (refl, refl)
       by_rest false true o number free = (refl, refl)
       by_rest false false None number free = (refl, refl)
       by_rest false false (Some node) None free = (refl, refl)
       by_rest false false (Some node) (Some n) free =
-          ap (option_map (λ (d : Object.Description). d.object)) (get-insert_same s.descriptions s.next_description (record { object = s.next_object; access = access; offset = 0; append = flags.append; nonblock = flags.nonblock }))
+          ap (option_map (λ (d : Object.Description). d.object)) (get-insert_same s.descriptions s.next_description (record { object = s.next_object; «end» = part.Only; access = access; offset = 0; append = flags.append; nonblock = flags.nonblock }))
           ∙ ap (λ (b : ℕ). Some b) shows.next_object ∙ ap (λ (o : Option ℕ). Some (unwrap_or o t.made_objects)) (sym (free node refl))
 
   ties-node : (components : List (List ℕ)) (node : Option Node) (access : Access) (flags : OpenFlags) → TiesOpen (open_node t node flags) (posix.open_node s components (option_map (shown_node t) node) access flags)
@@ -409,7 +493,7 @@ module _ (t : TableState) (s : State) (sound : IsSound t) (all : AreSound t.desc
       by_refusal true = (refl, refl)
       by_refusal false = ties-there node access flags
 
-  ties-open : (path : List ℕ) (access : Access) (flags : OpenFlags) → Ties t (open_plan t path access flags) (locked s (call.Open path access flags)) (open_result s path access flags)
+  ties-open : (path : List ℕ) (access : Access) (flags : OpenFlags) → Ties t (open_plan t path access flags) (locked s (call.Open path access flags) nothing_carried) (open_result s path access flags)
   unfolding open_plan open_result
   ties-open path access flags = rw (resolved_shown t s path shows) (by_rest (flags.truncate && not (can_write access)) (resolved t.paths path))
     where
@@ -418,7 +502,38 @@ module _ (t : TableState) (s : State) (sound : IsSound t) (all : AreSound t.desc
       by_rest false (Err e) = (refl, refl)
       by_rest false (Ok components) = rw (node_shown t s components shows) (ties-node components (node_at t.paths components) access flags)
 
-  ties-call : (c : Call) (carried : Carried) → Ties t (plan_of t c) (locked s c) (effect_of s c carried)
+  pub two_shown : sockets.two_numbers s ≡ two_numbers t
+  two_shown = ap (λ (o : Option ℕ). some_or o EMFILE >>= (λ first. some_or (posix.lowest_from s (32 - (first + 1)) (first + 1)) EMFILE >>= (λ second. both first second))) (lowest_shown t s 32 0 shows) ∙ by_first (lowest_from t.descriptors 32 0)
+    where
+      by_first : (o : Option ℕ) → (some_or o EMFILE >>= (λ first. some_or (posix.lowest_from s (32 - (first + 1)) (first + 1)) EMFILE >>= (λ second. both first second))) ≡ (some_or o EMFILE >>= (λ first. some_or (lowest_from t.descriptors (32 - (first + 1)) (first + 1)) EMFILE >>= (λ second. both first second)))
+      by_first None = refl
+      by_first (Some first) = ap (λ (o : Option ℕ). some_or o EMFILE >>= (λ second. both first second)) (lowest_shown t s (32 - (first + 1)) (first + 1) shows)
+
+  ties-two_ends : (act : Op) (content : Content) (one other : NewEnd) → TiesOpen (two_ends_plan t act) (sockets.two_ends s content one other)
+  ties-two_ends act content one other = rw (two_shown, full_shown) (by_rest (two_numbers t) (free_object t) (λ node is. lowest_none t.objects 48 0 node is))
+    where
+      first_made : (two : ℕ × ℕ) → option_map (λ (d : Object.Description). d.object) (fin.get (opened (opened (sockets.with_object s content) two.0 s.next_object one.which one.access false false) two.1 s.next_object other.which other.access false false).descriptions s.next_description) ≡ Some s.next_object
+      first_made two =
+          let first : Object.Description = record { object = s.next_object; «end» = one.which; access = one.access; offset = 0; append = false; nonblock = false } in
+          let second : Object.Description = record { object = s.next_object; «end» = other.which; access = other.access; offset = 0; append = false; nonblock = false } in
+          ap (option_map (λ (d : Object.Description). d.object)) (get-insert_other (fin.insert s.descriptions s.next_description first) (s.next_description + 1) second s.next_description (λ same. absurd (omega (arith, same))) ∙ get-insert_same s.descriptions s.next_description first)
+
+      by_rest : (r : Result (ℕ × ℕ) Errno) (o : Option ℕ) → ((node : ℕ) → o ≡ Some node → slice_index_or t.objects node None ≡ None)
+          → TiesOpen (r >>= (λ _. some_or o ENFILE >>= (λ node. Ok (locks node act))))
+          (r >>= (λ numbers. refuse_if (not (is_some o)) ENFILE >>= (λ _. Ok (Completes (opened (opened (sockets.with_object s content) numbers.0 s.next_object one.which one.access false false) numbers.1 s.next_object other.which other.access false false) (reply.Pair (pos numbers.0) (pos numbers.1))))))
+      by_rest (Err e) o free = (refl, refl)
+      by_rest (Ok two) None free = (refl, refl)
+      by_rest (Ok two) (Some node) free = first_made two ∙ ap (λ (b : ℕ). Some b) shows.next_object ∙ ap (λ (o : Option ℕ). Some (unwrap_or o t.made_objects)) (sym (free node refl))
+
+  ties-pipe : Ties t (two_ends_plan t op.Pipe) (locked s call.Pipe nothing_carried) (pipe_result s)
+  unfolding pipe_result
+  ties-pipe = ties-two_ends op.Pipe (Pipe []) (record { which = part.Read; access = ReadOnly }) (record { which = part.Write; access = WriteOnly })
+
+  ties-socketpair : Ties t (two_ends_plan t op.Socketpair) (locked s call.Socketpair nothing_carried) (socketpair_result s)
+  unfolding socketpair_result
+  ties-socketpair = ties-two_ends op.Socketpair (Pair new_pair) (record { which = part.Socket Side0; access = ReadWrite }) (record { which = part.Socket Side1; access = ReadWrite })
+
+  ties-call : (c : Call) (carried : Carried) → Ties t (plan_of t c) (locked s c carried) (effect_of s c carried)
   ties-call (call.Open path access flags) carried = ties-open path access flags
   ties-call (call.Close descriptor) carried = ties-close descriptor (found_both t s descriptor sound shows)
   ties-call (call.Read descriptor count) carried = ties-read descriptor count (found_both t s descriptor sound shows)
@@ -437,12 +552,18 @@ module _ (t : TableState) (s : State) (sound : IsSound t) (all : AreSound t.desc
   ties-call (call.Unlink path) carried = ties-unlink path
   ties-call (call.Mkdir path) carried = ties-mkdir path
   ties-call (call.Rmdir path) carried = ties-rmdir path
+  ties-call call.Pipe carried = ties-pipe
+  ties-call call.Socketpair carried = ties-socketpair
+  ties-call (call.Shutdown descriptor how) carried = ties-shutdown descriptor how (found_both t s descriptor sound shows)
 
-concluded_answer : (settings : Settings) (s : State) (outcome : Option Outcome) (carried : Carried) (does : Result Effect Errno) → (concluded settings s outcome carried does).answer ≡ answer_of does
-concluded_answer settings s outcome carried (Ok (Completes after r)) = refl
-concluded_answer settings s outcome carried (Err e) = refl
+-- what has to wait is not answered by the table
+concluded_agrees : (t : TableState) (settings : Settings) (s : State) (outcome : Option Outcome) (carried : Carried) (p : Plan) (object : Option ℕ) (does : Result Effect Errno) → AgreesOn t p object (answer_of does) → AgreesOn t p object (concluded settings s outcome carried does).answer
+concluded_agrees t settings s outcome carried p object (Ok (Completes after r)) agrees = agrees
+concluded_agrees t settings s outcome carried (plan.Reply r) object (Ok Blocks) agrees = let never : answer.Again ≡ answer.Reply r = agrees.1 in cc
+concluded_agrees t settings s outcome carried (plan.Node node act keep_table) object (Ok Blocks) agrees = agrees
+concluded_agrees t settings s outcome carried p object (Err e) agrees = agrees
 
 pub plans-as_step : (t : TableState) (c : Call) → IsSound t → AreSound t.descriptions → PlansAsStep t c (planned t c)
 unfolding locked_object
 plans-as_step t c sound all settings s outcome carried shows =
-    subst (AgreesOn t (planned t c) (unless_refused (locked s c))) (sym (concluded_answer settings s outcome carried (effect_of s c carried))) (ties-call t s sound all shows c carried)
+    concluded_agrees t settings s outcome carried (planned t c) (unless_refused (locked s c carried)) (effect_of s c carried) (ties-call t s sound all shows c carried)

@@ -190,6 +190,8 @@ shows-empty =
       paths = λ path. get-empty path_cmp path ∙ sym (ap (option_map (shown_node empty_table)) (get-empty path_cmp path));
       objects = λ node birth is. absurd (none-some _ (sym (slot_replicate 48 node) ∙ is));
       numbered = λ birth is. absurd (false≢true (sym (ap (λ (o : Option Content). is_some o) (get-empty nat_cmp birth)) ∙ is));
+      ends = λ key d got. absurd (none-some _ (sym (get-empty nat_cmp key) ∙ got));
+      files = λ path node is. absurd (none-some _ (sym (get-empty path_cmp path) ∙ is));
       next_description = refl;
       next_object = refl;
     }

@@ -20,10 +20,11 @@ use Rattle.posix_terms.specs.Paths.{node_at, resolved}
 use Rattle.posix_terms.specs.Refusals.{◌>>=◌, refuse_if}
 use Rattle.posix_terms.specs.declared.errno.Errno.{Errno}
 use Rattle.posix_terms.specs.declared.errno.Errno.TheVariants.{EBUSY, EEXIST, ENOSPC, ENOTEMPTY}
-use Rattle.file_descriptions.specs.Descriptions.{AreSound, ContainsKey, DescriptionMap, description_at, has_first_end, has_second_end, is_first, is_last_held, no_description, with_description, with_holder, with_new, without, without_holder}
+use Rattle.posix_terms.specs.Ends.{is_first}
+use Rattle.file_descriptions.specs.Descriptions.{AreSound, ContainsKey, DescriptionMap, description_at, has_first_end, has_second_end, is_last_held, no_description, with_description, with_holder, with_new, without, without_holder}
 use Rattle.file_descriptions.specs.declared.description.Description.{Description}
 use Rattle.descriptor_table.proofs.ObjectLemmas.{Taken, IsNew, IsOld, freed_slot, slot, taken_slot, uncounted, uncounted_value}
-use Rattle.descriptor_table.specs.Changes.{closed, let_go, shared, without_gone}
+use Rattle.descriptor_table.specs.Changes.{closed, let_go, shared, with_object, without_gone}
 use Rattle.descriptor_table.specs.Table.{TableState, IsSound, empty_table, is_closed, is_gone, is_used, key_at}
 
 pub numbers_of : (t : TableState) → IsSound t → length t.descriptors ≡ 32
@@ -364,7 +365,7 @@ pub bind_ok : {A B : Type 0} (r : Result A Errno) (f : A → Result B Errno) (y 
 bind_ok (Ok x) f y is = (x, (refl, is))
 bind_ok (Err e) f y is = cc
 
-ok_same : {A : Type 0} (x y : A) → ◌≡◌ {A = Result A Errno} (Ok x) (Ok y) → x ≡ y
+pub ok_same : {A : Type 0} (x y : A) → ◌≡◌ {A = Result A Errno} (Ok x) (Ok y) → x ≡ y
 ok_same x y is = cc
 
 -- a new name is one entry more, and a name taken away one less
@@ -427,11 +428,14 @@ pub named_at : (t : TableState) (components : List (List ℕ)) (node : ℕ) → 
 named_at t [] node sound is = cc
 named_at t (name ∷ names) node sound is = sound.named_objects (name ∷ names) node is
 
-pub used-named : (t : TableState) (path : List ℕ) (node : ℕ) → file_named t.paths path ≡ Ok node → IsSound t → is_used t node ≡ true
+pub named_as : (paths : PathMap) (path : List ℕ) (node : ℕ) → file_named paths path ≡ Ok node → (components : List (List ℕ)) × (node_at paths components ≡ Some (FileNode node))
 unfolding file_named
-used-named t path node is sound =
-    let found = bind_ok (resolved t.paths path) (λ components. file_node (node_at t.paths components)) node is in
-    named_at t found.0 node sound (file_of_node (node_at t.paths found.0) node found.1.1)
+named_as paths path node is =
+    let found = bind_ok (resolved paths path) (λ components. file_node (node_at paths components)) node is in
+    (found.0, file_of_node (node_at paths found.0) node found.1.1)
+
+pub used-named : (t : TableState) (path : List ℕ) (node : ℕ) → file_named t.paths path ≡ Ok node → IsSound t → is_used t node ≡ true
+used-named t path node is sound = let found = named_as t.paths path node is in named_at t found.0 node sound found.1
 
 pub used-found : (t : TableState) (path : List ℕ) (node : ℕ) → looked_up t.paths path ≡ Ok (Some (FileNode node)) → IsSound t → is_used t node ≡ true
 unfolding looked_up
@@ -510,6 +514,26 @@ sound-freed t node gone sound =
     (λ n birth is. sound.born n birth (freed_slot t.objects node n birth is).0)
     (λ n m birth is its. sound.distinct n m birth (freed_slot t.objects node n birth is).0 (freed_slot t.objects node m birth its).0)
 
+born_made : (t : TableState) (node n birth : ℕ) → IsSound t → Taken t.objects node t.made_objects n birth → birth < t.made_objects + 1
+born_made t node n birth sound (IsNew here is) = omega (arith, is)
+born_made t node n birth sound (IsOld was) = let h : birth < t.made_objects = sound.born n birth was in omega arith
+
+distinct_made : (t : TableState) (node n m birth : ℕ) → IsSound t → Taken t.objects node t.made_objects n birth → Taken t.objects node t.made_objects m birth → n ≡ m
+distinct_made t node n m birth sound (IsNew here is) (IsNew there its) = here ∙ sym there
+distinct_made t node n m birth sound (IsNew here is) (IsOld its) = let h : birth < t.made_objects = sound.born m birth its in absurd (omega (arith, is))
+distinct_made t node n m birth sound (IsOld was) (IsNew there its) = let h : birth < t.made_objects = sound.born n birth was in absurd (omega (arith, its))
+distinct_made t node n m birth sound (IsOld was) (IsOld its) = sound.distinct n m birth was its
+
+-- a new object that no path names
+pub sound-with_object : (t : TableState) (node : ℕ) → node < 48 → slot t.objects node ≡ None → IsSound t → IsSound (with_object t node)
+sound-with_object t node low free sound =
+    let within : node < length t.objects = rw sound.object_numbers low in
+    sound-numbers t t.paths (slice_set t.objects node (Some t.made_objects)) (t.made_objects + 1) sound (length-set t.objects node (Some t.made_objects) ∙ sound.object_numbers)
+    (λ key d is. more_some t.objects node d.node t.made_objects within (sound.described_objects key d is))
+    (λ q n h. more_some t.objects node n t.made_objects within (sound.named_objects q n h))
+    (λ n birth is. born_made t node n birth sound (taken_slot t.objects node t.made_objects n birth within is))
+    (λ n m birth is its. distinct_made t node n m birth sound (taken_slot t.objects node t.made_objects n birth within is) (taken_slot t.objects node t.made_objects m birth within its))
+
 pub sound-with_file : (t : TableState) (components : List (List ℕ)) (node : ℕ) → node < length t.objects → slot t.objects node ≡ None → IsSound t → IsSound (record t { paths = fin.insert t.paths components (FileNode node); objects = slice_set t.objects node (Some t.made_objects); made_objects = t.made_objects + 1 })
 sound-with_file t components node within free sound =
     sound-numbers t (fin.insert t.paths components (FileNode node)) (slice_set t.objects node (Some t.made_objects)) (t.made_objects + 1) sound (length-set t.objects node (Some t.made_objects) ∙ sound.object_numbers)
@@ -518,16 +542,6 @@ sound-with_file t components node within free sound =
     (λ n birth is. born_made t node n birth sound (taken_slot t.objects node t.made_objects n birth within is))
     (λ n m birth is its. distinct_made t node n m birth sound (taken_slot t.objects node t.made_objects n birth within is) (taken_slot t.objects node t.made_objects m birth within its))
   where
-    born_made : (t : TableState) (node n birth : ℕ) → IsSound t → Taken t.objects node t.made_objects n birth → birth < t.made_objects + 1
-    born_made t node n birth sound (IsNew here is) = omega (arith, is)
-    born_made t node n birth sound (IsOld was) = let h : birth < t.made_objects = sound.born n birth was in omega arith
-
-    distinct_made : (t : TableState) (node n m birth : ℕ) → IsSound t → Taken t.objects node t.made_objects n birth → Taken t.objects node t.made_objects m birth → n ≡ m
-    distinct_made t node n m birth sound (IsNew here is) (IsNew there its) = here ∙ sym there
-    distinct_made t node n m birth sound (IsNew here is) (IsOld its) = let h : birth < t.made_objects = sound.born m birth its in absurd (omega (arith, is))
-    distinct_made t node n m birth sound (IsOld was) (IsNew there its) = let h : birth < t.made_objects = sound.born n birth was in absurd (omega (arith, its))
-    distinct_made t node n m birth sound (IsOld was) (IsOld its) = sound.distinct n m birth was its
-
     named_made : (t : TableState) (components : List (List ℕ)) (node : ℕ) → node < length t.objects → IsSound t → (q : List (List ℕ)) (n : ℕ) → fin.get (fin.insert t.paths components (FileNode node)) q ≡ Some (FileNode n) → is_some (slot (slice_set t.objects node (Some t.made_objects)) n) ≡ true
     named_made t components node within sound q n is = by_tie (eq_by_cmp path_cmp q components) refl
       where

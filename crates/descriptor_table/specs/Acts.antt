@@ -1,67 +1,125 @@
--- What an act does with the file that is locked for it.
-use Rattle.std.specs.Prelude.{◌≡◌, ◌≢◌, ◌⊎◌, ℕ, ◌+◌, ℤ, pos, ◌+ℤ◌, List, [], length, ◌==◌, Option, Some, None, Result, Ok, Err, if◌then◌else◌}
+-- What an act does with the object that is locked for it.
+use Rattle.std.specs.Prelude.{◌≡◌, ◌≢◌, ◌⊎◌, ◌≤◌, ℕ, ◌+◌, Bool, not, pos, ◌+ℤ◌, List, [], length, ◌==◌, Option, Some, Result, Ok, Err, if◌then◌else◌}
 use Rattle.std.specs.Option.{option_map}
 use Rattle.std.specs.FinMap as map
 use Rattle.posix_terms.specs.Files.{bytes_at, resized, written}
 use Rattle.posix_terms.specs.Object as posix
-use Rattle.posix_terms.specs.Object.{State, Content, File}
-use Rattle.posix_terms.specs.Step.{Carried, Stepped, step}
+use Rattle.posix_terms.specs.Ends.{is_first, side_of}
+use Rattle.posix_terms.specs.Object.{State, Content, File, Pipe, Pair}
+use Rattle.posix_terms.specs.Step.{Carried, Stepped, nothing_carried, step, waited}
+use Rattle.posix_terms.specs.Streams.{Reading, Reads, Ends, NothingYet, Writing, Writes, Breaks, NoRoom, new_pair, pair_read, pair_write, peer_of, shut, stream_read, stream_write, with_waiting}
 use Rattle.posix_terms.specs.Transfers.{base_of, content_of, offset_of}
 use Rattle.posix_terms.specs.declared.call.Call.{Call}
 use Rattle.posix_terms.specs.declared.call.Call.TheVariants as call
 use Rattle.posix_terms.specs.declared.errno.Errno.{Errno}
+use Rattle.posix_terms.specs.declared.errno.Errno.TheVariants.{EAGAIN, EPIPE}
+use Rattle.posix_terms.specs.declared.object.End.{End}
+use Rattle.posix_terms.specs.declared.object.End.TheVariants as part
 use Rattle.posix_terms.specs.declared.outcome.Outcome.{Outcome}
+use Rattle.posix_terms.specs.declared.reply.Answer.{Answer}
 use Rattle.posix_terms.specs.declared.reply.Answer.TheVariants as answer
 use Rattle.posix_terms.specs.declared.reply.ObjectKind.TheVariants as kind
 use Rattle.posix_terms.specs.declared.reply.Reply.{Reply}
 use Rattle.posix_terms.specs.declared.reply.Reply.TheVariants as reply
 use Rattle.posix_terms.specs.declared.transcript.Settings.{Settings}
-use Rattle.descriptor_table.specs.Agreement.{number_told}
+use Rattle.descriptor_table.specs.Agreement.{numbers_told}
 use Rattle.descriptor_table.specs.Shows.{Shows, birth_at, birth_of}
 use Rattle.descriptor_table.specs.Table.{TableState}
+use Rattle.file_descriptions.specs.Descriptions.{ends_of}
+use Rattle.descriptor_table.specs.declared.plan.NewNumbers.{NewNumbers}
+use Rattle.descriptor_table.specs.declared.plan.NewNumbers.TheVariants as numbers
 use Rattle.descriptor_table.specs.declared.plan.Op.{Op}
 use Rattle.descriptor_table.specs.declared.plan.Op.TheVariants as op
+use Rattle.descriptor_table.specs.declared.plan.Opened.{Opened}
 use Rattle.descriptor_table.specs.declared.plan.Plan.{Plan}
 use Rattle.descriptor_table.specs.declared.plan.Plan.TheVariants as plan
 
--- what an act answers, and the bytes and the offset that it leaves
+-- how an act ends: with a reply, or it has to wait
+pub data Ending : Type 0 where
+  Replies : (reply : Reply) → Ending
+  Waits : Ending
+
+-- how it ends, what its object holds then, and where its description stands
 pub record Acted : Type 0 where
-  pub reply : Reply
-  pub bytes : List ℕ
+  pub ending : Ending
+  pub content : Content
   pub offset : ℕ
 
-abbrev pub replied : Reply → List ℕ → ℕ → Acted
-replied r file offset = record { reply = r; bytes = file; offset = offset }
+abbrev pub replied : Reply → Content → ℕ → Acted
+replied r content offset = record { ending = Replies r; content = content; offset = offset }
 
--- a write that starts here, and leaves the offset where it is told
+-- a write to a file that starts here, and leaves the offset where it is told
 abbrev pub wrote : Result (List ℕ × ℕ) Errno → List ℕ → ℕ → (ℕ → ℕ) → Acted
-wrote (Ok w) file offset moved = record { reply = reply.Count w.1; bytes = w.0; offset = moved w.1 }
-wrote (Err e) file offset moved = replied (reply.Fail e) file offset
+wrote (Ok w) file offset moved = replied (reply.Count w.1) (File w.0) (moved w.1)
+wrote (Err e) file offset moved = replied (reply.Fail e) (File file) offset
 
 abbrev pub sought : Result ℕ Errno → List ℕ → ℕ → Acted
-sought (Ok to) file offset = replied (reply.Number (pos to)) file to
-sought (Err e) file offset = replied (reply.Fail e) file offset
+sought (Ok to) file offset = replied (reply.Number (pos to)) (File file) to
+sought (Err e) file offset = replied (reply.Fail e) (File file) offset
 
-abbrev pub number_reply : Option ℤ → Reply
-number_reply (Some n) = reply.Number n
-number_reply None = reply.Done
+abbrev pub numbers_reply : NewNumbers → Reply
+numbers_reply (numbers.One n) = reply.Number n
+numbers_reply (numbers.Two first second) = reply.Pair first second
+numbers_reply numbers.None = reply.Done
 
--- the number that an `open` was given, the bytes of the file, and the offset of the description
-abbrev pub acted : Op → Call → Option ℤ → List ℕ → ℕ → Acted
-acted (op.Open cut) c number file offset = replied (number_reply number) (if cut then [] else file) offset
-acted op.Release (call.Dup2 descriptor target) number file offset = replied (reply.Number target) file offset
-acted op.Release _ number file offset = replied reply.Done file offset
-acted (op.Read from count) c number file offset = let bytes = bytes_at file offset count in replied (reply.Data bytes) file (offset + length bytes)
-acted (op.Write to) (call.Write descriptor bytes) number file offset =
+-- ## Streams
+
+-- whether a description has this end of an object
+abbrev pub is_open : TableState → ℕ → End → Bool
+is_open t node which = let ends = ends_of t.descriptions node in not ((if is_first which then ends.0 else ends.1) == 0)
+
+-- what cannot go on leaves all as it is; O_NONBLOCK decides whether it waits
+abbrev pub stopped : Opened → Content → ℕ → Acted
+stopped at content offset = record { ending = if at.flags.nonblock then Replies (reply.Fail EAGAIN) else Waits; content = content; offset = offset }
+
+-- a read of a stream, by what its object holds when so many bytes are left
+abbrev pub has_read : Opened → (List ℕ → Content) → Content → ℕ → Reading → Acted
+has_read from holds content offset (Reads bytes left) = replied (reply.Data bytes) (holds left) offset
+has_read from holds content offset Ends = replied (reply.Data []) content offset
+has_read from holds content offset NothingYet = stopped from content offset
+
+-- a write of so many bytes
+abbrev pub has_written : Opened → (List ℕ → Content) → Content → ℕ → ℕ → Writing → Acted
+has_written to holds content offset count (Writes left) = replied (reply.Count count) (holds left) offset
+has_written to holds content offset count Breaks = replied (reply.Fail EPIPE) content offset
+has_written to holds content offset count NoRoom = stopped to content offset
+
+-- ## All acts
+
+-- by what the object holds, and the offset of the description
+abbrev pub read_acted : TableState → ℕ → Opened → ℕ → Content → ℕ → Acted
+read_acted t node from count (File file) offset = let bytes = bytes_at file offset count in replied (reply.Data bytes) (File file) (offset + length bytes)
+read_acted t node from count (Pipe waiting) offset = has_read from Pipe (Pipe waiting) offset (stream_read waiting count (is_open t node part.Write))
+read_acted t node from count (Pair p) offset =
+    let side = side_of from.«end» in
+    has_read from (λ left. Pair (with_waiting p side left)) (Pair p) offset (pair_read p side count (is_open t node (part.Socket (peer_of side))))
+
+abbrev pub write_acted : TableState → ℕ → Opened → List ℕ → Content → ℕ → Acted
+write_acted t node to bytes (File file) offset =
     let start = if to.flags.append then length file else offset in
-    if length bytes == 0 then replied (reply.Count 0) file offset else wrote (written file start bytes) file offset (λ count. start + count)
-acted (op.Pread count position) c number file offset = replied (reply.Data (bytes_at file position count)) file offset
-acted (op.Pwrite start) (call.Pwrite descriptor bytes position) number file offset =
-    if length bytes == 0 then replied (reply.Count 0) file offset else wrote (written file start bytes) file offset (λ count. offset)
-acted (op.Lseek at) (call.Lseek descriptor to whence) number file offset = sought (offset_of (pos (base_of whence offset (length file)) +ℤ to)) file offset
-acted (op.Ftruncate size) c number file offset = replied reply.Done (resized file size) offset
-acted (op.Fstat links) c number file offset = replied (reply.Stat kind.File (length file) links) file offset
-acted _ c number file offset = replied reply.Done file offset
+    if length bytes == 0 then replied (reply.Count 0) (File file) offset else wrote (written file start bytes) file offset (λ count. start + count)
+write_acted t node to bytes (Pipe waiting) offset = has_written to Pipe (Pipe waiting) offset (length bytes) (stream_write waiting bytes (is_open t node part.Read))
+write_acted t node to bytes (Pair p) offset =
+    let side = side_of to.«end» in
+    has_written to (λ left. Pair (with_waiting p (peer_of side) left)) (Pair p) offset (length bytes) (pair_write p side bytes (is_open t node (part.Socket (peer_of side))))
+
+-- with the numbers that were given
+abbrev pub acted : TableState → ℕ → Op → Call → NewNumbers → Content → ℕ → Acted
+acted t node (op.Open cut) c given content offset = replied (numbers_reply given) (if cut then File [] else content) offset
+acted t node op.Release (call.Dup2 descriptor target) given content offset = replied (reply.Number target) content offset
+acted t node op.Release _ given content offset = replied reply.Done content offset
+acted t node (op.Read from count) c given content offset = read_acted t node from count content offset
+acted t node (op.Write to) (call.Write descriptor bytes) given content offset = write_acted t node to bytes content offset
+acted t node (op.Pread count position) c given (File file) offset = replied (reply.Data (bytes_at file position count)) (File file) offset
+acted t node (op.Pwrite start) (call.Pwrite descriptor bytes position) given (File file) offset =
+    if length bytes == 0 then replied (reply.Count 0) (File file) offset else wrote (written file start bytes) file offset (λ count. offset)
+acted t node (op.Lseek at) (call.Lseek descriptor to whence) given (File file) offset = sought (offset_of (pos (base_of whence offset (length file)) +ℤ to)) file offset
+acted t node (op.Ftruncate size) c given (File file) offset = replied reply.Done (File (resized file size)) offset
+acted t node (op.Fstat links) c given (File file) offset = replied (reply.Stat kind.File (length file) links) (File file) offset
+acted t node op.Pipe c given content offset = replied (numbers_reply given) (Pipe []) offset
+acted t node op.Socketpair c given content offset = replied (numbers_reply given) (Pair new_pair) offset
+acted t node (op.Shutdown side how) c given (Pair p) offset = replied reply.Done (Pair (shut p side how)) offset
+acted t node _ c given content offset = replied reply.Done content offset
 
 abbrev pub offset_at : State → ℕ → Option ℕ
 offset_at s birth = option_map (λ (d : posix.Description). d.offset) (map.get s.descriptions birth)
@@ -73,24 +131,31 @@ StandsAt t s (op.Write to) offset = offset_at s (birth_of t to.key) ≡ Some off
 StandsAt t s (op.Lseek at) offset = offset_at s (birth_of t at.key) ≡ Some offset
 StandsAt t s _ offset = Unit {0}
 
--- what is there under a birth, if anything, is this file
-abbrev pub HoldsFile : State → ℕ → List ℕ → Type 0
-HoldsFile s birth file = (content : Content) → map.get s.objects birth ≡ Some content → content ≡ File file
+-- the object of a birth, if it is there, holds this
+abbrev pub Holds : State → ℕ → Content → Type 0
+Holds s birth content = (other : Content) → map.get s.objects birth ≡ Some other → other ≡ content
 
--- the step answers as the act does, and leaves the bytes and the offset that the act leaves
-pub record IsActed (t : TableState) (node : ℕ) (act : Op) (done : Acted) (stepped : Stepped) : Type 0 where
-  pub answer_is : stepped.answer ≡ answer.Reply done.reply
-  pub file_is : HoldsFile stepped.after (birth_at t node) done.bytes
+-- the answer of a turn that ends so, and what is carried on from it
+abbrev pub ended : Settings → State → Carried → Ending → Answer × Carried
+ended settings s carried (Replies r) = (answer.Reply r, nothing_carried)
+ended settings s carried Waits = let stepped = waited settings s carried in (stepped.answer, stepped.carried)
+
+-- the step answers as the act ends, and leaves the content and the offset that the act leaves
+pub record IsActed (t : TableState) (node : ℕ) (act : Op) (done : Acted) (answered : Answer × Carried) (stepped : Stepped) : Type 0 where
+  pub answer_is : stepped.answer ≡ answered.0
+  pub carried_is : stepped.carried ≡ answered.1
+  pub content_is : Holds stepped.after (birth_at t node) done.content
   pub offset_is : StandsAt t stepped.after act done.offset
 
--- an act on the file of the plan, at the offset of its description, does what the step does
+-- an act on the object of the plan, at the offset of its description, does what the step does
 abbrev pub ActsAsStep : TableState → Call → Plan → Type 0
 ActsAsStep t c (plan.Reply r) = Unit {0}
 ActsAsStep t c (plan.Node node act keep_table) =
-    (settings : Settings) (s : State) (outcome : Option Outcome) (carried : Carried) (file : List ℕ) (offset : ℕ)
-    → Shows t s → content_of s (birth_at t node) ≡ File file → StandsAt t s act offset
+    (settings : Settings) (s : State) (outcome : Option Outcome) (carried : Carried) (content : Content) (offset : ℕ)
+    → Shows t s → content_of s (birth_at t node) ≡ content → StandsAt t s act offset
     → let stepped = step settings s c outcome carried in
-    IsActed t node act (acted act c (number_told c stepped.answer) file offset) stepped
+    let done : Acted = acted t node act c (numbers_told c stepped.answer) content offset in
+    IsActed t node act done (ended settings s carried done.ending) stepped
 
 -- ## What stays
 
@@ -112,8 +177,8 @@ IsStill t (plan.Node node act keep_table) birth = IsUnmoved t act birth
 
 -- another object that is still there holds what it held, and another description stands where it stood, or it is new and stands at 0
 pub record OthersStay (t : TableState) (p : Plan) (s after : State) : Type 0 where
-  pub files : (birth : ℕ) (content : Content) → IsOther t p birth → map.get after.objects birth ≡ Some content → map.get s.objects birth ≡ Some content
-  pub offsets : (birth offset : ℕ) → IsStill t p birth → offset_at after birth ≡ Some offset → (offset_at s birth ≡ Some offset) ⊎ ((birth ≡ s.next_description) × (offset ≡ 0))
+  pub contents : (birth : ℕ) (content : Content) → IsOther t p birth → map.get after.objects birth ≡ Some content → map.get s.objects birth ≡ Some content
+  pub offsets : (birth offset : ℕ) → IsStill t p birth → offset_at after birth ≡ Some offset → (offset_at s birth ≡ Some offset) ⊎ ((s.next_description ≤ birth) × (offset ≡ 0))
 
 abbrev pub StaysAsStep : TableState → Call → Plan → Type 0
 StaysAsStep t c p = (settings : Settings) (s : State) (outcome : Option Outcome) (carried : Carried) → Shows t s → OthersStay t p s (step settings s c outcome carried).after

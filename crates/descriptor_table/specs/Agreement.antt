@@ -1,5 +1,5 @@
 -- That a plan and its change are what the sequential object does.
-use Rattle.std.specs.Prelude.{◌≡◌, ◌⊎◌, ◌≤◌, ◌+◌, slice_index_or, ℕ, ℤ, List, Option, Some, None, Result, Ok, Err}
+use Rattle.std.specs.Prelude.{◌≡◌, ◌⊎◌, ◌≤◌, ◌+◌, slice_index_or, ℕ, List, Option, Some, None, Result, Ok, Err}
 use Rattle.std.specs.FinMap as map
 use Rattle.file_descriptions.specs.declared.description.Description.{Description}
 use Rattle.posix_terms.specs.Locked.{locked_object}
@@ -19,6 +19,8 @@ use Rattle.descriptor_table.specs.Changes.{Opening, opening}
 use Rattle.descriptor_table.specs.Plans.{open_plan}
 use Rattle.descriptor_table.specs.Shows.{Shows, birth_at}
 use Rattle.descriptor_table.specs.Table.{TableState, free_object}
+use Rattle.descriptor_table.specs.declared.plan.NewNumbers.{NewNumbers}
+use Rattle.descriptor_table.specs.declared.plan.NewNumbers.TheVariants as numbers
 use Rattle.descriptor_table.specs.declared.plan.Plan.{Plan}
 use Rattle.descriptor_table.specs.declared.plan.Plan.TheVariants as plan
 
@@ -46,7 +48,7 @@ AgreesOn t (plan.Node node act keep_table) object answered = object ≡ Some (bi
 
 -- whatever the objects hold and wherever the offsets are
 abbrev pub PlansAsStep : TableState → Call → Plan → Type 0
-PlansAsStep t c p = (settings : Settings) (s : State) (outcome : Option Outcome) (carried : Carried) → Shows t s → AgreesOn t p (locked_object s c) (step settings s c outcome carried).answer
+PlansAsStep t c p = (settings : Settings) (s : State) (outcome : Option Outcome) (carried : Carried) → Shows t s → AgreesOn t p (locked_object s c carried) (step settings s c outcome carried).answer
 
 -- ## Change and step
 
@@ -54,13 +56,15 @@ PlansAsStep t c p = (settings : Settings) (s : State) (outcome : Option Outcome)
 abbrev pub ChangesAsStep : TableState → Call → TableState → Type 0
 ChangesAsStep t c after = (settings : Settings) (s : State) (outcome : Option Outcome) (carried : Carried) → Shows t s → Shows after (step settings s c outcome carried).after
 
--- the number that an `open` answers
-abbrev pub number_told : Call → Answer → Option ℤ
-number_told (call.Open path access flags) (answer.Reply (reply.Number n)) = Some n
-number_told _ _ = None
+-- the numbers that a call answers which opens descriptors
+abbrev pub numbers_told : Call → Answer → NewNumbers
+numbers_told (call.Open path access flags) (answer.Reply (reply.Number n)) = numbers.One n
+numbers_told call.Pipe (answer.Reply (reply.Pair first second)) = numbers.Two first second
+numbers_told call.Socketpair (answer.Reply (reply.Pair first second)) = numbers.Two first second
+numbers_told _ _ = numbers.None
 
-abbrev pub TellsAsStep : TableState → Call → Option ℤ → Type 0
-TellsAsStep t c number = (settings : Settings) (s : State) (outcome : Option Outcome) (carried : Carried) → Shows t s → number ≡ number_told c (step settings s c outcome carried).answer
+abbrev pub TellsAsStep : TableState → Call → NewNumbers → Type 0
+TellsAsStep t c given = (settings : Settings) (s : State) (outcome : Option Outcome) (carried : Carried) → Shows t s → given ≡ numbers_told c (step settings s c outcome carried).answer
 
 -- ## Numbers and births
 
@@ -72,12 +76,12 @@ pub record IsBorn (t after : TableState) : Type 0 where
   pub others : (other birth : ℕ) → slice_index_or t.objects other None ≡ Some birth → slice_index_or after.objects other None ≡ Some birth
   pub made : after.made_objects ≡ t.made_objects + 1
 
--- a number that an object has was its own before, or was the next free one and the object is new; and a call makes one object and one description at most
+-- a number that an object has was its own before, or was the next free one and the object is new; and a call makes one object and two descriptions at most
 pub record NumbersStay (t after : TableState) : Type 0 where
   pub numbers : (node birth : ℕ) → slice_index_or after.objects node None ≡ Some birth → (slice_index_or t.objects node None ≡ Some birth) ⊎ ((free_object t ≡ Some node) × (birth ≡ t.made_objects))
   pub objects : after.made_objects ≤ t.made_objects + 1
   pub born : (after.made_objects ≡ t.made_objects) ⊎ IsBorn t after
-  pub descriptions : after.descriptions.made ≤ t.descriptions.made + 1
+  pub descriptions : after.descriptions.made ≤ t.descriptions.made + 2
 
 -- ## Offsets
 
@@ -85,4 +89,4 @@ pub record NumbersStay (t after : TableState) : Type 0 where
 abbrev pub OffsetsStay : TableState → TableState → Type 0
 OffsetsStay t after =
     (key : ℕ) (d : Description) → map.get after.descriptions.by_key key ≡ Some d
-    → ((e : Description) × (map.get t.descriptions.by_key key ≡ Some e) × (e.birth ≡ d.birth) × (e.offset ≡ d.offset)) ⊎ ((d.birth ≡ t.descriptions.made) × (d.offset ≡ 0))
+    → ((e : Description) × (map.get t.descriptions.by_key key ≡ Some e) × (e.birth ≡ d.birth) × (e.offset ≡ d.offset)) ⊎ ((t.descriptions.made ≤ d.birth) × (d.offset ≡ 0))

@@ -7,19 +7,24 @@ use Rattle.posix_terms.specs.Names.{PathMap, added, file_named, removed, removed
 use Rattle.posix_terms.specs.Object.{Node, FileNode, Directory}
 use Rattle.posix_terms.specs.Refusals.{◌>>=◌, some_or}
 use Rattle.posix_terms.specs.declared.call.Access.{Access}
+use Rattle.posix_terms.specs.declared.call.Access.TheVariants.{ReadOnly, WriteOnly, ReadWrite}
 use Rattle.posix_terms.specs.declared.call.Call.{Call}
 use Rattle.posix_terms.specs.declared.call.Call.TheVariants as call
 use Rattle.posix_terms.specs.declared.call.OpenFlags.{OpenFlags}
 use Rattle.posix_terms.specs.declared.errno.Errno.{Errno}
-use Rattle.posix_terms.specs.declared.errno.Errno.TheVariants.{EBADF, EINVAL, EISDIR, EMFILE, ENOSPC}
+use Rattle.posix_terms.specs.declared.errno.Errno.TheVariants.{EBADF, EINVAL, EISDIR, EMFILE, ENFILE, ENOSPC}
 use Rattle.posix_terms.specs.declared.reply.Reply.{Reply}
 use Rattle.posix_terms.specs.declared.reply.Reply.TheVariants as reply
 use Rattle.directories.specs.Lookup.{looked_up}
 use Rattle.file_descriptions.specs.Descriptions.{description_at, is_last_held, new_description, with_flags, with_holder, with_new, without_holder}
 use Rattle.file_descriptions.specs.declared.description.Description.{Description}
-use Rattle.file_descriptions.specs.declared.description.End.TheVariants as part
+use Rattle.posix_terms.specs.declared.object.End.{End}
+use Rattle.posix_terms.specs.declared.object.End.TheVariants as part
+use Rattle.posix_terms.specs.declared.object.Side.TheVariants.{Side0, Side1}
 use Rattle.file_descriptions.specs.declared.description.StatusFlags.{StatusFlags}
-use Rattle.descriptor_table.specs.Table.{TableState, described, free_object, is_gone, lowest_free}
+use Rattle.descriptor_table.specs.Table.{TableState, described, free_object, is_gone, lowest_free, two_numbers}
+use Rattle.descriptor_table.specs.declared.plan.NewNumbers.{NewNumbers}
+use Rattle.descriptor_table.specs.declared.plan.NewNumbers.TheVariants as numbers
 use Rattle.descriptor_table.specs.declared.plan.Plan.{Plan}
 use Rattle.descriptor_table.specs.declared.plan.Plan.TheVariants as plan
 
@@ -144,12 +149,12 @@ opening t path = do
   file ← found_or_made t path
   Ok (record { number = n; node = file.1; ready = file.0 })
 
--- number n refers to a new description, under this key
-abbrev pub opened : TableState → ℕ → ℕ → ℕ → Access → StatusFlags → TableState
-opened t n key node access flags =
+-- number n refers to a new description of an end of an object, under this key
+abbrev pub opened : TableState → ℕ → ℕ → ℕ → End → Access → StatusFlags → TableState
+opened t n key node which access flags =
     record t {
       descriptors = slice_set t.descriptors n (Some key);
-      descriptions = with_new t.descriptions key (new_description node part.Only access flags t.descriptions.made);
+      descriptions = with_new t.descriptions key (new_description node which access flags t.descriptions.made);
     }
 
 abbrev pub status_flags : OpenFlags → StatusFlags
@@ -158,12 +163,46 @@ status_flags flags = record { append = flags.append; nonblock = flags.nonblock }
 -- The new description may have any key that is free
 abbrev pub IsOpened : TableState → Access → OpenFlags → Result Opening Errno → TableState → Type 0
 IsOpened t access flags (Ok o) after =
-    (key : ℕ) × (map.get t.descriptions.by_key key ≡ None) × (after ≡ opened o.ready o.number key o.node access (status_flags flags))
+    (key : ℕ) × (map.get t.descriptions.by_key key ≡ None) × (after ≡ opened o.ready o.number key o.node part.Only access (status_flags flags))
 IsOpened t access flags (Err e) after = after ≡ t
 
-abbrev pub opened_number : Result Opening Errno → Option ℤ
-opened_number (Ok o) = Some (pos o.number)
-opened_number (Err e) = None
+abbrev pub opened_number : Result Opening Errno → NewNumbers
+opened_number (Ok o) = numbers.One (pos o.number)
+opened_number (Err e) = numbers.None
+
+-- ## Opening both ends of a new object
+
+-- a new object that no path names
+abbrev pub with_object : TableState → ℕ → TableState
+with_object t node = record t { objects = slice_set t.objects node (Some t.made_objects); made_objects = t.made_objects + 1 }
+
+-- two descriptors that are about to be opened, and their object
+pub record TwoEnds : Type 0 where
+  pub first : ℕ
+  pub second : ℕ
+  pub node : ℕ
+
+unfoldable pub two_ends : TableState → Result TwoEnds Errno
+two_ends t = do
+  two ← two_numbers t
+  node ← some_or (free_object t) ENFILE
+  Ok (record { first = two.0; second = two.1; node = node })
+
+-- both flags are clear
+abbrev pub no_flags : StatusFlags
+no_flags = record { append = false; nonblock = false }
+
+-- Each new description may have any key that is free
+abbrev pub AreOpened : TableState → End × Access → End × Access → Result TwoEnds Errno → TableState → Type 0
+AreOpened t one other (Ok two) after =
+    (key : ℕ) × (map.get t.descriptions.by_key key ≡ None)
+    × (let between = opened (with_object t two.node) two.first key two.node one.0 one.1 no_flags in
+    (next : ℕ) × (map.get between.descriptions.by_key next ≡ None) × (after ≡ opened between two.second next two.node other.0 other.1 no_flags))
+AreOpened t one other (Err e) after = after ≡ t
+
+abbrev pub two_given : Result TwoEnds Errno → NewNumbers
+two_given (Ok two) = numbers.Two (pos two.first) (pos two.second)
+two_given (Err e) = numbers.None
 
 -- ## All calls
 
@@ -179,12 +218,16 @@ Changes t (call.Link old_path new_path) after = after ≡ kept_or t (link_change
 Changes t (call.Unlink path) after = after ≡ kept_or t (unlink_change t path)
 Changes t (call.Mkdir path) after = after ≡ kept_or t (mkdir_change t path)
 Changes t (call.Rmdir path) after = after ≡ kept_or t (rmdir_change t path)
+Changes t call.Pipe after = AreOpened t (part.Read, ReadOnly) (part.Write, WriteOnly) (two_ends t) after
+Changes t call.Socketpair after = AreOpened t (part.Socket Side0, ReadWrite) (part.Socket Side1, ReadWrite) (two_ends t) after
 Changes t _ after = after ≡ t
 
--- the number that a call gives a new descriptor when it is applied
-abbrev pub number_given : TableState → Call → Option ℤ
-number_given t (call.Open path access flags) = opened_number (opening t path)
-number_given t _ = None
+-- the numbers that a call gives new descriptors when it is applied
+abbrev pub numbers_given : TableState → Call → NewNumbers
+numbers_given t (call.Open path access flags) = opened_number (opening t path)
+numbers_given t call.Pipe = two_given (two_ends t)
+numbers_given t call.Socketpair = two_given (two_ends t)
+numbers_given t _ = numbers.None
 
 abbrev pub is_failure : Reply → Bool
 is_failure (reply.Fail e) = true

@@ -1,9 +1,10 @@
 -- What the table alone makes of each call: its reply, or which object's lock the call takes and what it does there.
-use Rattle.std.specs.Prelude.{◌≤◌, ◌≡◌, ◌<◌, ◌⊎◌, ℕ, ◌+◌, ℤ, pos, List, length, true, false, not, ◌&&◌, ◌==◌, nat_lt, nat_le, Option, Some, None, is_some, Result, Ok, Err, if◌then◌else◌}
+use Rattle.std.specs.Prelude.{◌≤◌, ◌≡◌, ◌<◌, ◌⊎◌, ℕ, ◌+◌, ℤ, pos, List, [], length, true, false, not, ◌&&◌, ◌==◌, nat_lt, nat_le, Option, Some, None, is_some, Result, Ok, Err, if◌then◌else◌}
 use Rattle.std.specs.FinMap as map
 use Rattle.std.specs.Ordering.{int_eq}
 use Rattle.posix_terms.specs.Calls.{can_read, can_write}
 use Rattle.posix_terms.specs.Duplicates.{descriptor_number}
+use Rattle.posix_terms.specs.Ends.{is_end}
 use Rattle.posix_terms.specs.Names.{PathMap, file_named, links_of, removed_dir}
 use Rattle.posix_terms.specs.Object.{Node, FileNode, Directory}
 use Rattle.posix_terms.specs.Paths.{node_at, resolved}
@@ -14,14 +15,20 @@ use Rattle.posix_terms.specs.declared.call.Access.{Access}
 use Rattle.posix_terms.specs.declared.call.Call.{Call}
 use Rattle.posix_terms.specs.declared.call.Call.TheVariants as call
 use Rattle.posix_terms.specs.declared.call.OpenFlags.{OpenFlags}
+use Rattle.posix_terms.specs.declared.call.ShutdownHow.{ShutdownHow}
 use Rattle.posix_terms.specs.declared.errno.Errno.{Errno}
-use Rattle.posix_terms.specs.declared.errno.Errno.TheVariants.{EBADF, EINVAL, EEXIST, EISDIR, EMFILE, ENOENT, ENOSPC}
+use Rattle.posix_terms.specs.declared.errno.Errno.TheVariants.{EBADF, EINVAL, EEXIST, EISDIR, EMFILE, ENFILE, ENOENT, ENOSPC, ENOTSOCK, ESPIPE}
 use Rattle.posix_terms.specs.declared.limits.TheConstants.Limits as limit
+use Rattle.posix_terms.specs.declared.object.End.{End}
+use Rattle.posix_terms.specs.declared.object.End.TheVariants as part
+use Rattle.posix_terms.specs.declared.object.Side.{Side}
+use Rattle.posix_terms.specs.declared.reply.ObjectKind.{ObjectKind}
+use Rattle.posix_terms.specs.declared.reply.ObjectKind.TheVariants as kind
 use Rattle.posix_terms.specs.declared.reply.Reply.{Reply}
 use Rattle.posix_terms.specs.declared.reply.Reply.TheVariants as reply
 use Rattle.file_descriptions.specs.Descriptions.{ContainsKey}
 use Rattle.file_descriptions.specs.declared.description.Description.{Description}
-use Rattle.descriptor_table.specs.Table.{TableState, described, free_object, is_last_name, is_used, lowest_free}
+use Rattle.descriptor_table.specs.Table.{TableState, described, free_object, is_last_name, is_used, lowest_free, two_numbers}
 use Rattle.descriptor_table.specs.declared.plan.Op.{Op}
 use Rattle.descriptor_table.specs.declared.plan.Op.TheVariants as op
 use Rattle.descriptor_table.specs.declared.plan.Opened.{Opened}
@@ -34,6 +41,14 @@ locks node act = plan.Node node act false
 
 abbrev pub seen : ℕ → Description → Opened
 seen key d = record { key = key; «end» = d.«end»; flags = d.flags }
+
+-- a call that only a file takes
+abbrev pub of_file : Description → Errno → Result (Unit {0}) Errno
+of_file d e = refuse_if (not (is_end d.«end» part.Only)) e
+
+-- a call that moves so many bytes: of a stream none are moved without a lock, and then this is its reply
+abbrev pub moves : Description → ℕ → Reply → Op → Plan
+moves d count none act = if (count == 0) && not (is_end d.«end» part.Only) then plan.Reply none else locks d.node act
 
 -- one descriptor less refers to a description: its object is locked where that was the last one
 abbrev pub release : Description → Reply → Plan
@@ -77,18 +92,19 @@ read_plan t descriptor count = do
   found ← described t descriptor
   _ ← refuse_if (not (can_read found.1.access)) EBADF
   n ← count_of count
-  Ok (locks found.1.node (op.Read (seen found.0 found.1) n))
+  Ok (moves found.1 n (reply.Data []) (op.Read (seen found.0 found.1) n))
 
 unfoldable pub write_plan : TableState → ℤ → ℕ → Result Plan Errno
 write_plan t descriptor count = do
   found ← described t descriptor
   _ ← refuse_if (not (can_write found.1.access)) EBADF
   _ ← refuse_if (nat_lt limit.COUNT count) EINVAL
-  Ok (locks found.1.node (op.Write (seen found.0 found.1)))
+  Ok (moves found.1 count (reply.Count 0) (op.Write (seen found.0 found.1)))
 
 unfoldable pub pread_plan : TableState → ℤ → ℤ → ℤ → Result Plan Errno
 pread_plan t descriptor count position = do
   found ← described t descriptor
+  _ ← of_file found.1 ESPIPE
   _ ← refuse_if (not (can_read found.1.access)) EBADF
   n ← count_of count
   start ← position_of position
@@ -97,6 +113,7 @@ pread_plan t descriptor count position = do
 unfoldable pub pwrite_plan : TableState → ℤ → ℕ → ℤ → Result Plan Errno
 pwrite_plan t descriptor count position = do
   found ← described t descriptor
+  _ ← of_file found.1 ESPIPE
   _ ← refuse_if (not (can_write found.1.access)) EBADF
   _ ← refuse_if (nat_lt limit.COUNT count) EINVAL
   start ← position_of position
@@ -105,19 +122,33 @@ pwrite_plan t descriptor count position = do
 unfoldable pub lseek_plan : TableState → ℤ → Result Plan Errno
 lseek_plan t descriptor = do
   found ← described t descriptor
+  _ ← of_file found.1 ESPIPE
   Ok (locks found.1.node (op.Lseek (seen found.0 found.1)))
 
 unfoldable pub ftruncate_plan : TableState → ℤ → ℤ → Result Plan Errno
 ftruncate_plan t descriptor size = do
   found ← described t descriptor
   _ ← refuse_if (not (can_write found.1.access)) EINVAL
+  _ ← of_file found.1 EINVAL
   n ← size_of size
   Ok (locks found.1.node (op.Ftruncate n))
+
+-- what the stream is whose end this is; the end of a file is of none
+abbrev pub stream_kind : End → Option ObjectKind
+stream_kind part.Only = None
+stream_kind part.Read = Some kind.Pipe
+stream_kind part.Write = Some kind.Pipe
+stream_kind (part.Socket side) = Some kind.SocketPair
+
+-- of a file, with so many names, its length is told under its lock
+abbrev pub stat_plan : Description → ℕ → Option ObjectKind → Plan
+stat_plan d links None = locks d.node (op.Fstat links)
+stat_plan d links (Some k) = plan.Reply (reply.Stat k 0 0)
 
 unfoldable pub fstat_plan : TableState → ℤ → Result Plan Errno
 fstat_plan t descriptor = do
   found ← described t descriptor
-  Ok (locks found.1.node (op.Fstat (links_of t.paths found.1.node)))
+  Ok (stat_plan found.1 (links_of t.paths found.1.node) (stream_kind found.1.«end»))
 
 unfoldable pub dup_plan : TableState → ℤ → Result Plan Errno
 dup_plan t descriptor = do
@@ -186,6 +217,24 @@ rmdir_plan t path = do
   _ ← removed_dir t.paths path
   Ok (plan.Reply reply.Done)
 
+-- `pipe` and `socketpair`
+abbrev pub two_ends_plan : TableState → Op → Result Plan Errno
+two_ends_plan t act = do
+  _ ← two_numbers t
+  node ← some_or (free_object t) ENFILE
+  Ok (locks node act)
+
+-- the side of a pair; another end is refused
+abbrev pub socket_side : End → Result Side Errno
+socket_side (part.Socket side) = Ok side
+socket_side e = Err ENOTSOCK
+
+unfoldable pub shutdown_plan : TableState → ℤ → ShutdownHow → Result Plan Errno
+shutdown_plan t descriptor how = do
+  found ← described t descriptor
+  side ← socket_side found.1.«end»
+  Ok (locks found.1.node (op.Shutdown side how))
+
 abbrev pub plan_of : TableState → Call → Result Plan Errno
 plan_of t (call.Open path access flags) = open_plan t path access flags
 plan_of t (call.Close descriptor) = close_plan t descriptor
@@ -205,6 +254,9 @@ plan_of t (call.Link old_path new_path) = link_plan t old_path new_path
 plan_of t (call.Unlink path) = unlink_plan t path
 plan_of t (call.Mkdir path) = mkdir_plan t path
 plan_of t (call.Rmdir path) = rmdir_plan t path
+plan_of t call.Pipe = two_ends_plan t op.Pipe
+plan_of t call.Socketpair = two_ends_plan t op.Socketpair
+plan_of t (call.Shutdown descriptor how) = shutdown_plan t descriptor how
 
 -- a call that is refused by the table is answered by it
 abbrev pub answered : Result Plan Errno → Plan

@@ -1,10 +1,13 @@
 -- What a table shows of the sequential object: all but what the objects hold, and but the offsets, which a call
 -- moves at its answer. The keys of the sequential object are the births of descriptions and of objects.
-use Rattle.std.specs.Prelude.{◌≡◌, ℕ, List, true, Some, None, is_some, unwrap_or, slice_index_or}
+use Rattle.std.specs.Prelude.{◌≡◌, ℕ, List, Bool, true, false, Some, None, is_some, unwrap_or, slice_index_or}
 use Rattle.std.specs.Option.{option_map}
 use Rattle.std.specs.FinMap as map
 use Rattle.posix_terms.specs.Object as posix
-use Rattle.posix_terms.specs.Object.{State, Node, FileNode, Directory}
+use Rattle.posix_terms.specs.Object.{State, Content, File, Pipe, Pair, Node, FileNode, Directory}
+use Rattle.posix_terms.specs.Transfers.{content_of}
+use Rattle.posix_terms.specs.declared.object.End.{End}
+use Rattle.posix_terms.specs.declared.object.End.TheVariants as part
 use Rattle.file_descriptions.specs.Descriptions.{description_at}
 use Rattle.file_descriptions.specs.declared.description.Description.{Description}
 use Rattle.descriptor_table.specs.Table.{TableState}
@@ -19,11 +22,19 @@ birth_of t key = let d : Description = description_at t.descriptions key in d.bi
 
 -- a description as the sequential object has it, at an offset
 abbrev pub shown : TableState → Description → ℕ → posix.Description
-shown t d offset = record { object = birth_at t d.node; access = d.access; offset = offset; append = d.flags.append; nonblock = d.flags.nonblock }
+shown t d offset = record { object = birth_at t d.node; «end» = d.«end»; access = d.access; offset = offset; append = d.flags.append; nonblock = d.flags.nonblock }
 
 abbrev pub shown_node : TableState → Node → Node
 shown_node t (FileNode node) = FileNode (birth_at t node)
 shown_node t Directory = Directory
+
+-- whether an object with this content has this end
+abbrev pub is_of : End → Content → Bool
+is_of part.Only (File bytes) = true
+is_of part.Read (Pipe bytes) = true
+is_of part.Write (Pipe bytes) = true
+is_of (part.Socket side) (Pair sockets) = true
+is_of which content = false
 
 pub record Shows (t : TableState) (s : State) : Type 0 where
   pub descriptors : (n : ℕ) → map.get s.descriptors n ≡ option_map (birth_of t) (slice_index_or t.descriptors n None)
@@ -34,5 +45,8 @@ pub record Shows (t : TableState) (s : State) : Type 0 where
   -- each object is there under its birth, and no other one
   pub objects : (node birth : ℕ) → slice_index_or t.objects node None ≡ Some birth → is_some (map.get s.objects birth) ≡ true
   pub numbered : (birth : ℕ) → is_some (map.get s.objects birth) ≡ true → (node : ℕ) × (slice_index_or t.objects node None ≡ Some birth)
+  -- each has the ends that its descriptions are of, and what a path names is a file
+  pub ends : (key : ℕ) (d : Description) → map.get t.descriptions.by_key key ≡ Some d → is_of d.«end» (content_of s (birth_at t d.node)) ≡ true
+  pub files : (path : List (List ℕ)) (node : ℕ) → map.get t.paths path ≡ Some (FileNode node) → is_of part.Only (content_of s (birth_at t node)) ≡ true
   pub next_description : s.next_description ≡ t.descriptions.made
   pub next_object : s.next_object ≡ t.made_objects

@@ -7,7 +7,7 @@ use Rattle.posix_terms.specs.Names.{PathMap, links_of}
 use Rattle.posix_terms.specs.Object.{FileNode}
 use Rattle.posix_terms.specs.Refusals.{◌>>=◌, some_or}
 use Rattle.posix_terms.specs.declared.errno.Errno.{Errno}
-use Rattle.posix_terms.specs.declared.errno.Errno.TheVariants.{EBADF}
+use Rattle.posix_terms.specs.declared.errno.Errno.TheVariants.{EBADF, EMFILE}
 use Rattle.posix_terms.specs.declared.limits.TheConstants.Limits as limit
 use Rattle.file_descriptions.specs.Descriptions.{DescriptionMap, no_descriptions, description_at, ends_of}
 use Rattle.file_descriptions.specs.declared.description.Description.{Description}
@@ -51,6 +51,13 @@ lowest_from slots (suc left) n = if is_some (slice_index_or slots n None) then l
 
 abbrev pub lowest_free : TableState → ℕ → Option ℕ
 lowest_free t from = lowest_from t.descriptors (limit.DESCRIPTORS - from) from
+
+-- the two least numbers that are not open
+abbrev pub two_numbers : TableState → Result (ℕ × ℕ) Errno
+two_numbers t = do
+  first ← some_or (lowest_free t 0) EMFILE
+  second ← some_or (lowest_free t (first + 1)) EMFILE
+  Ok (first, second)
 
 -- the number that a new object gets
 abbrev pub free_object : TableState → Option ℕ

@@ -1,29 +1,31 @@
 ghost use Rattle.std.specs.Prelude.{◌≡◌, ◌≢◌, ◌<◌, ◌^◌, ℤ, pos, IfOk, IfErr, Ok, Err, Some, None, IsTrue, true, false, if◌then◌else◌};
 ghost use Rattle.std.specs.FinMap as map;
-ghost use Rattle.descriptor_table.specs.Changes.{Changes, IsOpened, close_change, closed, closed_if_open, dup_change, dup_from_change, dup2_change, found_or_made, is_refused, kept_or, link_change, mkdir_change, number_given, opened_number, opening, shared, rmdir_change, setfl_change, unlink_change};
+ghost use Rattle.descriptor_table.specs.Changes.{Changes, IsOpened, close_change, closed, closed_if_open, dup_change, dup_from_change, dup2_change, found_or_made, AreOpened, is_refused, kept_or, link_change, mkdir_change, numbers_given, two_ends, two_given, opened_number, opening, shared, rmdir_change, setfl_change, unlink_change};
 ghost use Rattle.descriptor_table.specs.Agreement.{ChangesAsStep, NumbersStay, OffsetsStay, TellsAsStep};
 ghost use Rattle.descriptor_table.specs.Plans.{planned};
+ghost use Rattle.descriptor_table.specs.declared.plan.NewNumbers.TheVariants as numbers;
+ghost use Rattle.posix_terms.specs.declared.call.Call.TheVariants as calls;
 ghost use Rattle.descriptor_table.specs.Table.{described, is_used, key_at};
 
 use crate::numbers::descriptor_number;
-use crate::plan::Plan;
+use crate::plan::{NewNumbers, Plan};
 use crate::table::Table;
 use directories::Node;
 use file_descriptions::StatusFlags;
-use posix_terms::{Access, Call, Errno, Limits, OpenFlags, Outcome};
+use posix_terms::{Access, Call, End, Errno, Limits, OpenFlags, Outcome, Side};
 
 impl Table {
     /// Makes the change of a call that was planned: of descriptors, descriptions, names and objects. After
-    /// a refusal there is none. It gives the number of a new descriptor where the plan has not told it.
-    /// So the table goes on showing the sequential object after the call (`step`), and the number is that
+    /// a refusal there is none. It gives the numbers of new descriptors where the plan has not told them.
+    /// So the table goes on showing the sequential object after the call (`step`), and the numbers are those
     /// of its answer (`tells`). An object keeps its number while it is there, and a new one gets the next that
     /// is free (`numbers`). A description stands where it stood, and a new one at 0 (`offsets`).
-    pub fn apply(&mut self, call: &Call, plan: &Plan, _outcome: Option<&Outcome>) -> Option<i64>
+    pub fn apply(&mut self, call: &Call, plan: &Plan, _outcome: Option<&Outcome>) -> NewNumbers
         requires descriptions { self.old.descriptions.made < 2 ^ 127 }
         requires objects { self.old.made_objects < 2 ^ 127 }
-        ensures refused { IsTrue (is_refused plan.now) → (self.new ≡ self.old) × (result ≡ None) }
+        ensures refused { IsTrue (is_refused plan.now) → (self.new ≡ self.old) × (result ≡ numbers.None) }
         ensures changes { is_refused plan.now ≡ false → Changes self.old call.now self.new }
-        ensures number { is_refused plan.now ≡ false → result ≡ number_given self.old call.now }
+        ensures number { is_refused plan.now ≡ false → result ≡ numbers_given self.old call.now }
         ensures step { plan.now ≡ planned self.old call.now → ChangesAsStep self.old call.now self.new }
         ensures numbers { NumbersStay self.old self.new }
         ensures offsets { OffsetsStay self.old self.new }
@@ -31,16 +33,16 @@ impl Table {
     {
         self.known();
         if plan.is_refused() {
-            return None;
+            return NewNumbers::None;
         }
         self.change(call)
     }
 
-    fn change(&mut self, call: &Call) -> Option<i64>
+    fn change(&mut self, call: &Call) -> NewNumbers
         requires descriptions { self.old.descriptions.made < 2 ^ 127 }
         requires objects { self.old.made_objects < 2 ^ 127 }
         ensures changes { Changes self.old call.now self.new }
-        ensures number { result ≡ number_given self.old call.now }
+        ensures number { result ≡ numbers_given self.old call.now }
     {
         match call {
             Call::Open {
@@ -64,6 +66,8 @@ impl Table {
             Call::Unlink { path } => self.unlink(path.as_slice()),
             Call::Mkdir { path } => self.mkdir(path.as_slice()),
             Call::Rmdir { path } => self.rmdir(path.as_slice()),
+            Call::Pipe => return self.pipe(),
+            Call::Socketpair => return self.socketpair(),
             Call::Read { .. }
             | Call::Write { .. }
             | Call::Pread { .. }
@@ -71,28 +75,77 @@ impl Table {
             | Call::Lseek { .. }
             | Call::Ftruncate { .. }
             | Call::Fstat { .. }
-            | Call::Getfl { .. } => {}
+            | Call::Getfl { .. }
+            | Call::Shutdown { .. } => {}
         }
-        None
+        NewNumbers::None
     }
 
     #[tactic(auto, unfolding(crate::specs::Changes::opening))]
-    fn open(&mut self, path: &[u8], access: Access, flags: OpenFlags) -> Option<i64>
+    fn open(&mut self, path: &[u8], access: Access, flags: OpenFlags) -> NewNumbers
         requires descriptions { self.old.descriptions.made < 2 ^ 127 }
         requires objects { self.old.made_objects < 2 ^ 127 }
         ensures opened { IsOpened self.old access flags (opening self.old path.now) self.new }
         ensures number { result ≡ opened_number (opening self.old path.now) }
     {
-        let number = self.free_number(0)?;
+        let Some(number) = self.free_number(0) else {
+            return NewNumbers::None;
+        };
         let Ok(node) = self.find_or_make(path) else {
-            return None;
+            return NewNumbers::None;
         };
         let flags = StatusFlags {
             append: flags.append,
             nonblock: flags.nonblock,
         };
-        let _ = self.open_number(number, node, access, flags);
-        Some(number as i64)
+        let _ = self.open_number(number, node, End::Only, access, flags);
+        NewNumbers::One(number as i64)
+    }
+
+    fn pipe(&mut self) -> NewNumbers
+        requires descriptions { self.old.descriptions.made < 2 ^ 127 }
+        requires objects { self.old.made_objects < 2 ^ 127 }
+        ensures changes { Changes self.old calls.Pipe self.new }
+        ensures number { result ≡ numbers_given self.old calls.Pipe }
+    {
+        let read = (End::Read, Access::ReadOnly);
+        let write = (End::Write, Access::WriteOnly);
+        self.open_two(read, write)
+    }
+
+    fn socketpair(&mut self) -> NewNumbers
+        requires descriptions { self.old.descriptions.made < 2 ^ 127 }
+        requires objects { self.old.made_objects < 2 ^ 127 }
+        ensures changes { Changes self.old calls.Socketpair self.new }
+        ensures number { result ≡ numbers_given self.old calls.Socketpair }
+    {
+        let side0 = (End::Socket(Side::Side0), Access::ReadWrite);
+        let side1 = (End::Socket(Side::Side1), Access::ReadWrite);
+        self.open_two(side0, side1)
+    }
+
+    // A new object, to whose ends the two least numbers refer.
+    #[tactic(auto, unfolding(crate::specs::Changes::two_ends))]
+    fn open_two(&mut self, one: (End, Access), other: (End, Access)) -> NewNumbers
+        requires descriptions { self.old.descriptions.made < 2 ^ 127 }
+        requires objects { self.old.made_objects < 2 ^ 127 }
+        ensures opened { AreOpened self.old one other (two_ends self.old) self.new }
+        ensures numbers { result ≡ two_given (two_ends self.old) }
+    {
+        let Ok((first, second)) = self.free_two() else {
+            return NewNumbers::None;
+        };
+        let Some(node) = self.free_object() else {
+            return NewNumbers::None;
+        };
+        let flags = StatusFlags {
+            append: false,
+            nonblock: false,
+        };
+        self.make_object(node);
+        let _ = self.open_number(first, node, one.0, one.1, flags);
+        let _ = self.open_number(second, node, other.0, other.1, flags);
+        NewNumbers::Two(first as i64, second as i64)
     }
 
     // The file of a path, which is made if it is missing.

@@ -1,8 +1,8 @@
 ghost use Rattle.std.specs.Prelude.{◌≡◌};
 ghost use Rattle.descriptor_table.specs.Changes.{is_refused};
 
-use file_descriptions::{End, StatusFlags};
-use posix_terms::Reply;
+use file_descriptions::StatusFlags;
+use posix_terms::{End, Reply, ShutdownHow, Side};
 
 /// An open file description, as it is when the call is planned.
 #[derive(Clone, Copy, Debug, PartialEq, Eq)]
@@ -27,6 +27,19 @@ pub enum Op {
     Ftruncate { size: usize },
     /// The file has this many names when the call is planned.
     Fstat { links: usize },
+    /// A pipe is made, with nothing in it.
+    Pipe,
+    /// A pair of sockets is made, where nothing waits and nothing is shut.
+    Socketpair,
+    Shutdown { side: Side, how: ShutdownHow },
+}
+
+/// The numbers of the descriptors that a call opened, where its plan has not told them.
+#[derive(Clone, Copy, Debug, PartialEq, Eq)]
+pub enum NewNumbers {
+    None,
+    One(i64),
+    Two(i64, i64),
 }
 
 /// What the table makes of a call.

@@ -3,24 +3,28 @@ ghost use Rattle.descriptor_table.specs.Acts.{ActsAsStep, StaysAsStep};
 ghost use Rattle.descriptor_table.specs.Agreement.{PlansAsStep};
 ghost use Rattle.descriptor_table.specs.Table.{is_used};
 ghost use Rattle.posix_terms.specs.Names.{file_named};
-ghost use Rattle.descriptor_table.specs.Plans.{LocksKnown, addable, open_plan, close_plan, read_plan, write_plan, pread_plan, pwrite_plan, lseek_plan, ftruncate_plan, fstat_plan, dup_plan, dup_from_plan, dup2_plan, status_number, getfl_plan, setfl_plan, link_plan, unlink_plan, mkdir_plan, rmdir_plan, plan_of, planned, locks, seen, release, open_there, open_new, open_node};
+ghost use Rattle.descriptor_table.specs.Plans.{LocksKnown, addable, open_plan, close_plan, read_plan, write_plan, pread_plan, pwrite_plan, lseek_plan, ftruncate_plan, fstat_plan, dup_plan, dup_from_plan, dup2_plan, status_number, getfl_plan, setfl_plan, shutdown_plan, stream_kind, two_ends_plan, link_plan, unlink_plan, mkdir_plan, rmdir_plan, plan_of, planned, locks, seen, release, open_there, open_new, open_node};
 ghost use Rattle.directories.specs.Entries.{node_of};
+ghost use Rattle.std.specs.Prelude.{not};
+ghost use Rattle.posix_terms.specs.Ends.{is_end};
+ghost use Rattle.posix_terms.specs.Refusals.{refuse_if};
+ghost use Rattle.posix_terms.specs.declared.object.End.TheVariants as part;
 
 use crate::numbers::{count_of, descriptor_number, position_of, size_of};
 use crate::plan::{Op, Opened, Plan};
 use crate::table::Table;
 use directories::Node;
 use file_descriptions::Description;
-use posix_terms::{Access, Call, Errno, Limits, OpenFlags, Reply};
+use posix_terms::{Access, Call, End, Errno, Limits, ObjectKind, OpenFlags, Reply, ShutdownHow};
 
 impl Table {
     /// What the table makes of a call: its reply, exactly where the call takes no object's lock. Otherwise
-    /// the object, and what the call does there with the description, the flags and the number of names
-    /// as they are now. That object is there, or it is the one that a new file becomes, and a description
-    /// whose offset the call reads or moves is there (`object`). The
-    /// reply and the object are those of the step of the sequential object, of which the table shows all
-    /// but bytes and offsets (`step`). What the call does with the file's bytes and the offset is what the
-    /// step does with them (`acts`), and the step leaves other files and other offsets as they are (`others`).
+    /// the object, and what the call does there with the description, its end, its flags and the number of
+    /// names as they are now. That object is there, or it is the one that the call makes, and a description
+    /// whose offset the call reads or moves is there (`object`). The reply and the object are those of the
+    /// step of the sequential object, of which the table shows all but contents and offsets (`step`). What
+    /// the call does with the object's content and the offset, and whether it has to wait, is what the step
+    /// does (`acts`), and the step leaves other objects and other offsets as they are (`others`).
     #[tactic(auto, using(crate::proofs::KnownLemmas::known))]
     pub fn plan(&self, call: &Call) -> Plan
         ensures plan { result ≡ planned self.now call.now }
@@ -76,6 +80,9 @@ impl Table {
             Call::Unlink { path } => self.plan_unlink(path.as_slice()),
             Call::Mkdir { path } => self.plan_mkdir(path.as_slice()),
             Call::Rmdir { path } => self.plan_rmdir(path.as_slice()),
+            Call::Pipe => self.plan_two_ends(Op::Pipe),
+            Call::Socketpair => self.plan_two_ends(Op::Socketpair),
+            Call::Shutdown { descriptor, how } => self.plan_shutdown(*descriptor, *how),
         }
     }
 
@@ -139,6 +146,9 @@ impl Table {
             return Err(Errno::EBADF);
         }
         let count = count_of(count)?;
+        if count == 0 && description.end != End::Only {
+            return Ok(Plan::Reply(Reply::Data(self.no_bytes())));
+        }
         let from = seen(key, &description);
         Ok(locks(description.node, Op::Read { from, count }))
     }
@@ -154,6 +164,9 @@ impl Table {
         if count > Limits::COUNT {
             return Err(Errno::EINVAL);
         }
+        if count == 0 && description.end != End::Only {
+            return Ok(Plan::Reply(Reply::Count(0)));
+        }
         let to = seen(key, &description);
         Ok(locks(description.node, Op::Write { to }))
     }
@@ -163,6 +176,7 @@ impl Table {
         ensures { result ≡ pread_plan self.now descriptor count position }
     {
         let (_, description) = self.described(descriptor)?;
+        check_file(&description, Errno::ESPIPE)?;
         if !description.access.can_read() {
             return Err(Errno::EBADF);
         }
@@ -176,6 +190,7 @@ impl Table {
         ensures { result ≡ pwrite_plan self.now descriptor count position }
     {
         let (_, description) = self.described(descriptor)?;
+        check_file(&description, Errno::ESPIPE)?;
         if !description.access.can_write() {
             return Err(Errno::EBADF);
         }
@@ -191,6 +206,7 @@ impl Table {
         ensures { result ≡ lseek_plan self.now descriptor }
     {
         let (key, description) = self.described(descriptor)?;
+        check_file(&description, Errno::ESPIPE)?;
         let at = seen(key, &description);
         Ok(locks(description.node, Op::Lseek { at }))
     }
@@ -203,6 +219,7 @@ impl Table {
         if !description.access.can_write() {
             return Err(Errno::EINVAL);
         }
+        check_file(&description, Errno::EINVAL)?;
         let size = size_of(size)?;
         Ok(locks(description.node, Op::Ftruncate { size }))
     }
@@ -212,8 +229,15 @@ impl Table {
         ensures { result ≡ fstat_plan self.now descriptor }
     {
         let (_, description) = self.described(descriptor)?;
-        let links = self.names().links(description.node);
-        Ok(locks(description.node, Op::Fstat { links }))
+        let Some(kind) = stream_kind(description.end) else {
+            let links = self.names().links(description.node);
+            return Ok(locks(description.node, Op::Fstat { links }));
+        };
+        Ok(Plan::Reply(Reply::Stat {
+            kind,
+            number: 0,
+            links: 0,
+        }))
     }
 
     #[tactic(auto, unfolding(crate::specs::Plans::dup_plan))]
@@ -302,6 +326,26 @@ impl Table {
         Ok(Plan::Reply(Reply::Done))
     }
 
+    // `pipe` and `socketpair`.
+    fn plan_two_ends(&self, op: Op) -> Result<Plan, Errno>
+        ensures { result ≡ two_ends_plan self.now op }
+    {
+        let _ = self.free_two()?;
+        let node = self.free_object().ok_or(Errno::ENFILE)?;
+        Ok(locks(node, op))
+    }
+
+    #[tactic(auto, unfolding(crate::specs::Plans::shutdown_plan))]
+    fn plan_shutdown(&self, descriptor: i64, how: ShutdownHow) -> Result<Plan, Errno>
+        ensures { result ≡ shutdown_plan self.now descriptor how }
+    {
+        let (_, description) = self.described(descriptor)?;
+        let End::Socket(side) = description.end else {
+            return Err(Errno::ENOTSOCK);
+        };
+        Ok(locks(description.node, Op::Shutdown { side, how }))
+    }
+
     // The file that a path names.
     #[tactic(auto, unfolding(posix_terms::specs::Names::file_named, directories::specs::Lookup::looked_up))]
     pub(crate) fn file_named(&self, path: &[u8]) -> Result<usize, Errno>
@@ -349,6 +393,28 @@ fn seen(key: usize, description: &Description) -> Opened
         key,
         end: description.end,
         flags: description.flags,
+    }
+}
+
+// A file is needed; another object is refused as the caller says.
+fn check_file(description: &Description, error: Errno) -> Result<(), Errno>
+    ensures { result ≡ refuse_if (not (is_end description.now.«end» part.Only)) error }
+{
+    if description.end == End::Only {
+        Ok(())
+    } else {
+        Err(error)
+    }
+}
+
+// What a stream in memory is; the end of a file is of none.
+fn stream_kind(end: End) -> Option<ObjectKind>
+    ensures { result ≡ stream_kind end }
+{
+    match end {
+        End::Only => None,
+        End::Read | End::Write => Some(ObjectKind::Pipe),
+        End::Socket(_) => Some(ObjectKind::SocketPair),
     }
 }
 

@@ -1,16 +1,16 @@
-ghost use Rattle.std.specs.Prelude.{◌≡◌, ◌<◌, ◌≤◌, pos, length, ◌^◌, option_map, slice_index_or, slice_set, true, IfOk, IfErr, IfSome, Some, None, Ok, Err, if◌then◌else◌};
+ghost use Rattle.std.specs.Prelude.{◌≡◌, ◌<◌, ◌≤◌, [], pos, length, ◌^◌, option_map, slice_index_or, slice_set, true, IfOk, IfErr, IfSome, Some, None, Ok, Err, if◌then◌else◌};
 ghost use Rattle.std.specs.FinMap as map;
 ghost use Rattle.file_descriptions.specs.Descriptions.{AreSound, ContainsKey, description_at, is_last_held, with_flags, with_offset, ends_of};
 ghost use Rattle.posix_terms.specs.Names.{added, file_named, removed, removed_dir};
 ghost use Rattle.descriptor_table.specs.Shows.{Shows};
 ghost use Rattle.posix_terms.specs.Object.{State, FileNode, empty_state, Directory as a_directory};
-ghost use Rattle.descriptor_table.specs.Changes.{file_at, let_go, opened, paths_or, shared, with_paths, without_gone};
-ghost use Rattle.descriptor_table.specs.Table.{IsSound, empty_table, key_at, described, lowest_free, free_object, is_closed, is_gone, is_last_name, is_used};
+ghost use Rattle.descriptor_table.specs.Changes.{file_at, let_go, opened, paths_or, shared, with_object, with_paths, without_gone};
+ghost use Rattle.descriptor_table.specs.Table.{IsSound, empty_table, key_at, described, lowest_free, free_object, is_closed, is_gone, is_last_name, is_used, two_numbers};
 
 use crate::slots::lowest_from;
 use directories::Names;
-use file_descriptions::{Description, Descriptions, End, StatusFlags};
-use posix_terms::{Access, Errno, Limits};
+use file_descriptions::{Description, Descriptions, StatusFlags};
+use posix_terms::{Access, Bytes, End, Errno, Limits};
 use std::alloc::{AllocError, Global};
 use std::marker::Model;
 
@@ -23,6 +23,7 @@ pub struct Table {
     names: Names,
     objects: [Option<u128>; Limits::OBJECTS],
     made_objects: u128,
+    alloc: Global,
 }
 
 impl Model for Table {
@@ -54,6 +55,7 @@ impl Table {
             names: Names::new(),
             objects: [None; Limits::OBJECTS],
             made_objects: 0,
+            alloc,
         })
     }
 
@@ -145,9 +147,29 @@ impl Table {
     pub(crate) fn free_number(&self, from: usize) -> Option<usize>
         ensures lowest { result ≡ lowest_free self.now from }
         ensures inside { IfSome result (λ n. n < Limits.DESCRIPTORS) }
+        ensures above { IfSome result (λ n. from ≤ n) }
         ensures free { IfSome result (λ n. key_at self.now (pos n) ≡ None) }
     {
         lowest_from(self.descriptors.as_slice(), from)
+    }
+
+    // The two least descriptor numbers that are not open.
+    #[tactic(auto, using(crate::proofs::SoundLemmas::sound))]
+    pub(crate) fn free_two(&self) -> Result<(usize, usize), Errno>
+        ensures two { result ≡ two_numbers self.now }
+        ensures inside { IfOk result (λ n. (n.0 < Limits.DESCRIPTORS) × (n.1 < Limits.DESCRIPTORS)) }
+        ensures free { IfOk result (λ n. (key_at self.now (pos n.0) ≡ None) × (key_at self.now (pos n.1) ≡ None) × (n.0 < n.1)) }
+    {
+        let first = self.free_number(0).ok_or(Errno::EMFILE)?;
+        let second = self.free_number(first + 1).ok_or(Errno::EMFILE)?;
+        Ok((first, second))
+    }
+
+    // No bytes, which takes no memory.
+    pub(crate) fn no_bytes(&self) -> Bytes
+        ensures { result ≡ [] }
+    {
+        Bytes::from_vec(Vec::new(self.alloc))
     }
 
     // The number that a new object gets.
@@ -199,25 +221,23 @@ impl Table {
         ended
     }
 
-    // A descriptor that is not open refers to a new description of a file; its key is given.
+    // A descriptor that is not open refers to a new description of an end of an object; its key is given.
     pub(crate) fn open_number(
         &mut self,
         number: usize,
         node: usize,
+        end: End,
         access: Access,
         flags: StatusFlags,
     ) -> usize
         requires inside { number < Limits.DESCRIPTORS }
         requires free { key_at self.old (pos number) ≡ None }
-        requires births { self.old.descriptions.made < 2 ^ 127 }
+        requires births { self.old.descriptions.made ≤ 2 ^ 127 }
         requires there { is_used self.old node ≡ true }
         ensures fresh { map.get self.old.descriptions.by_key result ≡ None }
-        ensures opened { self.new ≡ opened self.old number result node access flags }
+        ensures opened { self.new ≡ opened self.old number result node «end» access flags }
     {
-        let key = self
-            .descriptions
-            .make(node, End::Only, access, flags)
-            .unwrap();
+        let key = self.descriptions.make(node, end, access, flags).unwrap();
         self.descriptors[number] = Some(key);
         key
     }
@@ -257,6 +277,20 @@ impl Table {
         self.objects[node] = Some(self.made_objects);
         self.made_objects += 1;
         Ok(node)
+    }
+
+    // A new object that no path names.
+    #[tactic(auto, using(crate::proofs::SoundLemmas::sound))]
+    pub(crate) fn make_object(&mut self, node: usize)
+        requires births { self.old.made_objects < 2 ^ 127 }
+        requires free { slice_index_or self.old.objects node None ≡ None }
+        requires inside { node < Limits.OBJECTS }
+        ensures made { self.new ≡ with_object self.old node }
+        ensures there { is_used self.new node ≡ true }
+    {
+        let birth = self.made_objects;
+        self.objects[node] = Some(birth);
+        self.made_objects = birth + 1;
     }
 
     // Sets both flags of a description.

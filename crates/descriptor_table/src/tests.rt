@@ -1,5 +1,5 @@
-use crate::{Op, Plan, Table};
-use posix_terms::{Access, Bytes, Call, Errno, OpenFlags, Reply};
+use crate::{NewNumbers, Op, Plan, Table};
+use posix_terms::{Access, Bytes, Call, Errno, OpenFlags, Reply, ShutdownHow};
 use std::alloc::Global;
 use std::test::Fail;
 
@@ -11,18 +11,18 @@ const CREATE: OpenFlags = OpenFlags {
     nonblock: false,
 };
 
-// Plans a call and makes its change, and tells the plan and the new number.
-fn make(table: &mut Table, call: &Call) -> Result<(Plan, Option<i64>), Fail> {
+// Plans a call and makes its change, and tells the plan and the new numbers.
+fn make(table: &mut Table, call: &Call) -> Result<(Plan, NewNumbers), Fail> {
     let (descriptions, objects) = table.made();
     if descriptions >= 1_000 || objects >= 1_000 {
         return Err("too many")?;
     }
     let plan = table.plan(call);
-    let number = table.apply(call, &plan, None);
-    Ok((plan, number))
+    let numbers = table.apply(call, &plan, None);
+    Ok((plan, numbers))
 }
 
-fn open(alloc: Global, table: &mut Table, path: &[u8]) -> Result<(Plan, Option<i64>), Fail> {
+fn open(alloc: Global, table: &mut Table, path: &[u8]) -> Result<(Plan, NewNumbers), Fail> {
     let call = Call::Open {
         path: Bytes::from_slice(alloc, path)?,
         access: Access::ReadWrite,
@@ -65,15 +65,15 @@ fn an_object_ends_with_its_last_name_and_descriptor(rt: HostRuntime) -> Result<(
     let mut table = Table::new(rt.alloc())?;
     assert_eq!(rt;
         open(rt.alloc(), &mut table, b"/a")?,
-        (node(0, Op::Open { cut: true }), Some(0))
+        (node(0, Op::Open { cut: true }), NewNumbers::One(0))
     );
     assert_eq!(rt;
         open(rt.alloc(), &mut table, b"/b")?,
-        (node(1, Op::Open { cut: true }), Some(1))
+        (node(1, Op::Open { cut: true }), NewNumbers::One(1))
     );
     assert_eq!(rt;
         open(rt.alloc(), &mut table, b"/a")?,
-        (node(0, Op::Open { cut: false }), Some(2))
+        (node(0, Op::Open { cut: false }), NewNumbers::One(2))
     );
     assert_eq!(rt; table.ends(0), (2, 0));
     assert_eq!(rt;
@@ -86,7 +86,7 @@ fn an_object_ends_with_its_last_name_and_descriptor(rt: HostRuntime) -> Result<(
     }
     assert_eq!(rt;
         open(rt.alloc(), &mut table, b"/c")?,
-        (node(0, Op::Open { cut: true }), Some(0))
+        (node(0, Op::Open { cut: true }), NewNumbers::One(0))
     );
     assert_eq!(rt; table.made(), (4, 3));
     Ok(())
@@ -97,18 +97,21 @@ fn descriptors_share_a_description(rt: HostRuntime) -> Result<(), Fail> {
     let mut table = Table::new(rt.alloc())?;
     let _ = open(rt.alloc(), &mut table, b"/a")?;
     let dup = Call::Dup { descriptor: 0 };
-    assert_eq!(rt; make(&mut table, &dup)?, (number(1), None));
+    assert_eq!(rt; make(&mut table, &dup)?, (number(1), NewNumbers::None));
     let far = Call::DupFrom {
         descriptor: 0,
         least: 5,
     };
-    assert_eq!(rt; make(&mut table, &far)?, (number(5), None));
+    assert_eq!(rt; make(&mut table, &far)?, (number(5), NewNumbers::None));
     assert_eq!(rt; table.lowest_free(1), Some(2));
     let nothing = Call::Dup2 {
         descriptor: 9,
         target: 0,
     };
-    assert_eq!(rt; make(&mut table, &nothing)?, (fail(Errno::EBADF), None));
+    assert_eq!(rt;
+        make(&mut table, &nothing)?,
+        (fail(Errno::EBADF), NewNumbers::None)
+    );
     for descriptor in [0, 1] {
         let plan = make(&mut table, &Call::Close { descriptor })?.0;
         assert_eq!(rt; plan, Plan::Reply(Reply::Done));
@@ -136,11 +139,14 @@ fn a_write_has_at_most_32_767_bytes(rt: HostRuntime) -> Result<(), Fail> {
 fn there_are_at_most_32_descriptors(rt: HostRuntime) -> Result<(), Fail> {
     let mut table = Table::new(rt.alloc())?;
     for descriptor in 0..32 {
-        assert_eq!(rt; open(rt.alloc(), &mut table, b"/a")?.1, Some(descriptor));
+        assert_eq!(rt;
+            open(rt.alloc(), &mut table, b"/a")?.1,
+            NewNumbers::One(descriptor)
+        );
     }
     assert_eq!(rt;
         open(rt.alloc(), &mut table, b"/a")?,
-        (fail(Errno::EMFILE), None)
+        (fail(Errno::EMFILE), NewNumbers::None)
     );
     assert_eq!(rt; table.lowest_free(0), None);
     Ok(())
@@ -153,14 +159,14 @@ fn there_are_at_most_48_objects(rt: HostRuntime) -> Result<(), Fail> {
         let path = [b'a' + count / 10, b'0' + count % 10];
         assert_eq!(rt;
             open(rt.alloc(), &mut table, &path)?.1,
-            Some(0),
+            NewNumbers::One(0),
             "after {count}"
         );
         let _ = make(&mut table, &Call::Close { descriptor: 0 })?;
     }
     assert_eq!(rt;
         open(rt.alloc(), &mut table, b"/x")?,
-        (fail(Errno::ENOSPC), None)
+        (fail(Errno::ENOSPC), NewNumbers::None)
     );
     assert_eq!(rt;
         unlink(rt.alloc(), &mut table, b"/b3")?,
@@ -168,7 +174,32 @@ fn there_are_at_most_48_objects(rt: HostRuntime) -> Result<(), Fail> {
     );
     assert_eq!(rt;
         open(rt.alloc(), &mut table, b"/x")?,
-        (node(13, Op::Open { cut: true }), Some(0))
+        (node(13, Op::Open { cut: true }), NewNumbers::One(0))
     );
+    Ok(())
+}
+
+#[test]
+fn a_pipe_has_two_ends(rt: HostRuntime) -> Result<(), Fail> {
+    let mut table = Table::new(rt.alloc())?;
+    assert_eq!(rt;
+        make(&mut table, &Call::Pipe)?,
+        (node(0, Op::Pipe), NewNumbers::Two(0, 1))
+    );
+    assert_eq!(rt; table.ends(0), (1, 1));
+    let _ = make(&mut table, &Call::Close { descriptor: 0 })?;
+    assert_eq!(rt; table.ends(0), (0, 1));
+    Ok(())
+}
+
+#[test]
+fn a_file_is_no_socket(rt: HostRuntime) -> Result<(), Fail> {
+    let mut table = Table::new(rt.alloc())?;
+    let _ = open(rt.alloc(), &mut table, b"/a")?;
+    let shutdown = Call::Shutdown {
+        descriptor: 0,
+        how: ShutdownHow::Both,
+    };
+    assert_eq!(rt; make(&mut table, &shutdown)?.0, fail(Errno::ENOTSOCK));
     Ok(())
 }

@@ -3,8 +3,8 @@ use std::alloc::{AllocError, Global};
 
 const ABOUT: &str = "Deterministic record and replay of calls on one table of descriptors.
 
-Scripts of calls run against files in memory. The order of the calls comes from logical clocks
-alone, so a run prints the same each time, on every machine.";
+Scripts of calls run against files, pipes and pairs of sockets in memory. The order of the calls
+comes from logical clocks alone, so a run prints the same each time, on every machine.";
 
 const AFTER_HELP: &str = "Example:
   printf 'open /a rw create\\nwrite 0 x6869\\nlseek 0 0 set\\nread 0 9\\n' > hi.script
@@ -28,10 +28,11 @@ const PLAIN_ABOUT: &str = "Runs 1 to 8 scripts together and prints their transcr
 
 const PLAIN_LONG_ABOUT: &str = "Runs 1 to 8 scripts together and prints their transcripts.
 
-Each script is a thread, from 0 in the order given. All share one table of descriptors and the files in
-memory, and the thread whose logical clock is least has the turn; of two with the same clock, the one
-that was given first. A line is printed for each reply: thread, number of the row, with --turns the clock
-of the turn, call and reply. The first fault goes to standard error, on one line.
+Each script is a thread, from 0 in the order given. All share one table of descriptors and the files,
+pipes and pairs of sockets in memory, and the thread whose logical clock is least has the turn; of two
+with the same clock, the one that was given first. A line is printed for each reply: thread, number of
+the row, with --turns the clock of the turn, call and reply. The first fault goes to standard error, on
+one line.
 
 A script is ASCII text, one of these a line. Lines that are empty or start with # do nothing.
 
@@ -53,6 +54,9 @@ A script is ASCII text, one of these a line. Lines that are empty or start with 
   unlink PATH
   mkdir PATH
   rmdir PATH
+  pipe                          its reply: the end to read from and the end to write to
+  socketpair                    its reply: both sockets
+  shutdown NUM HOW              HOW is read, write or both
   work N                        adds 0 to 1000000 to the clock
   set rA NUM                    puts a number in a register
   add rA NUM                    adds to it, modulo 2^64
@@ -66,8 +70,9 @@ A script is ASCII text, one of these a line. Lines that are empty or start with 
 NUM is a decimal number of 64 bits, as -1, or a register r0 to r15. BYTES are x and hexadecimal digits,
 as x6869, or a register b0 to b3. PATH has no spaces. NAME has 1 to 14 lower-case letters or digits.
 Registers start at 0, and b0 to b3 empty. A reply sets r0: the count, the length of the data, the
-number, the length of fstat, 0 for done, or minus the code of the error. fstat sets r1 too, to the
-number of names; data go to b0. A thread also ends once it has executed 10000 lines.
+number, the first number of a pair, the length of fstat, 0 for done, or minus the code of the error.
+The second number of a pair, which pipe and socketpair give, goes to r1, and so does the number of names
+of fstat; data go to b0. A thread also ends once it has executed 10000 lines.
 
 The path /dev/stdin reads a script from standard input.";
 

@@ -1,5 +1,6 @@
 mod limits;
 mod refusals;
+mod streams;
 
 use crate::plain::plain_over;
 use crate::show::show_over;
@@ -37,7 +38,18 @@ fn run(
 
 // Whether scripts print this, with these replies in order. Where memory is wanted they may say so.
 fn print(alloc: Global, turns: bool, scripts: &[&[u8]], wanted: &str) -> io::Result<bool> {
-    let (status, output, errors) = run(alloc, DEFAULTS, turns, scripts)?;
+    print_with(alloc, DEFAULTS, turns, scripts, wanted)
+}
+
+// The same under these settings.
+fn print_with(
+    alloc: Global,
+    settings: Settings,
+    turns: bool,
+    scripts: &[&[u8]],
+    wanted: &str,
+) -> io::Result<bool> {
+    let (status, output, errors) = run(alloc, settings, turns, scripts)?;
     if status == 4 && errors.as_slice() == b"no memory\n".as_slice() {
         return Ok(output.is_empty());
     }

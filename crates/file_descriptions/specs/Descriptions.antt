@@ -9,8 +9,9 @@ use Rattle.posix_terms.specs.declared.call.Access.{Access}
 use Rattle.posix_terms.specs.declared.call.Access.TheVariants.{ReadOnly}
 use Rattle.posix_terms.specs.declared.limits.TheConstants.Limits as limit
 use Rattle.file_descriptions.specs.declared.description.Description.{Description}
-use Rattle.file_descriptions.specs.declared.description.End.{End}
-use Rattle.file_descriptions.specs.declared.description.End.TheVariants as part
+use Rattle.posix_terms.specs.declared.object.End.{End}
+use Rattle.posix_terms.specs.Ends.{is_first}
+use Rattle.posix_terms.specs.declared.object.End.TheVariants as part
 use Rattle.file_descriptions.specs.declared.description.StatusFlags.{StatusFlags}
 
 -- the descriptions by their keys, and how many were ever made
@@ -73,14 +74,6 @@ with_flags m key flags = with_description m key (record (description_at m key) {
 
 abbrev pub with_offset : DescriptionMap → ℕ → ℕ → DescriptionMap
 with_offset m key offset = with_description m key (record (description_at m key) { offset = offset })
-
--- the end that counts first: the only one, the read end of a pipe, side 0 of a pair
-abbrev pub is_first : End → Bool
-is_first part.Only = true
-is_first part.Read = true
-is_first part.Write = false
-is_first part.Side0 = true
-is_first part.Side1 = false
 
 abbrev pub has_first_end : ℕ → Description → Bool
 has_first_end node d = (d.node == node) && is_first d.«end»

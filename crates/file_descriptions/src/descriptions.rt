@@ -3,8 +3,8 @@ ghost use Rattle.std.specs.FinMap as map;
 ghost use Rattle.slab.specs.Slab.{Updates, ContainsKey as HasKey};
 ghost use Rattle.file_descriptions.specs.Descriptions.{no_descriptions, ContainsKey, description_at, new_description, with_description, with_new, without, with_holder, is_last_held, without_holder, with_flags, with_offset, ends_of, AreSound};
 
-use crate::description::{Description, End, StatusFlags};
-use posix_terms::{Access, Limits};
+use crate::description::{Description, StatusFlags};
+use posix_terms::{Access, End, Limits};
 use slab::Slab;
 use std::alloc::{AllocError, Global};
 use std::marker::Model;
@@ -55,7 +55,7 @@ impl Descriptions {
         access: Access,
         flags: StatusFlags,
     ) -> Option<usize>
-        requires { self.old.made < 2 ^ 127 }
+        requires { self.old.made ≤ 2 ^ 127 }
         ensures room { IsSome result ↔ (map.len self.old.by_key < Limits.DESCRIPTORS) }
         ensures free { IfSome result (λ key. map.get self.old.by_key key ≡ None) }
         ensures made { IfSome result (λ key. self.new ≡ with_new self.old key (new_description node end access flags self.old.made)) }

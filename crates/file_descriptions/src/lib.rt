@@ -6,5 +6,5 @@ mod descriptions;
 #[cfg(test)]
 mod tests;
 
-pub use description::{Description, End, StatusFlags};
+pub use description::{Description, StatusFlags};
 pub use descriptions::Descriptions;

@@ -1,5 +1,5 @@
-use crate::{Descriptions, End, StatusFlags};
-use posix_terms::Access;
+use crate::{Descriptions, StatusFlags};
+use posix_terms::{Access, End, Side};
 use std::test::Fail;
 
 const PLAIN: StatusFlags = StatusFlags {
@@ -55,8 +55,8 @@ fn ends_are_counted_for_each_object(rt: HostRuntime) -> Result<(), Fail> {
         (1, End::Read),
         (1, End::Write),
         (1, End::Write),
-        (2, End::Side0),
-        (2, End::Side1),
+        (2, End::Socket(Side::Side0)),
+        (2, End::Socket(Side::Side1)),
         (3, End::Only),
         (3, End::Only),
     ] {

@@ -1,17 +1,16 @@
 -- The laws for the real calls, as instances.
 use Rattle.std.proofs.Common.{None, refl}
-use Rattle.posix_terms.specs.Object.{empty_state}
 use Rattle.posix_terms.specs.Step.{nothing_carried}
 use Rattle.posix_terms.specs.declared.limits.TheConstants.Limits as limit
 use Rattle.lock_model.specs.Numbers.{first_world}
-use Rattle.lock_model.specs.RealLaws.{RealEnd, RealLegal, RealLegalOfArisen, RealPrefix, RealRising, real_run, real_setup, real_start}
+use Rattle.lock_model.specs.RealLaws.{RealLegal, RealLegalOfArisen, RealPrefix, real_run, real_setup}
 use Rattle.lock_model.proofs.Arising.{arises_run, legal_arisen}
 use Rattle.lock_model.proofs.Begins.{prefix_law}
 use Rattle.lock_model.proofs.RealLegal.{legal_shown}
 
 pub real_legal_arisen : RealLegalOfArisen
 real_legal_arisen settings supply threads s arises =
-    legal_shown settings (λ k. None) 0 first_world (λ i. nothing_carried) (λ i. nothing_carried) s.rows (λ i. refl) (λ i. refl)
+    legal_shown settings (λ k. None) 0 first_world (λ i. nothing_carried) (λ i. nothing_carried) s.rows (λ i. refl)
     (legal_arisen (real_setup settings supply) threads limit.OBJECTS first_world s arises (λ k. None))
 
 pub real_legal : RealLegal

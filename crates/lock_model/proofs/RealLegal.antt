@@ -1,13 +1,10 @@
 -- A history that is legal for the real calls is one of the sequential object.
 use Rattle.std.proofs.Common.{◌≡◌, ℕ, suc, List, [], ◌∷◌, map, Option, Some, None, Bool, true, false, refl, sym, ap, ◌∙◌, subst, if◌then◌else◌, ◌==◌}
 use Rattle.std.proofs.lemmas.Bool.{false≢true}
-use Rattle.std.specs.Prelude.{Result, Ok, Err}
-use Rattle.posix_terms.specs.Effects.{Effect, Completes}
-use Rattle.posix_terms.specs.Legal.{IsLegalFrom, carried_on}
+use Rattle.posix_terms.specs.Legal.{IsLegalFrom, carried_after, carried_on}
 use Rattle.posix_terms.specs.Locked.{locked_object}
 use Rattle.posix_terms.specs.Object as posix_object
-use Rattle.posix_terms.specs.Step.{Carried, Stepped, concluded, effect_of, nothing_carried, step}
-use Rattle.posix_terms.specs.declared.errno.Errno.{Errno}
+use Rattle.posix_terms.specs.Step.{Carried, Stepped, step}
 use Rattle.posix_terms.specs.declared.outcome.Outcome.{Outcome}
 use Rattle.posix_terms.specs.declared.reply.Answer as posix
 use Rattle.posix_terms.specs.declared.reply.Answer.TheVariants as answer
@@ -21,11 +18,6 @@ use Rattle.lock_model.specs.State.{Row}
 use Rattle.lock_model.specs.Terms.{World}
 use Rattle.lock_model.specs.Rows.{shown, shown_answer}
 
--- each call is answered at its first turn
-nothing_left : (settings : Settings) (s : posix_object.State) (outcome : Option Outcome) (carried : Carried) (r : Result Effect Errno) → (concluded settings s outcome carried r).carried ≡ nothing_carried
-nothing_left settings s outcome carried (Ok (Completes after reply)) = refl
-nothing_left settings s outcome carried (Err e) = refl
-
 shown_back : (a : posix.Answer) (b : Carried) → shown_answer (Some (answered_with a b)) ≡ Some a
 shown_back (answer.Reply r) b = refl
 shown_back answer.Again b = refl
@@ -34,16 +26,16 @@ carried_back : (a : posix.Answer) (b more : Carried) → Again more ≡ answered
 carried_back (answer.Reply r) b more e = cc
 carried_back answer.Again b more e = cc
 
-chosen_by : (b : Bool) (x y : Carried) → x ≡ nothing_carried → y ≡ nothing_carried → (if b then x else y) ≡ nothing_carried
-chosen_by true x y e f = e
-chosen_by false x y e f = f
+chosen_same : (b : Bool) (x y u v : Carried) → x ≡ u → y ≡ v → (if b then x else y) ≡ (if b then u else v)
+chosen_same true x y u v e f = e
+chosen_same false x y u v e f = f
 
-carried_after : (settings : Settings) (w : World) (b : Carried) (r : Row) (o : Option Answer) → r.answer ≡ o → b ≡ nothing_carried → machine.IsRight (real_calls settings) w b r → machine.carried_after (real_calls settings) b o ≡ nothing_carried
-carried_after settings w b r None is none right = none
-carried_after settings w b r (Some (Gives reply)) is none right = refl
-carried_after settings w b r (Some (Again more)) is none right =
-    let now = step settings w.object r.call r.outcome b in
-    carried_back now.answer now.carried more (right.answer (Again more) is) ∙ nothing_left settings w.object r.outcome b (effect_of w.object r.call b)
+-- a thread carries the same in both definitions after a row, if it did so before
+carried_same : (settings : Settings) (w : World) (b : Carried) (r : Row) (o : Option Answer) (x y : Carried) → r.answer ≡ o → x ≡ y → machine.IsRight (real_calls settings) w b r
+    → machine.carried_after (real_calls settings) x o ≡ carried_after y (shown_answer o) (step settings w.object r.call r.outcome b)
+carried_same settings w b r None x y is same right = same
+carried_same settings w b r (Some (Gives reply)) x y is same right = refl
+carried_same settings w b r (Some (Again more)) x y is same right = let now = step settings w.object r.call r.outcome b in carried_back now.answer now.carried more (right.answer (Again more) is)
 
 answer_right : (settings : Settings) (w : World) (b : Carried) (r : Row) (o : Option Answer) (given : posix.Answer) → r.answer ≡ o → machine.IsRight (real_calls settings) w b r → shown_answer o ≡ Some given → given ≡ (step settings w.object r.call r.outcome b).answer
 answer_right settings w b r None given is right e = cc
@@ -62,28 +54,26 @@ frees_table (Some n) = refl
 
 no_outcome : (settings : Settings) (w : World) (b : Carried) (r : Row) (o : Option Outcome) → r.outcome ≡ o → machine.IsRight (real_calls settings) w b r → o ≡ None
 no_outcome settings w b r None is right = refl
-no_outcome settings w b r (Some x) is right = absurd (false≢true (sym (stays_inside (numbered w (locked_object w.object r.call))) ∙ (right.outcome x is).0))
+no_outcome settings w b r (Some x) is right = absurd (false≢true (sym (stays_inside (numbered w (locked_object w.object r.call b))) ∙ (right.outcome x is).0))
 
--- what the threads carry, in both definitions, is nothing
-pub legal_shown : (settings : Settings) (chosen : ℕ → Option Outcome) (k : ℕ) (w : World) (c d : ℕ → Carried) (rows : List Row) → ((i : ℕ) → c i ≡ nothing_carried) → ((i : ℕ) → d i ≡ nothing_carried)
+-- what the threads carry is the same in both definitions
+pub legal_shown : (settings : Settings) (chosen : ℕ → Option Outcome) (k : ℕ) (w : World) (c d : ℕ → Carried) (rows : List Row) → ((i : ℕ) → c i ≡ d i)
     → machine.IsLegal (real_calls settings) chosen k w c rows → IsLegalFrom settings w.object d (map shown rows)
 unfolding world_with
-legal_shown settings chosen k w c d [] none_c none_d h = tt
-legal_shown settings chosen k w c d (r ∷ rows) none_c none_d (right, rest) =
+legal_shown settings chosen k w c d [] same h = tt
+legal_shown settings chosen k w c d (r ∷ rows) same (right, rest) =
     let i = r.turn.thread in
-    let same : c i ≡ d i = none_c i ∙ sym (none_d i) in
     let now : Stepped = step settings w.object r.call r.outcome (d i) in
     let out : r.outcome ≡ None = no_outcome settings w (c i) r r.outcome refl right in
     let P : Carried → Type 0 = λ b. machine.IsRight (real_calls settings) w b r in
-    let right_now : machine.IsRight (real_calls settings) w (d i) r = subst P same right in
-    let after : (step settings w.object r.call None (c i)).after ≡ now.after = ap (λ (b : Carried). (step settings w.object r.call None b).after) same ∙ ap (λ (o : Option Outcome). (step settings w.object r.call o (d i)).after) (sym out) in
-    let object : Option ℕ = numbered w (locked_object w.object r.call) in
+    let right_now : machine.IsRight (real_calls settings) w (d i) r = subst P (same i) right in
+    let after : (step settings w.object r.call None (c i)).after ≡ now.after = ap (λ (b : Carried). (step settings w.object r.call None b).after) (same i) ∙ ap (λ (o : Option Outcome). (step settings w.object r.call o (d i)).after) (sym out) in
+    let object : Option ℕ = numbered w (locked_object w.object r.call (c i)) in
     let K : Bool → Type 0 = λ b. machine.IsLegal (real_calls settings) chosen (suc k) (machine.changed (real_calls settings) w r.call (c i) (machine.completed (goes_outside (plan_of object)) r.outcome (chosen k)) b) (machine.handed_on (real_calls settings) c r) rows in
     let Q : posix_object.State → Type 0 = λ x. IsLegalFrom settings x (carried_on d (shown r) now) (map shown rows) in (
       record { answer_is = λ given is. answer_right settings w (d i) r r.answer given refl right_now is; outcome_is = out },
       subst Q after
           (legal_shown settings chosen (suc k) (world_with w (step settings w.object r.call None (c i)).after) (machine.handed_on (real_calls settings) c r) (carried_on d (shown r) now) rows
-          (λ j. chosen_by (r.turn.thread == j) (machine.carried_after (real_calls settings) (c j) r.answer) (c j) (carried_after settings w (c j) r r.answer refl (none_c j) (subst P (none_c i ∙ sym (none_c j)) right)) (none_c j))
-          (λ j. chosen_by (r.turn.thread == j) now.carried (d j) (nothing_left settings w.object r.outcome (d i) (effect_of w.object r.call (d i))) (none_d j))
+          (λ j. chosen_same (i == j) (machine.carried_after (real_calls settings) (c j) r.answer) (c j) (carried_after (d j) (shown_answer r.answer) now) (d j) (carried_same settings w (d i) r r.answer (c j) (d j) refl (same j) right_now) (same j))
           (subst K (frees_table object) rest)),
     )

@@ -34,7 +34,7 @@ abbrev pub real_calls : Settings → CallTable
 real_calls settings =
     record {
       nothing_carried = nothing_carried;
-      plan = λ w c b. plan_of (numbered w (locked_object w.object c));
+      plan = λ w c b. plan_of (numbered w (locked_object w.object c b));
       change = λ w c b. world_with w (step settings w.object c None b).after;
       kept_change = λ w c b o. world_with w (step settings w.object c (Some o) b).after;
       asks = λ w c b turn. c;

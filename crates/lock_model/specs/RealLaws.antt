@@ -1,5 +1,5 @@
 -- The laws of runs for the real calls, in the words of files and descriptors.
-use Rattle.std.specs.Prelude.{◌≡◌, ℕ, List, map}
+use Rattle.std.specs.Prelude.{ℕ, List, map}
 use Rattle.posix_terms.specs.Legal as posix
 use Rattle.posix_terms.specs.declared.limits.TheConstants.Limits as limit
 use Rattle.posix_terms.specs.declared.transcript.Settings.{Settings}

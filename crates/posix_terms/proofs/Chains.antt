@@ -6,13 +6,18 @@ use Rattle.posix_terms.specs.Object.{State, Description, Content, Node}
 use Rattle.posix_terms.specs.Step.{Stepped, nothing_carried, step}
 use Rattle.posix_terms.specs.declared.call.Access.{Access}
 use Rattle.posix_terms.specs.declared.call.Call.{Call}
+use Rattle.posix_terms.specs.declared.object.End.{End}
+use Rattle.posix_terms.specs.declared.object.End.TheVariants as part
 use Rattle.posix_terms.specs.declared.reply.Answer.{Answer}
 use Rattle.posix_terms.specs.declared.reply.Answer.TheVariants as answer
 use Rattle.posix_terms.specs.declared.reply.Reply.{Reply}
 use Rattle.posix_terms.specs.declared.transcript.Settings.{Settings}
 
+abbrev pub description_of : End → ℕ → Access → ℕ → Bool → Bool → Description
+description_of which object access offset append nonblock = record { object = object; «end» = which; access = access; offset = offset; append = append; nonblock = nonblock }
+
 abbrev pub description : ℕ → Access → ℕ → Bool → Bool → Description
-description object access offset append nonblock = record { object = object; access = access; offset = offset; append = append; nonblock = nonblock }
+description = description_of part.Only
 
 -- a state by the entries of its maps
 abbrev pub holding : List (ℕ × ℕ) → List (ℕ × Description) → List (ℕ × Content) → List (List (List ℕ) × Node) → ℕ → ℕ → State

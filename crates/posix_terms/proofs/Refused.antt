@@ -1,20 +1,23 @@
 -- A call that is not refused does not answer a failure.
 use Rattle.std.proofs.Common.{◌≡◌, ℕ, ℤ, List, Bool, true, false, Option, Result, Ok, Err, arith, refl}
-use Rattle.std.specs.Prelude.{IfOk}
+use Rattle.std.specs.Prelude.{IfOk, ◌+◌, if◌then◌else◌, nat_lt}
 use Rattle.posix_terms.specs.Descriptors.{open_result, close_result}
 use Rattle.posix_terms.specs.Duplicates.{dup_result, dup_from_result, dup2_result}
-use Rattle.posix_terms.specs.Effects.{Effect, Completes}
+use Rattle.posix_terms.specs.Effects.{Effect, Blocks, Completes}
 use Rattle.posix_terms.specs.Names.{link_result, unlink_result, mkdir_result, rmdir_result}
 use Rattle.posix_terms.specs.Object.{State}
 use Rattle.posix_terms.specs.Status.{fstat_result, getfl_result, setfl_result}
-use Rattle.posix_terms.specs.Step.{step, Carried, effect_of, concluded}
+use Rattle.posix_terms.specs.Sockets.{pipe_result, socketpair_result, shutdown_result}
+use Rattle.posix_terms.specs.Step.{step, Carried, Stepped, effect_of, concluded, nothing_carried, waited}
 use Rattle.posix_terms.specs.Transfers.{read_result, write_result, pread_result, pwrite_result, lseek_result, ftruncate_result}
 use Rattle.posix_terms.specs.declared.call.Access.{Access}
 use Rattle.posix_terms.specs.declared.call.Call.{Call}
 use Rattle.posix_terms.specs.declared.call.Call.TheVariants as call
 use Rattle.posix_terms.specs.declared.call.OpenFlags.{OpenFlags}
+use Rattle.posix_terms.specs.declared.call.ShutdownHow.{ShutdownHow}
 use Rattle.posix_terms.specs.declared.call.Whence.{Whence}
 use Rattle.posix_terms.specs.declared.errno.Errno.{Errno}
+use Rattle.posix_terms.specs.declared.errno.Errno.TheVariants.{EINTR}
 use Rattle.posix_terms.specs.declared.outcome.Outcome.{Outcome}
 use Rattle.posix_terms.specs.declared.reply.Answer.TheVariants as answer
 use Rattle.posix_terms.specs.declared.transcript.Settings.{Settings}
@@ -27,6 +30,7 @@ is_failure _ = false
 
 abbrev pub IsGranted : Effect → Type 0
 IsGranted (Completes after r) = is_failure r ≡ false
+IsGranted Blocks = Unit {0}
 
 granted-open : (s : State) (path : List ℕ) (access : Access) (flags : OpenFlags) → IfOk (open_result s path access flags) IsGranted
 unfolding open_result
@@ -100,6 +104,18 @@ granted-rmdir : (s : State) (path : List ℕ) → IfOk (rmdir_result s path) IsG
 unfolding rmdir_result
 granted-rmdir s path = grind arith
 
+granted-pipe : (s : State) → IfOk (pipe_result s) IsGranted
+unfolding pipe_result
+granted-pipe s = grind arith
+
+granted-socketpair : (s : State) → IfOk (socketpair_result s) IsGranted
+unfolding socketpair_result
+granted-socketpair s = grind arith
+
+granted-shutdown : (s : State) (descriptor : ℤ) (how : ShutdownHow) → IfOk (shutdown_result s descriptor how) IsGranted
+unfolding shutdown_result
+granted-shutdown s descriptor how = grind arith
+
 granted : (s : State) (c : Call) (carried : Carried) → IfOk (effect_of s c carried) IsGranted
 granted s (call.Open path access flags) carried = granted-open s path access flags
 granted s (call.Close descriptor) carried = granted-close s descriptor
@@ -119,10 +135,32 @@ granted s (call.Link old_path new_path) carried = granted-link s old_path new_pa
 granted s (call.Unlink path) carried = granted-unlink s path
 granted s (call.Mkdir path) carried = granted-mkdir s path
 granted s (call.Rmdir path) carried = granted-rmdir s path
+granted s call.Pipe carried = granted-pipe s
+granted s call.Socketpair carried = granted-socketpair s
+granted s (call.Shutdown descriptor how) carried = granted-shutdown s descriptor how
+
+-- a turn that is blocked changes nothing
+waited_alone : (settings : Settings) (s : State) (carried : Carried) → (waited settings s carried).after ≡ s
+waited_alone settings s carried = by_test (nat_lt (carried + 1) settings.patience)
+  where
+    by_test : (b : Bool) → (let stepped : Stepped = if b then record { after = s; answer = answer.Again; carried = carried + 1 } else record { after = s; answer = answer.Reply (reply.Fail EINTR); carried = nothing_carried } in stepped.after) ≡ s
+    by_test true = refl
+    by_test false = refl
+
+blocked_alone : (settings : Settings) (s : State) (outcome : Option Outcome) (carried : Carried) (r : Result Effect Errno)
+    → (concluded settings s outcome carried r).answer ≡ answer.Again → (concluded settings s outcome carried r).after ≡ s
+blocked_alone settings s outcome carried (Ok (Completes after x)) again = cc
+blocked_alone settings s outcome carried (Ok Blocks) again = waited_alone settings s carried
+blocked_alone settings s outcome carried (Err f) again = refl
+
+pub again_leaves_state : (settings : Settings) (s : State) (c : Call) (outcome : Option Outcome) (carried : Carried)
+    → (step settings s c outcome carried).answer ≡ answer.Again → (step settings s c outcome carried).after ≡ s
+again_leaves_state settings s c outcome carried again = blocked_alone settings s outcome carried (effect_of s c carried) again
 
 left_alone : (settings : Settings) (s : State) (outcome : Option Outcome) (carried : Carried) (r : Result Effect Errno) (e : Errno) → IfOk r IsGranted
     → (concluded settings s outcome carried r).answer ≡ answer.Reply (reply.Fail e) → (concluded settings s outcome carried r).after ≡ s
 left_alone settings s outcome carried (Ok (Completes after x)) e granted failed = grind arith
+left_alone settings s outcome carried (Ok Blocks) e granted failed = waited_alone settings s carried
 left_alone settings s outcome carried (Err f) e granted failed = refl
 
 pub fail_leaves_state : (settings : Settings) (s : State) (c : Call) (outcome : Option Outcome) (carried : Carried) (e : Errno)

@@ -1,17 +1,27 @@
 -- The states between the calls of the examples.
-use Rattle.std.proofs.Common.{◌≡◌, List, [], ◌∷◌, true, false, codes, refl}
+use Rattle.std.proofs.Common.{◌≡◌, ℕ, ◌+◌, pos, Bool, List, [], ◌∷◌, None, true, false, codes, refl, ap, ◌∙◌, if◌then◌else◌, nat_lt}
 use Rattle.std.specs.FinMap as map
 use Rattle.posix_terms.specs.Descriptors.{open_result, close_result, lowest_from}
 use Rattle.posix_terms.specs.Duplicates.{dup_result, dup_from_result, dup2_result}
-use Rattle.posix_terms.specs.Examples.{gap_reads_zero, dup2_from_nothing, shared_offset, unlinked_but_open, directory_refusals, positioned_write_and_truncate, shared_flags, closed_last, unlinked_last, replaced_last, linked_still, shared_still}
+use Rattle.posix_terms.specs.Examples.{gap_reads_zero, dup2_from_nothing, shared_offset, unlinked_but_open, directory_refusals, positioned_write_and_truncate, shared_flags, pipe_and_its_ends, half_closed_pair, AnswersAfter, closed_last, unlinked_last, replaced_last, linked_still, shared_still, closed_pipe, half_closed_pipe}
 use Rattle.posix_terms.specs.Names.{added, file_named, removed, removed_dir, link_result, mkdir_result, rmdir_result, unlink_result}
-use Rattle.posix_terms.specs.Object.{State, File, FileNode, Directory, empty_state}
+use Rattle.posix_terms.specs.Object.{State, Description, File, Pipe, Pair, FileNode, Directory, empty_state}
 use Rattle.posix_terms.specs.Paths.{path_form}
+use Rattle.posix_terms.specs.Sockets.{pipe_result, shutdown_result, socketpair_result}
+use Rattle.posix_terms.specs.Streams.{Half, PairState, new_half, new_pair}
+use Rattle.posix_terms.specs.Step.{Stepped, nothing_carried, step, waited}
 use Rattle.posix_terms.specs.Status.{fstat_result, getfl_result, setfl_result}
 use Rattle.posix_terms.specs.Transfers.{ftruncate_result, lseek_result, pread_result, pwrite_result, read_result, write_result}
 use Rattle.posix_terms.specs.declared.call.Access.TheVariants as access
+use Rattle.posix_terms.specs.declared.call.Call.TheVariants as call
+use Rattle.posix_terms.specs.declared.errno.Errno.TheVariants.{EINTR}
+use Rattle.posix_terms.specs.declared.object.End.TheVariants as part
+use Rattle.posix_terms.specs.declared.reply.Answer.{Answer}
+use Rattle.posix_terms.specs.declared.reply.Answer.TheVariants as answer
+use Rattle.posix_terms.specs.declared.reply.Reply.TheVariants as reply
+use Rattle.posix_terms.specs.declared.object.Side.TheVariants.{Side0, Side1}
 use Rattle.posix_terms.specs.declared.transcript.Settings.{Settings}
-use Rattle.posix_terms.proofs.Chains.{description, final, holding, Runs}
+use Rattle.posix_terms.proofs.Chains.{description, description_of, final, holding, Runs}
 use Rattle.posix_terms.proofs.Listed.{listed}
 
 abbrev gap_1 : State
@@ -268,3 +278,102 @@ sharing settings = (simp listed, (simp listed, (simp listed, (simp listed, tt)))
 
 pub sharing-leaves : map.len (final empty_state sharing_states).objects ≡ 1
 sharing-leaves = simp listed
+
+-- the read end of a pipe and its write end
+abbrev reads_0 : Bool → Description
+reads_0 nonblock = description_of part.Read 0 access.ReadOnly 0 false nonblock
+
+abbrev writes_0 : Description
+writes_0 = description_of part.Write 0 access.WriteOnly 0 false false
+
+abbrev pipe_1 : List ℕ → Bool → State
+pipe_1 bytes nonblock = holding ((0, 0) ∷ (1, 1) ∷ []) ((0, reads_0 nonblock) ∷ (1, writes_0) ∷ []) ((0, Pipe bytes) ∷ []) [] 2 1
+
+abbrev pipe_2 : State
+pipe_2 = holding ((0, 0) ∷ []) ((0, reads_0 true) ∷ []) ((0, Pipe []) ∷ []) [] 2 1
+
+abbrev pipe_3 : State
+pipe_3 =
+    holding ((0, 0) ∷ (1, 2) ∷ (2, 3) ∷ [])
+    ((0, reads_0 true) ∷ (2, description_of part.Read 1 access.ReadOnly 0 false false) ∷ (3, description_of part.Write 1 access.WriteOnly 0 false false) ∷ [])
+    ((0, Pipe []) ∷ (1, Pipe []) ∷ []) [] 4 2
+
+abbrev pipe_4 : State
+pipe_4 =
+    holding ((0, 0) ∷ (2, 3) ∷ []) ((0, reads_0 true) ∷ (3, description_of part.Write 1 access.WriteOnly 0 false false) ∷ [])
+    ((0, Pipe []) ∷ (1, Pipe []) ∷ []) [] 4 2
+
+abbrev pub pipe_states : List State
+pipe_states =
+    pipe_1 [] false ∷ pipe_1 (codes "abc") false ∷ pipe_1 (codes "c") false ∷ pipe_1 (codes "c") false ∷ pipe_1 (codes "c") false ∷ pipe_1 (codes "c") false ∷ pipe_1 (codes "c") true
+    ∷ pipe_1 [] true ∷ pipe_1 [] true ∷ pipe_1 [] true ∷ pipe_2 ∷ pipe_2 ∷ pipe_2 ∷ pipe_3 ∷ pipe_4 ∷ pipe_4 ∷ pipe_4 ∷ []
+
+pub pipe : (settings : Settings) → Runs settings empty_state pipe_and_its_ends pipe_states
+unfolding pipe_result lowest_from write_result read_result fstat_result lseek_result setfl_result close_result shutdown_result
+pipe settings =
+    (simp listed, (simp listed, (simp listed, (simp listed, (simp listed, (simp listed, (simp listed, (simp listed, (simp listed, (simp listed, (simp listed, (simp listed, (simp listed, (simp listed, (simp listed, (simp listed, (simp listed, tt)))))))))))))))))
+
+-- a pipe with only its write end
+abbrev pipe_written : State
+pipe_written = holding ((1, 1) ∷ []) ((1, writes_0) ∷ []) ((0, Pipe []) ∷ []) [] 2 1
+
+abbrev pub half_closing_states : List State
+half_closing_states = pipe_1 [] false ∷ pipe_written ∷ []
+
+pub half_closing : (settings : Settings) → Runs settings empty_state half_closed_pipe half_closing_states
+unfolding pipe_result lowest_from close_result
+half_closing settings = (simp listed, (simp listed, tt))
+
+pub half_closing-leaves : map.len (final empty_state half_closing_states).objects ≡ 1
+half_closing-leaves = simp listed
+
+abbrev pub pipe_closing_states : List State
+pipe_closing_states = pipe_1 [] false ∷ pipe_written ∷ holding [] [] [] [] 2 1 ∷ []
+
+pub pipe_closing : (settings : Settings) → Runs settings empty_state closed_pipe pipe_closing_states
+unfolding pipe_result lowest_from close_result
+pipe_closing settings = (simp listed, (simp listed, (simp listed, tt)))
+
+pub pipe_closing-leaves : map.len (final empty_state pipe_closing_states).objects ≡ 0
+pipe_closing-leaves = simp listed
+
+abbrev socket_of : List ℕ → Bool → Half
+socket_of waiting shut = record { waiting = waiting; reading_shut = false; writing_shut = shut }
+
+abbrev sockets_of : Half → Half → PairState
+sockets_of side0 side1 = record { side0 = side0; side1 = side1 }
+
+abbrev socket_0 : Description
+socket_0 = description_of (part.Socket Side0) 0 access.ReadWrite 0 false false
+
+abbrev pair_1 : PairState → State
+pair_1 p = holding ((0, 0) ∷ (1, 1) ∷ []) ((0, socket_0) ∷ (1, description_of (part.Socket Side1) 0 access.ReadWrite 0 false false) ∷ []) ((0, Pair p) ∷ []) [] 2 1
+
+abbrev pair_2 : PairState → State
+pair_2 p = holding ((0, 0) ∷ []) ((0, socket_0) ∷ []) ((0, Pair p) ∷ []) [] 2 1
+
+abbrev pub pair_states : List State
+pair_states =
+    pair_1 new_pair ∷ pair_1 (sockets_of new_half (socket_of (codes "ab") false)) ∷ pair_1 (sockets_of (socket_of [] true) (socket_of (codes "ab") false)) ∷ pair_1 (sockets_of (socket_of [] true) (socket_of (codes "ab") false))
+    ∷ pair_1 (sockets_of (socket_of [] true) new_half) ∷ pair_1 (sockets_of (socket_of [] true) new_half) ∷ pair_1 (sockets_of (socket_of (codes "d") true) new_half) ∷ pair_1 (sockets_of (socket_of [] true) new_half)
+    ∷ pair_2 (sockets_of (socket_of [] true) new_half) ∷ pair_2 (sockets_of (socket_of [] true) new_half) ∷ []
+
+pub pair : (settings : Settings) → Runs settings empty_state half_closed_pair pair_states
+unfolding socketpair_result lowest_from write_result read_result close_result shutdown_result
+pair settings = (simp listed, (simp listed, (simp listed, (simp listed, (simp listed, (simp listed, (simp listed, (simp listed, (simp listed, (simp listed, tt))))))))))
+
+-- ## Patience
+
+read_waits : (settings : Settings) (turns : ℕ) → step settings (step settings empty_state call.Pipe None nothing_carried).after (call.Read (pos 0) (pos 4)) None turns ≡ waited settings (pipe_1 [] false) turns
+unfolding pipe_result lowest_from read_result
+read_waits settings turns = simp listed
+
+abbrev answer_by : State → ℕ → ℕ → Answer
+answer_by s turns patience =
+    let stepped : Stepped = if nat_lt (turns + 1) patience then record { after = s; answer = answer.Again; carried = turns + 1 } else record { after = s; answer = answer.Reply (reply.Fail EINTR); carried = nothing_carried } in stepped.answer
+
+patient_at : (turns : ℕ) → AnswersAfter 3 turns (answer_by (pipe_1 [] false) turns 3)
+patient_at turns settings is = ap (λ (stepped : Stepped). stepped.answer) (read_waits settings turns) ∙ ap (answer_by (pipe_1 [] false) turns) is
+
+pub patient : AnswersAfter 3 0 answer.Again × AnswersAfter 3 1 answer.Again × AnswersAfter 3 2 (answer.Reply (reply.Fail EINTR))
+patient = (patient_at 0, patient_at 1, patient_at 2)

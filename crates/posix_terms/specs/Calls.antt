@@ -36,6 +36,9 @@ kind_of (call.Link old_path new_path) = kind.Link
 kind_of (call.Unlink path) = kind.Unlink
 kind_of (call.Mkdir path) = kind.Mkdir
 kind_of (call.Rmdir path) = kind.Rmdir
+kind_of call.Pipe = kind.Pipe
+kind_of call.Socketpair = kind.Socketpair
+kind_of (call.Shutdown descriptor how) = kind.Shutdown
 
 -- the name of a call in scripts and in printed transcripts
 abbrev pub word_of : CallKind → List ℕ
@@ -57,3 +60,6 @@ word_of kind.Link = codes "link"
 word_of kind.Unlink = codes "unlink"
 word_of kind.Mkdir = codes "mkdir"
 word_of kind.Rmdir = codes "rmdir"
+word_of kind.Pipe = codes "pipe"
+word_of kind.Socketpair = codes "socketpair"
+word_of kind.Shutdown = codes "shutdown"

@@ -5,6 +5,7 @@ use Rattle.std.specs.List.{list_any}
 use Rattle.std.specs.FinMap as map
 use Rattle.posix_terms.specs.Calls.{can_write}
 use Rattle.posix_terms.specs.Effects.{Effect, Completes}
+use Rattle.posix_terms.specs.Ends.{is_end}
 use Rattle.posix_terms.specs.Object.{State, Description, File, Node, FileNode, Directory, any_below, with_content}
 use Rattle.posix_terms.specs.Paths.{node_at, resolved}
 use Rattle.posix_terms.specs.Refusals.{◌>>=◌, refuse_if, some_or}
@@ -13,6 +14,8 @@ use Rattle.posix_terms.specs.declared.call.OpenFlags.{OpenFlags}
 use Rattle.posix_terms.specs.declared.errno.Errno.{Errno}
 use Rattle.posix_terms.specs.declared.errno.Errno.TheVariants.{EBADF, EINVAL, ENOENT, EEXIST, EISDIR, EMFILE, ENOSPC}
 use Rattle.posix_terms.specs.declared.limits.TheConstants.Limits as limit
+use Rattle.posix_terms.specs.declared.object.End.{End}
+use Rattle.posix_terms.specs.declared.object.End.TheVariants as part
 use Rattle.posix_terms.specs.declared.reply.Reply.TheVariants as reply
 
 -- the key of the description that a descriptor refers to
@@ -35,14 +38,14 @@ lowest_from s (suc left) n = if is_some (map.get s.descriptors n) then lowest_fr
 abbrev pub lowest_free : State → Option ℕ
 lowest_free s = lowest_from s limit.DESCRIPTORS 0
 
--- number n refers to a new description of an object
-abbrev pub opened : State → ℕ → ℕ → Access → Bool → Bool → State
-opened s n object access append nonblock =
+-- number n refers to a new description of an end of an object
+abbrev pub opened : State → ℕ → ℕ → End → Access → Bool → Bool → State
+opened s n object which access append nonblock =
     record s {
       descriptors = map.insert s.descriptors n s.next_description;
       descriptions =
           map.insert s.descriptions s.next_description
-          (record { object = object; access = access; offset = 0; append = append; nonblock = nonblock });
+          (record { object = object; «end» = which; access = access; offset = 0; append = append; nonblock = nonblock });
       next_description = s.next_description + 1;
     }
 
@@ -64,7 +67,7 @@ abbrev pub open_there : State → Node → Access → OpenFlags → Result Effec
 open_there s Directory access flags = Err EISDIR
 open_there s (FileNode object) access flags = do
   n ← some_or (lowest_free s) EMFILE
-  Ok (Completes (opened (truncated s object flags.truncate) n object access flags.append flags.nonblock) (reply.Number (pos n)))
+  Ok (Completes (opened (truncated s object flags.truncate) n object part.Only access flags.append flags.nonblock) (reply.Number (pos n)))
 
 -- `open` of a path that names nothing
 abbrev pub open_new : State → List (List ℕ) → Access → OpenFlags → Result Effect Errno
@@ -72,7 +75,7 @@ open_new s components access flags = do
   _ ← refuse_if (not flags.create) ENOENT
   _ ← refuse_if (nat_le limit.NAMES (map.len s.paths) || nat_le limit.OBJECTS (map.len s.objects)) ENOSPC
   n ← some_or (lowest_free s) EMFILE
-  Ok (Completes (opened (with_file s components) n s.next_object access flags.append flags.nonblock) (reply.Number (pos n)))
+  Ok (Completes (opened (with_file s components) n s.next_object part.Only access flags.append flags.nonblock) (reply.Number (pos n)))
 
 abbrev pub open_node : State → List (List ℕ) → Option Node → Access → OpenFlags → Result Effect Errno
 open_node s components None access flags = open_new s components access flags
@@ -96,6 +99,11 @@ abbrev pub is_of : Option Description → ℕ → Bool
 is_of None object = false
 is_of (Some d) object = d.object == object
 
+-- and what to an end of one
+abbrev pub is_of_end : Option Description → ℕ → End → Bool
+is_of_end None object which = false
+is_of_end (Some d) object which = (d.object == object) && is_end d.«end» which
+
 abbrev pub is_file : Node → ℕ → Bool
 is_file (FileNode other) object = other == object
 is_file Directory object = false
@@ -106,6 +114,9 @@ has_descriptor s key = any_below limit.DESCRIPTORS (λ n. is_key (map.get s.desc
 -- keys in use are below the next one
 abbrev pub has_description : State → ℕ → Bool
 has_description s object = any_below s.next_description (λ key. is_of (map.get s.descriptions key) object)
+
+abbrev pub has_end : State → ℕ → End → Bool
+has_end s object which = any_below s.next_description (λ key. is_of_end (map.get s.descriptions key) object which)
 
 abbrev pub has_path : State → ℕ → Bool
 has_path s object = list_any (λ (entry : List (List ℕ) × Node). is_file entry.1 object) (map.entries s.paths)

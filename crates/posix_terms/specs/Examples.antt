@@ -7,8 +7,9 @@ use Rattle.posix_terms.specs.declared.call.Access.TheVariants as access
 use Rattle.posix_terms.specs.declared.call.Call.{Call}
 use Rattle.posix_terms.specs.declared.call.Call.TheVariants as call
 use Rattle.posix_terms.specs.declared.call.OpenFlags.{OpenFlags}
+use Rattle.posix_terms.specs.declared.call.ShutdownHow.TheVariants as how
 use Rattle.posix_terms.specs.declared.call.Whence.TheVariants as whence
-use Rattle.posix_terms.specs.declared.errno.Errno.TheVariants.{EBADF, EINVAL, EOVERFLOW, EFBIG, ENOENT, EEXIST, ENOTDIR, EISDIR, ENOTEMPTY, EPERM, ENAMETOOLONG, EBUSY}
+use Rattle.posix_terms.specs.declared.errno.Errno.TheVariants.{EAGAIN, EBADF, EINVAL, EOVERFLOW, EPIPE, ENOTSOCK, ESPIPE, EFBIG, ENOENT, EEXIST, ENOTDIR, EISDIR, ENOTEMPTY, EPERM, ENAMETOOLONG, EBUSY}
 use Rattle.posix_terms.specs.declared.reply.Answer.{Answer}
 use Rattle.posix_terms.specs.declared.reply.Answer.TheVariants as answer
 use Rattle.posix_terms.specs.declared.reply.ObjectKind.TheVariants as kind
@@ -148,6 +149,49 @@ shared_flags =
     ∷ (call.Lseek (pos 2) (pos 0) whence.Current, reply.Number (pos 2))
     ∷ []
 
+-- what is written to a pipe is read from its other end; without a writer a read ends, without a reader a write fails
+abbrev pub pipe_and_its_ends : List (Call × Reply)
+pipe_and_its_ends =
+    (call.Pipe, reply.Pair (pos 0) (pos 1))
+    ∷ (call.Write (pos 1) (codes "abc"), reply.Count 3)
+    ∷ (call.Read (pos 0) (pos 2), reply.Data (codes "ab"))
+    ∷ (call.Read (pos 1) (pos 1), reply.Fail EBADF)
+    ∷ (call.Fstat (pos 0), reply.Stat kind.Pipe 0 0)
+    ∷ (call.Lseek (pos 0) (pos 0) whence.Set, reply.Fail ESPIPE)
+    ∷ (call.Setfl (pos 0) false true, reply.Done)
+    ∷ (call.Read (pos 0) (pos 9), reply.Data (codes "c"))
+    ∷ (call.Read (pos 0) (pos 9), reply.Fail EAGAIN)
+    ∷ (call.Read (pos 0) (pos 0), reply.Data [])
+    ∷ (call.Close (pos 1), reply.Done)
+    ∷ (call.Read (pos 0) (pos 9), reply.Data [])
+    ∷ (call.Shutdown (pos 0) how.Both, reply.Fail ENOTSOCK)
+    ∷ (call.Pipe, reply.Pair (pos 1) (pos 2))
+    ∷ (call.Close (pos 1), reply.Done)
+    ∷ (call.Write (pos 2) (codes "d"), reply.Fail EPIPE)
+    ∷ (call.Write (pos 2) [], reply.Count 0)
+    ∷ []
+
+-- a socket whose writing is shut still reads, and what its peer wrote before is read first
+abbrev pub half_closed_pair : List (Call × Reply)
+half_closed_pair =
+    (call.Socketpair, reply.Pair (pos 0) (pos 1))
+    ∷ (call.Write (pos 0) (codes "ab"), reply.Count 2)
+    ∷ (call.Shutdown (pos 0) how.Write, reply.Done)
+    ∷ (call.Write (pos 0) (codes "c"), reply.Fail EPIPE)
+    ∷ (call.Read (pos 1) (pos 9), reply.Data (codes "ab"))
+    ∷ (call.Read (pos 1) (pos 9), reply.Data [])
+    ∷ (call.Write (pos 1) (codes "d"), reply.Count 1)
+    ∷ (call.Read (pos 0) (pos 1), reply.Data (codes "d"))
+    ∷ (call.Close (pos 1), reply.Done)
+    ∷ (call.Read (pos 0) (pos 1), reply.Data [])
+    ∷ []
+
+-- how a read of a new pipe is answered that was blocked for so many turns before
+abbrev pub AnswersAfter : ℕ → ℕ → Answer → Type 0
+AnswersAfter patience turns a =
+    (settings : Settings) → settings.patience ≡ patience
+    → (step settings (step settings empty_state call.Pipe None nothing_carried).after (call.Read (pos 0) (pos 4)) None turns).answer ≡ a
+
 -- a file is unlinked and then closed
 abbrev pub closed_last : List (Call × Reply)
 closed_last =
@@ -188,5 +232,20 @@ shared_still =
     (call.Open (codes "/a") access.ReadWrite creating, reply.Number (pos 0))
     ∷ (call.Dup (pos 0), reply.Number (pos 1))
     ∷ (call.Unlink (codes "/a"), reply.Done)
+    ∷ (call.Close (pos 0), reply.Done)
+    ∷ []
+
+-- a pipe is closed at both of its ends
+abbrev pub closed_pipe : List (Call × Reply)
+closed_pipe =
+    (call.Pipe, reply.Pair (pos 0) (pos 1))
+    ∷ (call.Close (pos 0), reply.Done)
+    ∷ (call.Close (pos 1), reply.Done)
+    ∷ []
+
+-- a pipe is closed at one
+abbrev pub half_closed_pipe : List (Call × Reply)
+half_closed_pipe =
+    (call.Pipe, reply.Pair (pos 0) (pos 1))
     ∷ (call.Close (pos 0), reply.Done)
     ∷ []

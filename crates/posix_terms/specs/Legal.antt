@@ -1,14 +1,21 @@
 -- When a history is legal: going over its rows in the order of their turns, the sequential object gives just their answers.
-use Rattle.std.specs.Prelude.{◌≡◌, ℕ, List, [], ◌∷◌, Some, None, if◌then◌else◌, ◌==◌}
+use Rattle.std.specs.Prelude.{◌≡◌, ℕ, List, [], ◌∷◌, Option, Some, None, if◌then◌else◌, ◌==◌}
 use Rattle.posix_terms.specs.Object.{State, empty_state}
 use Rattle.posix_terms.specs.Step.{Carried, Stepped, nothing_carried, step}
 use Rattle.posix_terms.specs.declared.reply.Answer.{Answer}
+use Rattle.posix_terms.specs.declared.reply.Answer.TheVariants as answer
 use Rattle.posix_terms.specs.declared.transcript.HistoryRow.{HistoryRow}
 use Rattle.posix_terms.specs.declared.transcript.Settings.{Settings}
 
+-- what a thread carries after a row. Without an answer the row is the thread's last, and it carries what it carried before
+abbrev pub carried_after : Carried → Option Answer → Stepped → Carried
+carried_after carried None stepped = carried
+carried_after carried (Some answer.Again) stepped = stepped.carried
+carried_after carried (Some (answer.Reply r)) stepped = nothing_carried
+
 -- what each thread carries after a row
 abbrev pub carried_on : (ℕ → Carried) → HistoryRow → Stepped → ℕ → Carried
-carried_on carried row stepped thread = if row.turn.thread == thread then stepped.carried else carried thread
+carried_on carried row stepped thread = if row.turn.thread == thread then carried_after (carried thread) row.answer stepped else carried thread
 
 -- a row is right where its answer, if it was given, is that of the step; and no call has an outcome, since none asks for one
 pub record IsRight (stepped : Stepped) (row : HistoryRow) : Type 0 where

@@ -4,6 +4,9 @@ pub mod Replies
 pub mod Text
 pub mod Files
 pub mod Object
+pub mod Ends
+pub mod Streams
+pub mod Sockets
 pub mod Effects
 pub mod Refusals
 pub mod Paths

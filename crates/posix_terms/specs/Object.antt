@@ -6,11 +6,14 @@ use Rattle.std.specs.declared.cmp.Ordering.{Ordering}
 use Rattle.std.specs.Cmp.Lexicographic.{slice_cmp}
 use Rattle.std.specs.FinMap as map
 use Rattle.std.specs.FinMap.{FinMap}
+use Rattle.posix_terms.specs.Streams.{PairState}
 use Rattle.posix_terms.specs.declared.call.Access.{Access}
+use Rattle.posix_terms.specs.declared.object.End.{End}
 
--- an open file description: what it refers to, how it may be used, its offset and its flags
+-- an open file description: what it refers to and which end of that, how it may be used, its offset and its flags
 pub record Description : Type 0 where
   pub object : ℕ
+  pub «end» : End
   pub access : Access
   pub offset : ℕ
   pub append : Bool
@@ -19,6 +22,8 @@ pub record Description : Type 0 where
 -- what an object holds
 pub data Content : Type 0 where
   File : (bytes : List ℕ) → Content
+  Pipe : (bytes : List ℕ) → Content
+  Pair : (sockets : PairState) → Content
 
 -- what a path names
 pub data Node : Type 0 where

@@ -1,15 +1,17 @@
 -- What one call, taken alone, answers and leaves.
-use Rattle.std.specs.Prelude.{◌≡◌, ℕ, Result, Ok, Err, Option}
+use Rattle.std.specs.Prelude.{◌≡◌, ℕ, ◌+◌, Result, Ok, Err, Option, if◌then◌else◌, nat_lt}
 use Rattle.posix_terms.specs.Descriptors.{open_result, close_result}
 use Rattle.posix_terms.specs.Duplicates.{dup_result, dup_from_result, dup2_result}
-use Rattle.posix_terms.specs.Effects.{Effect, Completes}
+use Rattle.posix_terms.specs.Effects.{Effect, Blocks, Completes}
 use Rattle.posix_terms.specs.Names.{link_result, unlink_result, mkdir_result, rmdir_result}
 use Rattle.posix_terms.specs.Object.{State}
+use Rattle.posix_terms.specs.Sockets.{pipe_result, socketpair_result, shutdown_result}
 use Rattle.posix_terms.specs.Status.{fstat_result, getfl_result, setfl_result}
 use Rattle.posix_terms.specs.Transfers.{read_result, write_result, pread_result, pwrite_result, lseek_result, ftruncate_result}
 use Rattle.posix_terms.specs.declared.call.Call.{Call}
 use Rattle.posix_terms.specs.declared.call.Call.TheVariants as call
 use Rattle.posix_terms.specs.declared.errno.Errno.{Errno}
+use Rattle.posix_terms.specs.declared.errno.Errno.TheVariants.{EINTR}
 use Rattle.posix_terms.specs.declared.outcome.Outcome.{Outcome}
 use Rattle.posix_terms.specs.declared.reply.Answer.{Answer}
 use Rattle.posix_terms.specs.declared.reply.Answer.TheVariants as answer
@@ -44,6 +46,9 @@ effect_of s (call.Link old_path new_path) carried = link_result s old_path new_p
 effect_of s (call.Unlink path) carried = unlink_result s path
 effect_of s (call.Mkdir path) carried = mkdir_result s path
 effect_of s (call.Rmdir path) carried = rmdir_result s path
+effect_of s call.Pipe carried = pipe_result s
+effect_of s call.Socketpair carried = socketpair_result s
+effect_of s (call.Shutdown descriptor how) carried = shutdown_result s descriptor how
 
 -- the state after a turn of a call, how it was answered, and what the thread's next call turn carries
 pub record Stepped : Type 0 where
@@ -51,13 +56,28 @@ pub record Stepped : Type 0 where
   pub answer : Answer
   pub carried : Carried
 
--- The outcome is that of the request which the call makes of the outside, and patience is for calls that can be blocked: none of these is there yet
+-- a call that was blocked for so many turns before is blocked again: it is made anew at a later turn, until its patience is at its end
+abbrev pub waited : Settings → State → Carried → Stepped
+waited settings s carried =
+    if nat_lt (carried + 1) settings.patience
+    then record { after = s; answer = answer.Again; carried = carried + 1 }
+    else record { after = s; answer = answer.Reply (reply.Fail EINTR); carried = nothing_carried }
+
+-- The outcome is that of the request which the call makes of the outside: there is none yet
 abbrev pub concluded : Settings → State → Option Outcome → Carried → Result Effect Errno → Stepped
 concluded settings s outcome carried (Ok (Completes after r)) = record { after = after; answer = answer.Reply r; carried = nothing_carried }
+concluded settings s outcome carried (Ok Blocks) = waited settings s carried
 concluded settings s outcome carried (Err e) = record { after = s; answer = answer.Reply (reply.Fail e); carried = nothing_carried }
 
 abbrev pub step : Settings → State → Call → Option Outcome → Carried → Stepped
 step settings s c outcome carried = concluded settings s outcome carried (effect_of s c carried)
+
+-- a call that is blocked leaves the state as it was
+abbrev pub AgainChangesNothing : Type 0
+AgainChangesNothing =
+    (settings : Settings) (s : State) (c : Call) (outcome : Option Outcome) (carried : Carried)
+    → (step settings s c outcome carried).answer ≡ answer.Again
+    → (step settings s c outcome carried).after ≡ s
 
 -- a call that fails leaves the state as it was
 abbrev pub FailChangesNothing : Type 0

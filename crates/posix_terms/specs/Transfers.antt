@@ -1,18 +1,22 @@
 -- Reading, writing, moving the offset and cutting.
 -- POSIX.1-2017, System Interfaces: `read`, `pread`, `write`, `pwrite`, `lseek`, `ftruncate`.
-use Rattle.std.specs.Prelude.{ℕ, ◌+◌, ◌^◌, ℤ, pos, negsuc, ◌+ℤ◌, List, [], length, not, ◌==◌, nat_lt, Result, Ok, Err, unwrap_or, if◌then◌else◌}
+use Rattle.std.specs.Prelude.{ℕ, ◌+◌, ◌^◌, ℤ, pos, negsuc, ◌+ℤ◌, Bool, List, [], length, not, ◌==◌, nat_lt, Result, Ok, Err, unwrap_or, if◌then◌else◌}
 use Rattle.std.specs.FinMap as map
 use Rattle.posix_terms.specs.Calls.{can_read, can_write}
-use Rattle.posix_terms.specs.Descriptors.{described}
-use Rattle.posix_terms.specs.Effects.{Effect, Completes}
+use Rattle.posix_terms.specs.Descriptors.{described, has_end}
+use Rattle.posix_terms.specs.Effects.{Effect, Completes, Blocks}
+use Rattle.posix_terms.specs.Ends.{side_of}
 use Rattle.posix_terms.specs.Files.{bytes_at, resized, written}
-use Rattle.posix_terms.specs.Object.{State, Description, Content, File, with_content}
+use Rattle.posix_terms.specs.Object.{State, Description, Content, File, Pipe, Pair, with_content}
 use Rattle.posix_terms.specs.Refusals.{◌>>=◌, refuse_if, count_of, position_of}
+use Rattle.posix_terms.specs.Streams.{Reading, Reads, Ends, NothingYet, Writing, Writes, Breaks, NoRoom, pair_read, pair_write, peer_of, stream_read, stream_write, with_waiting}
 use Rattle.posix_terms.specs.declared.call.Whence.{Whence}
 use Rattle.posix_terms.specs.declared.call.Whence.TheVariants as whence
 use Rattle.posix_terms.specs.declared.errno.Errno.{Errno}
-use Rattle.posix_terms.specs.declared.errno.Errno.TheVariants.{EBADF, EINVAL, EOVERFLOW, ESPIPE, EFBIG}
+use Rattle.posix_terms.specs.declared.errno.Errno.TheVariants.{EAGAIN, EBADF, EINVAL, EOVERFLOW, EPIPE, ESPIPE, EFBIG}
 use Rattle.posix_terms.specs.declared.limits.TheConstants.Limits as limit
+use Rattle.posix_terms.specs.declared.object.End.TheVariants as part
+use Rattle.posix_terms.specs.declared.object.Side.{Side}
 use Rattle.posix_terms.specs.declared.reply.Reply.TheVariants as reply
 
 -- what an object holds; the object of a description is in the map
@@ -22,10 +26,32 @@ content_of s object = unwrap_or (map.get s.objects object) (File [])
 abbrev pub with_offset : State → ℕ → Description → ℕ → State
 with_offset s key d offset = record s { descriptions = map.insert s.descriptions key (record d { offset = offset }) }
 
+-- a call that cannot go on: O_NONBLOCK decides whether it waits
+abbrev pub blocked : Description → Result Effect Errno
+blocked d = if d.nonblock then Err EAGAIN else Ok Blocks
+
+-- a read of a stream, which leaves its object with this content
+abbrev pub read_done : State → Description → (List ℕ → Content) → Reading → Result Effect Errno
+read_done s d content (Reads bytes left) = Ok (Completes (with_content s d.object (content left)) (reply.Data bytes))
+read_done s d content Ends = Ok (Completes s (reply.Data []))
+read_done s d content NothingYet = blocked d
+
+-- a read of no bytes of a stream does nothing
+abbrev pub read_stream : State → Description → ℕ → (List ℕ → Content) → Reading → Result Effect Errno
+read_stream s d count content reading = if count == 0 then Ok (Completes s (reply.Data [])) else read_done s d content reading
+
+-- whether the peer of a socket is open
+abbrev pub has_peer : State → ℕ → Side → Bool
+has_peer s object side = has_end s object (part.Socket (peer_of side))
+
 abbrev pub read_content : State → ℕ → Description → ℕ → Content → Result Effect Errno
 read_content s key d count (File file) =
     let bytes = bytes_at file d.offset count in
     Ok (Completes (with_offset s key d (d.offset + length bytes)) (reply.Data bytes))
+read_content s key d count (Pipe bytes) = read_stream s d count Pipe (stream_read bytes count (has_end s d.object part.Write))
+read_content s key d count (Pair p) =
+    let side = side_of d.«end» in
+    read_stream s d count (λ left. Pair (with_waiting p side left)) (pair_read p side count (has_peer s d.object side))
 
 -- the description of a descriptor that is open for reading
 abbrev pub readable : State → ℤ → Result (ℕ × Description) Errno
@@ -45,10 +71,20 @@ read_result s descriptor count = do
 abbrev pub start_of : Description → List ℕ → ℕ
 start_of d file = if d.append then length file else d.offset
 
+-- a write of so many bytes to a stream, which leaves its object with this content
+abbrev pub write_done : State → Description → ℕ → (List ℕ → Content) → Writing → Result Effect Errno
+write_done s d count content (Writes left) = Ok (Completes (with_content s d.object (content left)) (reply.Count count))
+write_done s d count content Breaks = Err EPIPE
+write_done s d count content NoRoom = blocked d
+
 abbrev pub write_content : State → ℕ → Description → List ℕ → Content → Result Effect Errno
 write_content s key d bytes (File file) = do
   w ← written file (start_of d file) bytes
   Ok (Completes (with_content (with_offset s key d (start_of d file + w.1)) d.object (File w.0)) (reply.Count w.1))
+write_content s key d bytes (Pipe waiting) = write_done s d (length bytes) Pipe (stream_write waiting bytes (has_end s d.object part.Read))
+write_content s key d bytes (Pair p) =
+    let side = side_of d.«end» in
+    write_done s d (length bytes) (λ left. Pair (with_waiting p (peer_of side) left)) (pair_write p side bytes (has_peer s d.object side))
 
 -- the description of a descriptor that is open for writing, where a call can write these bytes
 abbrev pub writable : State → ℤ → List ℕ → Result (ℕ × Description) Errno
@@ -78,6 +114,7 @@ abbrev pub seek_content : State → ℕ → Description → ℤ → Whence → C
 seek_content s key d offset from (File file) = do
   to ← offset_of (pos (base_of from d.offset (length file)) +ℤ offset)
   Ok (Completes (with_offset s key d to) (reply.Number (pos to)))
+seek_content s key d offset from c = Err ESPIPE
 
 -- `lseek`
 unfoldable pub lseek_result : State → ℤ → ℤ → Whence → Result Effect Errno
@@ -88,6 +125,7 @@ lseek_result s descriptor offset from = do
 -- the bytes of a regular file; another object is refused
 abbrev pub file_in : Content → Errno → Result (List ℕ) Errno
 file_in (File file) e = Ok file
+file_in c e = Err e
 
 -- `pread`: the offset stays
 unfoldable pub pread_result : State → ℤ → ℤ → ℤ → Result Effect Errno

@@ -46,6 +46,14 @@ pub enum Whence {
     End,
 }
 
+/// What `shutdown` shuts (`SHUT_RD`, `SHUT_WR`, `SHUT_RDWR`).
+#[derive(Clone, Copy, Debug, PartialEq, Eq, Hash)]
+pub enum ShutdownHow {
+    Read,
+    Write,
+    Both,
+}
+
 /// One call, with its arguments as the thread gave them. Descriptors, counts, positions, sizes and
 /// offsets may be any numbers, and a path any bytes: what is wrong with them is told by the reply.
 #[derive(Clone, Debug, PartialEq, Eq, Drop)]
@@ -125,6 +133,13 @@ pub enum Call {
     Rmdir {
         path: Bytes,
     },
+    Pipe,
+    /// A pair of connected stream sockets in memory.
+    Socketpair,
+    Shutdown {
+        descriptor: i64,
+        how: ShutdownHow,
+    },
 }
 
 /// Which call it is.
@@ -148,6 +163,9 @@ pub enum CallKind {
     Unlink,
     Mkdir,
     Rmdir,
+    Pipe,
+    Socketpair,
+    Shutdown,
 }
 
 impl Call {
@@ -174,6 +192,9 @@ impl Call {
             Call::Unlink { .. } => CallKind::Unlink,
             Call::Mkdir { .. } => CallKind::Mkdir,
             Call::Rmdir { .. } => CallKind::Rmdir,
+            Call::Pipe => CallKind::Pipe,
+            Call::Socketpair => CallKind::Socketpair,
+            Call::Shutdown { .. } => CallKind::Shutdown,
         }
     }
 
@@ -187,7 +208,7 @@ impl Call {
 
 impl CallKind {
     /// All calls.
-    pub const ALL: [CallKind; 18] = [
+    pub const ALL: [CallKind; 21] = [
         CallKind::Open,
         CallKind::Close,
         CallKind::Read,
@@ -206,6 +227,9 @@ impl CallKind {
         CallKind::Unlink,
         CallKind::Mkdir,
         CallKind::Rmdir,
+        CallKind::Pipe,
+        CallKind::Socketpair,
+        CallKind::Shutdown,
     ];
 
     /// The name of the call in scripts and in printed transcripts, for example `lseek`.
@@ -231,6 +255,9 @@ impl CallKind {
             CallKind::Unlink => "unlink",
             CallKind::Mkdir => "mkdir",
             CallKind::Rmdir => "rmdir",
+            CallKind::Pipe => "pipe",
+            CallKind::Socketpair => "socketpair",
+            CallKind::Shutdown => "shutdown",
         }
     }
 }

@@ -1,7 +1,11 @@
-ghost use Rattle.posix_terms.specs.Examples.{Leaves, Replies, gap_reads_zero, dup2_from_nothing, shared_offset, unlinked_but_open, directory_refusals, positioned_write_and_truncate, shared_flags, closed_last, unlinked_last, replaced_last, linked_still, shared_still};
+ghost use Rattle.posix_terms.specs.Examples.{Leaves, Replies, gap_reads_zero, dup2_from_nothing, shared_offset, unlinked_but_open, directory_refusals, positioned_write_and_truncate, shared_flags, pipe_and_its_ends, half_closed_pair, AnswersAfter, closed_last, unlinked_last, replaced_last, linked_still, shared_still, closed_pipe, half_closed_pipe};
+ghost use Rattle.posix_terms.specs.declared.errno.Errno.TheVariants.{EINTR};
+ghost use Rattle.posix_terms.specs.declared.reply.Answer.TheVariants.{Again, Reply};
+ghost use Rattle.posix_terms.specs.declared.reply.Reply.TheVariants.{Fail};
 
 /// Examples worked out by hand from the rules: the sequential object answers these calls by these
-/// replies. A file ends where it has neither a name nor a description, and not before.
+/// replies. A file ends where it has neither a name nor a description, and not before, and
+/// a pipe with its last description; a read of a pipe with nothing in it is blocked until its patience is at its end.
 pub fn worked_examples()
     ensures gap { Replies gap_reads_zero }
     ensures dup2 { Replies dup2_from_nothing }
@@ -10,9 +14,14 @@ pub fn worked_examples()
     ensures directories { Replies directory_refusals }
     ensures positioned { Replies positioned_write_and_truncate }
     ensures flags { Replies shared_flags }
+    ensures pipe { Replies pipe_and_its_ends }
+    ensures pair { Replies half_closed_pair }
+    ensures patient { AnswersAfter 3 0 Again × AnswersAfter 3 1 Again × AnswersAfter 3 2 (Reply (Fail EINTR)) }
     ensures closing { Leaves 0 closed_last }
     ensures unlinking { Leaves 0 unlinked_last }
     ensures replacing { Leaves 1 replaced_last }
     ensures linking { Leaves 1 linked_still }
     ensures sharing { Leaves 1 shared_still }
+    ensures pipe_ends { Leaves 0 closed_pipe }
+    ensures pipe_stays { Leaves 1 half_closed_pipe }
 {}

@@ -8,6 +8,7 @@ mod errno;
 mod examples;
 mod laws;
 mod limits;
+mod object;
 mod outcome;
 mod reply;
 #[cfg(test)]
@@ -16,11 +17,12 @@ mod text;
 mod transcript;
 
 pub use bytes::Bytes;
-pub use call::{Access, Call, CallKind, OpenFlags, Whence};
+pub use call::{Access, Call, CallKind, OpenFlags, ShutdownHow, Whence};
 pub use errno::{Errno, codes_lead_back, errno_name};
 pub use examples::worked_examples;
-pub use laws::failed_calls_change_nothing;
+pub use laws::{blocked_calls_change_nothing, failed_calls_change_nothing};
 pub use limits::Limits;
+pub use object::{End, Side};
 pub use outcome::{Given, OutKind, Outcome, Outcomes};
 pub use reply::{Answer, ObjectKind, Reply};
 pub use text::{pieces, split};

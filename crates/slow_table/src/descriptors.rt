@@ -1,3 +1,4 @@
+use crate::refusal::Refusal;
 use crate::table::{Description, SlowTable};
 use posix_terms::{Access, Errno, Limits, Reply};
 
@@ -29,18 +30,6 @@ impl SlowTable {
         self.descriptions.get_mut(place).ok_or(Errno::EBADF)
     }
 
-    // Whether a descriptor leads to the file.
-    pub(crate) fn is_open(&self, file: usize) -> bool {
-        for place in self.descriptors.iter().flatten() {
-            if let Some(description) = self.descriptions.get(*place)
-                && description.file == file
-            {
-                return true;
-            }
-        }
-        false
-    }
-
     // The lowest number from `least` on that is not open.
     pub(crate) fn lowest_from(&self, least: usize) -> Result<usize, Errno> {
         for (number, descriptor) in self.descriptors.iter().enumerate() {
@@ -52,11 +41,22 @@ impl SlowTable {
     }
 
     // A number of the table refers to a description, whatever it referred to before.
-    pub(crate) fn refer(&mut self, number: usize, place: usize) -> Reply {
+    fn refer(&mut self, number: usize, place: usize) -> i64 {
         if let Some(descriptor) = self.descriptors.get_mut(number) {
             *descriptor = Some(place);
         }
-        Reply::Number(i64::try_from(number).unwrap_or(i64::MAX))
+        i64::try_from(number).unwrap_or(i64::MAX)
+    }
+
+    // A number of the table refers to a new description.
+    pub(crate) fn describe(
+        &mut self,
+        number: usize,
+        description: Description,
+    ) -> Result<i64, Refusal> {
+        let place = self.descriptions.len();
+        self.descriptions.push(description)?;
+        Ok(self.refer(number, place))
     }
 
     pub(crate) fn close(&mut self, descriptor: i64) -> Result<Reply, Errno> {
@@ -76,13 +76,13 @@ impl SlowTable {
         let place = self.place(descriptor)?;
         let least = in_table(least).ok_or(Errno::EINVAL)?;
         let number = self.lowest_from(least)?;
-        Ok(self.refer(number, place))
+        Ok(Reply::Number(self.refer(number, place)))
     }
 
     pub(crate) fn dup2(&mut self, descriptor: i64, target: i64) -> Result<Reply, Errno> {
         let place = self.place(descriptor)?;
         let number = in_table(target).ok_or(Errno::EBADF)?;
-        Ok(self.refer(number, place))
+        Ok(Reply::Number(self.refer(number, place)))
     }
 
     pub(crate) fn getfl(&self, descriptor: i64) -> Result<Reply, Errno> {

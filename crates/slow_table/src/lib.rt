@@ -4,8 +4,10 @@
 
 mod descriptors;
 mod names;
+mod objects;
 mod paths;
 mod refusal;
+mod streams;
 mod table;
 #[cfg(test)]
 mod tests;

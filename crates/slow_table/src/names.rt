@@ -1,6 +1,7 @@
+use crate::objects::Object;
 use crate::refusal::Refusal;
 use crate::table::{Description, Entry, Name, SlowTable};
-use posix_terms::{Access, Bytes, Errno, Limits, OpenFlags, Reply};
+use posix_terms::{Access, Bytes, End, Errno, Limits, OpenFlags, Reply};
 use std::alloc::Global;
 
 impl SlowTable {
@@ -17,23 +18,22 @@ impl SlowTable {
         let path = self.resolve(alloc, path)?;
         let there = self.file_to_open(path.as_slice(), flags)?;
         let number = self.lowest_from(0)?;
-        let file = match there {
+        let object = match there {
             Some(file) => file,
             None => self.add_file(alloc, path)?,
         };
         if flags.truncate {
-            self.file_mut(file)?.clear();
+            self.file_mut(object)?.clear();
         }
         let description = Description {
-            file,
+            object,
+            end: End::Only,
             access,
             offset: 0,
             append: flags.append,
             nonblock: flags.nonblock,
         };
-        let place = self.descriptions.len();
-        self.descriptions.push(description)?;
-        Ok(self.refer(number, place))
+        Ok(Reply::Number(self.describe(number, description)?))
     }
 
     // The file that an open of this path finds, or none where it is to make one.
@@ -43,7 +43,7 @@ impl SlowTable {
             Some(Entry::Directory) => Err(Errno::EISDIR),
             Some(Entry::File(file)) => Ok(Some(file)),
             None if !flags.create => Err(Errno::ENOENT),
-            None if self.live_files() >= Limits::OBJECTS => Err(Errno::ENOSPC),
+            None if self.live_objects() >= Limits::OBJECTS => Err(Errno::ENOSPC),
             None => {
                 self.expect_room()?;
                 Ok(None)
@@ -113,8 +113,8 @@ impl SlowTable {
 
     // Makes an empty file with this name.
     fn add_file(&mut self, alloc: Global, path: Vec<Bytes>) -> Result<usize, Refusal> {
-        let file = self.files.len();
-        self.files.push(Vec::new(alloc))?;
+        let file = self.objects.len();
+        self.objects.push(Object::File(Vec::new(alloc)))?;
         self.add_name(path, Entry::File(file))?;
         Ok(file)
     }
@@ -133,16 +133,5 @@ impl SlowTable {
             }
         }
         links
-    }
-
-    // How many files have a name or are open.
-    fn live_files(&self) -> usize {
-        let mut live = 0usize;
-        for file in 0..self.files.len() {
-            if self.links(file) > 0 || self.is_open(file) {
-                live = live.saturating_add(1);
-            }
-        }
-        live
     }
 }

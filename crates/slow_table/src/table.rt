@@ -1,18 +1,20 @@
+use crate::objects::Object;
 use crate::refusal::Refusal;
-use posix_terms::{Access, Bytes, Call, Errno, Limits, Reply};
+use posix_terms::{Access, Answer, Bytes, Call, End, Errno, Limits, Reply};
 use std::alloc::{AllocError, Global};
 
-// An open file description. A file is known by its place in the list of all files.
+// An open file description. An object is known by its place in the list of all objects.
 #[derive(Clone, Copy)]
 pub(crate) struct Description {
-    pub file: usize,
+    pub object: usize,
+    pub end: End,
     pub access: Access,
     pub offset: u64,
     pub append: bool,
     pub nonblock: bool,
 }
 
-// What a name stands for.
+// What a name stands for. A file is known by its place among the objects.
 #[derive(Clone, Copy)]
 pub(crate) enum Entry {
     File(usize),
@@ -26,14 +28,14 @@ pub(crate) struct Name {
     pub entry: Entry,
 }
 
-/// The shared table, as lists that only grow: the place of a description or a file is never used again.
+/// The shared table, as lists that only grow: the place of a description or an object is never used again.
 #[derive(Drop)]
 pub struct SlowTable {
     // the descriptors by number, each with the place of its description
     pub(crate) descriptors: Vec<Option<usize>>,
     pub(crate) descriptions: Vec<Description>,
     pub(crate) names: Vec<Name>,
-    pub(crate) files: Vec<Vec<u8>>,
+    pub(crate) objects: Vec<Object>,
 }
 
 impl SlowTable {
@@ -47,15 +49,26 @@ impl SlowTable {
             descriptors,
             descriptions: Vec::new(alloc),
             names: Vec::new(alloc),
-            files: Vec::new(alloc),
+            objects: Vec::new(alloc),
         })
     }
 
-    /// Makes a call, and answers its reply.
-    pub fn make(&mut self, alloc: Global, call: &Call) -> Result<Reply, AllocError> {
+    /// Makes a turn of a call that was blocked for so many turns before. At the turn that is the last of its
+    /// patience it does not wait any more.
+    pub fn make(
+        &mut self,
+        alloc: Global,
+        call: &Call,
+        patience: u32,
+        turns: u32,
+    ) -> Result<Answer, AllocError> {
         match self.attempt(alloc, call) {
-            Ok(reply) => Ok(reply),
-            Err(Refusal::Errno(error)) => Ok(Reply::Fail(error)),
+            Ok(reply) => Ok(Answer::Reply(reply)),
+            Err(Refusal::Errno(error)) => Ok(Answer::Reply(Reply::Fail(error))),
+            Err(Refusal::Blocked) if turns.saturating_add(1) >= patience => {
+                Ok(Answer::Reply(Reply::Fail(Errno::EINTR)))
+            }
+            Err(Refusal::Blocked) => Ok(Answer::Again),
             Err(Refusal::Memory) => Err(AllocError),
         }
     }
@@ -86,6 +99,8 @@ impl SlowTable {
                 position,
             } => self.pwrite(*descriptor, bytes.as_slice(), *position),
             Call::Ftruncate { descriptor, size } => self.ftruncate(*descriptor, *size),
+            Call::Pipe => self.pipe(alloc),
+            Call::Socketpair => self.socketpair(alloc),
             call => Ok(self.descriptor_call(call)?),
         }
     }
@@ -109,6 +124,7 @@ impl SlowTable {
                 append,
                 nonblock,
             } => self.setfl(*descriptor, *append, *nonblock),
+            Call::Shutdown { descriptor, how } => self.shutdown(*descriptor, *how),
             _ => Err(Errno::EIO),
         }
     }

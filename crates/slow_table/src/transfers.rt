@@ -1,6 +1,6 @@
 use crate::refusal::Refusal;
-use crate::table::SlowTable;
-use posix_terms::{Access, Bytes, Errno, Limits, ObjectKind, Reply, Whence};
+use crate::table::{Description, SlowTable};
+use posix_terms::{Access, Bytes, End, Errno, Limits, ObjectKind, Reply, Whence};
 use std::alloc::{AllocError, Global};
 
 // How many bytes a read asks for.
@@ -58,15 +58,13 @@ fn lay(file: &mut Vec<u8>, position: u64, bytes: &[u8]) -> Result<u64, Refusal> 
 }
 
 impl SlowTable {
-    fn file(&self, file: usize) -> Result<&[u8], Errno> {
-        match self.files.get(file) {
-            Some(bytes) => Ok(bytes.as_slice()),
-            None => Err(Errno::EIO),
+    // The description of an open number, where it is of a file.
+    fn description_of_file(&self, descriptor: i64) -> Result<Description, Errno> {
+        let description = self.description(descriptor)?;
+        if description.end != End::Only {
+            return Err(Errno::ESPIPE);
         }
-    }
-
-    pub(crate) fn file_mut(&mut self, file: usize) -> Result<&mut Vec<u8>, Errno> {
-        self.files.get_mut(file).ok_or(Errno::EIO)
+        Ok(description)
     }
 
     pub(crate) fn read(
@@ -80,8 +78,23 @@ impl SlowTable {
             return Err(Refusal::Errno(Errno::EBADF));
         }
         let count = read_count(count)?;
+        match description.end {
+            End::Only => self.read_file(alloc, descriptor, count),
+            _ if count == 0 => Ok(Reply::Data(Bytes::from_vec(Vec::new(alloc)))),
+            End::Read | End::Write => self.read_pipe(alloc, description, count),
+            End::Socket(side) => self.read_socket(alloc, description, side, count),
+        }
+    }
+
+    fn read_file(
+        &mut self,
+        alloc: Global,
+        descriptor: i64,
+        count: usize,
+    ) -> Result<Reply, Refusal> {
+        let description = self.description(descriptor)?;
         let offset = description.offset;
-        let bytes = bytes_from(alloc, self.file(description.file)?, offset, count)?;
+        let bytes = bytes_from(alloc, self.file(description.object)?, offset, count)?;
         let moved = bytes.as_slice().len() as u64;
         self.description_mut(descriptor)?.offset = offset.saturating_add(moved);
         Ok(Reply::Data(bytes))
@@ -94,13 +107,13 @@ impl SlowTable {
         count: i64,
         position: i64,
     ) -> Result<Reply, Refusal> {
-        let description = self.description(descriptor)?;
+        let description = self.description_of_file(descriptor)?;
         if description.access == Access::WriteOnly {
             return Err(Refusal::Errno(Errno::EBADF));
         }
         let count = read_count(count)?;
         let start = start_at(position)?;
-        let file = self.file(description.file)?;
+        let file = self.file(description.object)?;
         Ok(Reply::Data(bytes_from(alloc, file, start, count)?))
     }
 
@@ -112,7 +125,17 @@ impl SlowTable {
         if bytes.len() > Limits::COUNT {
             return Err(Refusal::Errno(Errno::EINVAL));
         }
-        let file = self.file_mut(description.file)?;
+        match description.end {
+            End::Only => self.write_file(descriptor, bytes),
+            _ if bytes.is_empty() => Ok(Reply::Count(0)),
+            End::Read | End::Write => self.write_pipe(description, bytes),
+            End::Socket(side) => self.write_socket(description, side, bytes),
+        }
+    }
+
+    fn write_file(&mut self, descriptor: i64, bytes: &[u8]) -> Result<Reply, Refusal> {
+        let description = self.description(descriptor)?;
+        let file = self.file_mut(description.object)?;
         let start = if description.append {
             file.len() as u64
         } else {
@@ -131,7 +154,7 @@ impl SlowTable {
         bytes: &[u8],
         position: i64,
     ) -> Result<Reply, Refusal> {
-        let description = self.description(descriptor)?;
+        let description = self.description_of_file(descriptor)?;
         if description.access == Access::ReadOnly {
             return Err(Refusal::Errno(Errno::EBADF));
         }
@@ -139,7 +162,7 @@ impl SlowTable {
             return Err(Refusal::Errno(Errno::EINVAL));
         }
         let start = start_at(position)?;
-        let count = lay(self.file_mut(description.file)?, start, bytes)?;
+        let count = lay(self.file_mut(description.object)?, start, bytes)?;
         Ok(Reply::Count(count))
     }
 
@@ -149,11 +172,11 @@ impl SlowTable {
         offset: i64,
         whence: Whence,
     ) -> Result<Reply, Errno> {
-        let description = self.description(descriptor)?;
+        let description = self.description_of_file(descriptor)?;
         let base = match whence {
             Whence::Set => 0,
             Whence::Current => description.offset,
-            Whence::End => self.file(description.file)?.len() as u64,
+            Whence::End => self.file(description.object)?.len() as u64,
         };
         let to = i128::from(base) + i128::from(offset);
         if to < 0 {
@@ -171,22 +194,35 @@ impl SlowTable {
         let Ok(size) = usize::try_from(size) else {
             return Err(Refusal::Errno(Errno::EINVAL));
         };
-        if description.access == Access::ReadOnly {
+        if description.access == Access::ReadOnly || description.end != End::Only {
             return Err(Refusal::Errno(Errno::EINVAL));
         }
         if size > Limits::FILE_BYTES {
             return Err(Refusal::Errno(Errno::EFBIG));
         }
-        self.file_mut(description.file)?.resize(size, 0)?;
+        self.file_mut(description.object)?.resize(size, 0)?;
         Ok(Reply::Done)
     }
 
     pub(crate) fn fstat(&self, descriptor: i64) -> Result<Reply, Errno> {
         let description = self.description(descriptor)?;
+        let kind = match description.end {
+            End::Only => return self.fstat_file(description.object),
+            End::Read | End::Write => ObjectKind::Pipe,
+            End::Socket(_) => ObjectKind::SocketPair,
+        };
+        Ok(Reply::Stat {
+            kind,
+            number: 0,
+            links: 0,
+        })
+    }
+
+    fn fstat_file(&self, file: usize) -> Result<Reply, Errno> {
         Ok(Reply::Stat {
             kind: ObjectKind::File,
-            number: self.file(description.file)?.len() as u64,
-            links: self.links(description.file),
+            number: self.file(file)?.len() as u64,
+            links: self.links(file),
         })
     }
 }

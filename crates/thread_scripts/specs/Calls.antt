@@ -5,7 +5,7 @@ use Rattle.posix_terms.specs.declared.call.CallKind.{CallKind}
 use Rattle.posix_terms.specs.declared.call.CallKind.TheVariants as kind
 use Rattle.posix_terms.specs.declared.call.OpenFlags.{OpenFlags}
 use Rattle.thread_scripts.specs.Numbers.{byte_register_of, number_of, register_of}
-use Rattle.thread_scripts.specs.Texts.{access_of, bytes_of, no_flags, path_of, whence_of, with_flags}
+use Rattle.thread_scripts.specs.Texts.{access_of, bytes_of, no_flags, path_of, shutdown_how_of, whence_of, with_flags}
 use Rattle.thread_scripts.specs.declared.line.Number.{Number}
 use Rattle.thread_scripts.specs.declared.line.Number.TheVariants as number
 use Rattle.thread_scripts.specs.declared.line.Data.{Data}
@@ -15,6 +15,7 @@ use Rattle.thread_scripts.specs.declared.line.CallLine.TheVariants as line
 use Rattle.thread_scripts.specs.declared.line.DescriptorLine.TheVariants as descriptor_line
 use Rattle.thread_scripts.specs.declared.line.PathLine.TheVariants as path_line
 use Rattle.thread_scripts.specs.declared.line.StatusLine.TheVariants as status_line
+use Rattle.thread_scripts.specs.declared.line.StreamLine.TheVariants as stream_line
 use Rattle.thread_scripts.specs.declared.line.TransferLine.TheVariants as transfer_line
 
 infixl 10 ◌>>=◌
@@ -41,7 +42,7 @@ data_operand word = register_or_bytes (byte_register_of word) (bytes_of word)
 -- all calls
 abbrev pub kinds : List CallKind
 kinds =
-    kind.Open ∷ kind.Close ∷ kind.Read ∷ kind.Write ∷ kind.Pread ∷ kind.Pwrite ∷ kind.Lseek ∷ kind.Ftruncate ∷ kind.Fstat ∷ kind.Dup ∷ kind.DupFrom ∷ kind.Dup2 ∷ kind.Getfl ∷ kind.Setfl ∷ kind.Link ∷ kind.Unlink ∷ kind.Mkdir ∷ kind.Rmdir ∷ []
+    kind.Open ∷ kind.Close ∷ kind.Read ∷ kind.Write ∷ kind.Pread ∷ kind.Pwrite ∷ kind.Lseek ∷ kind.Ftruncate ∷ kind.Fstat ∷ kind.Dup ∷ kind.DupFrom ∷ kind.Dup2 ∷ kind.Getfl ∷ kind.Setfl ∷ kind.Link ∷ kind.Unlink ∷ kind.Mkdir ∷ kind.Rmdir ∷ kind.Pipe ∷ kind.Socketpair ∷ kind.Shutdown ∷ []
 
 -- the first call of these that a word names
 abbrev pub kind_among : List CallKind → List ℕ → Option CallKind
@@ -197,6 +198,24 @@ rmdir_line (path ∷ []) = do
   Some (line.Path (path_line.Rmdir p))
 rmdir_line _ = None
 
+-- pipe
+abbrev pub pipe_line : List (List ℕ) → Option CallLine
+pipe_line [] = Some (line.Stream stream_line.Pipe)
+pipe_line _ = None
+
+-- socketpair
+abbrev pub socketpair_line : List (List ℕ) → Option CallLine
+socketpair_line [] = Some (line.Stream stream_line.Socketpair)
+socketpair_line _ = None
+
+-- shutdown DESCRIPTOR HOW
+abbrev pub shutdown_line : List (List ℕ) → Option CallLine
+shutdown_line (descriptor ∷ how ∷ []) = do
+  d ← number_operand descriptor
+  h ← shutdown_how_of how
+  Some (line.Stream (stream_line.Shutdown d h))
+shutdown_line _ = None
+
 -- the line of a call with these operands
 unfoldable pub call_line : CallKind → List (List ℕ) → Option CallLine
 call_line kind.Open operands = open_line operands
@@ -217,3 +236,6 @@ call_line kind.Link operands = link_line operands
 call_line kind.Unlink operands = unlink_line operands
 call_line kind.Mkdir operands = mkdir_line operands
 call_line kind.Rmdir operands = rmdir_line operands
+call_line kind.Pipe operands = pipe_line operands
+call_line kind.Socketpair operands = socketpair_line operands
+call_line kind.Shutdown operands = shutdown_line operands

@@ -20,6 +20,8 @@ use Rattle.thread_scripts.specs.declared.line.PathLine.{PathLine}
 use Rattle.thread_scripts.specs.declared.line.PathLine.TheVariants as path_line
 use Rattle.thread_scripts.specs.declared.line.StatusLine.{StatusLine}
 use Rattle.thread_scripts.specs.declared.line.StatusLine.TheVariants as status_line
+use Rattle.thread_scripts.specs.declared.line.StreamLine.{StreamLine}
+use Rattle.thread_scripts.specs.declared.line.StreamLine.TheVariants as stream_line
 use Rattle.thread_scripts.specs.declared.line.TransferLine.{TransferLine}
 use Rattle.thread_scripts.specs.declared.line.TransferLine.TheVariants as transfer_line
 use Rattle.thread_scripts.specs.declared.line.Line.{Line}
@@ -89,6 +91,11 @@ status_call_of s (status_line.Fstat d) = call.Fstat (number_value s d)
 status_call_of s (status_line.Getfl d) = call.Getfl (number_value s d)
 status_call_of s (status_line.Setfl d append nonblock) = call.Setfl (number_value s d) append nonblock
 
+abbrev pub stream_call_of : ScriptState → StreamLine → Call
+stream_call_of s stream_line.Pipe = call.Pipe
+stream_call_of s stream_line.Socketpair = call.Socketpair
+stream_call_of s (stream_line.Shutdown d how) = call.Shutdown (number_value s d) how
+
 abbrev pub path_call_of : PathLine → Call
 path_call_of (path_line.Open path access flags) = call.Open path access flags
 path_call_of (path_line.Link old_path new_path) = call.Link old_path new_path
@@ -101,6 +108,7 @@ abbrev pub call_of : ScriptState → CallLine → Call
 call_of s (call_line.Transfer l) = transfer_of s l
 call_of s (call_line.Descriptor l) = descriptor_call_of s l
 call_of s (call_line.Status l) = status_call_of s l
+call_of s (call_line.Stream l) = stream_call_of s l
 call_of s (call_line.Path l) = path_call_of l
 
 -- what a line does; `end` goes behind the last line

@@ -7,6 +7,8 @@ use Rattle.posix_terms.specs.declared.limits.TheConstants.Limits.{COUNT}
 use Rattle.posix_terms.specs.declared.call.Access.{Access}
 use Rattle.posix_terms.specs.declared.call.Access.TheVariants as access
 use Rattle.posix_terms.specs.declared.call.OpenFlags.{OpenFlags}
+use Rattle.posix_terms.specs.declared.call.ShutdownHow.{ShutdownHow}
+use Rattle.posix_terms.specs.declared.call.ShutdownHow.TheVariants as how
 use Rattle.posix_terms.specs.declared.call.Whence.{Whence}
 use Rattle.posix_terms.specs.declared.call.Whence.TheVariants as whence
 
@@ -43,6 +45,14 @@ whence_of word =
     if bytes_eq word (codes "set") then Some whence.Set
     else if bytes_eq word (codes "cur") then Some whence.Current
     else if bytes_eq word (codes "end") then Some whence.End
+    else None
+
+-- what of a socket is shut
+abbrev pub shutdown_how_of : List ℕ → Option ShutdownHow
+shutdown_how_of word =
+    if bytes_eq word (codes "read") then Some how.Read
+    else if bytes_eq word (codes "write") then Some how.Write
+    else if bytes_eq word (codes "both") then Some how.Both
     else None
 
 abbrev pub no_flags : OpenFlags

@@ -1,11 +1,13 @@
 ghost use Rattle.std.specs.Prelude.{◌≡◌, map};
-ghost use Rattle.thread_scripts.specs.Calls.{call_line, close_line, data_operand, dup_from_line, dup_line, dup2_line, fstat_line, ftruncate_line, getfl_line, kind_among, kind_named, link_line, lseek_line, mkdir_line, number_operand, open_line, pread_line, pwrite_line, read_line, rmdir_line, setfl_line, status_flags, unlink_line, write_line};
+ghost use Rattle.thread_scripts.specs.Calls.{call_line, close_line, data_operand, dup_from_line, dup_line, dup2_line, fstat_line, ftruncate_line, getfl_line, kind_among, kind_named, link_line, lseek_line, mkdir_line, number_operand, open_line, pipe_line, pread_line, pwrite_line, read_line, rmdir_line, setfl_line, shutdown_line, socketpair_line, status_flags, unlink_line, write_line};
 ghost use Rattle.thread_scripts.specs.Faults.{Reads};
 
 use crate::fault::LineFault;
-use crate::line::{CallLine, Data, DescriptorLine, Number, PathLine, StatusLine, TransferLine};
+use crate::line::{
+    CallLine, Data, DescriptorLine, Number, PathLine, StatusLine, StreamLine, TransferLine,
+};
 use crate::numbers::{byte_register, number, register};
-use crate::texts::{access, byte_text, flags, path, whence};
+use crate::texts::{access, byte_text, flags, path, shutdown_how, whence};
 use posix_terms::{CallKind, OpenFlags};
 use std::alloc::Global;
 
@@ -278,6 +280,35 @@ fn read_rmdir(alloc: Global, operands: &[&[u8]]) -> Result<CallLine, LineFault>
     Ok(CallLine::Path(PathLine::Rmdir { path }))
 }
 
+fn read_pipe(operands: &[&[u8]]) -> Result<CallLine, LineFault>
+    ensures { Reads result (pipe_line (map (λ w. w.now) operands.now)) }
+{
+    if !operands.is_empty() {
+        return Err(LineFault::Bad);
+    }
+    Ok(CallLine::Stream(StreamLine::Pipe))
+}
+
+fn read_socketpair(operands: &[&[u8]]) -> Result<CallLine, LineFault>
+    ensures { Reads result (socketpair_line (map (λ w. w.now) operands.now)) }
+{
+    if !operands.is_empty() {
+        return Err(LineFault::Bad);
+    }
+    Ok(CallLine::Stream(StreamLine::Socketpair))
+}
+
+fn read_shutdown(operands: &[&[u8]]) -> Result<CallLine, LineFault>
+    ensures { Reads result (shutdown_line (map (λ w. w.now) operands.now)) }
+{
+    let [descriptor, how_word] = operands else {
+        return Err(LineFault::Bad);
+    };
+    let descriptor = number_operand(descriptor)?;
+    let how = shutdown_how(how_word).ok_or(LineFault::Bad)?;
+    Ok(CallLine::Stream(StreamLine::Shutdown { descriptor, how }))
+}
+
 /// The line of a call with these operands.
 #[tactic(auto, unfolding(crate::specs::Calls::call_line))]
 pub(crate) fn read_call(
@@ -306,5 +337,8 @@ pub(crate) fn read_call(
         CallKind::Unlink => read_unlink(alloc, operands),
         CallKind::Mkdir => read_mkdir(alloc, operands),
         CallKind::Rmdir => read_rmdir(alloc, operands),
+        CallKind::Pipe => read_pipe(operands),
+        CallKind::Socketpair => read_socketpair(operands),
+        CallKind::Shutdown => read_shutdown(operands),
     }
 }

@@ -27,6 +27,6 @@ pub use laws::{
 };
 pub use line::{
     ByteRegister, CallLine, Data, DescriptorLine, Line, Number, NumberRegister, PathLine, Register,
-    StatusLine, TransferLine,
+    StatusLine, StreamLine, TransferLine,
 };
 pub use script::Script;

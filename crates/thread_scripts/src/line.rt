@@ -1,6 +1,6 @@
 ghost use Rattle.std.specs.Prelude.{◌≡◌, ◌<◌, ◌≤◌, ℕ, IfSome, IsSome};
 
-use posix_terms::{Access, Bytes, OpenFlags, Whence};
+use posix_terms::{Access, Bytes, OpenFlags, ShutdownHow, Whence};
 use std::marker::Model;
 
 /// One of so many registers. Contracts see its number.
@@ -113,6 +113,17 @@ pub enum StatusLine {
     },
 }
 
+/// A call that makes streams in memory or shuts a socket, as a line gives it.
+#[derive(Clone, Copy, Debug, PartialEq, Eq)]
+pub enum StreamLine {
+    Pipe,
+    Socketpair,
+    Shutdown {
+        descriptor: Number,
+        how: ShutdownHow,
+    },
+}
+
 /// A call on paths, as a line gives it.
 #[derive(Debug, PartialEq, Eq, Drop)]
 pub enum PathLine {
@@ -142,6 +153,7 @@ pub enum CallLine {
     Transfer(TransferLine),
     Descriptor(DescriptorLine),
     Status(StatusLine),
+    Stream(StreamLine),
     Path(PathLine),
 }
 

@@ -4,7 +4,7 @@ ghost use Rattle.thread_scripts.specs.Meaning.{path_call_of};
 use crate::actor::{ScriptState, Step};
 use crate::line::{
     ByteRegister, CallLine, Data, DescriptorLine, Line, Number, NumberRegister, PathLine,
-    StatusLine, TransferLine,
+    StatusLine, StreamLine, TransferLine,
 };
 use crate::script::Script;
 use posix_terms::{Bytes, Call, Limits, Reply};
@@ -59,7 +59,7 @@ fn path_call(line: &PathLine) -> Result<Call, AllocError>
 }
 
 impl ScriptState {
-    ghost use Rattle.thread_scripts.specs.Meaning.{action_of, call_of, data_value, descriptor_call_of, is_failure, lines_left, next_of, next_within, number_value, performed, start_of, status_call_of, step_given, stored, transfer_of};
+    ghost use Rattle.thread_scripts.specs.Meaning.{action_of, call_of, data_value, descriptor_call_of, is_failure, lines_left, next_of, next_within, number_value, performed, start_of, status_call_of, step_given, stored, stream_call_of, transfer_of};
     ghost use Rattle.thread_scripts.specs.Saving.{with_saved};
 
     /// The state before the script's first line. It takes no memory.
@@ -189,6 +189,19 @@ impl ScriptState {
         }
     }
 
+    fn stream_call(&self, line: StreamLine) -> Call
+        ensures { result ≡ stream_call_of self.now line }
+    {
+        match line {
+            StreamLine::Pipe => Call::Pipe,
+            StreamLine::Socketpair => Call::Socketpair,
+            StreamLine::Shutdown { descriptor, how } => Call::Shutdown {
+                descriptor: self.number(descriptor),
+                how,
+            },
+        }
+    }
+
     /// The call that a line makes.
     fn call(&self, line: &CallLine) -> Result<Call, AllocError>
         ensures { IfOk result (λ call. call ≡ call_of self.now line.now) }
@@ -197,6 +210,7 @@ impl ScriptState {
             CallLine::Transfer(line) => self.transfer(line),
             CallLine::Descriptor(line) => Ok(self.descriptor_call(*line)),
             CallLine::Status(line) => Ok(self.status_call(*line)),
+            CallLine::Stream(line) => Ok(self.stream_call(*line)),
             CallLine::Path(line) => path_call(line),
         }
     }

@@ -3,7 +3,7 @@ use crate::{
     accepted_exactly, bad_line_is_the_first, jumps_lead_to_labels, parse, runs_end, script_stays,
     too_long_is_counted,
 };
-use posix_terms::{Access, Bytes, Call, Errno, ObjectKind, OpenFlags, Reply, Whence};
+use posix_terms::{Access, Bytes, Call, Errno, ObjectKind, OpenFlags, Reply, ShutdownHow, Whence};
 use std::alloc::{AllocError, Global};
 use std::test::Fail;
 
@@ -236,6 +236,30 @@ fn reads_calls_on_descriptors(rt: HostRuntime) -> Result<(), Fail> {
     Ok(())
 }
 
+/// Lines of the calls on pipes and pairs of sockets, with the calls that they make.
+fn stream_calls() -> [(&'static str, Call); 6] {
+    [
+        ("pipe", Call::Pipe),
+        ("  pipe ", Call::Pipe),
+        ("socketpair", Call::Socketpair),
+        ("shutdown -1 read", shut(-1, ShutdownHow::Read)),
+        ("shutdown 12 write", shut(12, ShutdownHow::Write)),
+        ("set r4 13\nshutdown r4 both", shut(13, ShutdownHow::Both)),
+    ]
+}
+
+fn shut(descriptor: i64, how: ShutdownHow) -> Call {
+    Call::Shutdown { descriptor, how }
+}
+
+#[test]
+fn reads_calls_on_pipes_and_pairs(rt: HostRuntime) -> Result<(), Fail> {
+    for (text, call) in stream_calls() {
+        assert_eq!(rt; first_step(rt.alloc(), text)?, Step::Call(call), "{text}");
+    }
+    Ok(())
+}
+
 #[test]
 fn reads_calls_on_paths(rt: HostRuntime) -> Result<(), Fail> {
     let alloc = rt.alloc();
@@ -260,7 +284,7 @@ fn reads_calls_on_paths(rt: HostRuntime) -> Result<(), Fail> {
 }
 
 /// Lines with an operand too few, too many or of another form.
-const BAD_CALLS: [&str; 46] = [
+const BAD_CALLS: [&str; 62] = [
     "pread 0 1",
     "pread 0 1 2 3",
     "pread 0 x 2",
@@ -307,6 +331,22 @@ const BAD_CALLS: [&str; 46] = [
     "rmdir",
     "rmdir /a /b",
     "rmdir\t/a",
+    "pipe 1",
+    "pipe r0",
+    "pipe nonblock",
+    "Pipe",
+    "pipes",
+    "socketpair 0",
+    "socketpair 0 1",
+    "socket",
+    "shutdown",
+    "shutdown 0",
+    "shutdown both",
+    "shutdown 0 all",
+    "shutdown 0 Both",
+    "shutdown 0 read write",
+    "shutdown x both",
+    "shutdown 0 1",
 ];
 
 #[test]

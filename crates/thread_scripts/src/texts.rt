@@ -1,11 +1,11 @@
 ghost use Rattle.std.specs.Prelude.{◌≡◌, map};
 ghost use Rattle.std.specs.List.{list_all};
-ghost use Rattle.thread_scripts.specs.Texts.{access_of, bytes_of, is_graphic, no_flags, once, path_of, whence_of, with_flag, with_flags};
+ghost use Rattle.thread_scripts.specs.Texts.{access_of, bytes_of, is_graphic, no_flags, once, path_of, shutdown_how_of, whence_of, with_flag, with_flags};
 ghost use Rattle.thread_scripts.specs.Faults.{Reads};
 
 use crate::fault::LineFault;
 use hex::FromHexError;
-use posix_terms::{Access, Bytes, Limits, OpenFlags, Whence};
+use posix_terms::{Access, Bytes, Limits, OpenFlags, ShutdownHow, Whence};
 use std::alloc::Global;
 use std::mem;
 
@@ -73,6 +73,21 @@ pub(crate) fn whence(word: &[u8]) -> Option<Whence>
         Some(Whence::Current)
     } else if word == b"end".as_slice() {
         Some(Whence::End)
+    } else {
+        None
+    }
+}
+
+/// What of a socket is shut.
+pub(crate) fn shutdown_how(word: &[u8]) -> Option<ShutdownHow>
+    ensures { result ≡ shutdown_how_of word.now }
+{
+    if word == b"read".as_slice() {
+        Some(ShutdownHow::Read)
+    } else if word == b"write".as_slice() {
+        Some(ShutdownHow::Write)
+    } else if word == b"both".as_slice() {
+        Some(ShutdownHow::Both)
     } else {
         None
     }

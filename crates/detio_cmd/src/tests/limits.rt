@@ -63,6 +63,35 @@ fn duplicates_in_a_full_table(rt: HostRuntime) -> Result<(), Fail> {
     Ok(())
 }
 
+// A pipe and a pair need two numbers, and get the two lowest.
+#[test]
+fn numbers_of_two_ends(rt: HostRuntime) -> Result<(), Fail> {
+    let alloc = rt.alloc();
+    let mut expected = full_table(alloc)?;
+    expected.calls(
+        alloc,
+        &[
+            ("pipe", "pipe fail EMFILE"),
+            ("socketpair", "socketpair fail EMFILE"),
+            ("close 31", "close done"),
+            ("pipe", "pipe fail EMFILE"),
+            ("socketpair", "socketpair fail EMFILE"),
+            ("close 7", "close done"),
+            ("pipe", "pipe pair 7 31"),
+            ("close 31", "close done"),
+            ("close 7", "close done"),
+            ("close 30", "close done"),
+            ("socketpair", "socketpair pair 7 30"),
+            ("write 30 x61", "write count 1"),
+            ("read 7 9", "read data 61"),
+            ("pipe", "pipe fail EMFILE"),
+            ("dup 7", "dup number 31"),
+        ],
+    )?;
+    assert!(rt; expected.holds(alloc)?);
+    Ok(())
+}
+
 // Makes 48 files with the names 0 to 47, and leaves none open.
 fn full_objects(alloc: Global) -> io::Result<Expected> {
     let mut expected = Expected::new(alloc);
@@ -95,6 +124,38 @@ fn full_files(rt: HostRuntime) -> Result<(), Fail> {
             ("open /b w create", "open fail ENOSPC"),
             ("unlink /d/0", "unlink done"),
             ("open /b w create", "open number 1"),
+        ],
+    )?;
+    assert!(rt; expected.holds(alloc)?);
+    Ok(())
+}
+
+// A pipe or a pair counts among the 48 objects until both of its ends are closed.
+#[test]
+fn pipes_among_files(rt: HostRuntime) -> Result<(), Fail> {
+    let alloc = rt.alloc();
+    let mut expected = full_objects(alloc)?;
+    expected.calls(
+        alloc,
+        &[
+            ("pipe", "pipe fail ENFILE"),
+            ("socketpair", "socketpair fail ENFILE"),
+            ("unlink /0", "unlink done"),
+            ("pipe", "pipe pair 0 1"),
+            ("socketpair", "socketpair fail ENFILE"),
+            ("open /0 w create", "open fail ENOSPC"),
+            ("close 1", "close done"),
+            ("open /0 w create", "open fail ENOSPC"),
+            ("close 0", "close done"),
+            ("socketpair", "socketpair pair 0 1"),
+            ("pipe", "pipe fail ENFILE"),
+            ("close 0", "close done"),
+            ("open /0 w create", "open fail ENOSPC"),
+            ("dup2 1 0", "dup2 number 0"),
+            ("close 1", "close done"),
+            ("pipe", "pipe fail ENFILE"),
+            ("close 0", "close done"),
+            ("open /0 w create", "open number 0"),
         ],
     )?;
     assert!(rt; expected.holds(alloc)?);
@@ -192,6 +253,30 @@ fn files_before_numbers(rt: HostRuntime) -> Result<(), Fail> {
             ("close 31", "close done"),
             ("open /b w create", "open number 31"),
             ("fstat 0", "fstat stat 1 0 0"),
+        ],
+    )?;
+    assert!(rt; expected.holds(alloc)?);
+    Ok(())
+}
+
+// Where numbers and objects are both used up, a pipe and a pair want the numbers first.
+#[test]
+fn numbers_before_objects(rt: HostRuntime) -> Result<(), Fail> {
+    let alloc = rt.alloc();
+    let mut expected = full_objects(alloc)?;
+    expected.call(alloc, "open /0 r", "open number 0")?;
+    fill_numbers(alloc, &mut expected)?;
+    expected.calls(
+        alloc,
+        &[
+            ("pipe", "pipe fail EMFILE"),
+            ("close 31", "close done"),
+            ("socketpair", "socketpair fail EMFILE"),
+            ("close 4", "close done"),
+            ("socketpair", "socketpair fail ENFILE"),
+            ("pipe", "pipe fail ENFILE"),
+            ("unlink /1", "unlink done"),
+            ("pipe", "pipe pair 4 31"),
         ],
     )?;
     assert!(rt; expected.holds(alloc)?);

@@ -85,6 +85,7 @@ fn numbers_that_are_not_open(rt: HostRuntime) -> Result<(), Fail> {
         ("dup2", " 32"),
         ("getfl", ""),
         ("setfl", " append nonblock"),
+        ("shutdown", " both"),
     ];
     for number in [-1, 1, 31, 32, i64::MAX, i64::MIN] {
         for (word, operands) in calls {
@@ -360,6 +361,76 @@ fn refusals_of_open(rt: HostRuntime) -> Result<(), Fail> {
         ("open /d/x w create excl", "open fail EEXIST"),
         ("open /d/x/y w create excl", "open fail ENOTDIR"),
         ("open d/x r excl", "open number 1"),
+    ];
+    assert!(rt; answers(rt.alloc(), &calls)?);
+    Ok(())
+}
+
+// What is wrong with a call on an end of a pipe. An end that is not for reading or writing is told before the count, and
+// that it is of no file before all else.
+#[test]
+fn refusals_on_a_pipe(rt: HostRuntime) -> Result<(), Fail> {
+    let calls = [
+        ("pipe", "pipe pair 0 1"),
+        ("read 1 1", "read fail EBADF"),
+        ("read 1 -1", "read fail EBADF"),
+        ("read 1 0", "read fail EBADF"),
+        ("read 0 -1", "read fail EINVAL"),
+        ("read 0 32768", "read fail EINVAL"),
+        ("read 0 0", "read data -"),
+        ("write 0 x61", "write fail EBADF"),
+        ("write 0 x", "write fail EBADF"),
+        ("write 1 x", "write count 0"),
+        ("pread 0 1 0", "pread fail ESPIPE"),
+        ("pread 1 -1 -1", "pread fail ESPIPE"),
+        ("pwrite 1 x61 0", "pwrite fail ESPIPE"),
+        ("pwrite 0 x -1", "pwrite fail ESPIPE"),
+        ("lseek 0 0 cur", "lseek fail ESPIPE"),
+        ("lseek 1 -1 set", "lseek fail ESPIPE"),
+        ("lseek 0 9223372036854775807 end", "lseek fail ESPIPE"),
+        ("ftruncate 0 0", "ftruncate fail EINVAL"),
+        ("ftruncate 1 0", "ftruncate fail EINVAL"),
+        ("ftruncate 1 65537", "ftruncate fail EINVAL"),
+        ("shutdown 0 read", "shutdown fail ENOTSOCK"),
+        ("shutdown 1 both", "shutdown fail ENOTSOCK"),
+        ("fstat 0", "fstat stat 2 0 0"),
+        ("fstat 1", "fstat stat 2 0 0"),
+        ("getfl 0", "getfl number 0"),
+        ("setfl 1 append nonblock", "setfl done"),
+        ("getfl 1", "getfl number 13"),
+        ("getfl 0", "getfl number 0"),
+    ];
+    assert!(rt; answers(rt.alloc(), &calls)?);
+    Ok(())
+}
+
+// What is wrong with a call on a socket of a pair, and with a shutdown of a file.
+#[test]
+fn refusals_on_a_pair(rt: HostRuntime) -> Result<(), Fail> {
+    let calls = [
+        ("socketpair", "socketpair pair 0 1"),
+        ("read 0 -1", "read fail EINVAL"),
+        ("read 1 32768", "read fail EINVAL"),
+        ("read 1 0", "read data -"),
+        ("write 0 x", "write count 0"),
+        ("pread 0 1 0", "pread fail ESPIPE"),
+        ("pread 1 -1 -1", "pread fail ESPIPE"),
+        ("pwrite 0 x61 0", "pwrite fail ESPIPE"),
+        ("pwrite 1 x -1", "pwrite fail ESPIPE"),
+        ("lseek 0 0 cur", "lseek fail ESPIPE"),
+        ("lseek 1 -1 set", "lseek fail ESPIPE"),
+        ("ftruncate 0 0", "ftruncate fail EINVAL"),
+        ("ftruncate 1 65537", "ftruncate fail EINVAL"),
+        ("fstat 0", "fstat stat 3 0 0"),
+        ("fstat 1", "fstat stat 3 0 0"),
+        ("getfl 0", "getfl number 2"),
+        ("setfl 1 nonblock", "setfl done"),
+        ("getfl 1", "getfl number 10"),
+        ("getfl 0", "getfl number 2"),
+        ("read 1 1", "read fail EAGAIN"),
+        ("open /a rw create", "open number 2"),
+        ("shutdown 2 read", "shutdown fail ENOTSOCK"),
+        ("shutdown 3 read", "shutdown fail EBADF"),
     ];
     assert!(rt; answers(rt.alloc(), &calls)?);
     Ok(())

@@ -20,9 +20,24 @@ impl Dice {
         (self.state >> 33).checked_rem(end).unwrap_or(0)
     }
 
+    // A patience that some calls come to the end of: 1 to 6.
+    pub fn patience(&mut self) -> u32 {
+        u32::try_from(self.below(6)).unwrap_or(0).saturating_add(1)
+    }
+
     fn pick(&mut self, words: &[&'static str]) -> &'static str {
         let place = self.below(words.len() as u64);
         words.get(place as usize).copied().unwrap_or("")
+    }
+
+    // The pieces that a script begins with.
+    fn pieces(&mut self) -> [&'static str; 3] {
+        match self.below(5) {
+            0 | 1 => [FILES, "", ""],
+            2 => [STREAMS, FILES, ""],
+            3 => [FILES, STREAMS, ""],
+            _ => [STREAMS, ALMOST_FULL, FILES],
+        }
     }
 
     // One of the words that a template's letter stands for.
@@ -30,11 +45,13 @@ impl Dice {
         match letter {
             b'P' => self.pick(&PATHS),
             b'F' => self.pick(&NUMBERS),
+            b'E' => self.pick(&ENDS),
             b'C' => self.pick(&COUNTS),
             b'B' => self.pick(&BYTES),
             b'O' => self.pick(&OFFSETS),
             b'S' => self.pick(&SIZES),
             b'W' => self.pick(&["set", "cur", "end"]),
+            b'H' => self.pick(&["read", "write", "both"]),
             b'A' => self.pick(&["r", "w", "rw", "rw", "rw create", "rw create", "w create"]),
             b'X' => self.pick(&["", "", "", " excl", " trunc", " append", " append nonblock"]),
             _ => self.pick(&["", " append", " nonblock", " append nonblock"]),
@@ -90,6 +107,9 @@ const NUMBERS: [&str; 16] = [
 
 const COUNTS: [&str; 8] = ["-1", "0", "1", "3", "9", "32767", "32768", "r0"];
 
+// What a script knows of its own pipe, and then of its own pair.
+const ENDS: [&str; 4] = ["r3", "r4", "r5", "r6"];
+
 const BYTES: [&str; 8] = ["x", "x61", "x6263", "x646566", "xffee", "b0", "b0", "b1"];
 
 const OFFSETS: [&str; 12] = [
@@ -110,7 +130,7 @@ const OFFSETS: [&str; 12] = [
 const SIZES: [&str; 8] = ["-1", "0", "1", "4", "20", "65535", "65536", "65537"];
 
 // The lines of scripts: each letter in capitals stands for an operand.
-const LINES: [&str; 39] = [
+const LINES: [&str; 54] = [
     "open P AX",
     "open P AX",
     "open P AX",
@@ -150,18 +170,44 @@ const LINES: [&str; 39] = [
     "rmdir P",
     "work 5",
     "setb b1 x7071",
+    "pipe",
+    "pipe",
+    "socketpair",
+    "socketpair",
+    "shutdown F H",
+    "shutdown E H",
+    "close E",
+    "read E C",
+    "read E C",
+    "read E C",
+    "write E B",
+    "write E B",
+    "write E B",
+    "dup2 F E",
+    "setfl E nonblock",
 ];
 
 // Two files, one of them in a directory, and two numbers of one description.
-const BEGINNING: &str = "mkdir /d\nopen /a rw create\nopen /d/x rw create append\ndup r0\n";
+const FILES: &str = "mkdir /d\nopen /a rw create\nopen /d/x rw create append\ndup r0\n";
+
+// A pipe and a pair.
+const STREAMS: &str = "pipe\nset r3 r0\nset r4 r1\nsocketpair\nset r5 r0\nset r6 r1\n";
+
+// As many bytes as a call takes are in a pipe and in one direction of a pair: there is room for one more in each.
+const ALMOST_FULL: &str = "\
+    open /z rw create\nset r2 r0\npwrite r2 x7a 32766\npread r2 32767 0\n\
+    write r4 b0\nwrite r5 b0\nsetb b0 x\nclose r2\nunlink /z\n";
 
 // Opens what is left of the numbers.
 const MANY_NUMBERS: &str = "label more\nopen /a r create\njfail full\njump more\nlabel full\n";
 
-// What a script begins with: sometimes it uses up the numbers, the files or the names.
+// What a script begins with: sometimes it has a pipe and a pair, before its files or behind them, and sometimes it
+// uses up the numbers, the files or the names.
 fn beginning(alloc: Global, dice: &mut Dice) -> Result<Vec<u8>, AllocError> {
     let mut text = Vec::new(alloc);
-    text.extend_from_slice(BEGINNING.as_bytes())?;
+    for piece in dice.pieces() {
+        text.extend_from_slice(piece.as_bytes())?;
+    }
     match dice.below(12) {
         0 => text.extend_from_slice(MANY_NUMBERS.as_bytes())?,
         1 => {

@@ -15,10 +15,10 @@ returns-clause-event c =
     let now = clock_at c.add.new.self c.args.i in
     let old : Parts = parts (timed c.args.thread.now start) shared.lock shared.store shared.rows.items in
     let new : Parts = parts (timed c.grant_object.new.thread now) c.grant_object.new.shared.lock c.grant_object.new.shared.store c.grant_object.new.shared.rows.items in
-    let is : c.args.thread.now.phase ≡ phase.WantsObject want.call want.clock want.object = search rules in
+    let is : c.args.thread.now.phase ≡ phase.WantsObject want.call want.turns want.clock want.object = search rules in
     let tried : object_taken (takes_object c.args.i c.args.lock.now old) c.args.i c.args.lock.now ≡ Some c.in-Some.taken = search rules in
     let taken = taken_some (takes_object c.args.i c.args.lock.now old) c.args.i c.args.lock.now c.in-Some.taken tried in
     let room : in_time old 2 ≡ true = search rules in
     let clock : now ≡ start + 2 = search rules in
     let lock : c.free.new.self ≡ freed (start + 1) = search rules in
-    reached_granted c.args.i now want.call want.clock want.object c.free.new.self c.args.lock.now c.in-Some.taken old new is taken.0 room clock lock taken.1 (c.in_ok-grant_object.ensures.event now)
+    reached_granted c.args.patience c.args.i now want.call want.turns want.clock want.object c.free.new.self c.args.lock.now c.in-Some.taken old new is taken.0 room clock lock taken.1 (c.in_ok-grant_object.ensures.event now)

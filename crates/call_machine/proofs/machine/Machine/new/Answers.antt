@@ -2,7 +2,7 @@ use Rattle.std.proofs.Common.{◌≡◌, [], length, map, replicate, sym, ap, ap
 use Rattle.det_mutex.specs.Attempt.{new_lock}
 use Rattle.logical_clocks.specs.ThreadClocks.{first_clock}
 use Rattle.logical_clocks.specs.declared.clocks.ThreadClock.{ThreadClock}
-use Rattle.call_machine.specs.Store.{first_stored}
+use Rattle.object_store.specs.Store.{first_stored}
 use Rattle.call_machine.specs.Lives.{lives}
 use Rattle.call_machine.specs.Starting.{first_item}
 use Rattle.call_machine.specs.Threads.{joined}
@@ -25,6 +25,7 @@ returns c =
     let table : c.in_ok-new.field-0 ≡ first_stored = search rules in
     let rows : c.new-4.result.items ≡ [] = search rules in
     λ i. record {
+      patience = c.args.patience;
       threads = (ap₂ joined threads clocks ∙ joined_first scripts) i;
       lock = c.new-2.ensures i;
       objects = objects i;

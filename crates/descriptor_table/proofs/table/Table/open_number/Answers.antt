@@ -2,7 +2,6 @@ use Rattle.std.proofs.Common.{◌≡◌, None, true, refl}
 use Rattle.std.specs.FinMap as map
 use Rattle.std.specs.Prelude.{slice_index_or}
 use Rattle.file_descriptions.specs.Descriptions.{new_description, with_new}
-use Rattle.file_descriptions.specs.declared.description.End.TheVariants as part
 use Rattle.descriptor_table.specs.Table.{TableState, is_used}
 use Rattle.descriptor_table.proofs.SoundLemmas.{room_of, sound-opened}
 use Rattle.descriptor_table.proofs.table.Table.open_number.Goals as goal
@@ -17,7 +16,7 @@ pub invariant_of-self : goal.invariant_of-self
 invariant_of-self c =
     let before : TableState = record { descriptors = c.self.inside.descriptors; descriptions = c.self.inside.descriptions; paths = c.self.inside.names; objects = c.self.inside.objects; made_objects = c.self.inside.made_objects } in
     let key = c.unwrap-key.result in
-    let new = new_description c.args.node part.Only c.args.access c.args.flags before.descriptions.made in
+    let new = new_description c.args.node c.args.«end» c.args.access c.args.flags before.descriptions.made in
     let free : slice_index_or before.descriptors c.args.number None ≡ None = rw (← c.self.view_is) at c.requires.free in
     let fresh : map.get before.descriptions.by_key key ≡ None = rw c.unwrap-key.ensures at c.make.ensures.free in
     let there : is_used before c.args.node ≡ true = rw (← c.self.view_is) at c.requires.there in

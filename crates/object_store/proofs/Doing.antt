@@ -1,0 +1,402 @@
+-- What the store does for a call is what the sequential object does.
+use Rattle.std.proofs.Common.{◌≡◌, ◌≢◌, ℕ, ◌+◌, ◌<◌, List, [], length, Option, Some, None, Result, Ok, Err, Bool, true, false, if◌then◌else◌, nat_lt, ap₂, refl, sym, ap, ◌∙◌, subst, ⊎_elim}
+use Rattle.std.proofs.lemmas.Bool.{false≢true}
+use Rattle.std.proofs.lemmas.List.{get_or-set_same, get_or-set_other}
+use Rattle.std.specs.FinMap as fin
+use Rattle.std.specs.Option.{option_map}
+use Rattle.std.specs.Prelude.{IsTrue, is_some, slice_set, unwrap_or}
+use Rattle.posix_terms.specs.Locked.{locked_object}
+use Rattle.posix_terms.specs.Object as posix
+use Rattle.posix_terms.specs.Effects.{Effect, Blocks, Completes}
+use Rattle.posix_terms.specs.Object.{State, Content, File, Pair, Pipe}
+use Rattle.posix_terms.specs.Step.{Carried, Stepped, concluded, effect_of, nothing_carried, step, waited}
+use Rattle.posix_terms.specs.Transfers.{content_of}
+use Rattle.posix_terms.specs.declared.call.Call.{Call}
+use Rattle.posix_terms.specs.declared.errno.Errno.{Errno}
+use Rattle.posix_terms.specs.declared.errno.Errno.TheVariants.{EINTR}
+use Rattle.posix_terms.specs.declared.object.End.{End}
+use Rattle.posix_terms.specs.declared.object.End.TheVariants as part
+use Rattle.posix_terms.specs.declared.outcome.Outcome.{Outcome}
+use Rattle.posix_terms.specs.declared.reply.Answer.{Answer}
+use Rattle.posix_terms.specs.declared.reply.Answer.TheVariants as answer
+use Rattle.posix_terms.specs.declared.reply.Reply.{Reply}
+use Rattle.posix_terms.specs.declared.reply.Reply.TheVariants as reply
+use Rattle.posix_terms.specs.declared.transcript.Settings.{Settings}
+use Rattle.file_descriptions.specs.Descriptions.{ContainsKey, description_at, with_offset}
+use Rattle.descriptor_table.specs.Acts as acts
+use Rattle.descriptor_table.specs.Acts.{Acted, ActsAsStep, IsActed, IsStill, StandsAt, acted, ended, offset_at}
+use Rattle.descriptor_table.specs.Agreement.{AgreesOn, TellsAsStep, numbers_told}
+use Rattle.descriptor_table.specs.Changes.{Changes}
+use Rattle.descriptor_table.specs.Plans.{LocksKnown, MovesKnown, planned}
+use Rattle.descriptor_table.specs.Shows.{birth_at, birth_of, is_of}
+use Rattle.descriptor_table.specs.Table.{TableState, free_object, is_used}
+use Rattle.descriptor_table.specs.declared.plan.NewNumbers.{NewNumbers}
+use Rattle.descriptor_table.specs.declared.plan.Op.{Op}
+use Rattle.descriptor_table.specs.declared.plan.Op.TheVariants as op
+use Rattle.descriptor_table.specs.declared.plan.Opened.{Opened}
+use Rattle.descriptor_table.specs.declared.plan.Plan.{Plan}
+use Rattle.descriptor_table.specs.declared.plan.Plan.TheVariants as plan
+use Rattle.descriptor_table.proofs.ActLemmas.{acts-as_step}
+use Rattle.descriptor_table.proofs.FollowLemmas.{changes-as_step}
+use Rattle.descriptor_table.proofs.KnownLemmas.{known-planned}
+use Rattle.descriptor_table.proofs.NumberLemmas.{numbers-unchanged}
+use Rattle.descriptor_table.proofs.OffsetLemmas.{offsets-unchanged}
+use Rattle.descriptor_table.proofs.OtherLemmas.{stays-as_step}
+use Rattle.descriptor_table.proofs.PathLemmas.{birth_is}
+use Rattle.descriptor_table.proofs.PlanLemmas.{plans-as_step}
+use Rattle.descriptor_table.proofs.SoundLemmas.{known_at}
+use Rattle.lock_model.specs.Terms.{World}
+use Rattle.object_store.specs.Acting.{held_by, offset_of_key}
+use Rattle.object_store.specs.Bodies.{Kept, first_kept, kept_as, keeping}
+use Rattle.object_store.specs.Patience.{shown_ending}
+use Rattle.object_store.specs.declared.patience.Ending.{Ending}
+use Rattle.object_store.specs.declared.patience.Ending.TheVariants as ending
+use Rattle.object_store.specs.Store.{EndsTurn, IsPlanned, Replies, Stands, Stored, TableMade, kept_at}
+use Rattle.object_store.proofs.Numbering.{lowest_is_free}
+use Rattle.object_store.proofs.Shapes.{IsMaking, planned_fits, suits}
+use Rattle.object_store.proofs.Stepping.{Leaves, Rewrites, moved_stands, reply_stands, rested_stands, still_stands}
+
+-- what the table promises of a call that it made
+made_leaves : (h : Stored) (w : World) (c : Call) (u : TableState) (settings : Settings) (carried : Carried) → Stands h w → TableMade h c u → Leaves h.table u (planned h.table c) w.object (step settings w.object c None carried).after
+made_leaves h w c u settings carried st made =
+    record {
+      sound = made.sound;
+      described = made.described;
+      shows = made.follows settings w.object None carried st.shows;
+      others = stays-as_step h.table c st.sound st.described settings w.object None carried st.shows;
+      numbers = made.numbers;
+      offsets = made.offsets;
+    }
+
+-- the table stays as it was
+stays_leaves : (h : Stored) (w : World) (c : Call) (settings : Settings) (carried : Carried) → Stands h w → Changes h.table c h.table → Leaves h.table h.table (planned h.table c) w.object (step settings w.object c None carried).after
+stays_leaves h w c settings carried st same =
+    record {
+      sound = st.sound;
+      described = st.described;
+      shows = changes-as_step h.table c h.table st.sound st.described (λ refused. refl) (λ made. same) settings w.object None carried st.shows;
+      others = stays-as_step h.table c st.sound st.described settings w.object None carried st.shows;
+      numbers = numbers-unchanged h.table;
+      offsets = offsets-unchanged h.table;
+    }
+
+-- the offset of the description that an act reads or moves
+abbrev pub offset_in : Stored → Op → ℕ
+offset_in h (op.Read from n) = offset_of_key h from.key
+offset_in h (op.Write to) = offset_of_key h to.key
+offset_in h (op.Lseek from) = offset_of_key h from.key
+offset_in h _ = 0
+
+offset_stands : (h : Stored) (w : World) (key : ℕ) → Stands h w → IsTrue (fin.contains_key h.table.descriptions.by_key key) → offset_at w.object (birth_of h.table key) ≡ Some (offset_of_key h key)
+offset_stands h w key st known = ap (option_map (λ (d : posix.Description). d.offset)) (st.offsets key (description_at h.table.descriptions key) (known_at h.table.descriptions key known))
+
+stands_at : (h : Stored) (w : World) (act : Op) → Stands h w → MovesKnown h.table act → StandsAt h.table w.object act (offset_in h act)
+stands_at h w (op.Read from n) st known = offset_stands h w from.key st known
+stands_at h w (op.Write to) st known = offset_stands h w to.key st known
+stands_at h w (op.Lseek from) st known = offset_stands h w from.key st known
+stands_at h w (op.Open cut) st known = tt
+stands_at h w op.Release st known = tt
+stands_at h w (op.Pread n start) st known = tt
+stands_at h w (op.Pwrite start) st known = tt
+stands_at h w (op.Ftruncate size) st known = tt
+stands_at h w (op.Fstat links) st known = tt
+stands_at h w op.Pipe st known = tt
+stands_at h w op.Socketpair st known = tt
+stands_at h w (op.Shutdown side how) st known = tt
+
+-- ## What the act finds
+
+-- what an act finds in its object, by the end that it goes through
+abbrev pub held_for : Op → Kept → Content
+held_for (op.Read from n) k = held_by from.«end» k
+held_for (op.Write to) k = held_by to.«end» k
+held_for (op.Shutdown side how) k = Pair k.pair
+held_for act k = File k.file
+
+-- an act whose object has one kind
+abbrev pub IsKind : Op → Type 0
+IsKind op.Release = ⊥
+IsKind act = Unit {0}
+
+held_is : (e : End) (content : Content) (k : Kept) → is_of e content ≡ true → content ≡ kept_as content k → content ≡ held_by e k
+held_is part.Only (File file) k has is = is
+held_is part.Read (Pipe bytes) k has is = is
+held_is part.Write (Pipe bytes) k has is = is
+held_is (part.Socket side) (Pair p) k has is = is
+held_is part.Only (Pipe bytes) k has is = absurd (false≢true has)
+held_is part.Only (Pair p) k has is = absurd (false≢true has)
+held_is part.Read (File file) k has is = absurd (false≢true has)
+held_is part.Read (Pair p) k has is = absurd (false≢true has)
+held_is part.Write (File file) k has is = absurd (false≢true has)
+held_is part.Write (Pair p) k has is = absurd (false≢true has)
+held_is (part.Socket side) (File file) k has is = absurd (false≢true has)
+held_is (part.Socket side) (Pipe bytes) k has is = absurd (false≢true has)
+
+-- so it does what it does with what it finds there
+same_done : (t : TableState) (node : ℕ) (act : Op) (c : Call) (given : NewNumbers) (content : Content) (k : Kept) (offset : ℕ) → IsKind act → suits act content ≡ true → content ≡ kept_as content k → acted t node act c given content offset ≡ acted t node act c given (held_for act k) offset
+same_done t node (op.Open cut) c given content k offset kind has is = ap (λ (x : Content). acted t node (op.Open cut) c given x offset) (held_is part.Only content k has is)
+same_done t node op.Release c given content k offset kind has is = absurd kind
+same_done t node (op.Read from n) c given content k offset kind has is = ap (λ (x : Content). acted t node (op.Read from n) c given x offset) (held_is from.«end» content k has is)
+same_done t node (op.Write to) c given content k offset kind has is = ap (λ (x : Content). acted t node (op.Write to) c given x offset) (held_is to.«end» content k has is)
+same_done t node (op.Pread n start) c given content k offset kind has is = ap (λ (x : Content). acted t node (op.Pread n start) c given x offset) (held_is part.Only content k has is)
+same_done t node (op.Pwrite start) c given content k offset kind has is = ap (λ (x : Content). acted t node (op.Pwrite start) c given x offset) (held_is part.Only content k has is)
+same_done t node (op.Lseek at) c given content k offset kind has is = ap (λ (x : Content). acted t node (op.Lseek at) c given x offset) (held_is part.Only content k has is)
+same_done t node (op.Ftruncate size) c given content k offset kind has is = ap (λ (x : Content). acted t node (op.Ftruncate size) c given x offset) (held_is part.Only content k has is)
+same_done t node (op.Fstat links) c given content k offset kind has is = ap (λ (x : Content). acted t node (op.Fstat links) c given x offset) (held_is part.Only content k has is)
+same_done t node op.Pipe c given content k offset kind has is = refl
+same_done t node op.Socketpair c given content k offset kind has is = refl
+same_done t node (op.Shutdown side how) c given content k offset kind has is = ap (λ (x : Content). acted t node (op.Shutdown side how) c given x offset) (held_is (part.Socket side) content k has is)
+
+-- an act that makes its object finds nothing
+making_done : (t : TableState) (node : ℕ) (act : Op) (c : Call) (given : NewNumbers) (x y : Content) (offset : ℕ) → IsMaking act → acted t node act c given x offset ≡ acted t node act c given y offset
+making_done t node (op.Open cut) c given x y offset making = ap (λ (b : Bool). acted t node (op.Open b) c given x offset) making ∙ sym (ap (λ (b : Bool). acted t node (op.Open b) c given y offset) making)
+making_done t node op.Pipe c given x y offset making = refl
+making_done t node op.Socketpair c given x y offset making = refl
+making_done t node op.Release c given x y offset making = absurd making
+making_done t node (op.Read from n) c given x y offset making = absurd making
+making_done t node (op.Write to) c given x y offset making = absurd making
+making_done t node (op.Pread n start) c given x y offset making = absurd making
+making_done t node (op.Pwrite start) c given x y offset making = absurd making
+making_done t node (op.Lseek at) c given x y offset making = absurd making
+making_done t node (op.Ftruncate size) c given x y offset making = absurd making
+making_done t node (op.Fstat links) c given x y offset making = absurd making
+making_done t node (op.Shutdown side how) c given x y offset making = absurd making
+
+-- ## What the act leaves
+
+module _ (h : Stored) (w : World) (c : Call) (node : ℕ) (act : Op) (settings : Settings) (carried : Carried) (st : Stands h w) (planned_is : IsPlanned h c node act) where
+  abbrev stepped : Stepped
+  stepped = step settings w.object c None carried
+
+  known : LocksKnown h.table (plan.Node node act planned_is.0)
+  known = subst (LocksKnown h.table) planned_is.1 (known-planned h.table c st.sound)
+
+  act_does : ActsAsStep h.table c (plan.Node node act planned_is.0)
+  act_does = subst (ActsAsStep h.table c) planned_is.1 (acts-as_step h.table c st.sound st.described)
+
+  abbrev done_with : Content → Acted
+  done_with content = acted h.table node act c (numbers_told c stepped.answer) content (offset_in h act)
+
+  -- the step does what the act does with what is there
+  abbrev IsDone : Acted → Type 0
+  IsDone done = IsActed h.table node act done (ended settings w.object carried done.ending) stepped
+
+  on : (content : Content) → content_of w.object (birth_at h.table node) ≡ content → IsDone (done_with content)
+  on content is = act_does settings w.object None carried content (offset_in h act) st.shows is (stands_at h w act st known.1)
+
+  some_of : (b : ℕ) (o : Option Content) → fin.get w.object.objects b ≡ o → is_some o ≡ true → (x : Content) × (fin.get w.object.objects b ≡ Some x)
+  some_of b None is there = absurd (false≢true there)
+  some_of b (Some x) is there = (x, is)
+
+  -- what is there is what is kept under the number
+  there_is : is_used h.table node ≡ true → content_of w.object (birth_at h.table node) ≡ kept_as (content_of w.object (birth_at h.table node)) (kept_at h node)
+  there_is used =
+      let birth = birth_at h.table node in
+      let slot = birth_is h.table node used in
+      let x = some_of birth (fin.get w.object.objects birth) refl (st.shows.objects node birth slot) in
+      let is : content_of w.object birth ≡ x.0 = ap (λ (o : Option Content). unwrap_or o (File [])) x.1 in
+      subst (λ (y : Content). y ≡ kept_as y (kept_at h node)) (sym is) (st.contents node birth slot x.0 x.1)
+
+  acted_kind : IsKind act → IsDone (done_with (held_for act (kept_at h node)))
+  acted_kind kind = ⊎_elim on_old on_new known.0.1
+    where
+      on_old : is_used h.table node ≡ true → IsDone (done_with (held_for act (kept_at h node)))
+      on_old used =
+          let content = content_of w.object (birth_at h.table node) in
+          let has : suits act content ≡ true = (planned_fits h.table c node act planned_is.0 planned_is.1).2 st.sound used w.object st.shows in
+          subst IsDone (same_done h.table node act c (numbers_told c stepped.answer) content (kept_at h node) (offset_in h act) kind has (there_is used)) (on content refl)
+
+      on_new : free_object h.table ≡ Some node → IsDone (done_with (held_for act (kept_at h node)))
+      on_new free =
+          let slot = lowest_is_free h.table.objects 48 0 node free in
+          let making : IsMaking act = (planned_fits h.table c node act planned_is.0 planned_is.1).1 st.sound (ap (λ (o : Option ℕ). is_some o) slot) in
+          let content = content_of w.object (birth_at h.table node) in
+          subst IsDone (making_done h.table node act c (numbers_told c stepped.answer) content (held_for act (kept_at h node)) (offset_in h act) making) (on content refl)
+
+-- a release leaves what is there
+released_is : (h : Stored) (w : World) (c : Call) (node : ℕ) (settings : Settings) (carried : Carried) (st : Stands h w) (planned_is : IsPlanned h c node op.Release)
+    → let content = content_of w.object (birth_at h.table node) in
+    let stepped = step settings w.object c None carried in
+    let done = acted h.table node op.Release c (numbers_told c stepped.answer) content 0 in
+    (content ≡ kept_as content (kept_at h node)) × IsActed h.table node op.Release done (ended settings w.object carried done.ending) stepped
+released_is h w c node settings carried st planned_is =
+    let known = known h w c node op.Release settings carried st planned_is in (
+      there_is h w c node op.Release settings carried st planned_is
+          (⊎_elim (λ used. used) (λ free. absurd ((planned_fits h.table c node op.Release planned_is.0 planned_is.1).1 st.sound (ap (λ (o : Option ℕ). is_some o) (lowest_is_free h.table.objects 48 0 node free)))) known.0.1),
+      on h w c node op.Release settings carried st planned_is (content_of w.object (birth_at h.table node)) refl,
+    )
+
+-- ## How turns end
+
+abbrev Turns : Settings → World → Carried → Stepped → acts.Ending → Type 0
+Turns settings w carried stepped e = (stepped.answer, stepped.carried) ≡ ended settings w.object carried e
+
+turn_ends : (h : Stored) (w : World) (node : ℕ) (act : Op) (settings : Settings) (carried : Carried) (done : Acted) (stepped : Stepped) (e : acts.Ending) → IsActed h.table node act done (ended settings w.object carried done.ending) stepped → e ≡ done.ending → Turns settings w carried stepped e
+turn_ends h w node act settings carried done _ e now same =
+    ap₂ (λ (a : Answer) (b : Carried). (a, b)) now.answer_is now.carried_is ∙ ap (ended settings w.object carried) (sym same)
+
+-- a reply carries nothing on
+waited_carries : (settings : Settings) (s : State) (carried : Carried) (r : Reply) → (waited settings s carried).answer ≡ answer.Reply r → (waited settings s carried).carried ≡ nothing_carried
+waited_carries settings s carried r is = by_test (nat_lt (carried + 1) settings.patience) is
+  where
+    by_test : (b : Bool) → (let x : Stepped = if b then record { after = s; answer = answer.Again; carried = carried + 1 } else record { after = s; answer = answer.Reply (reply.Fail EINTR); carried = nothing_carried } in x.answer) ≡ answer.Reply r
+        → (let x : Stepped = if b then record { after = s; answer = answer.Again; carried = carried + 1 } else record { after = s; answer = answer.Reply (reply.Fail EINTR); carried = nothing_carried } in x.carried) ≡ nothing_carried
+    by_test true is = cc
+    by_test false is = refl
+
+carries_nothing : (settings : Settings) (s : State) (outcome : Option Outcome) (carried : Carried) (does : Result Effect Errno) (r : Reply) → (concluded settings s outcome carried does).answer ≡ answer.Reply r → (concluded settings s outcome carried does).carried ≡ nothing_carried
+carries_nothing settings s outcome carried (Ok (Completes after x)) r is = refl
+carries_nothing settings s outcome carried (Ok Blocks) r is = waited_carries settings s carried r is
+carries_nothing settings s outcome carried (Err e) r is = refl
+
+pub replies_end : (old : Stored) (c : Call) (r : Reply) (new : Stored) → Replies old c r new → EndsTurn old c (ending.Reply r) new
+replies_end old c r new replies settings w carried st =
+    let now = replies settings w carried st in
+    (ap₂ (λ (a : Answer) (b : Carried). (a, b)) now.0 (carries_nothing settings w.object None carried (effect_of w.object c carried) r now.0), now.1)
+
+pub ends_reply : (old : Stored) (c : Call) (r : Reply) (new : Stored) → EndsTurn old c (ending.Reply r) new → Replies old c r new
+ends_reply old c r new ends settings w carried st = let now = ends settings w carried st in (ap (λ (p : Answer × Carried). p.0) now.0, now.1)
+
+-- ## Calls that the table answers
+
+pub reply_makes : (h : Stored) (c : Call) (r : Reply) (u : TableState) → planned h.table c ≡ plan.Reply r → TableMade h c u → Replies h c r (record h { table = u })
+reply_makes h c r u is made settings w carried st =
+    let after = (step settings w.object c None carried).after in
+    let agrees : AgreesOn h.table (plan.Reply r) (locked_object w.object c carried) (step settings w.object c None carried).answer =
+    subst (λ (p : Plan). AgreesOn h.table p (locked_object w.object c carried) (step settings w.object c None carried).answer) is (plans-as_step h.table c st.sound st.described settings w.object None carried st.shows) in
+    (agrees.1, reply_stands h w u r after st (subst (λ (p : Plan). Leaves h.table u p w.object after) is (made_leaves h w c u settings carried st made)))
+
+-- ## Calls that act on an object
+
+-- an act that moves no offset
+abbrev pub Rests : Op → Type 0
+Rests (op.Read from n) = ⊥
+Rests (op.Write to) = ⊥
+Rests (op.Lseek from) = ⊥
+Rests act = Unit {0}
+
+rests_still : (t : TableState) (node : ℕ) (act : Op) (keep : Bool) → Rests act → (birth : ℕ) → IsStill t (plan.Node node act keep) birth
+rests_still t node (op.Read from n) keep rests birth = absurd rests
+rests_still t node (op.Write to) keep rests birth = absurd rests
+rests_still t node (op.Lseek from) keep rests birth = absurd rests
+rests_still t node (op.Open cut) keep rests birth = tt
+rests_still t node op.Release keep rests birth = tt
+rests_still t node (op.Pread n start) keep rests birth = tt
+rests_still t node (op.Pwrite start) keep rests birth = tt
+rests_still t node (op.Ftruncate size) keep rests birth = tt
+rests_still t node (op.Fstat links) keep rests birth = tt
+rests_still t node op.Pipe keep rests birth = tt
+rests_still t node op.Socketpair keep rests birth = tt
+rests_still t node (op.Shutdown side how) keep rests birth = tt
+
+known_of : (h : Stored) (w : World) (c : Call) (node : ℕ) (act : Op) (keep : Bool) → Stands h w → planned h.table c ≡ plan.Node node act keep → LocksKnown h.table (plan.Node node act keep)
+known_of h w c node act keep st is = subst (LocksKnown h.table) is (known-planned h.table c st.sound)
+
+-- the table was changed, and the object
+pub made_ends : (h : Stored) (c : Call) (node : ℕ) (act : Op) (u : TableState) (given : NewNumbers) (bodies : List Kept) (e : Ending) → Rests act → IsKind act → IsPlanned h c node act → TableMade h c u → TellsAsStep h.table c given
+    → let done = acted h.table node act c given (held_for act (kept_at h node)) (offset_in h act) in
+    shown_ending e ≡ done.ending → Rewrites h node done.content bodies → EndsTurn h c e (record { table = u; bodies = bodies })
+made_ends h c node act u given bodies e rests kind (keep, is) made tells same rewrites settings w carried st =
+    let stepped = step settings w.object c None carried in
+    let told : numbers_told c stepped.answer ≡ given = sym (tells settings w.object None carried st.shows) in
+    let P : NewNumbers → Type 0 = λ n. let done = acted h.table node act c n (held_for act (kept_at h node)) (offset_in h act) in IsActed h.table node act done (ended settings w.object carried done.ending) stepped in
+    let now : P given = subst P told (acted_kind h w c node act settings carried st (keep, is) kind) in
+    let done = acted h.table node act c given (held_for act (kept_at h node)) (offset_in h act) in
+    let leaves = subst (λ (p : Plan). Leaves h.table u p w.object stepped.after) is (made_leaves h w c u settings carried st made) in
+    (turn_ends h w node act settings carried done stepped (shown_ending e) now same, still_stands h w st u node act keep stepped.after leaves (known_of h w c node act keep st is).0 done.content now.content_is bodies rewrites (rests_still h.table node act keep rests))
+
+-- the object alone was changed
+pub stays_ends : (h : Stored) (c : Call) (node : ℕ) (act : Op) (bodies : List Kept) (done : Acted) (e : Ending) → Rests act → IsKind act → IsPlanned h c node act → Changes h.table c h.table → ((given : NewNumbers) → acted h.table node act c given (held_for act (kept_at h node)) (offset_in h act) ≡ done)
+    → shown_ending e ≡ done.ending → Rewrites h node done.content bodies → EndsTurn h c e (record h { bodies = bodies })
+stays_ends h c node act bodies done e rests kind (keep, is) same done_is ends rewrites settings w carried st =
+    let stepped = step settings w.object c None carried in
+    let P : Acted → Type 0 = λ d. IsActed h.table node act d (ended settings w.object carried d.ending) stepped in
+    let now : P done = subst P (done_is (numbers_told c stepped.answer)) (acted_kind h w c node act settings carried st (keep, is) kind) in
+    let leaves = subst (λ (p : Plan). Leaves h.table h.table p w.object stepped.after) is (stays_leaves h w c settings carried st same) in
+    (turn_ends h w node act settings carried done stepped (shown_ending e) now ends, still_stands h w st h.table node act keep stepped.after leaves (known_of h w c node act keep st is).0 done.content now.content_is bodies rewrites (rests_still h.table node act keep rests))
+
+-- the key whose offset an act moves
+pub data Moves : Op → ℕ → Type 0 where
+  ByRead : (from : Opened) (n : ℕ) → Moves (op.Read from n) from.key
+  ByWrite : (to : Opened) → Moves (op.Write to) to.key
+  BySeek : (from : Opened) → Moves (op.Lseek from) from.key
+
+moves_known : (t : TableState) (act : Op) (key : ℕ) → Moves act key → MovesKnown t act → ContainsKey t.descriptions key
+moves_known t _ _ (ByRead from n) known = known
+moves_known t _ _ (ByWrite to) known = known
+moves_known t _ _ (BySeek from) known = known
+
+moves_at : (t : TableState) (s : State) (act : Op) (key offset : ℕ) → Moves act key → StandsAt t s act offset → offset_at s (birth_of t key) ≡ Some offset
+moves_at t s _ _ offset (ByRead from n) at = at
+moves_at t s _ _ offset (ByWrite to) at = at
+moves_at t s _ _ offset (BySeek from) at = at
+
+moves_still : (t : TableState) (node : ℕ) (act : Op) (keep : Bool) (key : ℕ) → Moves act key → (birth : ℕ) → birth ≢ birth_of t key → IsStill t (plan.Node node act keep) birth
+moves_still t node _ keep _ (ByRead from n) birth apart = apart
+moves_still t node _ keep _ (ByWrite to) birth apart = apart
+moves_still t node _ keep _ (BySeek from) birth apart = apart
+
+-- the offset is moved
+pub moved_ends : (h : Stored) (c : Call) (node : ℕ) (act : Op) (key : ℕ) (bodies : List Kept) (done : Acted) (e : Ending) → Moves act key → IsKind act → IsPlanned h c node act → Changes h.table c h.table → ((given : NewNumbers) → acted h.table node act c given (held_for act (kept_at h node)) (offset_in h act) ≡ done)
+    → shown_ending e ≡ done.ending → Rewrites h node done.content bodies → EndsTurn h c e (record { table = record h.table { descriptions = with_offset h.table.descriptions key done.offset }; bodies = bodies })
+moved_ends h c node act key bodies done e moves kind (keep, is) same done_is ends rewrites settings w carried st =
+    let stepped = step settings w.object c None carried in
+    let P : Acted → Type 0 = λ d. IsActed h.table node act d (ended settings w.object carried d.ending) stepped in
+    let now : P done = subst P (done_is (numbers_told c stepped.answer)) (acted_kind h w c node act settings carried st (keep, is) kind) in
+    let leaves = subst (λ (p : Plan). Leaves h.table h.table p w.object stepped.after) is (stays_leaves h w c settings carried st same) in
+    let known = known_of h w c node act keep st is in (
+      turn_ends h w node act settings carried done stepped (shown_ending e) now ends,
+      moved_stands h w st h.table node act keep stepped.after leaves known.0 done.content now.content_is bodies rewrites refl key done.offset (moves_known h.table act key moves known.1) (moves_at h.table stepped.after act key done.offset moves now.offset_is) (moves_still h.table node act keep key moves),
+    )
+
+-- the offset is left where it was
+pub rested_ends : (h : Stored) (c : Call) (node : ℕ) (act : Op) (key : ℕ) (bodies : List Kept) (done : Acted) (e : Ending) → Moves act key → IsKind act → IsPlanned h c node act → Changes h.table c h.table → ((given : NewNumbers) → acted h.table node act c given (held_for act (kept_at h node)) (offset_in h act) ≡ done)
+    → done.offset ≡ offset_of_key h key → shown_ending e ≡ done.ending → Rewrites h node done.content bodies → EndsTurn h c e (record h { bodies = bodies })
+rested_ends h c node act key bodies done e moves kind (keep, is) same done_is rests ends rewrites settings w carried st =
+    let stepped = step settings w.object c None carried in
+    let P : Acted → Type 0 = λ d. IsActed h.table node act d (ended settings w.object carried d.ending) stepped in
+    let now : P done = subst P (done_is (numbers_told c stepped.answer)) (acted_kind h w c node act settings carried st (keep, is) kind) in
+    let leaves = subst (λ (p : Plan). Leaves h.table h.table p w.object stepped.after) is (stays_leaves h w c settings carried st same) in
+    let known = known_of h w c node act keep st is in (
+      turn_ends h w node act settings carried done stepped (shown_ending e) now ends,
+      rested_stands h w st h.table node act keep stepped.after leaves known.0 done.content now.content_is bodies rewrites refl key (moves_known h.table act key moves known.1) (moves_at h.table stepped.after act key done.offset moves now.offset_is ∙ ap (λ (n : ℕ). Some n) rests) (moves_still h.table node act keep key moves),
+    )
+
+-- what referred to an object does so no more, and the object holds what it held
+pub released_ends : (h : Stored) (c : Call) (node : ℕ) (u : TableState) (r : Reply) → IsPlanned h c node op.Release → TableMade h c u
+    → ((given : NewNumbers) (content : Content) → let done = acted h.table node op.Release c given content 0 in (done.ending ≡ acts.Replies r) × (done.content ≡ content)) → Replies h c r (record h { table = u })
+released_ends h c node u r (keep, is) made done_is settings w carried st =
+    let stepped = step settings w.object c None carried in
+    let content = content_of w.object (birth_at h.table node) in
+    let found = released_is h w c node settings carried st (keep, is) in
+    let done = acted h.table node op.Release c (numbers_told c stepped.answer) content 0 in
+    let both = done_is (numbers_told c stepped.answer) content in
+    let leaves = subst (λ (p : Plan). Leaves h.table u p w.object stepped.after) is (made_leaves h w c u settings carried st made) in
+    let rewrites : Rewrites h node done.content h.bodies = record { here = subst (λ (x : Content). x ≡ kept_as x (kept_at h node)) (sym both.1) found.0; others = λ k apart. refl } in (
+      ap (λ (p : Answer × Carried). p.0) (turn_ends h w node op.Release settings carried done stepped (acts.Replies r) found.1 (sym both.0)),
+      still_stands h w st u node op.Release keep stepped.after leaves (known_of h w c node op.Release keep st is).0 done.content found.1.content_is h.bodies rewrites (rests_still h.table node op.Release keep tt),
+    )
+
+-- ## Bodies
+
+same_kept : (content : Content) (k : Kept) → kept_as content (keeping content k) ≡ content
+same_kept (File file) k = refl
+same_kept (Pipe bytes) k = refl
+same_kept (Pair p) k = refl
+
+-- what an end finds is what is kept there
+pub held_kept : (e : End) (k : Kept) → held_by e k ≡ kept_as (held_by e k) k
+held_kept part.Only k = refl
+held_kept part.Read k = refl
+held_kept part.Write k = refl
+held_kept (part.Socket side) k = refl
+
+pub bodies_same : (h : Stored) (node : ℕ) (content : Content) → content ≡ kept_as content (kept_at h node) → Rewrites h node content h.bodies
+bodies_same h node content is = record { here = is; others = λ k apart. refl }
+
+pub bodies_set : (h : Stored) (node : ℕ) (content : Content) → node < length h.bodies → Rewrites h node content (slice_set h.bodies node (keeping content (kept_at h node)))
+bodies_set h node content inside =
+    record {
+      here = sym (ap (kept_as content) (get_or-set_same h.bodies node (keeping content (kept_at h node)) first_kept inside) ∙ same_kept content (kept_at h node));
+      others = λ k apart. get_or-set_other h.bodies node k (keeping content (kept_at h node)) first_kept apart;
+    }

@@ -1,0 +1,324 @@
+-- Each act of the store, as the table plans it, makes its call.
+use Rattle.std.proofs.Common.{◌≡◌, ℕ, ◌+◌, ◌<◌, ◌==◌, List, [], length, None, Result, Ok, Err, Bool, true, false, refl, sym, ap, ◌∙◌, subst, IfOk}
+use Rattle.std.proofs.lemmas.Bool.{true≢false}
+use Rattle.std.specs.Prelude.{ℤ, ◌+ℤ◌, pos, slice_index_or, slice_set, if◌then◌else◌}
+use Rattle.std.specs.declared.alloc.AllocError.{AllocError}
+use Rattle.posix_terms.specs.Ends.{is_end, side_of}
+use Rattle.posix_terms.specs.Files.{bytes_at, resized, written}
+use Rattle.posix_terms.specs.Object.{Content, File, Pair, Pipe}
+use Rattle.posix_terms.specs.Streams as stream
+use Rattle.posix_terms.specs.Streams.{Reading, Writing, new_pair, pair_read, pair_write, peer_of, shut, stream_read, stream_write, with_waiting}
+use Rattle.posix_terms.specs.Transfers.{base_of, offset_of}
+use Rattle.posix_terms.specs.declared.call.Call.{Call}
+use Rattle.posix_terms.specs.declared.call.Call.TheVariants as call
+use Rattle.posix_terms.specs.declared.call.Whence.{Whence}
+use Rattle.posix_terms.specs.declared.call.ShutdownHow.{ShutdownHow}
+use Rattle.posix_terms.specs.declared.errno.Errno.{Errno}
+use Rattle.posix_terms.specs.declared.object.End.{End}
+use Rattle.posix_terms.specs.declared.object.End.TheVariants as part
+use Rattle.posix_terms.specs.declared.object.Side.{Side}
+use Rattle.posix_terms.specs.declared.object.Side.TheVariants.{Side0, Side1}
+use Rattle.posix_terms.specs.declared.reply.ObjectKind.TheVariants as kind
+use Rattle.posix_terms.specs.Step.{Carried, step}
+use Rattle.posix_terms.specs.declared.reply.Answer.{Answer}
+use Rattle.posix_terms.specs.declared.reply.Reply.{Reply}
+use Rattle.posix_terms.specs.declared.reply.Reply.TheVariants as reply
+use Rattle.descriptor_table.specs.Acts as acts
+use Rattle.descriptor_table.specs.Acts.{Acted, acted, has_read, has_written, is_open, numbers_reply, read_acted, replied, write_acted}
+use Rattle.descriptor_table.specs.Agreement.{TellsAsStep}
+use Rattle.descriptor_table.specs.Changes.{Changes}
+use Rattle.descriptor_table.specs.Table.{TableState}
+use Rattle.descriptor_table.specs.declared.plan.NewNumbers.{NewNumbers}
+use Rattle.descriptor_table.specs.declared.plan.NewNumbers.TheVariants as numbers
+use Rattle.descriptor_table.specs.declared.plan.Op.{Op}
+use Rattle.descriptor_table.specs.declared.plan.Op.TheVariants as op
+use Rattle.descriptor_table.specs.declared.plan.Opened.{Opened}
+use Rattle.lock_model.specs.RealCalls.{answered_with}
+use Rattle.object_store.specs.declared.patience.Ending.{Ending}
+use Rattle.object_store.specs.declared.patience.Ending.TheVariants as ending
+use Rattle.object_store.specs.declared.patience.TurnEnd.{TurnEnd}
+use Rattle.object_store.specs.declared.patience.TurnEnd.TheVariants as end
+use Rattle.object_store.specs.Bodies.{Kept, first_kept, keeping}
+use Rattle.object_store.specs.Patience.{Waits}
+use Rattle.object_store.specs.Acting.{ActsOn, HasRead, HasWritten, Seeks, Writes, WritesFile, cut_bodies, held_by, holding, moved, offset_of_key, release_reply, rewritten, start_at}
+use Rattle.object_store.specs.Store.{EndsTurn, IsPlanned, Makes, Replies, Stored, TableMade, body_at, kept_at}
+use Rattle.object_store.proofs.Doing.{bodies_same, bodies_set, ends_reply, made_ends, moved_ends, released_ends, rested_ends, stays_ends}
+use Rattle.object_store.proofs.Doing.Moves.{ByRead, ByWrite, BySeek}
+use Rattle.object_store.proofs.Shapes.{HasAct, planned_fits}
+use Rattle.object_store.proofs.Shapes.HasAct.{Closes, Cuts, MakesPair, MakesPipe, Opens, Preads, Pwrites, Reads, Replaces, SeeksFrom, Shuts, Stats, Unnames, WritesTo}
+use Rattle.object_store.proofs.Stepping.{Rewrites}
+
+act_of : (h : Stored) (c : Call) (node : ℕ) (act : Op) → IsPlanned h c node act → HasAct c act
+act_of h c node act (keep, is) = (planned_fits h.table c node act keep is).0
+
+-- ## Acts that leave the table as it was
+
+abbrev OfContent : Op → Type 0
+OfContent (op.Open cut) = ⊥
+OfContent op.Release = ⊥
+OfContent op.Pipe = ⊥
+OfContent op.Socketpair = ⊥
+OfContent act = Unit {0}
+
+unchanged : (t : TableState) (c : Call) (act : Op) → HasAct c act → OfContent act → Changes t c t
+unchanged t _ _ (Opens path access flags cut) of = absurd of
+unchanged t _ _ (Closes descriptor) of = absurd of
+unchanged t _ _ (Replaces descriptor target) of = absurd of
+unchanged t _ _ (Unnames path) of = absurd of
+unchanged t _ _ MakesPipe of = absurd of
+unchanged t _ _ MakesPair of = absurd of
+unchanged t _ _ (Reads descriptor count from n) of = refl
+unchanged t _ _ (WritesTo descriptor bytes to) of = refl
+unchanged t _ _ (Preads descriptor count position n start) of = refl
+unchanged t _ _ (Pwrites descriptor bytes position start) of = refl
+unchanged t _ _ (SeeksFrom descriptor offset whence from) of = refl
+unchanged t _ _ (Cuts descriptor to size) of = refl
+unchanged t _ _ (Stats descriptor links) of = refl
+unchanged t _ _ (Shuts descriptor how side) of = refl
+
+still : (h : Stored) (c : Call) (node : ℕ) (act : Op) → IsPlanned h c node act → OfContent act → Changes h.table c h.table
+still h c node act planned of = unchanged h.table c act (act_of h c node act planned) of
+
+as_is : (h new : Stored) (c : Call) (x e : Ending) (z : Stored) → e ≡ x → new ≡ z → EndsTurn h c x z → EndsTurn h c e new
+as_is h new c x e z answers leaves ends = subst (λ (y : Ending). EndsTurn h c y new) (sym answers) (subst (λ (y : Stored). EndsTurn h c x y) (sym leaves) ends)
+
+replied_as : (h new : Stored) (c : Call) (x r : Reply) (z : Stored) → r ≡ x → new ≡ z → EndsTurn h c (ending.Reply x) z → Replies h c r new
+replied_as h new c x r z answers leaves ends = ends_reply h c r new (as_is h new c (ending.Reply x) (ending.Reply r) z (ap ending.Reply answers) leaves ends)
+
+-- ## Reading
+
+read_offset : (from : Opened) (holds : List ℕ → Content) (content : Content) (offset : ℕ) (r : Reading) → (let done : Acted = has_read from holds content offset r in done.offset) ≡ offset
+read_offset from holds content offset (stream.Reads bytes left) = refl
+read_offset from holds content offset stream.Ends = refl
+read_offset from holds content offset stream.NothingYet = refl
+
+-- a stream's offset stays
+stream_offset : (t : TableState) (node n : ℕ) (from : Opened) (which : End) (k : Kept) (offset : ℕ) → is_end which part.Only ≡ false → (let done : Acted = read_acted t node from n (held_by which k) offset in done.offset) ≡ offset
+stream_offset t node n from part.Only k offset its = absurd (true≢false its)
+stream_offset t node n from part.Read k offset its = read_offset from Pipe (Pipe k.pipe) offset (stream_read k.pipe n (is_open t node part.Write))
+stream_offset t node n from part.Write k offset its = read_offset from Pipe (Pipe k.pipe) offset (stream_read k.pipe n (is_open t node part.Write))
+stream_offset t node n from (part.Socket side) k offset its =
+    let own = side_of from.«end» in read_offset from (λ left. Pair (with_waiting k.pair own left)) (Pair k.pair) offset (pair_read k.pair own n (is_open t node (part.Socket (peer_of own))))
+
+read_stream_ends : (h new : Stored) (c : Call) (node n : ℕ) (from : Opened) (which : End) (e : Ending) → IsPlanned h c node (op.Read from n) → node < length h.bodies → from.«end» ≡ which → is_end which part.Only ≡ false
+    → ActsOn (read_acted h.table node from n (held_by which (kept_at h node)) (offset_of_key h from.key)) h node e new → EndsTurn h c e new
+read_stream_ends h new c node n from which e planned inside through its (answers, leaves) =
+    let done = read_acted h.table node from n (held_by which (kept_at h node)) (offset_of_key h from.key) in
+    as_is h new c e e _ refl leaves
+    (rested_ends h c node (op.Read from n) from.key (slice_set h.bodies node (keeping done.content (kept_at h node))) done e (ByRead from n) tt planned (still h c node (op.Read from n) planned tt)
+    (λ given. ap (λ (x : End). read_acted h.table node from n (held_by x (kept_at h node)) (offset_of_key h from.key)) through)
+    (stream_offset h.table node n from which (kept_at h node) (offset_of_key h from.key) its) answers (bodies_set h node done.content inside))
+
+read_by : (h new : Stored) (c : Call) (node n : ℕ) (from : Opened) (which : End) (e : Ending) → IsPlanned h c node (op.Read from n) → node < length h.bodies → from.«end» ≡ which → HasRead which h node from n e new → EndsTurn h c e new
+read_by h new c node n from part.Only e planned inside through (answers, leaves) =
+    let done = read_acted h.table node from n (File (body_at h node)) (offset_of_key h from.key) in
+    as_is h new c _ e _ answers leaves
+    (moved_ends h c node (op.Read from n) from.key h.bodies done (ending.Reply (reply.Data (bytes_at (body_at h node) (offset_of_key h from.key) n))) (ByRead from n) tt planned (still h c node (op.Read from n) planned tt)
+    (λ given. ap (λ (x : End). read_acted h.table node from n (held_by x (kept_at h node)) (offset_of_key h from.key)) through) refl (bodies_same h node done.content refl))
+read_by h new c node n from part.Read e planned inside through acts_on = read_stream_ends h new c node n from part.Read e planned inside through refl acts_on
+read_by h new c node n from part.Write e planned inside through acts_on = read_stream_ends h new c node n from part.Write e planned inside through refl acts_on
+read_by h new c node n from (part.Socket Side0) e planned inside through acts_on = read_stream_ends h new c node n from (part.Socket Side0) e planned inside through refl acts_on
+read_by h new c node n from (part.Socket Side1) e planned inside through acts_on = read_stream_ends h new c node n from (part.Socket Side1) e planned inside through refl acts_on
+
+pub read_ends : (res : Result Ending AllocError) (h new : Stored) (c : Call) (node n : ℕ) (from : Opened) → IsPlanned h c node (op.Read from n) → node < length h.bodies → IfOk res (λ e. HasRead from.«end» h node from n e new) → IfOk res (λ e. EndsTurn h c e new)
+read_ends (Err x) h new c node n from planned inside has = tt
+read_ends (Ok e) h new c node n from planned inside has = read_by h new c node n from from.«end» e planned inside refl has
+
+pub pread_ends : (h : Stored) (c : Call) (node n start : ℕ) (r : Reply) → IsPlanned h c node (op.Pread n start) → r ≡ reply.Data (bytes_at (body_at h node) start n) → EndsTurn h c (ending.Reply r) h
+pread_ends h c node n start r planned answers =
+    let done = acted h.table node (op.Pread n start) c numbers.None (File (body_at h node)) 0 in
+    let x = reply.Data (bytes_at (body_at h node) start n) in
+    as_is h h c (ending.Reply x) (ending.Reply r) h (ap ending.Reply answers) refl (stays_ends h c node (op.Pread n start) h.bodies done (ending.Reply x) tt tt planned (still h c node (op.Pread n start) planned tt) (λ given. refl) refl (bodies_same h node done.content refl))
+
+pub fstat_makes : (h : Stored) (c : Call) (node links : ℕ) (r : Reply) → IsPlanned h c node (op.Fstat links) → r ≡ reply.Stat kind.File (length (body_at h node)) links → Replies h c r h
+fstat_makes h c node links r planned answers =
+    let done = acted h.table node (op.Fstat links) c numbers.None (File (body_at h node)) 0 in
+    let x = reply.Stat kind.File (length (body_at h node)) links in
+    replied_as h h c x r h answers refl (stays_ends h c node (op.Fstat links) h.bodies done (ending.Reply x) tt tt planned (still h c node (op.Fstat links) planned tt) (λ given. refl) refl (bodies_same h node done.content refl))
+
+pub ftruncate_makes : (h new : Stored) (c : Call) (node size : ℕ) (r : Reply) → IsPlanned h c node (op.Ftruncate size) → node < length h.bodies → r ≡ reply.Done → new ≡ rewritten h node (resized (body_at h node) size) → Replies h c r new
+ftruncate_makes h new c node size r planned inside answers leaves =
+    let done = acted h.table node (op.Ftruncate size) c numbers.None (File (body_at h node)) 0 in
+    replied_as h new c reply.Done r _ answers leaves
+    (stays_ends h c node (op.Ftruncate size) (slice_set h.bodies node (keeping done.content (kept_at h node))) done (ending.Reply reply.Done) tt tt planned (still h c node (op.Ftruncate size) planned tt) (λ given. refl) refl (bodies_set h node done.content inside))
+
+pub shutdown_makes : (h new : Stored) (c : Call) (node : ℕ) (side : Side) (how : ShutdownHow) (r : Reply) → IsPlanned h c node (op.Shutdown side how) → node < length h.bodies → r ≡ reply.Done → new ≡ holding h node (Pair (shut (kept_at h node).pair side how)) → Replies h c r new
+shutdown_makes h new c node side how r planned inside answers leaves =
+    let done = acted h.table node (op.Shutdown side how) c numbers.None (Pair (kept_at h node).pair) 0 in
+    replied_as h new c reply.Done r _ answers leaves
+    (stays_ends h c node (op.Shutdown side how) (slice_set h.bodies node (keeping done.content (kept_at h node))) done (ending.Reply reply.Done) tt tt planned (still h c node (op.Shutdown side how) planned tt) (λ given. refl) refl (bodies_set h node done.content inside))
+
+-- ## Writing
+
+written_offset : (to : Opened) (holds : List ℕ → Content) (content : Content) (offset count : ℕ) (w : Writing) → (let done : Acted = has_written to holds content offset count w in done.offset) ≡ offset
+written_offset to holds content offset count (stream.Writes left) = refl
+written_offset to holds content offset count stream.Breaks = refl
+written_offset to holds content offset count stream.NoRoom = refl
+
+stream_written_offset : (t : TableState) (node : ℕ) (to : Opened) (bytes : List ℕ) (which : End) (k : Kept) (offset : ℕ) → is_end which part.Only ≡ false → (let done : Acted = write_acted t node to bytes (held_by which k) offset in done.offset) ≡ offset
+stream_written_offset t node to bytes part.Only k offset its = absurd (true≢false its)
+stream_written_offset t node to bytes part.Read k offset its = written_offset to Pipe (Pipe k.pipe) offset (length bytes) (stream_write k.pipe bytes (is_open t node part.Read))
+stream_written_offset t node to bytes part.Write k offset its = written_offset to Pipe (Pipe k.pipe) offset (length bytes) (stream_write k.pipe bytes (is_open t node part.Read))
+stream_written_offset t node to bytes (part.Socket side) k offset its =
+    let own = side_of to.«end» in written_offset to (λ left. Pair (with_waiting k.pair (peer_of own) left)) (Pair k.pair) offset (length bytes) (pair_write k.pair own bytes (is_open t node (part.Socket (peer_of own))))
+
+write_acts : (h : Stored) (c : Call) (descriptor : ℤ) (bytes : List ℕ) (node : ℕ) (to : Opened) (which : End) (given : NewNumbers) → c ≡ call.Write descriptor bytes → to.«end» ≡ which
+    → acted h.table node (op.Write to) c given (held_by to.«end» (kept_at h node)) (offset_of_key h to.key) ≡ write_acted h.table node to bytes (held_by which (kept_at h node)) (offset_of_key h to.key)
+write_acts h c descriptor bytes node to which given call_is through =
+    ap (λ (x : Call). acted h.table node (op.Write to) x given (held_by to.«end» (kept_at h node)) (offset_of_key h to.key)) call_is
+    ∙ ap (λ (x : End). write_acted h.table node to bytes (held_by x (kept_at h node)) (offset_of_key h to.key)) through
+
+write_stream_ends : (h new : Stored) (c : Call) (descriptor : ℤ) (bytes : List ℕ) (node : ℕ) (to : Opened) (which : End) (e : Ending) → IsPlanned h c node (op.Write to) → c ≡ call.Write descriptor bytes → node < length h.bodies → to.«end» ≡ which → is_end which part.Only ≡ false
+    → ActsOn (write_acted h.table node to bytes (held_by which (kept_at h node)) (offset_of_key h to.key)) h node e new → EndsTurn h c e new
+write_stream_ends h new c descriptor bytes node to which e planned call_is inside through its (answers, leaves) =
+    let done = write_acted h.table node to bytes (held_by which (kept_at h node)) (offset_of_key h to.key) in
+    as_is h new c e e _ refl leaves
+    (rested_ends h c node (op.Write to) to.key (slice_set h.bodies node (keeping done.content (kept_at h node))) done e (ByWrite to) tt planned (still h c node (op.Write to) planned tt) (λ given. write_acts h c descriptor bytes node to which given call_is through)
+    (stream_written_offset h.table node to bytes which (kept_at h node) (offset_of_key h to.key) its) answers (bodies_set h node done.content inside))
+
+-- to a file
+write_none_ends : (h : Stored) (c : Call) (descriptor : ℤ) (bytes : List ℕ) (node : ℕ) (to : Opened) → IsPlanned h c node (op.Write to) → c ≡ call.Write descriptor bytes → to.«end» ≡ part.Only → (length bytes == 0) ≡ true → EndsTurn h c (ending.Reply (reply.Count 0)) h
+write_none_ends h c descriptor bytes node to planned call_is through none =
+    let done : Acted = replied (reply.Count 0) (File (body_at h node)) (offset_of_key h to.key) in
+    rested_ends h c node (op.Write to) to.key h.bodies done (ending.Reply (reply.Count 0)) (ByWrite to) tt planned (still h c node (op.Write to) planned tt) (λ given. write_acts h c descriptor bytes node to part.Only given call_is through ∙ rw none refl) refl refl (bodies_same h node done.content refl)
+
+write_some_ends : (h new : Stored) (c : Call) (descriptor : ℤ) (bytes : List ℕ) (node : ℕ) (to : Opened) (r : Reply) (w : Result (List ℕ × ℕ) Errno) → IsPlanned h c node (op.Write to) → c ≡ call.Write descriptor bytes → to.«end» ≡ part.Only → (length bytes == 0) ≡ false → node < length h.bodies
+    → written (body_at h node) (start_at h to node) bytes ≡ w → Writes w h (λ count. moved h to.key (start_at h to node + count)) node r new → EndsTurn h c (ending.Reply r) new
+write_some_ends h new c descriptor bytes node to r (Ok (file, count)) planned call_is through some inside is (answers, leaves) =
+    let done : Acted = replied (reply.Count count) (File file) (start_at h to node + count) in
+    as_is h new c (ending.Reply (reply.Count count)) (ending.Reply r) _ (ap ending.Reply answers) leaves
+    (moved_ends h c node (op.Write to) to.key (slice_set h.bodies node (keeping done.content (kept_at h node))) done (ending.Reply (reply.Count count)) (ByWrite to) tt planned (still h c node (op.Write to) planned tt)
+    (λ given. write_acts h c descriptor bytes node to part.Only given call_is through ∙ rw (is, some) refl) refl (bodies_set h node done.content inside))
+write_some_ends h new c descriptor bytes node to r (Err e) planned call_is through some inside is (answers, leaves) =
+    let done : Acted = replied (reply.Fail e) (File (body_at h node)) (offset_of_key h to.key) in
+    as_is h new c (ending.Reply (reply.Fail e)) (ending.Reply r) h (ap ending.Reply answers) leaves
+    (rested_ends h c node (op.Write to) to.key h.bodies done (ending.Reply (reply.Fail e)) (ByWrite to) tt planned (still h c node (op.Write to) planned tt)
+    (λ given. write_acts h c descriptor bytes node to part.Only given call_is through ∙ rw (is, some) refl) refl refl (bodies_same h node done.content refl))
+
+write_file_ends : (h new : Stored) (c : Call) (descriptor : ℤ) (bytes : List ℕ) (node : ℕ) (to : Opened) (r : Reply) (b : Bool) → IsPlanned h c node (op.Write to) → c ≡ call.Write descriptor bytes → to.«end» ≡ part.Only → (length bytes == 0) ≡ b → node < length h.bodies → WritesFile b h node to bytes r new → EndsTurn h c (ending.Reply r) new
+write_file_ends h new c descriptor bytes node to r true planned call_is through none inside (answers, leaves) = as_is h new c (ending.Reply (reply.Count 0)) (ending.Reply r) h (ap ending.Reply answers) leaves (write_none_ends h c descriptor bytes node to planned call_is through none)
+write_file_ends h new c descriptor bytes node to r false planned call_is through some inside writes = write_some_ends h new c descriptor bytes node to r (written (body_at h node) (start_at h to node) bytes) planned call_is through some inside refl writes
+
+write_by : (h new : Stored) (c : Call) (descriptor : ℤ) (bytes : List ℕ) (node : ℕ) (to : Opened) (which : End) (e : Ending) → IsPlanned h c node (op.Write to) → c ≡ call.Write descriptor bytes → node < length h.bodies → to.«end» ≡ which → HasWritten which h node to bytes e new → EndsTurn h c e new
+write_by h new c descriptor bytes node to part.Only e planned call_is inside through (r, is, writes) = as_is h new c (ending.Reply r) e new is refl (write_file_ends h new c descriptor bytes node to r (length bytes == 0) planned call_is through refl inside writes)
+write_by h new c descriptor bytes node to part.Read e planned call_is inside through acts_on = write_stream_ends h new c descriptor bytes node to part.Read e planned call_is inside through refl acts_on
+write_by h new c descriptor bytes node to part.Write e planned call_is inside through acts_on = write_stream_ends h new c descriptor bytes node to part.Write e planned call_is inside through refl acts_on
+write_by h new c descriptor bytes node to (part.Socket Side0) e planned call_is inside through acts_on = write_stream_ends h new c descriptor bytes node to (part.Socket Side0) e planned call_is inside through refl acts_on
+write_by h new c descriptor bytes node to (part.Socket Side1) e planned call_is inside through acts_on = write_stream_ends h new c descriptor bytes node to (part.Socket Side1) e planned call_is inside through refl acts_on
+
+pub write_ends : (h new : Stored) (c : Call) (descriptor : ℤ) (bytes : List ℕ) (node : ℕ) (to : Opened) (e : Ending) → IsPlanned h c node (op.Write to) → c ≡ call.Write descriptor bytes → node < length h.bodies → HasWritten to.«end» h node to bytes e new → EndsTurn h c e new
+write_ends h new c descriptor bytes node to e planned call_is inside has = write_by h new c descriptor bytes node to to.«end» e planned call_is inside refl has
+
+pub pwrite_none_makes : (h : Stored) (c : Call) (descriptor : ℤ) (bytes : List ℕ) (position : ℤ) (node start : ℕ) → IsPlanned h c node (op.Pwrite start) → c ≡ call.Pwrite descriptor bytes position → (length bytes == 0) ≡ true → Replies h c (reply.Count 0) h
+pwrite_none_makes h c descriptor bytes position node start planned call_is none =
+    let done : Acted = replied (reply.Count 0) (File (body_at h node)) 0 in
+    ends_reply h c (reply.Count 0) h (stays_ends h c node (op.Pwrite start) h.bodies done (ending.Reply (reply.Count 0)) tt tt planned (still h c node (op.Pwrite start) planned tt) (λ given. rw (call_is, none) refl) refl (bodies_same h node done.content refl))
+
+pwrite_by : (h new : Stored) (c : Call) (descriptor : ℤ) (bytes : List ℕ) (position : ℤ) (node start : ℕ) (r : Reply) (w : Result (List ℕ × ℕ) Errno) → IsPlanned h c node (op.Pwrite start) → c ≡ call.Pwrite descriptor bytes position → (length bytes == 0) ≡ false → node < length h.bodies
+    → written (body_at h node) start bytes ≡ w → Writes w h (λ count. h) node r new → Replies h c r new
+pwrite_by h new c descriptor bytes position node start r (Ok (file, count)) planned call_is some inside is (answers, leaves) =
+    let done : Acted = replied (reply.Count count) (File file) 0 in
+    replied_as h new c (reply.Count count) r _ answers leaves
+    (stays_ends h c node (op.Pwrite start) (slice_set h.bodies node (keeping done.content (kept_at h node))) done (ending.Reply (reply.Count count)) tt tt planned (still h c node (op.Pwrite start) planned tt) (λ given. rw (call_is, is, some) refl) refl (bodies_set h node done.content inside))
+pwrite_by h new c descriptor bytes position node start r (Err e) planned call_is some inside is (answers, leaves) =
+    let done : Acted = replied (reply.Fail e) (File (body_at h node)) 0 in
+    replied_as h new c (reply.Fail e) r h answers leaves
+    (stays_ends h c node (op.Pwrite start) h.bodies done (ending.Reply (reply.Fail e)) tt tt planned (still h c node (op.Pwrite start) planned tt) (λ given. rw (call_is, is, some) refl) refl (bodies_same h node done.content refl))
+
+pub pwrite_makes : (h new : Stored) (c : Call) (descriptor : ℤ) (bytes : List ℕ) (position : ℤ) (node start : ℕ) (r : Reply) → IsPlanned h c node (op.Pwrite start) → c ≡ call.Pwrite descriptor bytes position → (length bytes == 0) ≡ false → node < length h.bodies
+    → Writes (written (body_at h node) start bytes) h (λ count. h) node r new → Replies h c r new
+pwrite_makes h new c descriptor bytes position node start r planned call_is some inside writes = pwrite_by h new c descriptor bytes position node start r (written (body_at h node) start bytes) planned call_is some inside refl writes
+
+-- ## Seeking
+
+seek_by : (h new : Stored) (c : Call) (descriptor offset : ℤ) (whence : Whence) (node : ℕ) (from : Opened) (r : Reply) (to : Result ℕ Errno) → IsPlanned h c node (op.Lseek from) → c ≡ call.Lseek descriptor offset whence
+    → offset_of (pos (base_of whence (offset_of_key h from.key) (length (body_at h node))) +ℤ offset) ≡ to → Seeks to h from.key r new → Replies h c r new
+seek_by h new c descriptor offset whence node from r (Ok to) planned call_is is (answers, leaves) =
+    let done : Acted = replied (reply.Number (pos to)) (File (body_at h node)) to in
+    replied_as h new c (reply.Number (pos to)) r _ answers leaves
+    (moved_ends h c node (op.Lseek from) from.key h.bodies done (ending.Reply (reply.Number (pos to))) (BySeek from) tt planned (still h c node (op.Lseek from) planned tt) (λ given. rw (call_is, is) refl) refl (bodies_same h node done.content refl))
+seek_by h new c descriptor offset whence node from r (Err e) planned call_is is (answers, leaves) =
+    let done : Acted = replied (reply.Fail e) (File (body_at h node)) (offset_of_key h from.key) in
+    replied_as h new c (reply.Fail e) r h answers leaves
+    (rested_ends h c node (op.Lseek from) from.key h.bodies done (ending.Reply (reply.Fail e)) (BySeek from) tt planned (still h c node (op.Lseek from) planned tt) (λ given. rw (call_is, is) refl) refl refl (bodies_same h node done.content refl))
+
+pub lseek_makes : (h new : Stored) (c : Call) (descriptor offset : ℤ) (whence : Whence) (node : ℕ) (from : Opened) (r : Reply) → IsPlanned h c node (op.Lseek from) → c ≡ call.Lseek descriptor offset whence
+    → Seeks (offset_of (pos (base_of whence (offset_of_key h from.key) (length (body_at h node))) +ℤ offset)) h from.key r new → Replies h c r new
+lseek_makes h new c descriptor offset whence node from r planned call_is seeks =
+    seek_by h new c descriptor offset whence node from r (offset_of (pos (base_of whence (offset_of_key h from.key) (length (body_at h node))) +ℤ offset)) planned call_is refl seeks
+
+-- ## Opening and releasing
+
+released_done : (t : TableState) (node : ℕ) (c : Call) (given : NewNumbers) (content : Content) → HasAct c op.Release → let done : Acted = acted t node op.Release c given content 0 in (done.ending ≡ acts.Replies (release_reply c)) × (done.content ≡ content)
+released_done t node _ given content (Closes descriptor) = (refl, refl)
+released_done t node _ given content (Replaces descriptor target) = (refl, refl)
+released_done t node _ given content (Unnames path) = (refl, refl)
+
+pub release_makes : (h : Stored) (c : Call) (node : ℕ) (u : TableState) → IsPlanned h c node op.Release → TableMade h c u → Replies h c (release_reply c) (record h { table = u })
+release_makes h c node u planned made = released_ends h c node u (release_reply c) planned made (λ given content. released_done h.table node c given content (act_of h c node op.Release planned))
+
+cut_rewrites : (h : Stored) (node : ℕ) (cut : Bool) → node < length h.bodies → Rewrites h node (if cut then File [] else File (body_at h node)) (cut_bodies h node cut)
+cut_rewrites h node true inside = bodies_set h node (File []) inside
+cut_rewrites h node false inside = bodies_same h node (File (body_at h node)) refl
+
+pub open_makes : (h : Stored) (c : Call) (node : ℕ) (cut : Bool) (u : TableState) (given : NewNumbers) → IsPlanned h c node (op.Open cut) → TableMade h c u → TellsAsStep h.table c given → node < length h.bodies
+    → Replies h c (numbers_reply given) (record { table = u; bodies = cut_bodies h node cut })
+open_makes h c node cut u given planned made tells inside =
+    ends_reply h c (numbers_reply given) _ (made_ends h c node (op.Open cut) u given (cut_bodies h node cut) (ending.Reply (numbers_reply given)) tt tt planned made tells refl (cut_rewrites h node cut inside))
+
+pub pipe_makes : (h : Stored) (c : Call) (node : ℕ) (u : TableState) (given : NewNumbers) → IsPlanned h c node op.Pipe → TableMade h c u → TellsAsStep h.table c given → node < length h.bodies
+    → Replies h c (numbers_reply given) (record { table = u; bodies = slice_set h.bodies node (keeping (Pipe []) (kept_at h node)) })
+pipe_makes h c node u given planned made tells inside =
+    ends_reply h c (numbers_reply given) _ (made_ends h c node op.Pipe u given (slice_set h.bodies node (keeping (Pipe []) (kept_at h node))) (ending.Reply (numbers_reply given)) tt tt planned made tells refl (bodies_set h node (Pipe []) inside))
+
+pub pair_makes : (h : Stored) (c : Call) (node : ℕ) (u : TableState) (given : NewNumbers) → IsPlanned h c node op.Socketpair → TableMade h c u → TellsAsStep h.table c given → node < length h.bodies
+    → Replies h c (numbers_reply given) (record { table = u; bodies = slice_set h.bodies node (keeping (Pair new_pair) (kept_at h node)) })
+pair_makes h c node u given planned made tells inside =
+    ends_reply h c (numbers_reply given) _ (made_ends h c node op.Socketpair u given (slice_set h.bodies node (keeping (Pair new_pair) (kept_at h node))) (ending.Reply (numbers_reply given)) tt tt planned made tells refl (bodies_set h node (Pair new_pair) inside))
+
+-- ## The store after a change of its table
+
+pub changed_is : (h new : Stored) → new.bodies ≡ h.bodies → record h { table = new.table } ≡ new
+changed_is h new same i = record { table = new.table; bodies = sym same i }
+
+pub cut_changed : (h new : Stored) (node : ℕ) (cut : Bool) → new.bodies ≡ h.bodies → record { table = new.table; bodies = cut_bodies h node cut } ≡ record new { bodies = cut_bodies new node cut }
+cut_changed h new node true same i = let bodies : List Kept = sym same i in record { table = new.table; bodies = slice_set bodies node (keeping (File []) (slice_index_or bodies node first_kept)) }
+cut_changed h new node false same i = record { table = new.table; bodies = sym same i }
+
+pub held_changed : (h new : Stored) (node : ℕ) (content : Content) → new.bodies ≡ h.bodies → record { table = new.table; bodies = slice_set h.bodies node (keeping content (kept_at h node)) } ≡ holding new node content
+held_changed h new node content same i = let bodies : List Kept = sym same i in record { table = new.table; bodies = slice_set bodies node (keeping content (slice_index_or bodies node first_kept)) }
+
+-- ## Acts of one call alone
+
+pub only_write : (h : Stored) (c : Call) (node : ℕ) (to : Opened) → IsPlanned h c node (op.Write to) → ((descriptor : ℤ) (bytes : List ℕ) → c ≡ call.Write descriptor bytes → ⊥) → ⊥
+only_write h c node to planned other = by_act c (act_of h c node (op.Write to) planned) other
+  where
+    by_act : (c : Call) → HasAct c (op.Write to) → ((descriptor : ℤ) (bytes : List ℕ) → c ≡ call.Write descriptor bytes → ⊥) → ⊥
+    by_act _ (WritesTo descriptor bytes _) other = other descriptor bytes refl
+
+pub only_pwrite : (h : Stored) (c : Call) (node start : ℕ) → IsPlanned h c node (op.Pwrite start) → ((descriptor : ℤ) (bytes : List ℕ) (position : ℤ) → c ≡ call.Pwrite descriptor bytes position → ⊥) → ⊥
+only_pwrite h c node start planned other = by_act c (act_of h c node (op.Pwrite start) planned) other
+  where
+    by_act : (c : Call) → HasAct c (op.Pwrite start) → ((descriptor : ℤ) (bytes : List ℕ) (position : ℤ) → c ≡ call.Pwrite descriptor bytes position → ⊥) → ⊥
+    by_act _ (Pwrites descriptor bytes position _) other = other descriptor bytes position refl
+
+pub only_lseek : (h : Stored) (c : Call) (node : ℕ) (from : Opened) → IsPlanned h c node (op.Lseek from) → ((descriptor offset : ℤ) (whence : Whence) → c ≡ call.Lseek descriptor offset whence → ⊥) → ⊥
+only_lseek h c node from planned other = by_act c (act_of h c node (op.Lseek from) planned) other
+  where
+    by_act : (c : Call) → HasAct c (op.Lseek from) → ((descriptor offset : ℤ) (whence : Whence) → c ≡ call.Lseek descriptor offset whence → ⊥) → ⊥
+    by_act _ (SeeksFrom descriptor offset whence _) other = other descriptor offset whence refl
+
+-- ## A turn of a call
+
+-- it ends with a reply, whatever the call carries
+pub turn_replied : (h new : Stored) (c : Call) (r : Reply) (patience turns : ℕ) → Replies h c r new → Makes patience turns h c (end.Reply r) new
+turn_replied h new c r patience turns replies settings w same st =
+    let done = replies settings w turns st in (ap (λ (a : Answer). answered_with a (step settings w.object c None turns).carried) done.0, done.1)
+
+pub act_replied : (h new : Stored) (c : Call) (r : Reply) (patience turns : ℕ) → EndsTurn h c (ending.Reply r) new → Makes patience turns h c (end.Reply r) new
+act_replied h new c r patience turns ends = turn_replied h new c r patience turns (ends_reply h c r new ends)
+
+-- it has to wait
+pub act_waits : (h new : Stored) (c : Call) (patience turns : ℕ) (e : TurnEnd) → EndsTurn h c ending.Waits new → Waits patience turns e → Makes patience turns h c e new
+act_waits h new c patience turns e ends waits settings w same st =
+    let done = ends settings w turns st in (ap (λ (p : Answer × Carried). answered_with p.0 p.1) done.0 ∙ waits settings w.object same, done.1)

@@ -1,0 +1,254 @@
+-- Which act a call has in the table's plan.
+use Rattle.std.proofs.Common.{◌≡◌, ℕ, ◌==◌, List, [], ◌∷◌, length, is_some, refl, ap, ◌∙◌, Option, Some, None, Result, Ok, Err, Bool, true, false, not, ◌&&◌, sym, subst, IfOk}
+use Rattle.std.proofs.lemmas.Bool.{false≢true}
+use Rattle.std.specs.FinMap as fin
+use Rattle.std.specs.Ordering.{int_eq}
+use Rattle.std.specs.Prelude.{ℤ, nat_le, nat_lt, if◌then◌else◌}
+use Rattle.posix_terms.specs.Calls.{can_read, can_write}
+use Rattle.posix_terms.specs.Duplicates.{descriptor_number}
+use Rattle.posix_terms.specs.Names.{file_named, links_of, removed_dir}
+use Rattle.posix_terms.specs.Ends.{is_end}
+use Rattle.posix_terms.specs.Object.{State, Content, Node, FileNode, Directory}
+use Rattle.posix_terms.specs.Paths.{node_at, resolved}
+use Rattle.posix_terms.specs.Refusals.{◌>>=◌, count_of, position_of, refuse_if, some_or}
+use Rattle.posix_terms.specs.Transfers.{content_of, size_of}
+use Rattle.posix_terms.specs.declared.call.Access.{Access}
+use Rattle.posix_terms.specs.declared.call.Call.{Call}
+use Rattle.posix_terms.specs.declared.call.Call.TheVariants as call
+use Rattle.posix_terms.specs.declared.call.OpenFlags.{OpenFlags}
+use Rattle.posix_terms.specs.declared.call.Whence.{Whence}
+use Rattle.posix_terms.specs.declared.errno.Errno.{Errno}
+use Rattle.posix_terms.specs.declared.errno.Errno.TheVariants.{EBADF, EEXIST, EINVAL, EMFILE, ENFILE, ENOENT, ENOSPC, ESPIPE}
+use Rattle.posix_terms.specs.declared.limits.TheConstants.Limits as limit
+use Rattle.posix_terms.specs.declared.call.ShutdownHow.{ShutdownHow}
+use Rattle.posix_terms.specs.declared.object.End.{End}
+use Rattle.posix_terms.specs.declared.object.End.TheVariants as part
+use Rattle.posix_terms.specs.declared.object.Side.{Side}
+use Rattle.posix_terms.specs.declared.object.Side.TheVariants.{Side0, Side1}
+use Rattle.posix_terms.specs.declared.reply.ObjectKind.{ObjectKind}
+use Rattle.posix_terms.specs.declared.reply.ObjectKind.TheVariants as kind
+use Rattle.posix_terms.specs.declared.reply.Reply.{Reply}
+use Rattle.posix_terms.specs.declared.reply.Reply.TheVariants as reply
+use Rattle.file_descriptions.specs.declared.description.Description.{Description}
+use Rattle.descriptor_table.specs.Plans.{addable, answered, close_plan, dup2_plan, dup_from_plan, dup_plan, fstat_plan, ftruncate_plan, getfl_plan, link_plan, lseek_plan, mkdir_plan, open_node, open_plan, open_there, plan_of, planned, pread_plan, pwrite_plan, read_plan, release, replaced, rmdir_plan, setfl_plan, unlink_plan, write_plan, locks, of_file, seen, shutdown_plan, socket_side, stat_plan, stream_kind, two_ends_plan}
+use Rattle.file_descriptions.specs.Descriptions.{description_at}
+use Rattle.descriptor_table.specs.Shows.{Shows, birth_at, is_of}
+use Rattle.descriptor_table.specs.Table.{IsSound, TableState, described, free_object, is_last_name, is_used, key_at, lowest_free, two_numbers}
+use Rattle.descriptor_table.proofs.KnownLemmas.{found_key, found_used, was_some}
+use Rattle.descriptor_table.proofs.SoundLemmas.{known_at, named_at, used-named}
+use Rattle.object_store.proofs.Numbering.{lowest_is_free}
+use Rattle.descriptor_table.specs.declared.plan.Op.{Op}
+use Rattle.descriptor_table.specs.declared.plan.Op.TheVariants as op
+use Rattle.descriptor_table.specs.declared.plan.Opened.{Opened}
+use Rattle.descriptor_table.specs.declared.plan.Plan.{Plan}
+use Rattle.descriptor_table.specs.declared.plan.Plan.TheVariants as plan
+
+pub data HasAct : Call → Op → Type 0 where
+  Opens : (path : List ℕ) (access : Access) (flags : OpenFlags) (cut : Bool) → HasAct (call.Open path access flags) (op.Open cut)
+  Closes : (descriptor : ℤ) → HasAct (call.Close descriptor) op.Release
+  Replaces : (descriptor target : ℤ) → HasAct (call.Dup2 descriptor target) op.Release
+  Unnames : (path : List ℕ) → HasAct (call.Unlink path) op.Release
+  Reads : (descriptor count : ℤ) (from : Opened) (n : ℕ) → HasAct (call.Read descriptor count) (op.Read from n)
+  WritesTo : (descriptor : ℤ) (bytes : List ℕ) (to : Opened) → HasAct (call.Write descriptor bytes) (op.Write to)
+  Preads : (descriptor count position : ℤ) (n start : ℕ) → HasAct (call.Pread descriptor count position) (op.Pread n start)
+  Pwrites : (descriptor : ℤ) (bytes : List ℕ) (position : ℤ) (start : ℕ) → HasAct (call.Pwrite descriptor bytes position) (op.Pwrite start)
+  SeeksFrom : (descriptor offset : ℤ) (whence : Whence) (from : Opened) → HasAct (call.Lseek descriptor offset whence) (op.Lseek from)
+  Cuts : (descriptor to : ℤ) (size : ℕ) → HasAct (call.Ftruncate descriptor to) (op.Ftruncate size)
+  Stats : (descriptor : ℤ) (links : ℕ) → HasAct (call.Fstat descriptor) (op.Fstat links)
+  MakesPipe : HasAct call.Pipe op.Pipe
+  MakesPair : HasAct call.Socketpair op.Socketpair
+  Shuts : (descriptor : ℤ) (how : ShutdownHow) (side : Side) → HasAct (call.Shutdown descriptor how) (op.Shutdown side how)
+
+-- an act that makes its object, whatever is under its number
+abbrev pub IsMaking : Op → Type 0
+IsMaking (op.Open cut) = cut ≡ true
+IsMaking op.Pipe = Unit {0}
+IsMaking op.Socketpair = Unit {0}
+IsMaking act = ⊥
+
+-- an object that an act can find
+abbrev pub suits : Op → Content → Bool
+suits (op.Open cut) content = is_of part.Only content
+suits (op.Read from n) content = is_of from.«end» content
+suits (op.Write to) content = is_of to.«end» content
+suits (op.Pread n start) content = is_of part.Only content
+suits (op.Pwrite start) content = is_of part.Only content
+suits (op.Lseek at) content = is_of part.Only content
+suits (op.Ftruncate size) content = is_of part.Only content
+suits (op.Fstat links) content = is_of part.Only content
+suits (op.Shutdown side how) content = is_of (part.Socket side) content
+suits act content = true
+
+abbrev pub Suits : TableState → ℕ → Op → Type 0
+Suits t node act = (s : State) → Shows t s → suits act (content_of s (birth_at t node)) ≡ true
+
+-- the act is the call's; an object that is not there yet is made by it; and what is there suits it
+abbrev pub FitsPlan : TableState → Call → Plan → Type 0
+FitsPlan t c (plan.Node node act keep) = HasAct c act × (IsSound t → is_used t node ≡ false → IsMaking act) × (IsSound t → is_used t node ≡ true → Suits t node act)
+FitsPlan t c (plan.Reply r) = Unit {0}
+
+along : {A : Type 0} (t : TableState) (c : Call) (r : Result A Errno) (f : A → Result Plan Errno) → ((x : A) → r ≡ Ok x → IfOk (f x) (FitsPlan t c)) → IfOk (r >>= f) (FitsPlan t c)
+along t c (Ok x) f each = each x refl
+along t c (Err e) f each = tt
+
+-- the one end of a file
+only_end : (e : End) → is_end e part.Only ≡ true → e ≡ part.Only
+only_end part.Only is = refl
+only_end part.Read is = absurd (false≢true is)
+only_end part.Write is = absurd (false≢true is)
+only_end (part.Socket Side0) is = absurd (false≢true is)
+only_end (part.Socket Side1) is = absurd (false≢true is)
+
+not_refused : (b : Bool) (e : Errno) (x : Unit {0}) → refuse_if (not b) e ≡ Ok x → b ≡ true
+not_refused true e x is = refl
+not_refused false e x is = cc
+
+no_stream : (e : End) → stream_kind e ≡ None → e ≡ part.Only
+no_stream part.Only is = refl
+no_stream part.Read is = absurd (some-none is)
+  where
+    some-none : Some kind.Pipe ≡ None → ⊥
+    some-none h = cc
+no_stream part.Write is = absurd (some-none is)
+  where
+    some-none : Some kind.Pipe ≡ None → ⊥
+    some-none h = cc
+no_stream (part.Socket side) is = absurd (some-none is)
+  where
+    some-none : Some kind.SocketPair ≡ None → ⊥
+    some-none h = cc
+
+side_is : (e : End) (side : Side) → socket_side e ≡ Ok side → e ≡ part.Socket side
+side_is part.Only side is = cc
+side_is part.Read side is = cc
+side_is part.Write side is = cc
+side_is (part.Socket other) side is = let same : other ≡ side = cc in ap (λ (x : Side). part.Socket x) same
+
+module _ (t : TableState) where
+  -- the object of a description is there
+  old : {X : Type 0} (descriptor : ℤ) (found : ℕ × Description) → described t descriptor ≡ Ok found → IsSound t → is_used t found.1.node ≡ false → X
+  old descriptor found is sound new = absurd (false≢true (sym new ∙ found_used t descriptor found sound is))
+
+  found_got : (descriptor : ℤ) (found : ℕ × Description) → described t descriptor ≡ Ok found → IsSound t → fin.get t.descriptions.by_key found.0 ≡ Some found.1
+  found_got descriptor found is sound = known_at t.descriptions found.0 (found_key t descriptor found sound is) ∙ ap (λ (d : Description). Some d) (by_key (key_at t descriptor) is)
+    where
+      by_key : (o : Option ℕ) → (some_or o EBADF >>= (λ key. Ok (key, description_at t.descriptions key))) ≡ Ok found → description_at t.descriptions found.0 ≡ found.1
+      by_key None is = cc
+      by_key (Some key) is =
+          let same : (key, description_at t.descriptions key) ≡ found = cc in
+          subst (λ (p : ℕ × Description). description_at t.descriptions p.0 ≡ p.1) same refl
+
+  -- what is there has the end that the act goes through
+  by_end : (descriptor : ℤ) (found : ℕ × Description) (act : Op) → described t descriptor ≡ Ok found → ((content : Content) → is_of found.1.«end» content ≡ true → suits act content ≡ true) → IsSound t → is_used t found.1.node ≡ true → Suits t found.1.node act
+  by_end descriptor found act is each sound used s shows = each (content_of s (birth_at t found.1.node)) (shows.ends found.0 found.1 (found_got descriptor found is sound))
+
+  -- a file
+  by_file : (descriptor : ℤ) (found : ℕ × Description) (act : Op) → described t descriptor ≡ Ok found → found.1.«end» ≡ part.Only → ((content : Content) → is_of part.Only content ≡ true → suits act content ≡ true) → IsSound t → is_used t found.1.node ≡ true → Suits t found.1.node act
+  by_file descriptor found act is its each = by_end descriptor found act is (λ content has. each content (ap (λ (e : End). is_of e content) (sym its) ∙ has))
+
+  fits_file : (c : Call) (descriptor : ℤ) (found : ℕ × Description) (act : Op) → described t descriptor ≡ Ok found → found.1.«end» ≡ part.Only → HasAct c act → ((content : Content) → is_of part.Only content ≡ true → suits act content ≡ true) → FitsPlan t c (locks found.1.node act)
+  fits_file c descriptor found act is its has each = (has, old descriptor found is, by_file descriptor found act is its each)
+
+  -- a call that only a file takes
+  for_file : (c : Call) (descriptor : ℤ) (found : ℕ × Description) (e : Errno) (f : Unit {0} → Result Plan Errno) → described t descriptor ≡ Ok found → (found.1.«end» ≡ part.Only → (x : Unit {0}) → IfOk (f x) (FitsPlan t c)) → IfOk (of_file found.1 e >>= f) (FitsPlan t c)
+  for_file c descriptor found e f is each = along t c (of_file found.1 e) f (λ x y. each (only_end found.1.«end» (not_refused (is_end found.1.«end» part.Only) e x y)) x)
+
+  -- a call that may move nothing
+  fits_moves : (c : Call) (none : Reply) (node : ℕ) (act : Op) (b : Bool) → FitsPlan t c (locks node act) → FitsPlan t c (if b then plan.Reply none else locks node act)
+  fits_moves c _ node act true fits = tt
+  fits_moves c _ node act false fits = fits
+
+  released : (c : Call) (descriptor : ℤ) (found : ℕ × Description) (r : Reply) → described t descriptor ≡ Ok found → HasAct c op.Release → FitsPlan t c (release found.1 r)
+  released c descriptor found r is has = by_last (found.1.holders == 1)
+    where
+      by_last : (b : Bool) → FitsPlan t c (if b then plan.Node found.1.node op.Release false else plan.Reply r)
+      by_last true = (has, old descriptor found is, λ sound used s shows. refl)
+      by_last false = tt
+
+  there_fits : (path : List ℕ) (access : Access) (flags : OpenFlags) (node : Node) → ((n : ℕ) → node ≡ FileNode n → IsSound t → is_used t n ≡ true) → ((n : ℕ) → node ≡ FileNode n → Suits t n (op.Open flags.truncate)) → IfOk (open_there t node flags) (FitsPlan t (call.Open path access flags))
+  there_fits path access flags Directory used is_file = tt
+  there_fits path access flags (FileNode node) used is_file =
+      along t _ (some_or (lowest_free t 0) EMFILE) _ (λ n x. (Opens path access flags flags.truncate, λ sound new. absurd (false≢true (sym new ∙ used node refl sound)), λ sound there. is_file node refl))
+
+  node_fits : (path : List ℕ) (access : Access) (flags : OpenFlags) (node : Option Node) → ((n : ℕ) → node ≡ Some (FileNode n) → IsSound t → is_used t n ≡ true) → ((n : ℕ) → node ≡ Some (FileNode n) → Suits t n (op.Open flags.truncate)) → IfOk (open_node t node flags) (FitsPlan t (call.Open path access flags))
+  node_fits path access flags None used is_file =
+      along t _ (refuse_if (not flags.create) ENOENT) _ (λ a x. along t _ (refuse_if (nat_le limit.NAMES (fin.len t.paths)) ENOSPC) _ (λ b y. along t _ (some_or (free_object t) ENOSPC) _ (λ node z. along t _ (some_or (lowest_free t 0) EMFILE) _ (λ n u. (Opens path access flags true, λ sound new. refl, λ sound used. not_free node (was_some (free_object t) ENOSPC node z) used)))))
+    where
+      not_free : (node : ℕ) → free_object t ≡ Some node → is_used t node ≡ true → Suits t node (op.Open true)
+      not_free node free used = absurd (false≢true (sym (ap (λ (o : Option ℕ). is_some o) (lowest_is_free t.objects limit.OBJECTS 0 node free)) ∙ used))
+  node_fits path access flags (Some node) used is_file = along t _ (refuse_if (flags.create && flags.exclusive) EEXIST) _ (λ a x. there_fits path access flags node (λ n is. used n (ap (λ (m : Node). Some m) is)) (λ n is. is_file n (ap (λ (m : Node). Some m) is)))
+
+  named_suits : (components : List (List ℕ)) (cut : Bool) (n : ℕ) → node_at t.paths components ≡ Some (FileNode n) → Suits t n (op.Open cut)
+  named_suits components cut n is s shows = by_components components is
+    where
+      by_components : (components : List (List ℕ)) → node_at t.paths components ≡ Some (FileNode n) → is_of part.Only (content_of s (birth_at t n)) ≡ true
+      by_components [] is = cc
+      by_components (x ∷ xs) is = shows.files (x ∷ xs) n is
+
+  -- the ends of a new object
+  makes_fits : (c : Call) (act : Op) → HasAct c act → IsMaking act → ((content : Content) → suits act content ≡ true) → IfOk (two_ends_plan t act) (FitsPlan t c)
+  makes_fits c act has making each = along t c (two_numbers t) _ (λ two x. along t c (some_or (free_object t) ENFILE) _ (λ node y. (has, λ sound new. making, λ sound used s shows. each (content_of s (birth_at t node)))))
+
+  plan_fits : (c : Call) → IfOk (plan_of t c) (FitsPlan t c)
+  unfolding open_plan close_plan read_plan write_plan pread_plan pwrite_plan lseek_plan ftruncate_plan fstat_plan dup_plan dup_from_plan dup2_plan getfl_plan setfl_plan link_plan unlink_plan mkdir_plan rmdir_plan shutdown_plan
+  plan_fits (call.Open path access flags) =
+      along t _ (refuse_if (flags.truncate && not (can_write access)) EINVAL) _ (λ a x. along t _ (resolved t.paths path) _ (λ components y. node_fits path access flags (node_at t.paths components) (λ n is sound. named_at t components n sound is) (λ n is. named_suits components flags.truncate n is)))
+  plan_fits (call.Close descriptor) = along t _ (described t descriptor) _ (λ found is. released _ descriptor found reply.Done is (Closes descriptor))
+  plan_fits (call.Read descriptor count) =
+      along t _ (described t descriptor) _ (λ found is. along t _ (refuse_if (not (can_read found.1.access)) EBADF) _ (λ a x. along t _ (count_of count) _ (λ n y.
+      let act = op.Read (seen found.0 found.1) n in
+      fits_moves (call.Read descriptor count) (reply.Data []) found.1.node act ((n == 0) && not (is_end found.1.«end» part.Only)) (Reads descriptor count (seen found.0 found.1) n, old descriptor found is, by_end descriptor found act is (λ content has. has)))))
+  plan_fits (call.Write descriptor bytes) =
+      along t _ (described t descriptor) _ (λ found is. along t _ (refuse_if (not (can_write found.1.access)) EBADF) _ (λ a x. along t _ (refuse_if (nat_lt limit.COUNT (length bytes)) EINVAL) _ (λ b y.
+      let act = op.Write (seen found.0 found.1) in
+      fits_moves (call.Write descriptor bytes) (reply.Count 0) found.1.node act ((length bytes == 0) && not (is_end found.1.«end» part.Only)) (WritesTo descriptor bytes (seen found.0 found.1), old descriptor found is, by_end descriptor found act is (λ content has. has)))))
+  plan_fits (call.Pread descriptor count position) =
+      along t _ (described t descriptor) _ (λ found is. for_file _ descriptor found ESPIPE _ is (λ its u. along t _ (refuse_if (not (can_read found.1.access)) EBADF) _ (λ a x. along t _ (count_of count) _ (λ n y. along t _ (position_of position) _ (λ start z.
+      fits_file (call.Pread descriptor count position) descriptor found (op.Pread n start) is its (Preads descriptor count position n start) (λ content has. has))))))
+  plan_fits (call.Pwrite descriptor bytes position) =
+      along t _ (described t descriptor) _ (λ found is. for_file _ descriptor found ESPIPE _ is (λ its u. along t _ (refuse_if (not (can_write found.1.access)) EBADF) _ (λ a x. along t _ (refuse_if (nat_lt limit.COUNT (length bytes)) EINVAL) _ (λ b y. along t _ (position_of position) _ (λ start z.
+      fits_file (call.Pwrite descriptor bytes position) descriptor found (op.Pwrite start) is its (Pwrites descriptor bytes position start) (λ content has. has))))))
+  plan_fits (call.Lseek descriptor offset whence) =
+      along t _ (described t descriptor) _ (λ found is. for_file _ descriptor found ESPIPE _ is (λ its u.
+      fits_file (call.Lseek descriptor offset whence) descriptor found (op.Lseek (seen found.0 found.1)) is its (SeeksFrom descriptor offset whence (seen found.0 found.1)) (λ content has. has)))
+  plan_fits (call.Ftruncate descriptor to) =
+      along t _ (described t descriptor) _ (λ found is. along t _ (refuse_if (not (can_write found.1.access)) EINVAL) _ (λ a x. for_file _ descriptor found EINVAL _ is (λ its u. along t _ (size_of to) _ (λ n y.
+      fits_file (call.Ftruncate descriptor to) descriptor found (op.Ftruncate n) is its (Cuts descriptor to n) (λ content has. has)))))
+  plan_fits (call.Fstat descriptor) = along t _ (described t descriptor) _ (λ found is. by_kind found is (stream_kind found.1.«end») refl)
+    where
+      by_kind : (found : ℕ × Description) → described t descriptor ≡ Ok found → (o : Option ObjectKind) → stream_kind found.1.«end» ≡ o → FitsPlan t (call.Fstat descriptor) (stat_plan found.1 (links_of t.paths found.1.node) o)
+      by_kind found is None none = fits_file (call.Fstat descriptor) descriptor found (op.Fstat (links_of t.paths found.1.node)) is (no_stream found.1.«end» none) (Stats descriptor (links_of t.paths found.1.node)) (λ content has. has)
+      by_kind found is (Some k) some = tt
+  plan_fits (call.Dup descriptor) = along t _ (described t descriptor) _ (λ found is. along t _ (some_or (lowest_free t 0) EMFILE) _ (λ n x. tt))
+  plan_fits (call.DupFrom descriptor least) = along t _ (described t descriptor) _ (λ found is. along t _ (descriptor_number least EINVAL) _ (λ first x. along t _ (some_or (lowest_free t first) EMFILE) _ (λ n y. tt)))
+  plan_fits (call.Dup2 descriptor target) = along t _ (described t descriptor) _ (λ found is. along t _ (descriptor_number target EBADF) _ (λ n x. by_same (int_eq descriptor target)))
+    where
+      by_found : (r : Result (ℕ × Description) Errno) → described t target ≡ r → FitsPlan t (call.Dup2 descriptor target) (replaced r (reply.Number target))
+      by_found (Ok found) is = released _ target found (reply.Number target) is (Replaces descriptor target)
+      by_found (Err e) is = tt
+
+      by_same : (b : Bool) → FitsPlan t (call.Dup2 descriptor target) (if b then plan.Reply (reply.Number target) else replaced (described t target) (reply.Number target))
+      by_same true = tt
+      by_same false = by_found (described t target) refl
+  plan_fits (call.Getfl descriptor) = along t _ (described t descriptor) _ (λ found is. tt)
+  plan_fits (call.Setfl descriptor append nonblock) = along t _ (described t descriptor) _ (λ found is. tt)
+  plan_fits (call.Link old_path new_path) = along t _ (file_named t.paths old_path) _ (λ node is. along t _ (addable t.paths new_path) _ (λ a x. tt))
+  plan_fits (call.Unlink path) = along t _ (file_named t.paths path) _ (λ node is. by_last node is (is_last_name t node))
+    where
+      by_last : (node : ℕ) → file_named t.paths path ≡ Ok node → (b : Bool) → FitsPlan t (call.Unlink path) (if b then plan.Node node op.Release false else plan.Reply reply.Done)
+      by_last node is true = (Unnames path, λ sound new. absurd (false≢true (sym new ∙ used-named t path node is sound)), λ sound used s shows. refl)
+      by_last node is false = tt
+  plan_fits (call.Mkdir path) = along t _ (addable t.paths path) _ (λ a x. tt)
+  plan_fits (call.Rmdir path) = along t _ (removed_dir t.paths path) _ (λ a x. tt)
+  plan_fits call.Pipe = makes_fits call.Pipe op.Pipe MakesPipe tt (λ content. refl)
+  plan_fits call.Socketpair = makes_fits call.Socketpair op.Socketpair MakesPair tt (λ content. refl)
+  plan_fits (call.Shutdown descriptor how) =
+      along t _ (described t descriptor) _ (λ found is. along t _ (socket_side found.1.«end») _ (λ side x.
+      (Shuts descriptor how side, old descriptor found is, by_end descriptor found (op.Shutdown side how) is (λ content has. ap (λ (e : End). is_of e content) (sym (side_is found.1.«end» side x)) ∙ has))))
+
+fits_answered : (t : TableState) (c : Call) (r : Result Plan Errno) → IfOk r (FitsPlan t c) → FitsPlan t c (answered r)
+fits_answered t c (Ok p) fits = fits
+fits_answered t c (Err e) fits = tt
+
+pub planned_fits : (t : TableState) (c : Call) (node : ℕ) (act : Op) (keep : Bool) → planned t c ≡ plan.Node node act keep → HasAct c act × (IsSound t → is_used t node ≡ false → IsMaking act) × (IsSound t → is_used t node ≡ true → Suits t node act)
+planned_fits t c node act keep is = subst (FitsPlan t c) is (fits_answered t c (plan_of t c) (plan_fits t c))

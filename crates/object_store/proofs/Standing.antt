@@ -1,0 +1,103 @@
+-- The table with the bodies, and the world that they stand for.
+use Rattle.std.proofs.Common.{◌≡◌, ℕ, zero, suc, List, Option, Some, None, true, get_or, replicate, refl, sym, ap, ◌∙◌, ⊎_elim}
+use Rattle.std.proofs.lemmas.Bool.{cond-true, cond-false, false≢true}
+use Rattle.std.proofs.lemmas.Option.{none-some}
+use Rattle.std.specs.FinMap as fin
+use Rattle.std.specs.Option.{option_map}
+use Rattle.std.specs.Ordering.{nat_cmp}
+use Rattle.std.specs.Prelude.{is_some, unwrap_or}
+use Rattle.posix_terms.specs.Locked.{locked_object}
+use Rattle.posix_terms.specs.Object.{FileNode, path_cmp}
+use Rattle.posix_terms.specs.Step.{Carried, step}
+use Rattle.posix_terms.specs.declared.call.Call.{Call}
+use Rattle.posix_terms.specs.declared.limits.TheConstants.Limits as limit
+use Rattle.posix_terms.specs.declared.reply.Answer.{Answer}
+use Rattle.posix_terms.specs.declared.transcript.Settings.{Settings}
+use Rattle.descriptor_table.specs.Agreement.{AgreesOn, object_of}
+use Rattle.descriptor_table.specs.Plans.{IsKnownNumber, LocksKnown, planned}
+use Rattle.descriptor_table.specs.Shows.{birth_at, birth_of, shown_node}
+use Rattle.descriptor_table.specs.Table.{free_object, empty_table, is_used}
+use Rattle.descriptor_table.specs.declared.plan.Plan.{Plan}
+use Rattle.descriptor_table.specs.declared.plan.Plan.TheVariants as plan
+use Rattle.descriptor_table.proofs.KnownLemmas.{known-planned}
+use Rattle.descriptor_table.proofs.PathLemmas.{birth_is}
+use Rattle.descriptor_table.proofs.PlanLemmas.{plans-as_step}
+use Rattle.descriptor_table.proofs.SoundLemmas.{sound-empty}
+use Rattle.file_descriptions.proofs.SoundLemmas.{AreSound-none}
+use Rattle.lock_model.specs.Numbers.{first_free, first_world, number_in, number_of}
+use Rattle.lock_model.specs.RealCalls.{numbered}
+use Rattle.lock_model.specs.Terms.{World}
+use Rattle.object_store.proofs.Numbering.{first_free_is, lowest_is_free, next_is_new, number_in_is}
+use Rattle.object_store.specs.Store.{Stands, Stored, first_stored, number_locked}
+
+-- ## The number of an object
+
+used_number : (h : Stored) (w : World) (node : ℕ) → Stands h w → is_used h.table node ≡ true → number_of w (birth_at h.table node) ≡ node
+used_number h w node stands used =
+    let birth = birth_at h.table node in
+    let slot = birth_is h.table node used in
+    cond-true _ _ _ (stands.shows.objects node birth slot)
+    ∙ ap (λ (slots : List (Option ℕ)). number_in slots birth) stands.numbers
+    ∙ number_in_is h.table.objects node birth slot (λ other is. stands.sound.distinct other node birth is slot)
+
+free_number : (h : Stored) (w : World) (node : ℕ) → Stands h w → free_object h.table ≡ Some node → number_of w (birth_at h.table node) ≡ node
+free_number h w node stands free =
+    let birth : birth_at h.table node ≡ h.table.made_objects = ap (λ (o : Option ℕ). unwrap_or o h.table.made_objects) (lowest_is_free h.table.objects limit.OBJECTS 0 node free) in
+    ap (number_of w) birth
+    ∙ cond-false _ _ _ (next_is_new h w stands)
+    ∙ ap first_free stands.numbers
+    ∙ first_free_is h.table node stands.sound.object_numbers free
+
+stands_number : (h : Stored) (w : World) (node : ℕ) → Stands h w → IsKnownNumber h.table node → number_of w (birth_at h.table node) ≡ node
+stands_number h w node stands known = ⊎_elim (λ used. used_number h w node stands used) (λ free. free_number h w node stands free) known.1
+
+planned_number : (h : Stored) (w : World) (p : Plan) (o : Option ℕ) (a : Answer) → Stands h w → LocksKnown h.table p → AgreesOn h.table p o a → numbered w o ≡ object_of p
+planned_number h w (plan.Reply r) o a stands known agrees = ap (numbered w) agrees.0
+planned_number h w (plan.Node node act keep_table) o a stands known agrees = ap (numbered w) agrees ∙ ap (λ n. Some n) (stands_number h w node stands known.0)
+
+-- the number of the object that a call locks is that of the lock machine
+pub number_known : (h : Stored) (w : World) (call : Call) (carried : Carried) → Stands h w → numbered w (locked_object w.object call carried) ≡ number_locked h call
+number_known h w call carried stands =
+    let settings : Settings = record { patience = 1; door_cost = 1 } in
+    planned_number h w (planned h.table call) (locked_object w.object call carried) (step settings w.object call None carried).answer stands (known-planned h.table call stands.sound)
+    (plans-as_step h.table call stands.sound stands.described settings w.object None carried stands.shows)
+
+-- ## At the start
+
+abbrev no_object : Option ℕ
+no_object = None
+
+slot_none : (k n : ℕ) → get_or (replicate k no_object) n None ≡ None
+slot_none zero zero = refl
+slot_none zero (suc n) = refl
+slot_none (suc k) zero = refl
+slot_none (suc k) (suc n) = slot_none k n
+
+nothing : {X Y : Type 0} (o : Option X) (x : X) → o ≡ None → o ≡ Some x → Y
+nothing o x none some = absurd (none-some x (sym none ∙ some))
+
+not_there : {X Y : Type 0} (o : Option X) → o ≡ None → is_some o ≡ true → Y
+not_there o none there = absurd (false≢true (sym (ap is_some none) ∙ there))
+
+pub stands_first : Stands first_stored first_world
+stands_first =
+    record {
+      sound = sound-empty;
+      described = AreSound-none;
+      shows =
+          record {
+            descriptors = λ n. fin.get-empty nat_cmp n ∙ sym (ap (option_map (birth_of empty_table)) (slot_none limit.DESCRIPTORS n));
+            descriptions = λ key d is. nothing _ d (fin.get-empty nat_cmp key) is;
+            described = λ birth there. not_there _ (fin.get-empty nat_cmp birth) there;
+            paths = λ path. fin.get-empty path_cmp path ∙ sym (ap (option_map (shown_node empty_table)) (fin.get-empty path_cmp path));
+            objects = λ node birth is. nothing _ birth (slot_none limit.OBJECTS node) is;
+            numbered = λ birth there. not_there _ (fin.get-empty nat_cmp birth) there;
+            ends = λ key d is. nothing _ d (fin.get-empty nat_cmp key) is;
+            files = λ path node is. nothing _ (FileNode node) (fin.get-empty path_cmp path) is;
+            next_description = refl;
+            next_object = refl;
+          };
+      offsets = λ key d is. nothing _ d (fin.get-empty nat_cmp key) is;
+      contents = λ node birth is content got. nothing _ birth (slot_none limit.OBJECTS node) is;
+      numbers = refl;
+    }

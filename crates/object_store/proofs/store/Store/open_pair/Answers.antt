@@ -1,0 +1,25 @@
+use Rattle.std.proofs.Common.{◌≡◌, ◌<◌, ℕ, length, sym, ◌∙◌, subst, rules}
+use Rattle.posix_terms.specs.Object.{Pair}
+use Rattle.posix_terms.specs.Streams.{new_pair}
+use Rattle.posix_terms.specs.declared.reply.Reply.{Reply}
+use Rattle.std.specs.Prelude.{slice_set}
+use Rattle.descriptor_table.specs.Agreement.{TellsAsStep}
+use Rattle.object_store.specs.Acting.{holding}
+use Rattle.object_store.specs.Bodies.{keeping}
+use Rattle.object_store.specs.Store.{Replies, Stored, TableMade, kept_at}
+use Rattle.object_store.proofs.Making.{held_changed, pair_makes}
+use Rattle.object_store.proofs.store.Store.open_pair.Goals as goal
+
+pub returns-clause-reply : goal.returns-clause-reply
+returns-clause-reply c =
+    let h = c.args.self.now in
+    let call = c.args.call.now in
+    let new = c.change-given.new.self in
+    let inside : c.args.node < length h.bodies = subst (λ (n : ℕ). c.args.node < n) (sym c.requires.bodies) c.requires.inside in
+    let made : TableMade h call new.table = search rules in
+    let bodies : new.bodies ≡ h.bodies = search rules in
+    let tells : TellsAsStep h.table call c.change-given.result = search rules in
+    let cleared : c.clear_pair.new.self ≡ holding new c.args.node (Pair new_pair) = search rules in
+    subst (λ (z : Stored). Replies h call c.numbers_reply.result z) (held_changed h new c.args.node (Pair new_pair) bodies ∙ sym cleared)
+    (subst (λ (r : Reply). Replies h call r (record { table = new.table; bodies = slice_set h.bodies c.args.node (keeping (Pair new_pair) (kept_at h c.args.node)) })) (sym c.numbers_reply.ensures)
+    (pair_makes h call c.args.node new.table c.change-given.result c.requires.planned made tells inside))

@@ -1,0 +1,25 @@
+-- What object numbers have room for: each for a file, a pipe and a pair of sockets, of which its object is one.
+use Rattle.std.specs.Prelude.{ℕ, List, []}
+use Rattle.posix_terms.specs.Object.{Content, File, Pipe, Pair}
+use Rattle.posix_terms.specs.Streams.{PairState, new_pair}
+
+pub record Kept : Type 0 where
+  pub file : List ℕ
+  pub pipe : List ℕ
+  pub pair : PairState
+
+-- nothing is in any of them
+abbrev pub first_kept : Kept
+first_kept = record { file = []; pipe = []; pair = new_pair }
+
+-- what an object of the kind of this content holds here
+abbrev pub kept_as : Content → Kept → Content
+kept_as (File bytes) k = File k.file
+kept_as (Pipe bytes) k = Pipe k.pipe
+kept_as (Pair sockets) k = Pair k.pair
+
+-- with this content
+abbrev pub keeping : Content → Kept → Kept
+keeping (File bytes) k = record k { file = bytes }
+keeping (Pipe bytes) k = record k { pipe = bytes }
+keeping (Pair sockets) k = record k { pair = sockets }

@@ -1,0 +1,5 @@
+pub mod Bodies
+pub mod Store
+pub mod StoreCode
+pub mod Acting
+pub mod Patience

@@ -1,0 +1,33 @@
+-- How a turn of a call ended, and how long a call waits that cannot go on.
+use Rattle.std.specs.Prelude.{◌≡◌, ℕ, Bool, if◌then◌else◌}
+use Rattle.posix_terms.specs.Object.{State}
+use Rattle.posix_terms.specs.Step.{waited}
+use Rattle.posix_terms.specs.declared.errno.Errno.TheVariants.{EAGAIN}
+use Rattle.posix_terms.specs.declared.reply.Reply.TheVariants.{Fail}
+use Rattle.posix_terms.specs.declared.transcript.Settings.{Settings}
+use Rattle.lock_model.specs.CallTable.{Answer}
+use Rattle.lock_model.specs.CallTable.Answer.{Gives, Again}
+use Rattle.lock_model.specs.RealCalls.{answer_in}
+use Rattle.descriptor_table.specs.Acts as acts
+use Rattle.object_store.specs.declared.patience.Ending.{Ending}
+use Rattle.object_store.specs.declared.patience.Ending.TheVariants as ending
+use Rattle.object_store.specs.declared.patience.TurnEnd.{TurnEnd}
+use Rattle.object_store.specs.declared.patience.TurnEnd.TheVariants as end
+
+-- such an end as an answer of the lock machine
+abbrev pub ended : TurnEnd → Answer
+ended (end.Reply reply) = Gives reply
+ended (end.Blocked turns) = Again turns
+
+-- how an act ended, as the table's plan has it
+abbrev pub shown_ending : Ending → acts.Ending
+shown_ending (ending.Reply reply) = acts.Replies reply
+shown_ending ending.Waits = acts.Waits
+
+-- what cannot go on waits, or fails where its description is not to block
+abbrev pub stopped_ending : Bool → acts.Ending
+stopped_ending nonblock = if nonblock then acts.Replies (Fail EAGAIN) else acts.Waits
+
+-- the end of a turn of a call that cannot go on, and was blocked for so many turns before
+abbrev pub Waits : ℕ → ℕ → TurnEnd → Type 0
+Waits patience turns e = (settings : Settings) (s : State) → settings.patience ≡ patience → answer_in (waited settings s turns) ≡ ended e

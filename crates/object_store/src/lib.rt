@@ -1,0 +1,13 @@
+//! The descriptor table with the bodies of its objects, which makes one turn of a call at a time.
+#![tactic(auto)]
+
+mod acts;
+mod body;
+mod patience;
+mod store;
+mod streams;
+#[cfg(test)]
+mod tests;
+
+pub use patience::TurnEnd;
+pub use store::Store;

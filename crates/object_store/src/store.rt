@@ -1,0 +1,150 @@
+ghost use Rattle.std.specs.Prelude.{◌≡◌, ◌+◌, ◌<◌, ◌≤◌, ◌^◌, length, IfOk, IfSome, OnErr};
+ghost use Rattle.posix_terms.specs.declared.limits.TheConstants.Limits as limit;
+ghost use Rattle.descriptor_table.specs.Plans.{MovesKnown, planned};
+ghost use Rattle.descriptor_table.specs.declared.plan.Plan.TheVariants as plan;
+ghost use Rattle.descriptor_table.specs.Agreement.{TellsAsStep};
+ghost use Rattle.object_store.specs.Store.{EndsTurn, IsPlanned, Makes, Replies, TableMade, first_stored, number_locked};
+
+use crate::body::Body;
+use crate::patience::{Ending, TurnEnd, blocked};
+use descriptor_table::{NewNumbers, Op, Plan, Table};
+use posix_terms::{Call, Limits, Reply};
+use std::alloc::{AllocError, Global};
+use std::marker::Model;
+
+/// The shared descriptor table, and by object number the bodies of the objects.
+#[derive(Drop)]
+pub struct Store {
+    /// What descriptors, descriptions and names there are.
+    pub table: Table,
+    pub(crate) bodies: Vec<Body>,
+    ghost count: { length bodies.items ≡ limit.OBJECTS },
+}
+
+impl Model for Store {
+    ghost use Rattle.object_store.specs.Store.{Stored};
+    ghost use Rattle.object_store.specs.StoreCode.{stored_code};
+
+    ghost Value = { Stored };
+
+    ghost coded = { stored_code };
+
+    ghost view = { λ s. record { table = s.table; bodies = s.bodies.items } };
+}
+
+impl Store {
+    /// Nothing is open, and there is only the root. It takes the room for all bodies that there can be, some
+    /// 7.5 MiB.
+    pub fn new(alloc: Global) -> Result<Store, AllocError>
+        ensures { IfOk result (λ s. s ≡ first_stored) }
+    {
+        let mut bodies = Vec::new(alloc);
+        for _ in 0..Limits::OBJECTS {
+            bodies.push(Body::new(alloc)?)?;
+        }
+        Ok(Store {
+            table: Table::new(alloc)?,
+            bodies,
+        })
+    }
+
+    /// The number of the object that a call has to lock beside the table, if it needs one.
+    pub fn number_locked(&self, call: &Call) -> Option<usize>
+        ensures number { result ≡ number_locked self.now call.now }
+        ensures inside { IfSome result (λ n. n < limit.OBJECTS) }
+    {
+        match self.table.plan(call) {
+            Plan::Node { node, .. } => Some(node),
+            Plan::Reply(_) => None,
+        }
+    }
+
+    /// Makes one turn of a call that was blocked for so many turns before. A call that cannot go on is blocked
+    /// until it was for as many turns as its patience, and then fails with EINTR; where its description has
+    /// O_NONBLOCK it fails at once with EAGAIN. `Err` is want of memory for a read's bytes, and then nothing
+    /// changes.
+    pub fn make(
+        &mut self,
+        alloc: Global,
+        call: &Call,
+        patience: u32,
+        turns: u32,
+    ) -> Result<TurnEnd, AllocError>
+        requires descriptions { self.old.table.descriptions.made < 2 ^ 127 }
+        requires objects { self.old.table.made_objects < 2 ^ 127 }
+        ensures makes { IfOk result (λ ends. Makes patience turns self.old call.now ends self.new) }
+        ensures err { OnErr result (self.new ≡ self.old) }
+        ensures births { (self.new.table.descriptions.made ≤ self.old.table.descriptions.made + 2) × (self.new.table.made_objects ≤ self.old.table.made_objects + 1) }
+    {
+        match self.table.plan(call) {
+            Plan::Reply(reply) => Ok(TurnEnd::Reply(self.settle(call, reply))),
+            Plan::Node { node, op, .. } => Ok(match self.act(alloc, call, node, op)? {
+                Ending::Reply(reply) => TurnEnd::Reply(reply),
+                Ending::Waits => blocked(patience, turns),
+            }),
+        }
+    }
+
+    // Makes a call that the table alone answers.
+    fn settle(&mut self, call: &Call, reply: Reply) -> Reply
+        requires descriptions { self.old.table.descriptions.made < 2 ^ 127 }
+        requires objects { self.old.table.made_objects < 2 ^ 127 }
+        requires planned { planned self.old.table call.now ≡ plan.Reply reply }
+        ensures reply { Replies self.old call.now result self.new }
+        ensures births { (self.new.table.descriptions.made ≤ self.old.table.descriptions.made + 2) × (self.new.table.made_objects ≤ self.old.table.made_objects + 1) }
+    {
+        let plan = Plan::Reply(reply);
+        let _ = self.change(call, &plan);
+        match plan {
+            Plan::Reply(reply) => reply,
+            Plan::Node { .. } => unreachable!(),
+        }
+    }
+
+    // Makes the table's change of a call that it planned so. It gives the number of a new descriptor where the
+    // plan has not told it.
+    pub(crate) fn change(&mut self, call: &Call, plan: &Plan) -> NewNumbers
+        requires descriptions { self.old.table.descriptions.made < 2 ^ 127 }
+        requires objects { self.old.table.made_objects < 2 ^ 127 }
+        requires planned { plan.now ≡ planned self.old.table call.now }
+        ensures made { TableMade self.old call.now self.new.table }
+        ensures bodies { self.new.bodies ≡ self.old.bodies }
+        ensures tells { TellsAsStep self.old.table call.now result }
+        ensures births { (self.new.table.descriptions.made ≤ self.old.table.descriptions.made + 2) × (self.new.table.made_objects ≤ self.old.table.made_objects + 1) }
+    {
+        let given = self.table.apply(call, plan, None);
+        // What holds of every table holds of this one.
+        let _ = self.table.made();
+        given
+    }
+
+    // Makes a turn of a call that acts on the object with this number.
+    fn act(&mut self, alloc: Global, call: &Call, node: usize, op: Op) -> Result<Ending, AllocError>
+        requires descriptions { self.old.table.descriptions.made < 2 ^ 127 }
+        requires objects { self.old.table.made_objects < 2 ^ 127 }
+        requires planned { IsPlanned self.old call.now node op }
+        requires inside { node < limit.OBJECTS }
+        requires bodies { length self.old.bodies ≡ limit.OBJECTS }
+        requires known { MovesKnown self.old.table op }
+        ensures ends { IfOk result (λ e. EndsTurn self.old call.now e self.new) }
+        ensures err { OnErr result (self.new ≡ self.old) }
+        ensures births { (self.new.table.descriptions.made ≤ self.old.table.descriptions.made + 2) × (self.new.table.made_objects ≤ self.old.table.made_objects + 1) }
+    {
+        match op {
+            Op::Read { from, count } => self.read(alloc, node, from, count),
+            Op::Write { to } => Ok(self.write_call(call, node, to)),
+            Op::Open { cut } => Ok(Ending::Reply(self.open(call, node, cut))),
+            Op::Release => Ok(Ending::Reply(self.release(call))),
+            Op::Pread { count, position } => {
+                Ok(Ending::Reply(self.pread(alloc, node, count, position)?))
+            }
+            Op::Ftruncate { size } => Ok(Ending::Reply(self.ftruncate(node, size))),
+            Op::Fstat { links } => Ok(Ending::Reply(self.fstat(node, links))),
+            Op::Pwrite { position } => Ok(Ending::Reply(self.pwrite_call(call, node, position))),
+            Op::Lseek { at } => Ok(Ending::Reply(self.lseek_call(call, node, at))),
+            Op::Pipe => Ok(Ending::Reply(self.open_pipe(call, node))),
+            Op::Socketpair => Ok(Ending::Reply(self.open_pair(call, node))),
+            Op::Shutdown { side, how } => Ok(Ending::Reply(self.shutdown(node, side, how))),
+        }
+    }
+}

@@ -1,0 +1,239 @@
+ghost use Rattle.std.specs.Prelude.{◌≡◌, ◌+◌, ◌^◌, ◌<◌, ◌≤◌, [], length, IfOk, OnErr};
+ghost use Rattle.posix_terms.specs.Object.{Pair, Pipe};
+ghost use Rattle.posix_terms.specs.Streams.{half_at, new_pair, pair_read, pair_write, peer_of, shut, with_waiting};
+ghost use Rattle.posix_terms.specs.declared.object.End.TheVariants as part;
+ghost use Rattle.posix_terms.specs.declared.reply.Reply.TheVariants.{Done};
+ghost use Rattle.file_descriptions.specs.Descriptions.{ContainsKey};
+ghost use Rattle.posix_terms.specs.declared.limits.TheConstants.Limits as limit;
+ghost use Rattle.pipes.specs.Pipe.{read_answer, write_answer};
+ghost use Rattle.stream_sockets.specs.Pair.{left_by_read, left_by_write, read_into};
+ghost use Rattle.descriptor_table.specs.Acts.{has_read, has_written, is_open, read_acted, write_acted};
+ghost use Rattle.descriptor_table.specs.declared.plan.Op.TheVariants as op;
+ghost use Rattle.object_store.specs.Acting.{ActsOn, HasRead, HasWritten, ending_of_read, ending_of_write, holding, offset_of_key};
+ghost use Rattle.object_store.specs.Patience.{shown_ending};
+ghost use Rattle.object_store.specs.Store.{IsPlanned, Replies, kept_at};
+
+use crate::acts::numbers_reply;
+use crate::patience::{Ending, stopped};
+use crate::store::Store;
+use descriptor_table::Opened;
+use pipes::PipeAnswer;
+use posix_terms::{Bytes, Call, End, Errno, Reply, ShutdownHow, Side};
+use std::alloc::{AllocError, Global};
+
+// A read and a write, and what calls do with a pipe or a pair of sockets, whose lock they took.
+impl Store {
+    // POSIX.1-2017, `read`. Without memory nothing changes.
+    pub(crate) fn read(
+        &mut self,
+        alloc: Global,
+        node: usize,
+        from: Opened,
+        count: usize,
+    ) -> Result<Ending, AllocError>
+        requires inside { node < limit.OBJECTS }
+        requires bodies { length self.old.bodies ≡ limit.OBJECTS }
+        requires known { ContainsKey self.old.table.descriptions from.key }
+        ensures read { IfOk result (λ e. HasRead from.«end» self.old node from count e self.new) }
+        ensures err { OnErr result (self.new ≡ self.old) }
+    {
+        match from.end {
+            End::Only => Ok(Ending::Reply(self.read_file(alloc, node, from, count)?)),
+            End::Read | End::Write => self.read_pipe(alloc, node, from, count),
+            End::Socket(side) => self.read_pair(alloc, node, from, side, count),
+        }
+    }
+
+    fn read_pipe(
+        &mut self,
+        alloc: Global,
+        node: usize,
+        from: Opened,
+        count: usize,
+    ) -> Result<Ending, AllocError>
+        requires inside { node < limit.OBJECTS }
+        requires bodies { length self.old.bodies ≡ limit.OBJECTS }
+        ensures acts { IfOk result (λ e. ActsOn (read_acted self.old.table node from count (Pipe (kept_at self.old node).pipe) (offset_of_key self.old from.key)) self.old node e self.new) }
+        ensures err { OnErr result (self.new ≡ self.old) }
+    {
+        let mut bytes = vec![in alloc; 0; count]?;
+        let writers = self.is_open(node, End::Write);
+        let answer = self.bodies[node].pipe.take(bytes.as_mut_slice(), writers);
+        Ok(read_ending(answer, bytes, from.flags.nonblock))
+    }
+
+    fn read_pair(
+        &mut self,
+        alloc: Global,
+        node: usize,
+        from: Opened,
+        side: Side,
+        count: usize,
+    ) -> Result<Ending, AllocError>
+        requires inside { node < limit.OBJECTS }
+        requires bodies { length self.old.bodies ≡ limit.OBJECTS }
+        ensures acts { IfOk result (λ e. ActsOn (has_read from (λ left. Pair (with_waiting (kept_at self.old node).pair side left)) (Pair (kept_at self.old node).pair) (offset_of_key self.old from.key) (pair_read (kept_at self.old node).pair side count (is_open self.old.table node (part.Socket (peer_of side))))) self.old node e self.new) }
+        ensures err { OnErr result (self.new ≡ self.old) }
+    {
+        let mut bytes = vec![in alloc; 0; count]?;
+        let peer_open = self.is_open(node, End::Socket(side.peer()));
+        let answer = self.take_pair(node, side, bytes.as_mut_slice(), peer_open);
+        Ok(read_ending(answer, bytes, from.flags.nonblock))
+    }
+
+    // POSIX.1-2017, `write`; to a file, of no bytes it does nothing.
+    pub(crate) fn write(&mut self, node: usize, to: Opened, bytes: &[u8]) -> Ending
+        requires inside { node < limit.OBJECTS }
+        requires bodies { length self.old.bodies ≡ limit.OBJECTS }
+        requires known { ContainsKey self.old.table.descriptions to.key }
+        ensures written { HasWritten to.«end» self.old node to bytes.now result self.new }
+    {
+        match to.end {
+            End::Only if bytes.is_empty() => Ending::Reply(Reply::Count(0)),
+            End::Only => Ending::Reply(self.write_file(node, to, bytes)),
+            End::Read | End::Write => self.write_pipe(node, to, bytes),
+            End::Socket(side) => self.write_pair(node, to, side, bytes),
+        }
+    }
+
+    fn write_pipe(&mut self, node: usize, to: Opened, bytes: &[u8]) -> Ending
+        requires inside { node < limit.OBJECTS }
+        requires bodies { length self.old.bodies ≡ limit.OBJECTS }
+        ensures { ActsOn (write_acted self.old.table node to bytes.now (Pipe (kept_at self.old node).pipe) (offset_of_key self.old to.key)) self.old node result self.new }
+    {
+        let readers = self.is_open(node, End::Read);
+        let answer = self.bodies[node].pipe.put(bytes, readers);
+        write_ending(answer, to.flags.nonblock)
+    }
+
+    fn write_pair(&mut self, node: usize, to: Opened, side: Side, bytes: &[u8]) -> Ending
+        requires inside { node < limit.OBJECTS }
+        requires bodies { length self.old.bodies ≡ limit.OBJECTS }
+        ensures { ActsOn (has_written to (λ left. Pair (with_waiting (kept_at self.old node).pair (peer_of side) left)) (Pair (kept_at self.old node).pair) (offset_of_key self.old to.key) (length bytes.now) (pair_write (kept_at self.old node).pair side bytes.now (is_open self.old.table node (part.Socket (peer_of side))))) self.old node result self.new }
+    {
+        let peer_open = self.is_open(node, End::Socket(side.peer()));
+        let answer = self.put_pair(node, side, bytes, peer_open);
+        write_ending(answer, to.flags.nonblock)
+    }
+
+    fn take_pair(&mut self, node: usize, side: Side, into: &mut [u8], peer_open: bool) -> PipeAnswer
+        requires inside { node < limit.OBJECTS }
+        requires bodies { length self.old.bodies ≡ limit.OBJECTS }
+        ensures answer { result ≡ read_answer (pair_read (kept_at self.old node).pair side (length into.old) peer_open) }
+        ensures left { self.new ≡ holding self.old node (Pair (left_by_read (kept_at self.old node).pair side (pair_read (kept_at self.old node).pair side (length into.old) peer_open))) }
+        ensures bytes { into.new ≡ read_into (half_at (kept_at self.old node).pair side) into.old }
+    {
+        self.bodies[node].pair.take(side, into, peer_open)
+    }
+
+    fn put_pair(&mut self, node: usize, side: Side, bytes: &[u8], peer_open: bool) -> PipeAnswer
+        requires inside { node < limit.OBJECTS }
+        requires bodies { length self.old.bodies ≡ limit.OBJECTS }
+        ensures answer { result ≡ write_answer (length bytes.now) (pair_write (kept_at self.old node).pair side bytes.now peer_open) }
+        ensures left { self.new ≡ holding self.old node (Pair (left_by_write (kept_at self.old node).pair side (pair_write (kept_at self.old node).pair side bytes.now peer_open))) }
+    {
+        self.bodies[node].pair.put(side, bytes, peer_open)
+    }
+
+    // Whether a description has this end of an object.
+    fn is_open(&self, node: usize, end: End) -> bool
+        ensures { result ≡ is_open self.now.table node «end» }
+    {
+        let (first, second) = self.table.ends(node);
+        if end.is_first() {
+            first > 0
+        } else {
+            second > 0
+        }
+    }
+
+    // POSIX.1-2017, `pipe`: the new pipe has nothing in it, whatever was under its number before.
+    pub(crate) fn open_pipe(&mut self, call: &Call, node: usize) -> Reply
+        requires descriptions { self.old.table.descriptions.made < 2 ^ 127 }
+        requires objects { self.old.table.made_objects < 2 ^ 127 }
+        requires inside { node < limit.OBJECTS }
+        requires bodies { length self.old.bodies ≡ limit.OBJECTS }
+        requires planned { IsPlanned self.old call.now node op.Pipe }
+        ensures reply { Replies self.old call.now result self.new }
+        ensures births { (self.new.table.descriptions.made ≤ self.old.table.descriptions.made + 2) × (self.new.table.made_objects ≤ self.old.table.made_objects + 1) }
+    {
+        let plan = self.table.plan(call);
+        let given = self.change(call, &plan);
+        self.clear_pipe(node);
+        numbers_reply(given)
+    }
+
+    // Leaves nothing in a pipe.
+    fn clear_pipe(&mut self, node: usize)
+        requires inside { node < limit.OBJECTS }
+        requires bodies { length self.old.bodies ≡ limit.OBJECTS }
+        ensures { self.new ≡ holding self.old node (Pipe []) }
+    {
+        self.bodies[node].pipe.clear();
+    }
+
+    // POSIX.1-2017, `socketpair`: nothing waits in the new pair, and nothing is shut.
+    pub(crate) fn open_pair(&mut self, call: &Call, node: usize) -> Reply
+        requires descriptions { self.old.table.descriptions.made < 2 ^ 127 }
+        requires objects { self.old.table.made_objects < 2 ^ 127 }
+        requires inside { node < limit.OBJECTS }
+        requires bodies { length self.old.bodies ≡ limit.OBJECTS }
+        requires planned { IsPlanned self.old call.now node op.Socketpair }
+        ensures reply { Replies self.old call.now result self.new }
+        ensures births { (self.new.table.descriptions.made ≤ self.old.table.descriptions.made + 2) × (self.new.table.made_objects ≤ self.old.table.made_objects + 1) }
+    {
+        let plan = self.table.plan(call);
+        let given = self.change(call, &plan);
+        self.clear_pair(node);
+        numbers_reply(given)
+    }
+
+    // Leaves a pair as a new one.
+    fn clear_pair(&mut self, node: usize)
+        requires inside { node < limit.OBJECTS }
+        requires bodies { length self.old.bodies ≡ limit.OBJECTS }
+        ensures { self.new ≡ holding self.old node (Pair new_pair) }
+    {
+        self.bodies[node].pair.clear();
+    }
+
+    // POSIX.1-2017, `shutdown`.
+    pub(crate) fn shutdown(&mut self, node: usize, side: Side, how: ShutdownHow) -> Reply
+        requires inside { node < limit.OBJECTS }
+        requires bodies { length self.old.bodies ≡ limit.OBJECTS }
+        ensures reply { result ≡ Done }
+        ensures shut { self.new ≡ holding self.old node (Pair (shut (kept_at self.old node).pair side how)) }
+    {
+        self.bodies[node].pair.shutdown(side, how);
+        Reply::Done
+    }
+}
+
+// The end of a read that was answered so.
+fn read_ending(answer: PipeAnswer, bytes: Vec<u8>, nonblock: bool) -> Ending
+    ensures { shown_ending result ≡ ending_of_read answer bytes.items nonblock }
+{
+    let mut bytes = bytes;
+    match answer {
+        PipeAnswer::Data(count) => {
+            bytes.truncate(count);
+            Ending::Reply(Reply::Data(Bytes::from_vec(bytes)))
+        }
+        PipeAnswer::End => {
+            bytes.truncate(0);
+            Ending::Reply(Reply::Data(Bytes::from_vec(bytes)))
+        }
+        PipeAnswer::Count(_) | PipeAnswer::Broken | PipeAnswer::Block => stopped(nonblock),
+    }
+}
+
+// The end of a write that was answered so.
+fn write_ending(answer: PipeAnswer, nonblock: bool) -> Ending
+    ensures { shown_ending result ≡ ending_of_write answer nonblock }
+{
+    match answer {
+        PipeAnswer::Count(count) => Ending::Reply(Reply::Count(count as u64)),
+        PipeAnswer::Broken => Ending::Reply(Reply::Fail(Errno::EPIPE)),
+        PipeAnswer::Data(_) | PipeAnswer::End | PipeAnswer::Block => stopped(nonblock),
+    }
+}

@@ -1,0 +1,142 @@
+ghost use Rattle.std.specs.Prelude.{◌≡◌, ◌+◌, ◌≤◌, List, [], ◌++◌, length, take, drop, vec_len, vec_capacity, IfOk};
+ghost use Rattle.posix_terms.specs.Streams.{stream_read, stream_write};
+ghost use Rattle.pipes.specs.Pipe.{left_by_read, left_by_write, read_answer, write_answer};
+
+use posix_terms::Limits;
+use std::alloc::{AllocError, Global};
+use std::marker::Model;
+
+/// How a read or a write of a pipe goes.
+#[derive(Clone, Copy, Debug, PartialEq, Eq)]
+pub enum PipeAnswer {
+    /// So many bytes were read.
+    Data(usize),
+    /// So many bytes were written.
+    Count(usize),
+    /// There are no bytes, and no write end is open.
+    End,
+    /// No read end is open.
+    Broken,
+    /// It has to wait.
+    Block,
+}
+
+/// The bytes that wait in a pipe: at most `Limits::PIPE_BYTES`, all of whose room is taken when it is
+/// made. Contracts see the list of them.
+#[derive(Drop)]
+pub struct PipeBody {
+    bytes: Vec<u8>,
+}
+
+impl Model for PipeBody {
+    ghost use Rattle.std.specs.Prelude.{ℕ, ◌≤◌, List, vec_len, vec_capacity};
+    ghost use Rattle.posix_terms.specs.declared.limits.TheConstants.Limits as limit;
+
+    ghost Value = { List ℕ };
+
+    ghost view = { λ p. p.bytes.items };
+
+    ghost invariant = { λ p. (vec_len p.bytes ≤ limit.PIPE_BYTES) × (limit.PIPE_BYTES ≤ vec_capacity p.bytes) };
+}
+
+impl PipeBody {
+    /// An empty pipe. It takes the room for all that it can hold.
+    pub fn new(alloc: Global) -> Result<PipeBody, AllocError>
+        ensures { IfOk result (λ pipe. pipe ≡ []) }
+    {
+        Ok(PipeBody {
+            bytes: Vec::with_capacity(alloc, Limits::PIPE_BYTES)?,
+        })
+    }
+
+    /// Reads into the head of `into`, as many bytes as are there and fit, the oldest first. Without bytes
+    /// it ends where no write end is open, and otherwise blocks; then nothing changes.
+    pub fn take(&mut self, into: &mut [u8], writers: bool) -> PipeAnswer
+        ensures answer { result ≡ read_answer (stream_read self.old (length into.old) writers) }
+        ensures left { self.new ≡ left_by_read self.old (stream_read self.old (length into.old) writers) }
+        ensures bytes { into.new ≡ take (length into.old) self.old ++ drop (length self.old) into.old }
+    {
+        if self.bytes.is_empty() {
+            return if writers {
+                PipeAnswer::Block
+            } else {
+                PipeAnswer::End
+            };
+        }
+        let count = into.len().min(self.bytes.len());
+        into[..count].copy_from_slice(&self.bytes[..count]);
+        remove_front(&mut self.bytes, count);
+        PipeAnswer::Data(count)
+    }
+
+    /// Writes all of the bytes behind those that wait, where they fit. Where no read end is open the pipe
+    /// is broken, and where they do not fit it blocks; then nothing changes.
+    pub fn put(&mut self, bytes: &[u8], readers: bool) -> PipeAnswer
+        ensures answer { result ≡ write_answer (length bytes.now) (stream_write self.old bytes.now readers) }
+        ensures left { self.new ≡ left_by_write self.old (stream_write self.old bytes.now readers) }
+    {
+        if !readers {
+            return PipeAnswer::Broken;
+        }
+        if bytes.len() > Limits::PIPE_BYTES - self.bytes.len() {
+            return PipeAnswer::Block;
+        }
+        self.bytes.extend_from_slice(bytes).unwrap();
+        PipeAnswer::Count(bytes.len())
+    }
+
+    /// Drops all bytes.
+    pub fn clear(&mut self)
+        ensures { self.new ≡ [] }
+    {
+        self.bytes.clear();
+    }
+}
+
+// Takes away so many bytes at the front.
+fn remove_front(bytes: &mut Vec<u8>, count: usize)
+    requires { count ≤ vec_len bytes.old }
+    ensures items { bytes.new.items ≡ drop count bytes.old.items }
+    ensures room { vec_capacity bytes.new ≡ vec_capacity bytes.old }
+{
+    let kept = bytes.len() - count;
+    bytes.copy_within(count.., 0);
+    bytes.truncate(kept);
+}
+
+#[cfg(test)]
+mod tests {
+    use super::*;
+    use std::test::Fail;
+
+    #[test]
+    fn first_in_first_out(rt: HostRuntime) -> Result<(), Fail> {
+        let mut pipe = PipeBody::new(rt.alloc())?;
+        let mut into = [9; 3];
+        assert_eq!(rt; pipe.take(&mut into, true), PipeAnswer::Block);
+        assert_eq!(rt; pipe.take(&mut into, false), PipeAnswer::End);
+        assert_eq!(rt; pipe.put(b"abcd", true), PipeAnswer::Count(4));
+        assert_eq!(rt; pipe.put(b"e", true), PipeAnswer::Count(1));
+        assert_eq!(rt; pipe.put(b"f", false), PipeAnswer::Broken);
+        assert_eq!(rt; pipe.take(&mut into, false), PipeAnswer::Data(3));
+        assert_eq!(rt; into.as_slice(), b"abc".as_slice());
+        assert_eq!(rt; pipe.take(&mut into, true), PipeAnswer::Data(2));
+        assert_eq!(rt; into.as_slice(), b"dec".as_slice());
+        assert_eq!(rt; pipe.put(b"g", true), PipeAnswer::Count(1));
+        pipe.clear();
+        assert_eq!(rt; pipe.take(&mut into, false), PipeAnswer::End);
+        Ok(())
+    }
+
+    #[test]
+    fn a_full_pipe_blocks(rt: HostRuntime) -> Result<(), Fail> {
+        let mut pipe = PipeBody::new(rt.alloc())?;
+        let many = [7; 32_767];
+        assert_eq!(rt; pipe.put(&many, true), PipeAnswer::Count(32_767));
+        assert_eq!(rt; pipe.put(b"ab", true), PipeAnswer::Block);
+        assert_eq!(rt; pipe.put(b"a", true), PipeAnswer::Count(1));
+        assert_eq!(rt; pipe.put(b"a", true), PipeAnswer::Block);
+        assert_eq!(rt; pipe.put(b"", true), PipeAnswer::Count(0));
+        Ok(())
+    }
+}

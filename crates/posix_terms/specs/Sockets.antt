@@ -1,0 +1,64 @@
+-- Making pipes and pairs of sockets, and shutting a socket.
+-- POSIX.1-2017, System Interfaces: `pipe`, `socketpair`, `shutdown`.
+use Rattle.std.specs.Prelude.{ℕ, ◌+◌, ◌-◌, ℤ, pos, [], false, nat_le, Result, Ok, Err}
+use Rattle.std.specs.FinMap as map
+use Rattle.posix_terms.specs.Descriptors.{described, lowest_free, lowest_from, opened}
+use Rattle.posix_terms.specs.Effects.{Effect, Completes}
+use Rattle.posix_terms.specs.Ends.{side_of}
+use Rattle.posix_terms.specs.Object.{State, Content, Pipe, Pair, with_content}
+use Rattle.posix_terms.specs.Refusals.{◌>>=◌, refuse_if, some_or}
+use Rattle.posix_terms.specs.Streams.{PairState, new_pair, shut}
+use Rattle.posix_terms.specs.Transfers.{content_of}
+use Rattle.posix_terms.specs.declared.call.Access.{Access}
+use Rattle.posix_terms.specs.declared.call.Access.TheVariants.{ReadOnly, WriteOnly, ReadWrite}
+use Rattle.posix_terms.specs.declared.call.ShutdownHow.{ShutdownHow}
+use Rattle.posix_terms.specs.declared.errno.Errno.{Errno}
+use Rattle.posix_terms.specs.declared.errno.Errno.TheVariants.{EMFILE, ENFILE, ENOTSOCK}
+use Rattle.posix_terms.specs.declared.limits.TheConstants.Limits as limit
+use Rattle.posix_terms.specs.declared.object.End.{End}
+use Rattle.posix_terms.specs.declared.object.End.TheVariants as part
+use Rattle.posix_terms.specs.declared.object.Side.TheVariants.{Side0, Side1}
+use Rattle.posix_terms.specs.declared.reply.Reply.TheVariants as reply
+
+-- the two least numbers that are not open
+abbrev pub two_numbers : State → Result (ℕ × ℕ) Errno
+two_numbers s = do
+  first ← some_or (lowest_free s) EMFILE
+  second ← some_or (lowest_from s (limit.DESCRIPTORS - (first + 1)) (first + 1)) EMFILE
+  Ok (first, second)
+
+-- a new object that no path names
+abbrev pub with_object : State → Content → State
+with_object s content = record s { objects = map.insert s.objects s.next_object content; next_object = s.next_object + 1 }
+
+-- one end of a new object, and what it is open for
+pub record NewEnd : Type 0 where
+  pub which : End
+  pub access : Access
+
+-- a new object, to whose ends two numbers refer
+abbrev pub two_ends : State → Content → NewEnd → NewEnd → Result Effect Errno
+two_ends s content one other = do
+  numbers ← two_numbers s
+  _ ← refuse_if (nat_le limit.OBJECTS (map.len s.objects)) ENFILE
+  Ok (Completes (opened (opened (with_object s content) numbers.0 s.next_object one.which one.access false false) numbers.1 s.next_object other.which other.access false false) (reply.Pair (pos numbers.0) (pos numbers.1)))
+
+-- `pipe`: the lower number reads, the other one writes
+unfoldable pub pipe_result : State → Result Effect Errno
+pipe_result s = two_ends s (Pipe []) (record { which = part.Read; access = ReadOnly }) (record { which = part.Write; access = WriteOnly })
+
+-- `socketpair`
+unfoldable pub socketpair_result : State → Result Effect Errno
+socketpair_result s = two_ends s (Pair new_pair) (record { which = part.Socket Side0; access = ReadWrite }) (record { which = part.Socket Side1; access = ReadWrite })
+
+-- the pair that an object is; another object is refused
+abbrev pub pair_in : Content → Errno → Result PairState Errno
+pair_in (Pair p) e = Ok p
+pair_in c e = Err e
+
+-- `shutdown`; again, or when the peer is closed, it is done too
+unfoldable pub shutdown_result : State → ℤ → ShutdownHow → Result Effect Errno
+shutdown_result s descriptor how = do
+  found ← described s descriptor
+  p ← pair_in (content_of s found.1.object) ENOTSOCK
+  Ok (Completes (with_content s found.1.object (Pair (shut p (side_of found.1.«end») how))) reply.Done)

@@ -1,0 +1,173 @@
+use crate::objects::{Object, Socket};
+use crate::refusal::Refusal;
+use crate::table::{Description, SlowTable};
+use posix_terms::{Access, Bytes, End, Errno, Limits, Reply, ShutdownHow, Side};
+use std::alloc::{AllocError, Global};
+
+// Why a call that has to wait does not go on.
+fn wait(description: Description) -> Refusal {
+    if description.nonblock {
+        Refusal::Errno(Errno::EAGAIN)
+    } else {
+        Refusal::Blocked
+    }
+}
+
+// Takes the first of the bytes that wait, at most so many.
+fn take(alloc: Global, waiting: &mut Vec<u8>, count: usize) -> Result<Bytes, AllocError> {
+    let mut taken = Vec::new(alloc);
+    let mut rest = Vec::new(alloc);
+    for byte in waiting.iter() {
+        if taken.len() < count {
+            taken.push(*byte)?;
+        } else {
+            rest.push(*byte)?;
+        }
+    }
+    *waiting = rest;
+    Ok(Bytes::from_vec(taken))
+}
+
+// Puts all bytes behind those that wait, where there is room for them.
+fn put(waiting: &mut Vec<u8>, description: Description, bytes: &[u8]) -> Result<Reply, Refusal> {
+    if waiting.len().saturating_add(bytes.len()) > Limits::PIPE_BYTES {
+        return Err(wait(description));
+    }
+    waiting.extend_from_slice(bytes)?;
+    Ok(Reply::Count(bytes.len() as u64))
+}
+
+impl SlowTable {
+    pub(crate) fn pipe(&mut self, alloc: Global) -> Result<Reply, Refusal> {
+        let reading = (End::Read, Access::ReadOnly);
+        let writing = (End::Write, Access::WriteOnly);
+        self.add_two_ends(Object::Pipe(Vec::new(alloc)), reading, writing)
+    }
+
+    pub(crate) fn socketpair(&mut self, alloc: Global) -> Result<Reply, Refusal> {
+        let first = (End::Socket(Side::Side0), Access::ReadWrite);
+        let second = (End::Socket(Side::Side1), Access::ReadWrite);
+        let pair = Object::Pair([Socket::new(alloc), Socket::new(alloc)]);
+        self.add_two_ends(pair, first, second)
+    }
+
+    // The two lowest numbers that are not open lead to the two ends of a new object.
+    fn add_two_ends(
+        &mut self,
+        object: Object,
+        first: (End, Access),
+        second: (End, Access),
+    ) -> Result<Reply, Refusal> {
+        let first_number = self.lowest_from(0)?;
+        let second_number = self.lowest_from(first_number.saturating_add(1))?;
+        if self.live_objects() >= Limits::OBJECTS {
+            return Err(Refusal::Errno(Errno::ENFILE));
+        }
+        let place = self.objects.len();
+        self.objects.push(object)?;
+        Ok(Reply::Pair(
+            self.open_end(first_number, place, first)?,
+            self.open_end(second_number, place, second)?,
+        ))
+    }
+
+    fn open_end(
+        &mut self,
+        number: usize,
+        object: usize,
+        (end, access): (End, Access),
+    ) -> Result<i64, Refusal> {
+        self.describe(
+            number,
+            Description {
+                object,
+                end,
+                access,
+                offset: 0,
+                append: false,
+                nonblock: false,
+            },
+        )
+    }
+
+    // A read of at least one byte of a pipe.
+    pub(crate) fn read_pipe(
+        &mut self,
+        alloc: Global,
+        description: Description,
+        count: usize,
+    ) -> Result<Reply, Refusal> {
+        let writers = self.is_end_open(description.object, End::Write);
+        let waiting = self.pipe_mut(description.object)?;
+        if waiting.is_empty() && writers {
+            return Err(wait(description));
+        }
+        Ok(Reply::Data(take(alloc, waiting, count)?))
+    }
+
+    // A write of at least one byte to a pipe.
+    pub(crate) fn write_pipe(
+        &mut self,
+        description: Description,
+        bytes: &[u8],
+    ) -> Result<Reply, Refusal> {
+        if !self.is_end_open(description.object, End::Read) {
+            return Err(Refusal::Errno(Errno::EPIPE));
+        }
+        put(self.pipe_mut(description.object)?, description, bytes)
+    }
+
+    // A read of at least one byte by a socket.
+    pub(crate) fn read_socket(
+        &mut self,
+        alloc: Global,
+        description: Description,
+        side: Side,
+        count: usize,
+    ) -> Result<Reply, Refusal> {
+        let object = description.object;
+        let more_can_come = self.is_end_open(object, End::Socket(side.peer()))
+            && !self.socket(object, side.peer())?.writing_shut;
+        let socket = self.socket_mut(object, side)?;
+        if socket.reading_shut {
+            return Ok(Reply::Data(Bytes::from_vec(Vec::new(alloc))));
+        }
+        if socket.waiting.is_empty() && more_can_come {
+            return Err(wait(description));
+        }
+        Ok(Reply::Data(take(alloc, &mut socket.waiting, count)?))
+    }
+
+    // A write of at least one byte by a socket.
+    pub(crate) fn write_socket(
+        &mut self,
+        description: Description,
+        side: Side,
+        bytes: &[u8],
+    ) -> Result<Reply, Refusal> {
+        let object = description.object;
+        let shut = self.socket(object, side)?.writing_shut
+            || self.socket(object, side.peer())?.reading_shut;
+        if shut || !self.is_end_open(object, End::Socket(side.peer())) {
+            return Err(Refusal::Errno(Errno::EPIPE));
+        }
+        let peer = self.socket_mut(object, side.peer())?;
+        put(&mut peer.waiting, description, bytes)
+    }
+
+    pub(crate) fn shutdown(&mut self, descriptor: i64, how: ShutdownHow) -> Result<Reply, Errno> {
+        let description = self.description(descriptor)?;
+        let End::Socket(side) = description.end else {
+            return Err(Errno::ENOTSOCK);
+        };
+        let socket = self.socket_mut(description.object, side)?;
+        if how != ShutdownHow::Write {
+            socket.reading_shut = true;
+            socket.waiting.clear();
+        }
+        if how != ShutdownHow::Read {
+            socket.writing_shut = true;
+        }
+        Ok(Reply::Done)
+    }
+}
