@@ -1,7 +1,7 @@
 use crate::{
     Access, Answer, Bytes, Call, CallKind, Errno, Given, HistoryRow, ObjectKind, OpenFlags,
-    OutKind, Outcome, Outcomes, Reply, Row, Transcript, Transcripts, Turn, Whence, errno_name,
-    pieces, split,
+    OutKind, Outcome, Outcomes, Reply, Row, ShutdownHow, Transcript, Transcripts, Turn, Whence,
+    errno_name, pieces, split,
 };
 use std::alloc::{AllocError, Global};
 use std::test::Fail;
@@ -133,6 +133,17 @@ fn path_calls(alloc: Global) -> Result<[Call; 5], AllocError> {
     ])
 }
 
+fn stream_calls() -> [Call; 3] {
+    [
+        Call::Pipe,
+        Call::Socketpair,
+        Call::Shutdown {
+            descriptor: 14,
+            how: ShutdownHow::Both,
+        },
+    ]
+}
+
 /// One call of each kind.
 fn calls(alloc: Global) -> Result<Vec<Call>, AllocError> {
     let mut calls = Vec::new(alloc);
@@ -143,6 +154,9 @@ fn calls(alloc: Global) -> Result<Vec<Call>, AllocError> {
         calls.push(call)?;
     }
     for call in path_calls(alloc)? {
+        calls.push(call)?;
+    }
+    for call in stream_calls() {
         calls.push(call)?;
     }
     Ok(calls)
@@ -204,6 +218,9 @@ fn words_of_calls(rt: HostRuntime) -> Result<(), Fail> {
         (CallKind::Unlink, "unlink"),
         (CallKind::Mkdir, "mkdir"),
         (CallKind::Rmdir, "rmdir"),
+        (CallKind::Pipe, "pipe"),
+        (CallKind::Socketpair, "socketpair"),
+        (CallKind::Shutdown, "shutdown"),
     ];
     assert_eq!(rt; calls.len(), kinds.len());
     assert_eq!(rt; CallKind::ALL.len(), kinds.len());
