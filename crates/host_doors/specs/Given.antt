@@ -1,0 +1,19 @@
+-- What a call of an outside gives.
+use Rattle.std.specs.Prelude.{◌≡◌, ℕ, ◌+◌, Option, None, IsSome}
+use Rattle.posix_terms.specs.declared.outcome.Outcome.{Outcome}
+use Rattle.posix_terms.specs.declared.outcome.Outcome.TheVariants as outcome
+use Rattle.host_doors.specs.declared.counts.Counts.{Counts}
+
+-- a failure is counted, and a success is none
+abbrev pub failures_after : Outcome → ℕ → ℕ
+failures_after (outcome.Ok value bytes) failures = failures
+failures_after (outcome.Fail error) failures = failures + 1
+
+-- a door comes with a success and with nothing else
+abbrev pub HasDoor : {D : Type 0} → Outcome → Option D → Type 0
+HasDoor (outcome.Ok value bytes) door = IsSome door
+HasDoor (outcome.Fail error) door = door ≡ None
+
+-- the counts after one more outcome
+abbrev pub counted : Counts → Outcome → Counts
+counted counts o = record { given = counts.given + 1; failures = failures_after o counts.failures }

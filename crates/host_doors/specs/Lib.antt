@@ -1,0 +1,5 @@
+pub mod Given
+pub mod Script
+pub mod Host
+pub mod Opening
+pub mod Asked
