@@ -1,10 +1,9 @@
 ghost use Rattle.std.specs.Prelude.{◌≡◌, List, IfOk};
-ghost use Rattle.posix_terms.specs.Outcomes.{answers, fits};
+ghost use Rattle.posix_terms.specs.Outcomes.{fits};
 ghost use Rattle.posix_terms.specs.declared.outcome.Given.{Given};
 
 use crate::bytes::Bytes;
 use crate::errno::Errno;
-use crate::request::Request;
 use std::alloc::AllocError;
 use std::marker::Model;
 
@@ -75,15 +74,6 @@ impl Outcome {
 pub struct Given {
     pub kind: OutKind,
     pub outcome: Outcome,
-}
-
-impl Given {
-    /// Whether this answers the request: it is of the request's kind, and its outcome fits what was asked.
-    pub fn answers(&self, request: &Request) -> bool
-        ensures { result ≡ answers request.now self.now }
-    {
-        self.kind == request.kind && self.outcome.fits(request.kind, request.asked)
-    }
 }
 
 /// The outcomes of one thread, in order. Contracts see the list of them.

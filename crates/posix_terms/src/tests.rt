@@ -1,7 +1,7 @@
 use crate::{
     Access, Answer, Bytes, Call, CallKind, Errno, Given, HistoryRow, ObjectKind, OpenFlags,
-    OutKind, Outcome, Outcomes, Reply, Request, Row, ShutdownHow, Transcript, Transcripts, Turn,
-    Whence, errno_name, pieces, split,
+    OutKind, Outcome, Outcomes, Reply, Row, ShutdownHow, Transcript, Transcripts, Turn, Whence,
+    errno_name, pieces, split,
 };
 use std::alloc::{AllocError, Global};
 use std::test::Fail;
@@ -144,25 +144,6 @@ fn stream_calls() -> [Call; 3] {
     ]
 }
 
-fn door_calls(alloc: Global) -> Result<[Call; 4], AllocError> {
-    Ok([
-        Call::HostOpen {
-            path: Bytes::from_slice(alloc, b"out")?,
-            access: Access::WriteOnly,
-            flags: OpenFlags {
-                create: false,
-                exclusive: false,
-                truncate: false,
-                append: true,
-                nonblock: false,
-            },
-        },
-        Call::TcpListen { port: 0 },
-        Call::TcpConnect { port: -1 },
-        Call::TcpAccept { descriptor: 15 },
-    ])
-}
-
 /// One call of each kind.
 fn calls(alloc: Global) -> Result<Vec<Call>, AllocError> {
     let mut calls = Vec::new(alloc);
@@ -176,9 +157,6 @@ fn calls(alloc: Global) -> Result<Vec<Call>, AllocError> {
         calls.push(call)?;
     }
     for call in stream_calls() {
-        calls.push(call)?;
-    }
-    for call in door_calls(alloc)? {
         calls.push(call)?;
     }
     Ok(calls)
@@ -215,15 +193,6 @@ fn copies_equal_their_sources(rt: HostRuntime) -> Result<(), Fail> {
         Outcome::Fail(Errno::EIO).try_clone()?,
         Outcome::Fail(Errno::EIO)
     );
-    let request = Request {
-        kind: OutKind::Read,
-        asked: 2,
-        call: Call::Read {
-            descriptor: 0,
-            count: 2,
-        },
-    };
-    assert_eq!(rt; request.try_clone()?, request);
     Ok(())
 }
 
@@ -252,10 +221,6 @@ fn words_of_calls(rt: HostRuntime) -> Result<(), Fail> {
         (CallKind::Pipe, "pipe"),
         (CallKind::Socketpair, "socketpair"),
         (CallKind::Shutdown, "shutdown"),
-        (CallKind::HostOpen, "host_open"),
-        (CallKind::TcpListen, "tcp_listen"),
-        (CallKind::TcpConnect, "tcp_connect"),
-        (CallKind::TcpAccept, "tcp_accept"),
     ];
     assert_eq!(rt; calls.len(), kinds.len());
     assert_eq!(rt; CallKind::ALL.len(), kinds.len());
