@@ -10,6 +10,7 @@ mod finish;
 mod history;
 mod log;
 mod machine;
+mod outside;
 mod plain;
 mod run;
 mod start;

@@ -18,3 +18,4 @@ pub mod Holder
 pub mod ScriptProgress
 pub mod RealLegal
 pub mod RealLaws
+pub mod OwnPlans

@@ -1,0 +1,3 @@
+pub mod FirstUnused
+pub mod Fronts
+pub mod Tellings

@@ -1,0 +1,14 @@
+//! Runs scripts again by the log of what came from outside, with no host file and no network.
+#![tactic(auto)]
+
+mod fault;
+mod outcomes;
+mod replayed;
+mod run;
+#[cfg(test)]
+mod tests;
+mod unused;
+
+pub use fault::ReplayFault;
+pub use replayed::Replayed;
+pub use run::replay;
