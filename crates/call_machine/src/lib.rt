@@ -10,7 +10,6 @@ mod finish;
 mod history;
 mod log;
 mod machine;
-mod outside;
 mod plain;
 mod run;
 mod start;

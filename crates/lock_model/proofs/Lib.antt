@@ -18,4 +18,3 @@ pub mod Holder
 pub mod ScriptProgress
 pub mod RealLegal
 pub mod RealLaws
-pub mod OwnPlans

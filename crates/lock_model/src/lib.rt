@@ -8,7 +8,7 @@ ghost use Rattle.std.specs.Prelude.{◌≡◌, ◌∷◌, []};
 ghost use Rattle.lock_model.specs.CallTable.Plan.{No_object, Object};
 ghost use Rattle.lock_model.specs.CallTable.Way.{Door, Inside, Keeps_table};
 ghost use Rattle.lock_model.specs.Example.{Words, alone, blocked_call, one_call, replied_at, three_calls, turn, turns, two};
-ghost use Rattle.lock_model.specs.Laws.{ArisesAtStart, ArisesByEvent, ArisesByRun, EachEventLowers, EndedOrTurn, EndsHere, EndsNext, HolderHasTurn, LegalLaw, LegalOfArisen, LocksOfArisen, OneEventMore, OneTurn, OverLaw, OwnFinite, PlainIsRun, PlansOfArisen, PrefixLaw, PrefixLawOfCame, PrefixLawOfFollowed, PrefixLawOfOwn, RisingLaw, RisingOfArisen, RowsOfArisen, RunFollows, SomeEnd, SomeTurn, StuckLaw, UniqueEnd};
+ghost use Rattle.lock_model.specs.Laws.{ArisesAtStart, ArisesByEvent, ArisesByRun, EachEventLowers, EndedOrTurn, EndsHere, EndsNext, HolderHasTurn, LegalLaw, LegalOfArisen, LocksOfArisen, OneEventMore, OneTurn, OverLaw, OwnFinite, PlainIsRun, PrefixLaw, PrefixLawOfCame, PrefixLawOfFollowed, PrefixLawOfOwn, RisingLaw, RisingOfArisen, RowsOfArisen, RunFollows, SomeEnd, SomeTurn, StuckLaw, UniqueEnd};
 ghost use Rattle.lock_model.specs.RealLaws.{RealEnd, RealLegal, RealLegalOfArisen, RealPrefix, RealRising};
 ghost use Rattle.lock_model.specs.Schedule.{IsOver, plain_run};
 ghost use Rattle.lock_model.specs.ScriptPrograms.{NeverLacks};
@@ -71,8 +71,7 @@ pub fn legal_history()
 /// has itself. The start arises; each event leads from a state that arises to one that arises, whatever the setup
 /// supplies; so each run's state arises, and its threads follow their programs. The history of a state that arises
 /// is legal, and its turns rise. In it each lock is held by just the thread whose phase says so, and a thread in a
-/// call has one row without an answer, that of its call. It was planned in the world that it found, which stays as it
-/// is while the call keeps the table, and an outcome that came answers what it asks (`plans`).
+/// call has one row without an answer, that of its call.
 pub fn arising_states()
     ensures at_start { ArisesAtStart }
     ensures by_event { ArisesByEvent }
@@ -82,7 +81,6 @@ pub fn arising_states()
     ensures rising { RisingOfArisen }
     ensures locks { LocksOfArisen }
     ensures rows { RowsOfArisen }
-    ensures plans { PlansOfArisen }
 {}
 
 /// The same for the real calls, in the words of files and descriptors. Whatever the order of events, the object of

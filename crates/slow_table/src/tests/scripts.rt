@@ -32,14 +32,11 @@ impl Dice {
 
     // The pieces that a script begins with.
     fn pieces(&mut self) -> [&'static str; 3] {
-        match self.below(8) {
+        match self.below(5) {
             0 | 1 => [FILES, "", ""],
             2 => [STREAMS, FILES, ""],
-            3 => [FILES, STREAMS, DOORS],
-            4 => [STREAMS, ALMOST_FULL, FILES],
-            5 => [FILES, DOORS, ""],
-            6 => [DOORS, "", ""],
-            _ => [DOORS, FILES, ""],
+            3 => [FILES, STREAMS, ""],
+            _ => [STREAMS, ALMOST_FULL, FILES],
         }
     }
 
@@ -49,9 +46,6 @@ impl Dice {
             b'P' => self.pick(&PATHS),
             b'F' => self.pick(&NUMBERS),
             b'E' => self.pick(&ENDS),
-            b'D' => self.pick(&DOOR_NUMBERS),
-            b'T' => self.pick(&PORTS),
-            b'G' => self.pick(&["", "", " trunc", " append"]),
             b'C' => self.pick(&COUNTS),
             b'B' => self.pick(&BYTES),
             b'O' => self.pick(&OFFSETS),
@@ -116,11 +110,6 @@ const COUNTS: [&str; 8] = ["-1", "0", "1", "3", "9", "32767", "32768", "r0"];
 // What a script knows of its own pipe, and then of its own pair.
 const ENDS: [&str; 4] = ["r3", "r4", "r5", "r6"];
 
-// And of its own doors: a file of the host, a listener and a stream.
-const DOOR_NUMBERS: [&str; 3] = ["r7", "r8", "r9"];
-
-const PORTS: [&str; 7] = ["-1", "0", "0", "1", "80", "65535", "65536"];
-
 const BYTES: [&str; 8] = ["x", "x61", "x6263", "x646566", "xffee", "b0", "b0", "b1"];
 
 const OFFSETS: [&str; 12] = [
@@ -141,7 +130,7 @@ const OFFSETS: [&str; 12] = [
 const SIZES: [&str; 8] = ["-1", "0", "1", "4", "20", "65535", "65536", "65537"];
 
 // The lines of scripts: each letter in capitals stands for an operand.
-const LINES: [&str; 81] = [
+const LINES: [&str; 54] = [
     "open P AX",
     "open P AX",
     "open P AX",
@@ -196,33 +185,6 @@ const LINES: [&str; 81] = [
     "write E B",
     "dup2 F E",
     "setfl E nonblock",
-    "host_open P AG",
-    "host_open P AG",
-    "host_open P AG",
-    "tcp_listen T",
-    "tcp_listen T",
-    "tcp_connect T",
-    "tcp_connect T",
-    "tcp_accept D",
-    "tcp_accept r8",
-    "tcp_accept r8",
-    "tcp_accept F",
-    "tcp_accept E",
-    "read D C",
-    "read D C",
-    "write D B",
-    "write D B",
-    "lseek D O W",
-    "lseek r7 O W",
-    "shutdown D H",
-    "shutdown r9 H",
-    "close D",
-    "close D",
-    "dup2 F D",
-    "setfl D nonblock",
-    "fstat D",
-    "ftruncate D S",
-    "pread D C O",
 ];
 
 // Two files, one of them in a directory, and two numbers of one description.
@@ -235,10 +197,6 @@ const STREAMS: &str = "pipe\nset r3 r0\nset r4 r1\nsocketpair\nset r5 r0\nset r6
 const ALMOST_FULL: &str = "\
     open /z rw create\nset r2 r0\npwrite r2 x7a 32766\npread r2 32767 0\n\
     write r4 b0\nwrite r5 b0\nsetb b0 x\nclose r2\nunlink /z\n";
-
-// A file of the host, a listener and a stream, as far as they can be opened.
-const DOORS: &str = "\
-    host_open /h rw create\nset r7 r0\ntcp_listen 0\nset r8 r0\ntcp_connect 80\nset r9 r0\n";
 
 // Opens what is left of the numbers.
 const MANY_NUMBERS: &str = "label more\nopen /a r create\njfail full\njump more\nlabel full\n";

@@ -1,3 +1,0 @@
-pub mod FirstUnused
-pub mod Fronts
-pub mod Tellings
