@@ -11,7 +11,3 @@ pub mod Weights
 pub mod Driven
 pub mod Plain
 pub mod Starting
-pub mod Logs
-pub mod Outings
-pub mod Strays
-pub mod Covered

@@ -14,4 +14,3 @@ pub mod PlanLemmas
 pub mod ShownLemmas
 pub mod SlotLemmas
 pub mod SoundLemmas
-pub mod TextLemmas

@@ -3,4 +3,3 @@ pub mod Commands
 pub mod FirstFaults
 pub mod LogTexts
 pub mod Shows
-pub mod Replays

@@ -18,6 +18,3 @@ pub mod Holder
 pub mod ScriptProgress
 pub mod RealLegal
 pub mod RealLaws
-pub mod OwnPlans
-pub mod CameRows
-pub mod PlainCame

@@ -11,7 +11,6 @@ pub mod Legal
 pub mod Rising
 pub mod Held
 pub mod Laws
-pub mod Came
 pub mod Numbers
 pub mod RealCalls
 pub mod Rows

@@ -3,12 +3,11 @@
 
 mod acts;
 mod body;
-mod doors;
 mod patience;
 mod store;
 mod streams;
 #[cfg(test)]
 mod tests;
 
-pub use patience::{TurnEnd, TurnStart, end_outside};
+pub use patience::TurnEnd;
 pub use store::Store;

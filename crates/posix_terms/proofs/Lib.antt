@@ -2,5 +2,3 @@ pub mod Refused
 pub mod Listed
 pub mod Chains
 pub mod Rows
-pub mod Outside
-pub mod DoorRows

@@ -3,7 +3,6 @@
 #![tactic(auto)]
 
 mod descriptors;
-mod doors;
 mod names;
 mod objects;
 mod paths;

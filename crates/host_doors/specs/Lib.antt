@@ -1,5 +1,0 @@
-pub mod Counting
-pub mod OutcomeList
-pub mod Host
-pub mod Opening
-pub mod Asked
