@@ -7,17 +7,18 @@ use Rattle.std.specs.Prelude.{IfSome, is_some, option_map}
 use Rattle.posix_terms.specs.Step.{step}
 use Rattle.posix_terms.specs.declared.call.Call.{Call}
 use Rattle.posix_terms.specs.declared.limits.TheConstants.Limits as limit
-use Rattle.posix_terms.specs.declared.outcome.Outcome.{Outcome}
+use Rattle.posix_terms.specs.declared.outcome.Given.{Given}
 use Rattle.posix_terms.specs.declared.reply.Reply.{Reply}
 use Rattle.posix_terms.specs.declared.transcript.HistoryRow.{HistoryRow}
 use Rattle.det_mutex.specs.Attempt.{freed, new_lock}
 use Rattle.det_mutex.specs.declared.lock.DetLock.{DetLock}
 use Rattle.lock_model.specs.CallTable.{Answer, CallTable, Plan, has_object, keeps_table}
 use Rattle.lock_model.specs.CallTable.Answer.{Again, Gives}
+use Rattle.lock_model.specs.CallTable.Way.{Inside}
 use Rattle.lock_model.specs.Held.{AreHeld, HaveRows, holds_table, object_held, object_in, row_of}
 use Rattle.lock_model.specs.Machine as machine
 use Rattle.lock_model.specs.Machine.{Effect, Moved, advance, answered, can_advance, filled_by, first_of, is_number, is_open, late_change, lock_after, moves, moves_in, one_if, row_after, within}
-use Rattle.lock_model.specs.RealCalls.{answer_in, plan_of, real_calls}
+use Rattle.lock_model.specs.RealCalls.{answer_in, outcome_in, plan_of, real_calls}
 use Rattle.lock_model.specs.ScriptPrograms.{Reached}
 use Rattle.lock_model.specs.State as lock
 use Rattle.lock_model.specs.State.{Job, Row, State, thread_of}
@@ -52,7 +53,7 @@ fill_none i e (r ∷ rows) h =
     not_open true h = absurd (h refl)
     not_open false h = refl
 
-fill_one : (i : ℕ) (e : Effect) (rows : List Row) (k : ℕ) (r : Row) → slice_get rows k ≡ Some r → is_open i r ≡ true → ((j : ℕ) (q : Row) → slice_get rows j ≡ Some q → is_open i q ≡ true → j ≡ k)
+pub fill_one : (i : ℕ) (e : Effect) (rows : List Row) (k : ℕ) (r : Row) → slice_get rows k ≡ Some r → is_open i r ≡ true → ((j : ℕ) (q : Row) → slice_get rows j ≡ Some q → is_open i q ≡ true → j ≡ k)
     → map (row_after i e) rows ≡ set rows k (filled_by e r)
 fill_one i e [] k r at o one = absurd (none-some r at)
 fill_one i e (x ∷ rows) zero r at o one =
@@ -83,7 +84,7 @@ locks_unheld : (i : ℕ) (o : Option ℕ) (ls : List DetLock) → ((k : ℕ) →
 locks_unheld i o [] h = refl
 locks_unheld i o (l ∷ ls) h = ap₂ ◌∷◌ (lock_other i o l (h 0 (omega arith))) (locks_unheld i o ls (λ k inside. h (suc k) (omega arith)))
 
-locks_freed : (i n clock : ℕ) (ls : List DetLock) → n < length ls → is_number (get_or ls n new_lock).holder i ≡ true → ((k : ℕ) → k < length ls → (k ≡ n → ⊥) → is_number (get_or ls k new_lock).holder i ≡ false)
+pub locks_freed : (i n clock : ℕ) (ls : List DetLock) → n < length ls → is_number (get_or ls n new_lock).holder i ≡ true → ((k : ℕ) → k < length ls → (k ≡ n → ⊥) → is_number (get_or ls k new_lock).holder i ≡ false)
     → map (lock_after i (Some clock)) ls ≡ set ls n (freed clock)
 locks_freed i n clock [] inside mine others = absurd (omega arith)
 locks_freed i zero clock (l ∷ ls) inside mine others = ap₂ ◌∷◌ (lock_mine i (Some clock) l mine) (locks_unheld i (Some clock) ls (λ k within. others (suc k) (omega arith) (not_zero k)))
@@ -118,15 +119,15 @@ answer_by u c plan a w =
       effect = record { outcome = None; answer = Some a; object_freed = Some u.clock; table_freed = Some next; world = w };
     }
 
-late_none : (calls : CallTable) (job : Job) (o : Option Outcome) → late_change calls job o false ≡ None
+pub late_none : (calls : CallTable) (job : Job) (o : Option Given) → late_change calls job o false ≡ None
 late_none calls job None = refl
 late_none calls job (Some o) = refl
 
-late_by : (calls : CallTable) (job : Job) (object : Option ℕ) → late_change calls job job.outcome (keeps_table (plan_of object)) ≡ None
+late_by : (calls : CallTable) (job : Job) (object : Option ℕ) → late_change calls job job.outcome (keeps_table (plan_of Inside object)) ≡ None
 late_by calls job None = late_none calls job job.outcome
 late_by calls job (Some n) = late_none calls job job.outcome
 
-freeing_by : (u : lock.Thread) (c : Call) (object : Option ℕ) (a : Answer) → answer_by u c (plan_of object) a None ≡ freeing object u c a
+freeing_by : (u : lock.Thread) (c : Call) (object : Option ℕ) (a : Answer) → answer_by u c (plan_of Inside object) a None ≡ freeing object u c a
 freeing_by u c None a =
     ap (λ (n : ℕ). let m : Moved = record { thread = answered u c n a; effect = record { outcome = None; answer = Some a; object_freed = Some u.clock; table_freed = Some (u.clock + 0); world = None } } in m) (once u.clock)
   where
@@ -138,20 +139,20 @@ freeing_by u c (Some object) a =
     once : (n : ℕ) → n + 1 + 0 ≡ n + 1
     once n = omega arith
 
-answer_frees : (calls : CallTable) (u : lock.Thread) (job : Job) (object : Option ℕ) (a : Answer) → job.plan ≡ plan_of object → calls.answer job.found job.call job.outcome job.carried ≡ a → machine.answer calls u job ≡ freeing object u job.call a
+answer_frees : (calls : CallTable) (u : lock.Thread) (job : Job) (object : Option ℕ) (a : Answer) → job.plan ≡ plan_of Inside object → calls.answer job.found job.call job.outcome job.carried ≡ a → machine.answer calls u job ≡ freeing object u job.call a
 answer_frees calls u job object a plan gives =
     ap (λ (p : Plan). answer_by u job.call p (calls.answer job.found job.call job.outcome job.carried) (late_change calls job job.outcome (keeps_table p))) plan
-    ∙ ap₂ (λ (b : Answer) (w : Option World). answer_by u job.call (plan_of object) b w) gives (late_by calls job object)
+    ∙ ap₂ (λ (b : Answer) (w : Option World). answer_by u job.call (plan_of Inside object) b w) gives (late_by calls job object)
     ∙ freeing_by u job.call object a
 
-moves_granted : (input : Inputs) (i : ℕ) (u : lock.Thread) (job : Job) (object : Option ℕ) (a : Answer) → u.phase ≡ Granted job → job.plan ≡ plan_of object → answer_in (step input.settings job.found.object job.call job.outcome job.carried) ≡ a
+moves_granted : (input : Inputs) (i : ℕ) (u : lock.Thread) (job : Job) (object : Option ℕ) (a : Answer) → u.phase ≡ Granted job → job.plan ≡ plan_of Inside object → answer_in (step input.settings job.found.object job.call (outcome_in job.outcome) job.carried) ≡ a
     → moves (setup_of input) i u ≡ within (2 ^ 62) (Some (freeing object u job.call a))
 unfolding moves
 moves_granted input i u job object a e plan gives =
     ap (λ (p : lock.Phase). within (2 ^ 62) (moves_in (setup_of input) i u p)) e
     ∙ ap (λ (m : Moved). within (2 ^ 62) (Some m)) (answer_frees (real_calls input.settings) u job object a plan gives)
 
-answered_clock : (u : lock.Thread) (c : Call) (n : ℕ) (a : Answer) → (answered u c n a).clock ≡ n
+pub answered_clock : (u : lock.Thread) (c : Call) (n : ℕ) (a : Answer) → (answered u c n a).clock ≡ n
 answered_clock u c n (Gives reply) = refl
 answered_clock u c n (Again turns) = refl
 
@@ -160,7 +161,7 @@ answered_clock u c n (Again turns) = refl
 same_eqb : (a b : ℕ) → a ≡ b → (a == b) ≡ true
 same_eqb a b e = ⊎_elim (λ (h : (a == b) ≡ true). h) (λ (h : (a == b) ≡ false). absurd (eqb-false a b h e)) (cases_Bool (a == b))
 
-open_row : (i : ℕ) (job : Job) → job.turn.thread ≡ i → is_open i (row_of job) ≡ true
+pub open_row : (i : ℕ) (job : Job) → job.turn.thread ≡ i → is_open i (row_of job) ≡ true
 open_row i job e = ap (λ (b : Bool). b && true) (same_eqb job.turn.thread i e)
 
 shown_end : (x : TurnEnd) → shown_answer (Some (ended x)) ≡ Some (told_as x)
@@ -168,9 +169,9 @@ shown_end (end.Reply reply) = refl
 shown_end (end.Blocked turns) = refl
 
 shown_filled : (r : Row) (e : Effect) (x : TurnEnd) → e.outcome ≡ None → e.answer ≡ Some (ended x) → shown (filled_by e r) ≡ record (shown r) { answer = Some (told_as x) }
-shown_filled r e x out ans k = record { call = r.call; turn = r.turn; outcome = (ap (first_of r.outcome) out ∙ first_kept r.outcome) k; answer = (ap shown_answer ans ∙ shown_end x) k }
+shown_filled r e x out ans k = record { call = r.call; turn = r.turn; outcome = ap outcome_in (ap (first_of r.outcome) out ∙ first_kept r.outcome) k; answer = (ap shown_answer ans ∙ shown_end x) k }
 
-rows_answered : (i : ℕ) (s : State) (w : List HistoryRow) (place : ℕ) (job : Job) (e : Effect) (x : TurnEnd) → HaveRows s → map shown s.rows ≡ w → job.turn.thread ≡ i → slice_get s.rows place ≡ Some (row_of job)
+pub rows_answered : (i : ℕ) (s : State) (w : List HistoryRow) (place : ℕ) (job : Job) (e : Effect) (x : TurnEnd) → HaveRows s → map shown s.rows ≡ w → job.turn.thread ≡ i → slice_get s.rows place ≡ Some (row_of job)
     → e.outcome ≡ None → e.answer ≡ Some (ended x)
     → map shown (map (row_after i e) s.rows) ≡ set w place (record (shown (row_of job)) { answer = Some (told_as x) })
 rows_answered i s w place job e x rows is mine at out ans =
@@ -185,8 +186,8 @@ lock_held w None = w.lock
 lock_held w (Some n) = get_or w.objects n new_lock
 
 abbrev pub with_lock : Whole → Option ℕ → DetLock → List Thread → List HistoryRow → Whole
-with_lock w None l threads rows = record { patience = w.patience; threads = threads; lock = l; objects = w.objects; table = w.table; rows = rows }
-with_lock w (Some n) l threads rows = record { patience = w.patience; threads = threads; lock = w.lock; objects = set w.objects n l; table = w.table; rows = rows }
+with_lock w None l threads rows = record w { threads = threads; lock = l; rows = rows }
+with_lock w (Some n) l threads rows = record w { threads = threads; objects = set w.objects n l; rows = rows }
 
 abbrev parts_at : Whole → ℕ → Option ℕ → Parts
 parts_at w i object = parts (thread_at w i) (lock_held w object) w.table w.rows
@@ -205,14 +206,14 @@ record Answering (input : Inputs) (w : Whole) (s : State) (i place : ℕ) (objec
 table_held : (input : Inputs) (w : Whole) (s : State) (i place : ℕ) (object blocked : Option ℕ) (job : Job) → Answering input w s i place object blocked job → is_number s.table.holder i ≡ not (is_some object)
 table_held input w s i place object blocked job a = a.held.table i ∙ ap holds_table a.phase ∙ ap (λ (p : Plan). not (has_object p) || keeps_table p) a.granted.plan ∙ by_plan object
   where
-    by_plan : (o : Option ℕ) → (not (has_object (plan_of o)) || keeps_table (plan_of o)) ≡ not (is_some o)
+    by_plan : (o : Option ℕ) → (not (has_object (plan_of Inside o)) || keeps_table (plan_of Inside o)) ≡ not (is_some o)
     by_plan None = refl
     by_plan (Some n) = refl
 
 one_held : (input : Inputs) (w : Whole) (s : State) (i place : ℕ) (object blocked : Option ℕ) (job : Job) → Answering input w s i place object blocked job → (n : ℕ) → n < length s.objects → is_number (get_or s.objects n new_lock).holder i ≡ is_number object n
 one_held input w s i place object blocked job a n inside = a.held.objects i n inside ∙ ap (λ (p : lock.Phase). is_number (object_held p) n) a.phase ∙ ap (λ (p : Plan). is_number (object_in p) n) a.granted.plan ∙ by_plan object
   where
-    by_plan : (o : Option ℕ) → is_number (object_in (plan_of o)) n ≡ is_number o n
+    by_plan : (o : Option ℕ) → is_number (object_in (plan_of Inside o)) n ≡ is_number o n
     by_plan None = refl
     by_plan (Some m) = refl
 
@@ -238,13 +239,14 @@ held_reply None (Some r) reply e = cc
 held_reply None None reply e = cc
 
 -- the thread works with its reply, or makes its call again
-thread_answered : (input : Inputs) (i : ℕ) (rows : List Row) (t : Thread) (u : lock.Thread) (c : Call) (blocked : Option ℕ) (x : TurnEnd) → end_held blocked t.last ≡ Some x → IsInCall input i t u → u.clock ≡ t.clock → t.clock < 2 ^ 62 → u.asked ≡ t.asked
+thread_answered : (input : Inputs) (i : ℕ) (rows : List Row) (t : Thread) (u : lock.Thread) (c : Call) (blocked : Option ℕ) (x : TurnEnd) → end_held blocked t.last ≡ Some x → IsInCall input i t u → u.clock ≡ t.clock → t.clock < 2 ^ 62 → u.asked ≡ t.asked → length u.came ≡ t.came
     → ThreadShows input i rows (record t { phase = phase_behind c x; clock = t.clock + 1 }) (answered u c (u.clock + 1) (ended x))
-thread_answered input i rows t u c blocked (end.Reply reply) waits call clock room asked =
+thread_answered input i rows t u c blocked (end.Reply reply) waits call clock room asked came =
     record {
       clock = ap (λ (n : ℕ). n + 1) clock;
       in_time = next_le t.clock room;
       asked = asked;
+      came = came;
       phase = (refl, record { even = one_more u.replies reply ∙ call.even; reached = call.reached reply ∙ ap (λ (o : Option Reply). let at : Reached = record { last = o; state = t.actor } in at) (sym (held_reply blocked t.last reply waits)) });
     }
   where
@@ -253,18 +255,19 @@ thread_answered input i rows t u c blocked (end.Reply reply) waits call clock ro
       where
         plus_one : (n : ℕ) → n + 1 ≡ suc n
         plus_one n = omega arith
-thread_answered input i rows t u c blocked (end.Blocked turns) waits call clock room asked =
+thread_answered input i rows t u c blocked (end.Blocked turns) waits call clock room asked came =
     record {
       clock = ap (λ (n : ℕ). n + 1) clock;
       in_time = next_le t.clock room;
       asked = asked;
+      came = came;
       phase = (refl, record { even = call.even; reached = call.reached });
     }
 
 thread_now : (input : Inputs) (w : Whole) (s : State) (i place : ℕ) (object blocked : Option ℕ) (job : Job) (a : Answering input w s i place object blocked job) (rows : List Row) → (thread_at w i).clock < 2 ^ 62
     → ThreadShows input i rows (row_answered (parts_at w i object) place a.granted.ends (shown (row_of job))).thread (freeing object (thread_of s i) job.call (ended a.granted.ends)).thread
 thread_now input w s i place object blocked job a rows room =
-    let h = a.shows.threads i in thread_answered input i rows (thread_at w i) (thread_of s i) job.call blocked a.granted.ends a.granted.waits a.call h.clock room h.asked
+    let h = a.shows.threads i in thread_answered input i rows (thread_at w i) (thread_of s i) job.call blocked a.granted.ends a.granted.waits a.call h.clock room h.asked h.came
 
 move_made : (input : Inputs) (w : Whole) (s : State) (i place : ℕ) (object blocked : Option ℕ) (job : Job) (a : Answering input w s i place object blocked job) → (thread_at w i).clock < 2 ^ 62
     → moves (setup_of input) i (thread_of s i) ≡ Some (freeing object (thread_of s i) job.call (ended a.granted.ends))
@@ -306,7 +309,7 @@ answered_yes input w s i place (Some n) blocked job a room =
 same_lock : (input : Inputs) (w : Whole) (s : State) → Shows input w s → (object : Option ℕ) (ts : List Thread) → IfSome object (λ n. n < limit.OBJECTS) → with_lock w object (lock_held w object) ts w.rows ≡ record w { threads = ts }
 same_lock input w s h None ts inside = refl
 same_lock input w s h (Some n) ts inside =
-    ap (λ (ls : List DetLock). let z : Whole = record { patience = w.patience; threads = ts; lock = w.lock; objects = ls; table = w.table; rows = w.rows } in z) (set_same w.objects n new_lock (subst (λ (k : ℕ). n < k) (sym h.object_count) inside))
+    ap (λ (ls : List DetLock). let z : Whole = record w { threads = ts; objects = ls } in z) (set_same w.objects n new_lock (subst (λ (k : ℕ). n < k) (sym h.object_count) inside))
 
 answered_no : (input : Inputs) (w : Whole) (s : State) (i place : ℕ) (object blocked : Option ℕ) (job : Job) → Answering input w s i place object blocked job → 2 ^ 62 ≤ (thread_at w i).clock → Answered input w s i object false (parts_at w i object)
 answered_no input w s i place object blocked job a full =

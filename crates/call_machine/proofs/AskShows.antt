@@ -41,6 +41,7 @@ record Next (input : Inputs) (i : ℕ) (t : Thread) (u : lock.Thread) (x : Step)
   clock : u.clock ≡ t.clock
   in_time : t.clock ≤ 2 ^ 62
   asked : u.asked ≡ t.asked
+  came : length u.came ≡ t.came
   works : t.phase ≡ phase.Working
   moves_is : moves (setup_of input) i u ≡ within (2 ^ 62) (Some (quietly (after_step (real_calls input.settings) u x)))
   working : u.phase ≡ Working
@@ -62,6 +63,7 @@ step_moves input i rows true t v u (step.Work n) state h (room, v_is) =
           clock = ap (λ (c : ℕ). c + n) h.clock;
           in_time = room;
           asked = ap (λ (a : List Step). a ++ step.Work n ∷ []) h.asked;
+          came = h.came;
           phase = subst W (sym h.works) (refl, record { even = h.even ∙ sym (calls_push u.asked (step.Work n) ∙ no_more (calls_in u.asked)); reached = reached_work (at_start (script_of input i)) u.asked u.replies n ∙ h.past_is None });
         }),
       ),
@@ -74,7 +76,7 @@ step_moves input i rows false t v u (step.Work n) state h (room, v_is) =
     let full : 2 ^ 62 < u.clock + n = subst (λ (c : ℕ). 2 ^ 62 < c + n) (sym h.clock) room in
     let none : moves (setup_of input) i u ≡ None = h.moves_is ∙ within_no (2 ^ 62) m full in
     let P : Thread → Type 0 = λ y. ThreadShows input i rows y u in
-    (none, subst P (sym v_is) (record { clock = h.clock; in_time = h.in_time; asked = h.asked; phase = (h.working, none) }))
+    (none, subst P (sym v_is) (record { clock = h.clock; in_time = h.in_time; asked = h.asked; came = h.came; phase = (h.working, none) }))
 step_moves input i rows moved t v u (step.Call call) state h (moved_is, v_is) =
     let m : Moved = quietly (after_step (real_calls input.settings) u (step.Call call)) in
     let fits : u.clock ≤ 2 ^ 62 = subst (λ (c : ℕ). c ≤ 2 ^ 62) (sym h.clock) h.in_time in
@@ -89,6 +91,7 @@ step_moves input i rows moved t v u (step.Call call) state h (moved_is, v_is) =
           clock = h.clock;
           in_time = h.in_time;
           asked = ap (λ (a : List Step). a ++ step.Call call ∷ []) h.asked;
+          came = h.came;
           phase = (
             refl,
             record {
@@ -107,7 +110,7 @@ step_moves input i rows moved t v u step.End state h (moved_is, v_is) =
     let fits : u.clock ≤ 2 ^ 62 = subst (λ (c : ℕ). c ≤ 2 ^ 62) (sym h.clock) h.in_time in
     let P : Thread → Type 0 = λ y. ThreadShows input i rows y m.thread in
     let Q : Bool → Type 0 = λ b. Moving input i rows b v u in
-    subst Q (sym moved_is) (m, (h.moves_is ∙ within_yes (2 ^ 62) m fits, refl, subst P (sym v_is) (record { clock = h.clock; in_time = h.in_time; asked = ap (λ (a : List Step). a ++ step.End ∷ []) h.asked; phase = refl })))
+    subst Q (sym moved_is) (m, (h.moves_is ∙ within_yes (2 ^ 62) m fits, refl, subst P (sym v_is) (record { clock = h.clock; in_time = h.in_time; asked = ap (λ (a : List Step). a ++ step.End ∷ []) h.asked; came = h.came; phase = refl })))
 
 pub ask_moves : (input : Inputs) (i : ℕ) (rows : List Row) (moved : Bool) (t v : Thread) (u : lock.Thread) → t.phase ≡ phase.Working → ThreadShows input i rows t u → Asks moved t v → Moving input i rows moved v u
 ask_moves input i rows moved t v u working h asks =
@@ -119,6 +122,7 @@ ask_moves input i rows moved t v u working h asks =
       clock = h.clock;
       in_time = h.in_time;
       asked = h.asked;
+      came = h.came;
       works = working;
       moves_is = moves_at input i u next.0 now.0 (ap next_at now.1.reached);
       working = now.0;
@@ -147,6 +151,6 @@ again_moves input i rows moved t v u call turns is h goes =
       (
         moves_again input i u call turns now.0 ∙ within_yes (2 ^ 62) m fits,
         refl,
-        subst R (sym went.1) (record { clock = h.clock; in_time = h.in_time; asked = h.asked; phase = (refl, record { even = now.1.even; reached = now.1.reached }) }),
+        subst R (sym went.1) (record { clock = h.clock; in_time = h.in_time; asked = h.asked; came = h.came; phase = (refl, record { even = now.1.even; reached = now.1.reached }) }),
       ),
     )

@@ -2,38 +2,48 @@
 use Rattle.std.proofs.Common.{◌≡◌, ℕ, ◌+◌, ◌<◌, ◌≤◌, ◌^◌, List, [], ◌∷◌, ◌++◌, length, map, set, get_or, slice_get, Option, Some, None, Bool, true, false, sym, refl, ap, ap₂, ◌∙◌, subst, ⊎_elim}
 use Rattle.std.proofs.lemmas.Bool.{cases_Bool, cond-true, cond-false, false≢true, le-leb, leb-true, leb-false, lt-leb}
 use Rattle.std.proofs.lemmas.List.{get_or-set_same, length-map, length-set, map-append}
-use Rattle.std.specs.Prelude.{IfSome, nat_le}
-use Rattle.posix_terms.specs.Locked.{locked_object}
-use Rattle.posix_terms.specs.Step.{step}
+use Rattle.std.proofs.lemmas.Option.{none-some}
+use Rattle.std.specs.Prelude.{IfSome, is_some, nat_le}
+use Rattle.posix_terms.proofs.Outside.{locks_some}
+use Rattle.posix_terms.specs.Locked.{keeps_table, locked_object}
+use Rattle.posix_terms.specs.Step.{asks, step}
 use Rattle.posix_terms.specs.declared.call.Call.{Call}
 use Rattle.posix_terms.specs.declared.limits.TheConstants.Limits as limit
 use Rattle.posix_terms.specs.declared.reply.Reply.{Reply}
+use Rattle.posix_terms.specs.declared.request.Request.{Request}
+use Rattle.posix_terms.specs.declared.transcript.Settings.{Settings}
 use Rattle.posix_terms.specs.declared.transcript.HistoryRow.{HistoryRow}
 use Rattle.posix_terms.specs.declared.transcript.Turn.{Turn}
 use Rattle.det_mutex.specs.Attempt.{held, takes}
 use Rattle.det_mutex.specs.declared.lock.DetLock.{DetLock}
 use Rattle.logical_clocks.specs.TurnOrder.{has_turn}
+use Rattle.lock_model.specs.CallTable.{Way, way_goes, way_keeps}
 use Rattle.lock_model.specs.CallTable.Plan.{No_object, Object}
 use Rattle.lock_model.specs.CallTable.Way.{Inside}
 use Rattle.lock_model.specs.Held.{row_of}
 use Rattle.lock_model.specs.Machine.{attempt, can_attempt, failed, granted, new_job, planned, tried, tries, wants}
 use Rattle.lock_model.specs.Numbers.{world_with}
-use Rattle.lock_model.specs.RealCalls.{numbered, plan_of, real_calls}
+use Rattle.lock_model.specs.RealCalls.{numbered, plan_of, real_calls, way_of}
 use Rattle.lock_model.specs.State as lock
 use Rattle.lock_model.specs.State.{Job, Row, State, live_clocks, nobody, thread_of}
 use Rattle.lock_model.specs.State.Phase.{WantsObject, WantsTable}
+use Rattle.lock_model.specs.Terms.{World}
 use Rattle.lock_model.proofs.Arising.{slice_get-prefix, slice_get-push}
 use Rattle.lock_model.proofs.Attempt.{attempt_can, attempt_not, can_in, can_out}
-use Rattle.object_store.specs.Store.{Makes, Stands, Stored, number_locked}
-use Rattle.call_machine.specs.Held.{end_held, last_behind, turns_blocked}
+use Rattle.object_store.specs.Store.{EndsAt, GoesOut, Stands, StartsIn, Stored, number_locked}
+use Rattle.call_machine.specs.Held.{end_held, last_behind, turn_ended, turn_started, turns_blocked}
 use Rattle.call_machine.specs.Events.{Grants, Parts, PlansTo, Tries, TriesIn, TriesInTime, TriesLock, granted_row, in_time, later, parts}
 use Rattle.lock_model.specs.Rows.{shown}
 use Rattle.call_machine.specs.Setup.{Inputs, setup_of}
-use Rattle.call_machine.specs.Shows.{IsGranted, IsInCall, PhaseShows, Shows, ThreadShows, Whole, thread_at}
+use Rattle.call_machine.specs.Shows.{IsGranted, IsInCall, IsOut, PhaseShows, Shows, ThreadShows, Whole, thread_at}
 use Rattle.call_machine.specs.Threads.{Thread}
 use Rattle.call_machine.specs.Views.{no_thread}
 use Rattle.object_store.specs.declared.patience.TurnEnd.{TurnEnd}
 use Rattle.object_store.specs.declared.patience.TurnEnd.TheVariants as end
+use Rattle.object_store.specs.declared.patience.TurnStart.{TurnStart}
+use Rattle.object_store.specs.declared.patience.TurnStart.TheVariants as start
+use Rattle.descriptor_table.specs.declared.plan.Errand.{Errand}
+use Rattle.call_machine.specs.declared.thread.Outing.{Outing}
 use Rattle.call_machine.specs.declared.thread.Phase.{Phase}
 use Rattle.call_machine.specs.declared.thread.Phase.TheVariants as phase
 use Rattle.object_store.proofs.Lists.{set_same}
@@ -57,7 +67,7 @@ Attempted input s i made z = (can_attempt (setup_of input) s i ≡ made) × Show
 
 -- as an attempt at the table leaves it
 abbrev pub table_tried : Whole → ℕ → Parts → Whole
-table_tried w i new = record { patience = w.patience; threads = set w.threads i new.thread; lock = new.lock; objects = w.objects; table = new.table; rows = new.rows }
+table_tried w i new = record w { threads = set w.threads i new.thread; lock = new.lock; table = new.table; rows = new.rows }
 
 abbrev pub table_parts : Whole → ℕ → Parts
 table_parts w i = parts (thread_at w i) w.lock w.table w.rows
@@ -91,66 +101,133 @@ attempted_full input s i n clock past =
 slice_get-more : {A : Type 0} (xs ys : List A) (n : ℕ) (x : A) → slice_get xs n ≡ Some x → slice_get (xs ++ ys) n ≡ Some x
 slice_get-more xs ys n x h = slice_get-prefix xs (xs ++ ys) n x (ys, refl) h
 
-unfoldable pub job_of : State → Turn → Call → ℕ → Option ℕ → Job
-job_of s turn call turns object = new_job call turns turn (plan_of object) s.world
+-- what a call takes its object's lock for
+abbrev pub way_here : State → Call → ℕ → Way
+way_here s call turns = way_of (is_some (asks s.world.object call turns)) (keeps_table call)
+
+unfoldable pub job_of : State → Turn → Call → ℕ → Way → Option ℕ → Job
+job_of s turn call turns way object = new_job call turns turn (plan_of way object) s.world
 
 -- the rows once it is granted
 abbrev pub rows_with : State → Job → List Row
 rows_with s job = s.rows ++ row_of job ∷ []
 
+-- the world then: where the call keeps the table, its change is still to come
+abbrev pub world_left : Settings → State → Call → ℕ → Bool → World
+world_left settings s call turns true = s.world
+world_left settings s call turns false = world_with s.world (step settings s.world.object call None turns).after
+
 held_end : (x : TurnEnd) (last : Option Reply) → end_held (turns_blocked x) (last_behind x last) ≡ Some x
 held_end (end.Reply reply) last = refl
 held_end (end.Blocked turns) last = refl
 
-granted_by : (input : Inputs) (w : Whole) (s : State) (turn : Turn) (call : Call) (turns : ℕ) (object : Option ℕ) (last : Option Reply) (x : TurnEnd) (table : Stored) → Shows input w s
-    → IfSome object (λ n. n < limit.OBJECTS) → Makes w.patience turns w.table call x table
-    → IsGranted input turn.thread (rows_with s (job_of s turn call turns object)) (length w.rows) object (turns_blocked x) (last_behind x last) (job_of s turn call turns object) × Stands table (world_with s.world (step input.settings s.world.object call None turns).after)
-unfolding job_of
-granted_by input w s turn call turns object last x table h few makes =
-    let done = makes input.settings s.world h.patience h.world in
-    let place : length w.rows ≡ length s.rows = ap length (sym h.rows) ∙ length-map s.rows shown in (
-      record {
-        plan = refl;
-        in_range = few;
-        thread = refl;
-        ends = x;
-        waits = held_end x last;
-        answers = done.0;
-        row = ap (slice_get (rows_with s (job_of s turn call turns object))) place ∙ slice_get-push s.rows (row_of (job_of s turn call turns object));
-      },
-      done.1,
-    )
+placed : (input : Inputs) (w : Whole) (s : State) (job : Job) → Shows input w s → slice_get (rows_with s job) (length w.rows) ≡ Some (row_of job)
+placed input w s job h = ap (slice_get (rows_with s job)) (ap length (sym h.rows) ∙ length-map s.rows shown) ∙ slice_get-push s.rows (row_of job)
 
 -- what a grant makes of the thread, of the world and of the rows
-pub record Granted_now (input : Inputs) (w : Whole) (s : State) (turn : Turn) (call : Call) (turns : ℕ) (object : Option ℕ) (cost : ℕ) (new : Parts) : Type 0 where
-  pub thread : ThreadShows input turn.thread (rows_with s (job_of s turn call turns object)) new.thread (granted (thread_of s turn.thread) ((thread_of s turn.thread).clock + cost) (job_of s turn call turns object) false)
-  pub world : Stands new.table (world_with s.world (step input.settings s.world.object call None turns).after)
-  pub rows : map shown (rows_with s (job_of s turn call turns object)) ≡ new.rows
+pub record Granted_now (input : Inputs) (w : Whole) (s : State) (turn : Turn) (call : Call) (turns : ℕ) (way : Way) (object : Option ℕ) (cost : ℕ) (new : Parts) : Type 0 where
+  pub thread : ThreadShows input turn.thread (rows_with s (job_of s turn call turns way object)) new.thread (granted (thread_of s turn.thread) ((thread_of s turn.thread).clock + cost) (job_of s turn call turns way object) (way_goes way))
+  pub world : Stands new.table (world_left input.settings s call turns (way_keeps way))
+  pub rows : map shown (rows_with s (job_of s turn call turns way object)) ≡ new.rows
 
-pub grant_shows : (input : Inputs) (w : Whole) (s : State) (turn : Turn) (call : Call) (turns : ℕ) (object : Option ℕ) (cost : ℕ) (l : DetLock) (new : Parts) → Shows input w s → IsInCall input turn.thread (thread_at w turn.thread) (thread_of s turn.thread)
-    → IfSome object (λ n. n < limit.OBJECTS) → (thread_at w turn.thread).clock + cost ≤ 2 ^ 62 → Grants w.patience turn call turns object (record (later (table_parts w turn.thread) cost) { lock = l }) new → Granted_now input w s turn call turns object cost new
+rows_granted : (input : Inputs) (w : Whole) (s : State) (turn : Turn) (call : Call) (turns : ℕ) (way : Way) (object : Option ℕ) (rows : List HistoryRow) → Shows input w s → rows ≡ w.rows ++ granted_row turn call ∷ [] → map shown (rows_with s (job_of s turn call turns way object)) ≡ rows
 unfolding job_of
-grant_shows input w s turn call turns object cost l new h in_call few room g =
+rows_granted input w s turn call turns way object rows h is =
+    map-append shown s.rows (row_of (job_of s turn call turns way object) ∷ []) ∙ ap (λ (rs : List HistoryRow). rs ++ granted_row turn call ∷ []) h.rows ∙ sym is
+
+-- the thread, so much later
+abbrev late_thread : Whole → ℕ → ℕ → Thread
+late_thread w i cost = record (thread_at w i) { clock = (thread_at w i).clock + cost }
+
+-- a turn that asks nothing outside
+ended_shows : (input : Inputs) (w : Whole) (s : State) (turn : Turn) (call : Call) (turns : ℕ) (object : Option ℕ) (cost : ℕ) (new : Parts) (e : TurnEnd) → Shows input w s → IsInCall input turn.thread (thread_at w turn.thread) (thread_of s turn.thread)
+    → IfSome object (λ n. n < limit.OBJECTS) → (thread_at w turn.thread).clock + cost ≤ 2 ^ 62
+    → EndsAt input.settings s.world turns call e new.table → new.thread ≡ turn_ended (length w.rows) object e (late_thread w turn.thread cost) → new.rows ≡ w.rows ++ granted_row turn call ∷ [] → Granted_now input w s turn call turns Inside object cost new
+unfolding job_of
+ended_shows input w s turn call turns object cost new e h in_call few room done thread rows =
     let i = turn.thread in
     let t = thread_at w i in
     let u = thread_of s i in
-    let job = job_of s turn call turns object in
-    let both = granted_by input w s turn call turns object t.last g.ends new.table h few g.makes in
-    let x : Thread = record t { phase = phase.Granted (length w.rows) object (turns_blocked g.ends); clock = t.clock + cost; last = last_behind g.ends t.last } in
+    let job = job_of s turn call turns Inside object in
+    let x : Thread = turn_ended (length w.rows) object e (late_thread w i cost) in
     let y : lock.Thread = granted u (u.clock + cost) job false in
-    let P : Thread → Type 0 = λ v. ThreadShows input i (rows_with s job) v y in
+    let is_granted : IsGranted input i (rows_with s job) (length w.rows) object (turns_blocked e) (last_behind e t.last) job =
+    record { plan = refl; in_range = few; thread = refl; ends = e; waits = held_end e t.last; answers = done.answer_is; row = placed input w s job h } in
     let here : ThreadShows input i (rows_with s job) x y =
     record {
       clock = ap (λ (c : ℕ). c + cost) (h.threads i).clock;
       in_time = room;
       asked = (h.threads i).asked;
-      phase = (job, (refl, record { even = in_call.even; reached = in_call.reached }, both.0));
+      came = (h.threads i).came;
+      phase = (job, (refl, record { even = in_call.even; reached = in_call.reached }, is_granted));
     } in
+    let P : Thread → Type 0 = λ v. ThreadShows input i (rows_with s job) v y in
+    record { thread = subst P (sym thread) here; world = done.change; rows = rows_granted input w s turn call turns Inside object new.rows h rows }
+
+goes_out : (keeps : Bool) → way_goes (way_of true keeps) ≡ true
+goes_out true = refl
+goes_out false = refl
+
+keeps_out : (keeps : Bool) → way_keeps (way_of true keeps) ≡ keeps
+keeps_out true = refl
+keeps_out false = refl
+
+-- a turn that goes outside, with the lock of an object
+out_shows : (input : Inputs) (w : Whole) (s : State) (turn : Turn) (call : Call) (turns n cost : ℕ) (new : Parts) (errand : Errand) → Shows input w s → IsInCall input turn.thread (thread_at w turn.thread) (thread_of s turn.thread)
+    → n < limit.OBJECTS → (thread_at w turn.thread).clock + cost ≤ 2 ^ 62
+    → GoesOut input.settings s.world turns w.table call errand new.table → new.thread ≡ turn_started (length w.rows) (Some n) call turns (start.GoesOut errand) (late_thread w turn.thread cost) → new.rows ≡ w.rows ++ granted_row turn call ∷ []
+    → Granted_now input w s turn call turns (way_of true (keeps_table call)) (Some n) cost new
+unfolding job_of
+out_shows input w s turn call turns n cost new errand h in_call few room done thread rows =
+    let i = turn.thread in
+    let u = thread_of s i in
+    let way = way_of true (keeps_table call) in
+    let job = job_of s turn call turns way (Some n) in
+    let o : Outing = record { row = length w.rows; object = Some n; turns = turns; errand = errand; keeps_table = keeps_table call } in
+    let x : Thread = turn_started (length w.rows) (Some n) call turns (start.GoesOut errand) (late_thread w i cost) in
+    let y : lock.Thread = granted u (u.clock + cost) job true in
+    let is_out : IsOut input i (rows_with s job) o job =
+    record { object = n; object_is = refl; in_range = few; plan = refl; thread = refl; carried = refl; asks_is = done.request; keeps = refl; ends = done.ends; row = placed input w s job h } in
+    let here : ThreadShows input i (rows_with s job) x y =
     record {
-      thread = subst P (sym g.thread) here;
-      world = both.1;
-      rows = map-append shown s.rows (row_of job ∷ []) ∙ ap (λ (rs : List HistoryRow). rs ++ granted_row turn call ∷ []) h.rows ∙ sym g.rows;
+      clock = ap (λ (c : ℕ). c + cost) (h.threads i).clock;
+      in_time = room;
+      asked = (h.threads i).asked;
+      came = (h.threads i).came;
+      phase = (job, (refl, record { even = in_call.even; reached = in_call.reached }, is_out));
+    } in
+    let P : Thread → Type 0 = λ v. ThreadShows input i (rows_with s job) v y in
+    let Q : Bool → Type 0 = λ b. ThreadShows input i (rows_with s job) new.thread (granted u (u.clock + cost) job b) in
+    let R : Bool → Type 0 = λ b. Stands new.table (world_left input.settings s call turns b) in
+    record {
+      thread = subst Q (sym (goes_out (keeps_table call))) (subst P (sym thread) here);
+      world = subst R (sym (keeps_out (keeps_table call))) (world_out (keeps_table call) refl);
+      rows = rows_granted input w s turn call turns way (Some n) new.rows h rows;
     }
+  where
+    world_out : (keeps : Bool) → keeps_table call ≡ keeps → Stands new.table (world_left input.settings s call turns keeps)
+    world_out true is = subst (λ (k : Stored). Stands k s.world) (sym (done.kept is)) h.world
+    world_out false is = done.change is
+
+started_shows : (input : Inputs) (w : Whole) (s : State) (turn : Turn) (call : Call) (turns : ℕ) (way : Way) (object : Option ℕ) (cost : ℕ) (new : Parts) (x : TurnStart) → Shows input w s → IsInCall input turn.thread (thread_at w turn.thread) (thread_of s turn.thread)
+    → IfSome object (λ n. n < limit.OBJECTS) → (thread_at w turn.thread).clock + cost ≤ 2 ^ 62 → way ≡ way_here s call turns → (object ≡ None → asks s.world.object call turns ≡ None)
+    → StartsIn input.settings s.world turns w.table call x new.table → new.thread ≡ turn_started (length w.rows) object call turns x (late_thread w turn.thread cost) → new.rows ≡ w.rows ++ granted_row turn call ∷ [] → Granted_now input w s turn call turns way object cost new
+started_shows input w s turn call turns way object cost new (start.Ended e) h in_call few room way_is alone done thread rows =
+    let inside : way ≡ Inside = way_is ∙ ap (λ (o : Option Request). way_of (is_some o) (keeps_table call)) done.request in
+    let P : Way → Type 0 = λ y. Granted_now input w s turn call turns y object cost new in
+    subst P (sym inside) (ended_shows input w s turn call turns object cost new e h in_call few room done thread rows)
+started_shows input w s turn call turns way (Some n) cost new (start.GoesOut errand) h in_call few room way_is alone done thread rows =
+    let out : way ≡ way_of true (keeps_table call) = way_is ∙ ap (λ (o : Option Request). way_of (is_some o) (keeps_table call)) done.request in
+    let P : Way → Type 0 = λ y. Granted_now input w s turn call turns y (Some n) cost new in
+    subst P (sym out) (out_shows input w s turn call turns n cost new errand h in_call few room done thread rows)
+started_shows input w s turn call turns way None cost new (start.GoesOut errand) h in_call few room way_is alone done thread rows = absurd (none-some _ (sym (alone refl) ∙ done.request))
+
+-- of a call that takes its object's lock in this way, or none and asks nothing outside
+pub grant_shows : (input : Inputs) (w : Whole) (s : State) (turn : Turn) (call : Call) (turns : ℕ) (way : Way) (object : Option ℕ) (cost : ℕ) (l : DetLock) (new : Parts) → Shows input w s → IsInCall input turn.thread (thread_at w turn.thread) (thread_of s turn.thread)
+    → IfSome object (λ n. n < limit.OBJECTS) → (thread_at w turn.thread).clock + cost ≤ 2 ^ 62 → way ≡ way_here s call turns → (object ≡ None → asks s.world.object call turns ≡ None)
+    → Grants w.patience turn call turns object (record (later (table_parts w turn.thread) cost) { lock = l }) new → Granted_now input w s turn call turns way object cost new
+grant_shows input w s turn call turns way object cost l new h in_call few room way_is alone g =
+    started_shows input w s turn call turns way object cost new g.start h in_call few room way_is alone (g.makes input.settings s.world h.patience h.world) g.thread g.rows
 
 -- the other threads see only that there is a row more
 pub others_granted : (input : Inputs) (w : Whole) (s : State) (i : ℕ) (job : Job) (t : Thread) (u : lock.Thread) → i < length w.threads → Shows input w s → ThreadShows input i (rows_with s job) t u
@@ -174,15 +251,15 @@ abbrev turn_of : State → ℕ → Turn
 turn_of s i = record { clock = (thread_of s i).clock; thread = i }
 
 tried_took : (input : Inputs) (s : State) (i : ℕ) (call : Call) (turns : ℕ) → (thread_of s i).phase ≡ WantsTable call turns → takes s.table (thread_of s i).clock ≡ true
-    → tried (setup_of input) s i ≡ planned (real_calls input.settings) s i (thread_of s i) call turns (turn_of s i) (plan_of (numbered s.world (locked_object s.world.object call turns))) s.world
+    → tried (setup_of input) s i ≡ planned (real_calls input.settings) s i (thread_of s i) call turns (turn_of s i) (plan_of (way_here s call turns) (numbered s.world (locked_object s.world.object call turns))) s.world
 tried_took input s i call turns e h = ap (tries (real_calls input.settings) s i (thread_of s i)) e ∙ cond-true _ _ _ h
 
 tried_failed : (input : Inputs) (s : State) (i : ℕ) (call : Call) (turns : ℕ) → (thread_of s i).phase ≡ WantsTable call turns → takes s.table (thread_of s i).clock ≡ false → tried (setup_of input) s i ≡ failed s i (thread_of s i)
 tried_failed input s i call turns e h = ap (tries (real_calls input.settings) s i (thread_of s i)) e ∙ cond-false _ _ _ h
 
 planned_by : (input : Inputs) (s : State) (i : ℕ) (call : Call) (turns : ℕ) (o : Option ℕ) → (thread_of s i).phase ≡ WantsTable call turns → takes s.table (thread_of s i).clock ≡ true → numbered s.world (locked_object s.world.object call turns) ≡ o
-    → tried (setup_of input) s i ≡ planned (real_calls input.settings) s i (thread_of s i) call turns (turn_of s i) (plan_of o) s.world
-planned_by input s i call turns o e h is = tried_took input s i call turns e h ∙ ap (λ (x : Option ℕ). planned (real_calls input.settings) s i (thread_of s i) call turns (turn_of s i) (plan_of x) s.world) is
+    → tried (setup_of input) s i ≡ planned (real_calls input.settings) s i (thread_of s i) call turns (turn_of s i) (plan_of (way_here s call turns) o) s.world
+planned_by input s i call turns o e h is = tried_took input s i call turns e h ∙ ap (λ (x : Option ℕ). planned (real_calls input.settings) s i (thread_of s i) call turns (turn_of s i) (plan_of (way_here s call turns) x) s.world) is
 
 pub within_threads : (input : Inputs) (w : Whole) (s : State) (i : ℕ) → i < length w.threads → Shows input w s → i < length s.threads
 within_threads input w s i inside h = subst (λ (n : ℕ). i < n) (sym h.count) inside
@@ -196,9 +273,11 @@ fail_shows input w s i inside h room phase_on =
     let u = thread_of s i in
     let x : Thread = record t { clock = t.clock + 1 } in
     let y : lock.Thread = record u { clock = u.clock + 1 } in
-    let now : ThreadShows input i s.rows x y = record { clock = ap (λ (c : ℕ). c + 1) (h.threads i).clock; in_time = room; asked = (h.threads i).asked; phase = phase_on s.rows (h.threads i).phase } in
+    let now : ThreadShows input i s.rows x y = record { clock = ap (λ (c : ℕ). c + 1) (h.threads i).clock; in_time = room; asked = (h.threads i).asked; came = (h.threads i).came; phase = phase_on s.rows (h.threads i).phase } in
     record {
       patience = h.patience;
+      door_cost = h.door_cost;
+      outcomes = h.outcomes;
       count = length-set s.threads i y ∙ h.count ∙ sym (length-set w.threads i x);
       threads = threads_set input s.rows w.threads s.threads i x y inside h.count now (λ k apart. h.threads k);
       table = h.table;
@@ -227,20 +306,37 @@ attempt_fails input w s i call turns a room shut =
     (subst (λ (c : ℕ). c ≤ 2 ^ 62) (sym (clock_set input w s i (record u { clock = u.clock + 1 }) a.inside a.shows)) (clock_fits input w s i 1 a.shows room))
     (fail_shows input w s i a.inside a.shows room on)
 
+-- a call that takes no object asks nothing outside
+asks_none : (h : Stored) (w : World) (call : Call) (turns : ℕ) → Stands h w → number_locked h call ≡ None → asks w.object call turns ≡ None
+asks_none h w call turns stands none =
+    none_asked (asks w.object call turns) (not_true (is_some (asks w.object call turns)) (λ goes. false≢true (sym (none_locked (locked_object w.object call turns) (number_known h w call turns stands ∙ none)) ∙ locks_some w.object call turns goes)))
+  where
+    none_locked : (o : Option ℕ) → numbered w o ≡ None → is_some o ≡ false
+    none_locked None e = refl
+    none_locked (Some n) e = absurd (none-some _ (sym e))
+
+    none_asked : (o : Option Request) → is_some o ≡ false → o ≡ None
+    none_asked None e = refl
+    none_asked (Some r) e = absurd (false≢true (sym e))
+
 -- the call is granted at once
 attempt_takes : (input : Inputs) (w : Whole) (s : State) (i : ℕ) (call : Call) (turns : ℕ) (new : Parts) → Trying input w s i call turns → (thread_at w i).clock + 1 ≤ 2 ^ 62 → takes s.table (thread_of s i).clock ≡ true → number_locked w.table call ≡ None
     → Grants w.patience (turn_of s i) call turns None (record (later (table_parts w i) 1) { lock = held i w.lock }) new → Attempted input s i true (table_tried w i new)
 unfolding job_of
 attempt_takes input w s i call turns new a room free none g =
     let u = thread_of s i in
-    let job = job_of s (turn_of s i) call turns None in
+    let job = job_of s (turn_of s i) call turns Inside None in
     let y : lock.Thread = granted u (u.clock + 1) job false in
     let z : State = planned (real_calls input.settings) s i u call turns (turn_of s i) No_object s.world in
-    let now = grant_shows input w s (turn_of s i) call turns None 1 (held i w.lock) new a.shows a.call_is tt room g in
+    let asks_no = asks_none w.table s.world call turns a.shows.world none in
+    let inside : Inside ≡ way_here s call turns = sym (ap (λ (o : Option Request). way_of (is_some o) (keeps_table call)) asks_no) in
+    let now = grant_shows input w s (turn_of s i) call turns Inside None 1 (held i w.lock) new a.shows a.call_is tt room inside (λ e. asks_no) g in
     attempted_yes input s z i (table_tried w i new) (ap wants a.phase) a.turn (planned_by input s i call turns None a.phase free (number_known w.table s.world call turns a.shows.world ∙ none))
     (subst (λ (c : ℕ). c ≤ 2 ^ 62) (sym (clock_set input w s i y a.inside a.shows)) (clock_fits input w s i 1 a.shows room))
     (record {
       patience = a.shows.patience;
+      door_cost = a.shows.door_cost;
+      outcomes = a.shows.outcomes;
       count = length-set s.threads i y ∙ a.shows.count ∙ sym (length-set w.threads i new.thread);
       threads = others_granted input w s i job new.thread y a.inside a.shows now.thread;
       table = ap (held i) a.shows.table ∙ sym g.lock;
@@ -259,15 +355,18 @@ attempt_plans input w s i n call turns a room free is few =
     let u = thread_of s i in
     let h = a.shows in
     let x : Thread = record t { phase = phase.WantsObject call turns u.clock n; clock = t.clock + 1 } in
-    let y : lock.Thread = record u { phase = WantsObject call turns u.clock n Inside; clock = u.clock + 1 } in
+    let way = way_here s call turns in
+    let y : lock.Thread = record u { phase = WantsObject call turns u.clock n way; clock = u.clock + 1 } in
     let now : ThreadShows input i s.rows x y =
-    record { clock = ap (λ (c : ℕ). c + 1) (h.threads i).clock; in_time = room; asked = (h.threads i).asked; phase = (refl, record { even = a.call_is.even; reached = a.call_is.reached }, few) } in
-    let z : State = planned (real_calls input.settings) s i u call turns (turn_of s i) (Object n Inside) s.world in
+    record { clock = ap (λ (c : ℕ). c + 1) (h.threads i).clock; in_time = room; asked = (h.threads i).asked; came = (h.threads i).came; phase = (way, (refl, record { even = a.call_is.even; reached = a.call_is.reached }, few)) } in
+    let z : State = planned (real_calls input.settings) s i u call turns (turn_of s i) (Object n way) s.world in
     attempted_yes input s z i (table_tried w i (parts x (held i w.lock) w.table w.rows)) (ap wants a.phase) a.turn
     (planned_by input s i call turns (Some n) a.phase free (number_known w.table s.world call turns h.world ∙ is))
     (subst (λ (c : ℕ). c ≤ 2 ^ 62) (sym (clock_set input w s i y a.inside h)) (clock_fits input w s i 1 h room))
     (record {
       patience = h.patience;
+      door_cost = h.door_cost;
+      outcomes = h.outcomes;
       count = length-set s.threads i y ∙ h.count ∙ sym (length-set w.threads i x);
       threads = threads_set input s.rows w.threads s.threads i x y a.inside h.count now (λ k apart. h.threads k);
       table = ap (held i) h.table;
@@ -280,9 +379,9 @@ attempt_plans input w s i n call turns a room free is few =
 -- ## By the phase of the thread
 
 planned_clock : (input : Inputs) (w : Whole) (s : State) (i : ℕ) (call : Call) (turns : ℕ) (o : Option ℕ) → i < length w.threads → Shows input w s
-    → (thread_of (planned (real_calls input.settings) s i (thread_of s i) call turns (turn_of s i) (plan_of o) s.world) i).clock ≡ (thread_of s i).clock + 1
+    → (thread_of (planned (real_calls input.settings) s i (thread_of s i) call turns (turn_of s i) (plan_of (way_here s call turns) o) s.world) i).clock ≡ (thread_of s i).clock + 1
 planned_clock input w s i call turns None inside h = clock_set input w s i (granted (thread_of s i) ((thread_of s i).clock + 1) (new_job call turns (turn_of s i) No_object s.world) false) inside h
-planned_clock input w s i call turns (Some n) inside h = clock_set input w s i (record (thread_of s i) { phase = WantsObject call turns (thread_of s i).clock n Inside; clock = (thread_of s i).clock + 1 }) inside h
+planned_clock input w s i call turns (Some n) inside h = clock_set input w s i (record (thread_of s i) { phase = WantsObject call turns (thread_of s i).clock n (way_here s call turns); clock = (thread_of s i).clock + 1 }) inside h
 
 attempt_full : (input : Inputs) (w : Whole) (s : State) (i : ℕ) (call : Call) (turns : ℕ) → Trying input w s i call turns → 2 ^ 62 < (thread_at w i).clock + 1 → can_attempt (setup_of input) s i ≡ false
 attempt_full input w s i call turns a full =

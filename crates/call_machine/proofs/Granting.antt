@@ -1,21 +1,30 @@
 -- The events of a thread, put together from what the code does on the way.
-use Rattle.std.proofs.Common.{◌≡◌, ℕ, ◌+◌, Option, Some, None, Bool, true, false, refl, sym, subst}
+use Rattle.std.proofs.Common.{◌≡◌, ℕ, ◌+◌, length, Option, Some, None, Bool, true, false, refl, sym, ap₂, ◌∙◌, subst}
 use Rattle.std.proofs.lemmas.Option.{none-some, same_Some}
 use Rattle.std.specs.Prelude.{IfOk, Result, Ok, Err}
 use Rattle.std.specs.declared.alloc.AllocError.{AllocError}
 use Rattle.object_store.specs.Store.{number_locked}
+use Rattle.object_store.specs.declared.patience.TurnStart.{TurnStart}
+use Rattle.object_store.specs.declared.patience.TurnStart.TheVariants as start
+use Rattle.posix_terms.specs.Locked.{keeps_table}
 use Rattle.posix_terms.specs.declared.call.Call.{Call}
 use Rattle.posix_terms.specs.declared.transcript.Turn.{Turn}
 use Rattle.det_mutex.specs.Attempt.{freed, held, takes}
 use Rattle.det_mutex.specs.declared.lock.DetLock.{DetLock}
-use Rattle.call_machine.specs.Events.{Grants, GrantsObject, ObjectInTime, Parts, PlansTo, Reaches, ReachesIn, Tries, TriesIn, TriesInTime, TriesLock, in_time, later, object_cost, object_taken, parts, takes_object}
+use Rattle.call_machine.specs.Events.{Grants, GrantsObject, ObjectInTime, Parts, PlansTo, Reaches, ReachesIn, Tries, TriesIn, TriesInTime, TriesLock, in_time, later, object_cost, object_reached, object_taken, parts, takes_object}
+use Rattle.call_machine.specs.Held.{turn_started}
+use Rattle.call_machine.specs.Threads.{Thread}
 use Rattle.call_machine.specs.declared.thread.Phase.{Phase}
 use Rattle.call_machine.specs.declared.thread.Phase.TheVariants as phase
 
 -- ## Whatever the phase of the thread was
 
+started_any : (row : ℕ) (object : Option ℕ) (call : Call) (turns : ℕ) (x : TurnStart) (p : Phase) (t : Thread) → turn_started row object call turns x (record t { phase = p }) ≡ turn_started row object call turns x t
+started_any row object call turns (start.Ended e) p t = refl
+started_any row object call turns (start.GoesOut errand) p t = refl
+
 regranted : (patience : ℕ) (turn : Turn) (call : Call) (turns : ℕ) (object : Option ℕ) (p : Phase) (old new : Parts) → Grants patience turn call turns object (record old { thread = record old.thread { phase = p } }) new → Grants patience turn call turns object old new
-regranted patience turn call turns object p old new g = record { ends = g.ends; makes = g.makes; thread = g.thread; lock = g.lock; rows = g.rows }
+regranted patience turn call turns object p old new g = record { start = g.start; makes = g.makes; thread = g.thread ∙ started_any (length old.rows) object call turns g.start p old.thread; lock = g.lock; rows = g.rows }
 
 replanned : (patience : ℕ) (o : Option ℕ) (turn : Turn) (call : Call) (turns : ℕ) (p : Phase) (old new : Parts) → PlansTo patience o turn call turns (record old { thread = record old.thread { phase = p } }) new → PlansTo patience o turn call turns old new
 replanned patience None turn call turns p old new g = regranted patience turn call turns None p old new g
@@ -46,16 +55,20 @@ granted_object patience (Ok u) q p i call turns clock object old new is h =
     λ now. let U : Phase → Type 0 = λ x. GrantsObject patience x i (old now) (new now) in subst U (sym is) (regranted patience (record { clock = clock; thread = i }) call turns (Some object) p (old now) (new now) (h now))
 granted_object patience (Err e) q p i call turns clock object old new is h = tt
 
-pub reached_granted : (patience i now : ℕ) (call : Call) (turns clock object : ℕ) (lock own later_own : DetLock) (old new : Parts) → old.thread.phase ≡ phase.WantsObject call turns clock object → takes_object i own old ≡ true → in_time old 2 ≡ true
-    → now ≡ old.thread.clock + 2 → lock ≡ freed (old.thread.clock + 1) → later_own ≡ held i own
+-- the parts as the object's lock was taken
+pub reached_parts : (keeps : Bool) (now : ℕ) (lock : DetLock) (old : Parts) → now ≡ old.thread.clock + object_cost true keeps → (keeps ≡ true → lock ≡ old.lock) → (keeps ≡ false → lock ≡ freed (old.thread.clock + 1)) → parts (record old.thread { clock = now }) lock old.table old.rows ≡ object_reached keeps old
+reached_parts true now lock old clock_is keeps frees = ap₂ (λ (n : ℕ) (l : DetLock). parts (record old.thread { clock = n }) l old.table old.rows) clock_is (keeps refl)
+reached_parts false now lock old clock_is keeps frees = ap₂ (λ (n : ℕ) (l : DetLock). parts (record old.thread { clock = n }) l old.table old.rows) clock_is (frees refl)
+
+pub reached_granted : (patience i now : ℕ) (call : Call) (turns clock object : ℕ) (lock own later_own : DetLock) (old new : Parts) → old.thread.phase ≡ phase.WantsObject call turns clock object → takes_object i own old ≡ true → in_time old (object_cost true (keeps_table call)) ≡ true
+    → parts (record old.thread { clock = now }) lock old.table old.rows ≡ object_reached (keeps_table call) old → later_own ≡ held i own
     → GrantsObject patience old.thread.phase i (parts (record old.thread { clock = now }) lock old.table old.rows) new → Reaches patience true i own later_own old new
-reached_granted patience i now call turns clock object lock own later_own old new is taken room clock_is freed_is held_is h =
+reached_granted patience i now call turns clock object lock own later_own old new is taken room reached_is held_is h =
     let W : Phase → Type 0 = λ q. GrantsObject patience q i (parts (record old.thread { clock = now }) lock old.table old.rows) new in
-    let P : ℕ → Type 0 = λ n. Grants patience (record { clock = clock; thread = i }) call turns (Some object) (parts (record old.thread { clock = n }) lock old.table old.rows) new in
-    let R : DetLock → Type 0 = λ l. Grants patience (record { clock = clock; thread = i }) call turns (Some object) (parts (record old.thread { clock = old.thread.clock + 2 }) l old.table old.rows) new in
-    let grants = subst R freed_is (subst P clock_is (subst W is h)) in
+    let P : Parts → Type 0 = λ p. Grants patience (record { clock = clock; thread = i }) call turns (Some object) p new in
+    let grants = subst P reached_is (subst W is h) in
     let T : Bool → Type 0 = λ b. ObjectInTime patience b true true i (record { clock = clock; thread = i }) call turns object own later_own old new in
-    let F : Bool → Type 0 = λ b. ObjectInTime patience (in_time old (object_cost b)) b true i (record { clock = clock; thread = i }) call turns object own later_own old new in
+    let F : Bool → Type 0 = λ b. ObjectInTime patience (in_time old (object_cost b (keeps_table call))) b true i (record { clock = clock; thread = i }) call turns object own later_own old new in
     let U : Phase → Type 0 = λ q. ReachesIn patience q true i own later_own old new in
     subst U (sym is) (subst F (sym taken) (subst T (sym room) (refl, (held_is, grants))))
 

@@ -46,6 +46,9 @@ agree_parts b c t h = ap (λ (b : Bool). let o : Option ℕ = if b then Some c.c
     by_phase (phase.WantsTable call turns) n = refl
     by_phase (phase.WantsObject call turns clock object) n = refl
     by_phase (phase.Granted place object blocked) n = refl
+    by_phase (phase.ToOutside outing) n = refl
+    by_phase (phase.Outside outing) n = refl
+    by_phase (phase.Recorded outing) n = refl
     by_phase (phase.Blocked call turns) n = refl
     by_phase phase.Stuck n = refl
     by_phase phase.Ended n = refl

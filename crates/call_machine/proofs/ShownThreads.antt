@@ -4,7 +4,7 @@ use Rattle.std.proofs.lemmas.Bool.{cases_eq, cases_Bool, and_parts}
 use Rattle.std.proofs.lemmas.List.{get_or-set_same, get_or-set_other, length-map, length-set}
 use Rattle.std.proofs.lemmas.Option.{slice_get-map}
 use Rattle.std.specs.Prelude.{option_map}
-use Rattle.posix_terms.specs.declared.outcome.Outcome.{Outcome}
+use Rattle.posix_terms.specs.declared.outcome.Given.{Given}
 use Rattle.posix_terms.specs.declared.transcript.HistoryRow.{HistoryRow}
 use Rattle.det_mutex.specs.declared.lock.DetLock.{DetLock}
 use Rattle.lock_model.specs.Held.{row_of}
@@ -15,10 +15,11 @@ use Rattle.lock_model.specs.Terms.{World}
 use Rattle.lock_model.proofs.Commute.{advance_move, lock_mine, lock_other, row_closed, row_open, row_other, world_mine, world_other}
 use Rattle.call_machine.specs.Setup.{Inputs, setup_of}
 use Rattle.lock_model.specs.Rows.{shown}
-use Rattle.object_store.specs.Store.{Stands}
-use Rattle.call_machine.specs.Shows.{IsGranted, PhaseShows, Shows, ThreadShows, Whole}
+use Rattle.object_store.specs.Store.{Stands, Stored}
+use Rattle.call_machine.specs.Shows.{IsGranted, IsOut, PhaseShows, Shows, ThreadShows, Whole}
 use Rattle.call_machine.specs.Views.{no_thread}
 use Rattle.call_machine.specs.Threads.{Thread}
+use Rattle.call_machine.specs.declared.thread.Outing.{Outing}
 use Rattle.call_machine.specs.declared.thread.Phase.{Phase}
 use Rattle.call_machine.specs.declared.thread.Phase.TheVariants as phase
 use Rattle.object_store.proofs.Lists.{set_same}
@@ -29,18 +30,25 @@ use Rattle.object_store.proofs.Lists.{set_same}
 abbrev pub KeepsRows : ℕ → List Row → List Row → Type 0
 KeepsRows k rows more = (place : ℕ) (job : Job) → job.turn.thread ≡ k → slice_get rows place ≡ Some (row_of job) → slice_get more place ≡ Some (row_of job)
 
+out_rows : (input : Inputs) (k : ℕ) (rows more : List Row) (o : Outing) (job : Job) → KeepsRows k rows more → IsOut input k rows o job → IsOut input k more o job
+out_rows input k rows more o job keeps g =
+    record { object = g.object; object_is = g.object_is; in_range = g.in_range; plan = g.plan; thread = g.thread; carried = g.carried; asks_is = g.asks_is; keeps = g.keeps; ends = g.ends; row = keeps o.row job g.thread g.row }
+
 phase_rows : (input : Inputs) (k : ℕ) (rows more : List Row) (t : Thread) (u : lock.Thread) (p : Phase) → KeepsRows k rows more → PhaseShows input k rows t u p → PhaseShows input k more t u p
 phase_rows input k rows more t u phase.Working keeps h = h
 phase_rows input k rows more t u (phase.WantsTable call turns) keeps h = h
 phase_rows input k rows more t u (phase.WantsObject call turns clock object) keeps h = h
 phase_rows input k rows more t u (phase.Granted place object blocked) keeps (job, h) =
     let g : IsGranted input k rows place object blocked t.last job = h.2 in (job, (h.0, h.1, record { plan = g.plan; in_range = g.in_range; thread = g.thread; ends = g.ends; waits = g.waits; answers = g.answers; row = keeps place job g.thread g.row }))
+phase_rows input k rows more t u (phase.ToOutside o) keeps (job, h) = (job, (h.0, h.1, out_rows input k rows more o job keeps h.2))
+phase_rows input k rows more t u (phase.Outside o) keeps (job, h) = (job, (h.0, h.1, out_rows input k rows more o job keeps h.2, h.3))
+phase_rows input k rows more t u (phase.Recorded o) keeps (job, h) = (job, (h.0, h.1, out_rows input k rows more o job keeps h.2))
 phase_rows input k rows more t u (phase.Blocked call turns) keeps h = h
 phase_rows input k rows more t u phase.Stuck keeps h = h
 phase_rows input k rows more t u phase.Ended keeps h = h
 
 pub thread_rows : (input : Inputs) (k : ℕ) (rows more : List Row) (t : Thread) (u : lock.Thread) → KeepsRows k rows more → ThreadShows input k rows t u → ThreadShows input k more t u
-thread_rows input k rows more t u keeps h = record { clock = h.clock; in_time = h.in_time; asked = h.asked; phase = phase_rows input k rows more t u t.phase keeps h.phase }
+thread_rows input k rows more t u keeps h = record { clock = h.clock; in_time = h.in_time; asked = h.asked; came = h.came; phase = phase_rows input k rows more t u t.phase keeps h.phase }
 
 pub thread_along : (input : Inputs) (k j : ℕ) (rows : List Row) (t x : Thread) (u v : lock.Thread) → k ≡ j → t ≡ x → u ≡ v → ThreadShows input j rows x v → ThreadShows input k rows t u
 thread_along input k j rows t x u v e f g h =
@@ -72,32 +80,43 @@ keeps_other : (i k : ℕ) (e : Effect) (rows : List Row) → (k ≡ i → ⊥) �
 keeps_other i k e rows apart place job mine there =
     slice_get-map (row_after i e) rows place ∙ ap (option_map (row_after i e)) there ∙ ap Some (row_other i e (row_of job) (λ q. apart (sym mine ∙ q)))
 
-world_keeps : (i : ℕ) (l : DetLock) (w : World) → world_after i l None w ≡ w
+pub world_keeps : (i : ℕ) (l : DetLock) (w : World) → world_after i l None w ≡ w
 world_keeps i l w = ⊎_elim (λ (h : is_number l.holder i ≡ true). world_mine i l None w h) (λ (h : is_number l.holder i ≡ false). world_other i l None w h) (cases_Bool (is_number l.holder i))
 
--- thread i makes its event: this is what the others and the shared parts see of it
-pub whole_moved : (input : Inputs) (w : Whole) (s : State) (i : ℕ) (t : Thread) (m : Moved) (l : DetLock) (ls : List DetLock) (rows : List HistoryRow)
+-- thread i makes its event, with the world that it leaves: this is what the others and the shared parts see of it
+pub whole_changed : (input : Inputs) (w : Whole) (s : State) (i : ℕ) (t : Thread) (m : Moved) (l : DetLock) (ls : List DetLock) (table : Stored) (rows : List HistoryRow)
     → i < length w.threads → Shows input w s → moves (setup_of input) i (thread_of s i) ≡ Some m
     → ThreadShows input i (map (row_after i m.effect) s.rows) t m.thread
-    → lock_after i m.effect.table_freed s.table ≡ l → map (lock_after i m.effect.object_freed) s.objects ≡ ls → m.effect.world ≡ None → map shown (map (row_after i m.effect) s.rows) ≡ rows
-    → (can_advance (setup_of input) s i ≡ true) × Shows input (record { patience = w.patience; threads = set w.threads i t; lock = l; objects = ls; table = w.table; rows = rows }) (advance (setup_of input) i s)
-whole_moved input w s i t m l ls rows inside h is shows lock_is objects_is world_is rows_is =
+    → lock_after i m.effect.table_freed s.table ≡ l → map (lock_after i m.effect.object_freed) s.objects ≡ ls → Stands table (world_after i s.table m.effect.world s.world) → map shown (map (row_after i m.effect) s.rows) ≡ rows
+    → (can_advance (setup_of input) s i ≡ true) × Shows input (record w { threads = set w.threads i t; lock = l; objects = ls; table = table; rows = rows }) (advance (setup_of input) i s)
+whole_changed input w s i t m l ls table rows inside h is shows lock_is objects_is stands rows_is =
     let next : advance (setup_of input) i s ≡ move i (Some m) s = advance_move (setup_of input) i s ∙ ap (λ (o : Option Moved). move i o s) is in
-    let P : State → Type 0 = Shows input (record { patience = w.patience; threads = set w.threads i t; lock = l; objects = ls; table = w.table; rows = rows }) in (
+    let P : State → Type 0 = Shows input (record w { threads = set w.threads i t; lock = l; objects = ls; table = table; rows = rows }) in (
       ap is_some is,
       subst P (sym next)
           (record {
             patience = h.patience;
+            door_cost = h.door_cost;
+            outcomes = h.outcomes;
             count = length-set s.threads i m.thread ∙ h.count ∙ sym (length-set w.threads i t);
             threads = threads_set input (map (row_after i m.effect) s.rows) w.threads s.threads i t m.thread inside h.count shows
                 (λ k apart. thread_rows input k s.rows (map (row_after i m.effect) s.rows) (get_or w.threads k no_thread) (thread_of s k) (keeps_other i k m.effect s.rows apart) (h.threads k));
             table = lock_is;
             objects = objects_is;
             object_count = ap length (sym objects_is) ∙ length-map s.objects (lock_after i m.effect.object_freed) ∙ ap length h.objects ∙ h.object_count;
-            world = subst (Stands w.table) (sym (ap (λ (o : Option World). world_after i s.table o s.world) world_is ∙ world_keeps i s.table s.world)) h.world;
+            world = stands;
             rows = rows_is;
           }),
     )
+
+-- and leaves the world as it is
+pub whole_moved : (input : Inputs) (w : Whole) (s : State) (i : ℕ) (t : Thread) (m : Moved) (l : DetLock) (ls : List DetLock) (rows : List HistoryRow)
+    → i < length w.threads → Shows input w s → moves (setup_of input) i (thread_of s i) ≡ Some m
+    → ThreadShows input i (map (row_after i m.effect) s.rows) t m.thread
+    → lock_after i m.effect.table_freed s.table ≡ l → map (lock_after i m.effect.object_freed) s.objects ≡ ls → m.effect.world ≡ None → map shown (map (row_after i m.effect) s.rows) ≡ rows
+    → (can_advance (setup_of input) s i ≡ true) × Shows input (record w { threads = set w.threads i t; lock = l; objects = ls; rows = rows }) (advance (setup_of input) i s)
+whole_moved input w s i t m l ls rows inside h is shows lock_is objects_is world_is rows_is =
+    whole_changed input w s i t m l ls w.table rows inside h is shows lock_is objects_is (subst (Stands w.table) (sym (ap (λ (o : Option World). world_after i s.table o s.world) world_is ∙ world_keeps i s.table s.world)) h.world) rows_is
 
 -- ## Events that touch nothing but their thread
 
@@ -105,7 +124,7 @@ first_none : {A : Type 0} (o : Option A) → is_none o ≡ true → None ≡ o
 first_none None h = refl
 first_none (Some x) h = cc
 
-pub first_kept : (o : Option Outcome) → first_of o None ≡ o
+pub first_kept : (o : Option Given) → first_of o None ≡ o
 first_kept None = refl
 first_kept (Some x) = refl
 
@@ -123,10 +142,10 @@ rows_quiet : (i : ℕ) (rows : List Row) → map (row_after i quiet) rows ≡ ro
 rows_quiet i [] = refl
 rows_quiet i (r ∷ rows) = ap₂ ◌∷◌ (row_quiet i r) (rows_quiet i rows)
 
-lock_quiet : (i : ℕ) (l : DetLock) → lock_after i None l ≡ l
+pub lock_quiet : (i : ℕ) (l : DetLock) → lock_after i None l ≡ l
 lock_quiet i l = ⊎_elim (λ (h : is_number l.holder i ≡ true). lock_mine i None l h) (λ (h : is_number l.holder i ≡ false). lock_other i None l h) (cases_Bool (is_number l.holder i))
 
-locks_quiet : (i : ℕ) (ls : List DetLock) → map (lock_after i None) ls ≡ ls
+pub locks_quiet : (i : ℕ) (ls : List DetLock) → map (lock_after i None) ls ≡ ls
 locks_quiet i [] = refl
 locks_quiet i (l ∷ ls) = ap₂ ◌∷◌ (lock_quiet i l) (locks_quiet i ls)
 
@@ -148,6 +167,8 @@ whole_still input w s i t inside h is shows =
       subst P (sym next)
           (record {
             patience = h.patience;
+            door_cost = h.door_cost;
+            outcomes = h.outcomes;
             count = h.count ∙ sym (length-set w.threads i t);
             threads = subst R (set_same s.threads i nobody within) (threads_set input s.rows w.threads s.threads i t (thread_of s i) inside h.count shows (λ k apart. h.threads k));
             table = h.table;

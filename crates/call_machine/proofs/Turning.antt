@@ -14,8 +14,11 @@ use Rattle.object_store.proofs.Lists.{maps_agree}
 live_phase : (input : Inputs) (i : ℕ) (rows : List Row) (t : Thread) (u : lock.Thread) (p : Phase) (c : ℕ) → PhaseShows input i rows t u p → live_clock_in u.phase c ≡ live_in p c
 live_phase input i rows t u phase.Working c h = ap (λ (p : lock.Phase). live_clock_in p c) h.0
 live_phase input i rows t u (phase.WantsTable call turns) c h = ap (λ (p : lock.Phase). live_clock_in p c) h.0
-live_phase input i rows t u (phase.WantsObject call turns clock object) c h = ap (λ (p : lock.Phase). live_clock_in p c) h.0
+live_phase input i rows t u (phase.WantsObject call turns clock object) c h = ap (λ (p : lock.Phase). live_clock_in p c) h.1.0
 live_phase input i rows t u (phase.Granted place object blocked) c h = ap (λ (p : lock.Phase). live_clock_in p c) h.1.0
+live_phase input i rows t u (phase.ToOutside outing) c h = ap (λ (p : lock.Phase). live_clock_in p c) h.1.0
+live_phase input i rows t u (phase.Outside outing) c h = ap (λ (p : lock.Phase). live_clock_in p c) h.1.0
+live_phase input i rows t u (phase.Recorded outing) c h = ap (λ (p : lock.Phase). live_clock_in p c) h.1.0
 live_phase input i rows t u (phase.Blocked call turns) c h = ap (λ (p : lock.Phase). live_clock_in p c) h.0
 live_phase input i rows t u phase.Stuck c h = ap (λ (p : lock.Phase). live_clock_in p c) h.0
 live_phase input i rows t u phase.Ended c h = ap (λ (p : lock.Phase). live_clock_in p c) h

@@ -1,5 +1,6 @@
 -- What the events of a thread make of it and of what it shares.
 use Rattle.std.specs.Prelude.{◌≡◌, ℕ, ◌+◌, ◌<◌, ◌^◌, List, [], ◌∷◌, ◌++◌, length, Option, Some, None, Bool, true, false, ◌&&◌, nat_le, slice_get, slice_set}
+use Rattle.posix_terms.specs.Locked.{keeps_table}
 use Rattle.posix_terms.specs.declared.call.Call.{Call}
 use Rattle.posix_terms.specs.declared.limits.TheConstants.Limits as limit
 use Rattle.posix_terms.specs.declared.transcript.HistoryRow.{HistoryRow}
@@ -7,10 +8,11 @@ use Rattle.posix_terms.specs.declared.transcript.Turn.{Turn}
 use Rattle.det_mutex.specs.Attempt.{freed, held, takes}
 use Rattle.det_mutex.specs.declared.lock.DetLock.{DetLock}
 use Rattle.lock_model.specs.Machine.{is_number}
-use Rattle.call_machine.specs.Held.{end_held, turn_ended, phase_behind, told_as}
+use Rattle.call_machine.specs.Held.{end_held, turn_started, phase_behind, told_as}
 use Rattle.object_store.specs.Store.{Makes, Stored, number_locked}
 use Rattle.call_machine.specs.Threads.{Thread}
 use Rattle.object_store.specs.declared.patience.TurnEnd.{TurnEnd}
+use Rattle.object_store.specs.declared.patience.TurnStart.{TurnStart}
 use Rattle.call_machine.specs.declared.thread.Phase.{Phase}
 use Rattle.call_machine.specs.declared.thread.Phase.TheVariants as phase
 
@@ -60,11 +62,11 @@ Answers moved i row blocked old new = AnswersIn (is_number old.lock.holder i && 
 abbrev pub granted_row : Turn → Call → HistoryRow
 granted_row turn call = record { call = call; turn = turn; outcome = None; answer = None }
 
--- a turn of a call that was blocked for so many turns is made, and how it ended waits for the answer
+-- a turn of a call that was blocked for so many turns is made: how it ended waits for the answer, or it goes outside
 pub record Grants (patience : ℕ) (turn : Turn) (call : Call) (turns : ℕ) (object : Option ℕ) (old new : Parts) : Type 0 where
-  pub ends : TurnEnd
-  pub makes : Makes patience turns old.table call ends new.table
-  pub thread : new.thread ≡ turn_ended (length old.rows) object ends old.thread
+  pub start : TurnStart
+  pub makes : Makes patience turns old.table call start new.table
+  pub thread : new.thread ≡ turn_started (length old.rows) object call turns start old.thread
   pub lock : new.lock ≡ old.lock
   pub rows : new.rows ≡ old.rows ++ granted_row turn call ∷ []
 
@@ -102,10 +104,21 @@ abbrev pub object_taken : Bool → ℕ → DetLock → Option DetLock
 object_taken true i object = Some (held i object)
 object_taken false i object = None
 
+-- whether the call that wants an object keeps the table to its answer
+abbrev pub wants_to_keep : Phase → Bool
+wants_to_keep (phase.WantsObject call turns clock object) = keeps_table call
+wants_to_keep p = false
+
 -- an attempt costs 1, and freeing the table 1 more
-abbrev pub object_cost : Bool → ℕ
-object_cost true = 2
-object_cost false = 1
+abbrev pub object_cost : Bool → Bool → ℕ
+object_cost true false = 2
+object_cost true true = 1
+object_cost false keeps = 1
+
+-- the object is taken
+abbrev pub object_reached : Bool → Parts → Parts
+object_reached true old = later old 1
+object_reached false old = record (later old 2) { lock = freed (old.thread.clock + 1) }
 
 -- a call that wants an object is granted with it
 abbrev pub GrantsObject : ℕ → Phase → ℕ → Parts → Parts → Type 0
@@ -113,7 +126,7 @@ GrantsObject patience (phase.WantsObject call turns clock object) i old new = Gr
 GrantsObject patience p i old new = new ≡ old
 
 abbrev pub TriesObject : ℕ → Bool → ℕ → Turn → Call → ℕ → ℕ → DetLock → DetLock → Parts → Parts → Type 0
-TriesObject patience true i turn call turns object lock now old new = (now ≡ held i lock) × Grants patience turn call turns (Some object) (record (later old 2) { lock = freed (old.thread.clock + 1) }) new
+TriesObject patience true i turn call turns object lock now old new = (now ≡ held i lock) × Grants patience turn call turns (Some object) (object_reached (keeps_table call) old) new
 TriesObject patience false i turn call turns object lock now old new = (now ≡ lock) × (new ≡ later old 1)
 
 abbrev pub ObjectInTime : ℕ → Bool → Bool → Bool → ℕ → Turn → Call → ℕ → ℕ → DetLock → DetLock → Parts → Parts → Type 0
@@ -122,7 +135,7 @@ ObjectInTime patience false takes made i turn call turns object lock now old new
 
 abbrev pub ReachesIn : ℕ → Phase → Bool → ℕ → DetLock → DetLock → Parts → Parts → Type 0
 ReachesIn patience (phase.WantsObject call turns clock object) made i lock now old new =
-    let taken = takes_object i lock old in ObjectInTime patience (in_time old (object_cost taken)) taken made i (record { clock = clock; thread = i }) call turns object lock now old new
+    let taken = takes_object i lock old in ObjectInTime patience (in_time old (object_cost taken (keeps_table call))) taken made i (record { clock = clock; thread = i }) call turns object lock now old new
 ReachesIn patience p made i lock now old new = (made ≡ false) × (now ≡ lock) × (new ≡ old)
 
 abbrev pub Reaches : ℕ → Bool → ℕ → DetLock → DetLock → Parts → Parts → Type 0

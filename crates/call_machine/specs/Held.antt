@@ -1,11 +1,14 @@
 -- How a turn that ended stands in its thread until it is answered.
 use Rattle.std.specs.Prelude.{ℕ, Option, Some, None}
+use Rattle.posix_terms.specs.Locked.{keeps_table}
 use Rattle.posix_terms.specs.declared.call.Call.{Call}
 use Rattle.posix_terms.specs.declared.reply.Answer as posix
 use Rattle.posix_terms.specs.declared.reply.Answer.TheVariants as answer
 use Rattle.posix_terms.specs.declared.reply.Reply.{Reply}
 use Rattle.object_store.specs.declared.patience.TurnEnd.{TurnEnd}
 use Rattle.object_store.specs.declared.patience.TurnEnd.TheVariants as end
+use Rattle.object_store.specs.declared.patience.TurnStart.{TurnStart}
+use Rattle.object_store.specs.declared.patience.TurnStart.TheVariants as start
 use Rattle.call_machine.specs.Threads.{Thread}
 use Rattle.call_machine.specs.declared.thread.Phase.{Phase}
 use Rattle.call_machine.specs.declared.thread.Phase.TheVariants as phase
@@ -28,6 +31,11 @@ last_behind (end.Blocked turns) last = last
 -- a thread whose call was granted, with the row of this place, and whose turn ended so
 abbrev pub turn_ended : ℕ → Option ℕ → TurnEnd → Thread → Thread
 turn_ended row object e t = record t { phase = phase.Granted row object (turns_blocked e); last = last_behind e t.last }
+
+-- and whose turn started so, which was blocked for so many turns before
+abbrev pub turn_started : ℕ → Option ℕ → Call → ℕ → TurnStart → Thread → Thread
+turn_started row object c turns (start.Ended e) t = turn_ended row object e t
+turn_started row object c turns (start.GoesOut errand) t = record t { phase = phase.ToOutside (record { row = row; object = object; turns = turns; errand = errand; keeps_table = keeps_table c }) }
 
 -- how the turn ended that such a thread is in, by the number of its blocked turns and the last reply
 abbrev pub end_held : Option ℕ → Option Reply → Option TurnEnd

@@ -11,3 +11,7 @@ pub mod Weights
 pub mod Driven
 pub mod Plain
 pub mod Starting
+pub mod Logs
+pub mod Outings
+pub mod Strays
+pub mod Covered

@@ -1,16 +1,20 @@
 -- The plain run of scripts, by the lock machine.
-use Rattle.std.specs.Prelude.{◌≡◌, ℕ, List, [], ◌∷◌, length, map, Option, Some, None, Bool, true, false, ◌&&◌, ◌==◌, nat_le, if◌then◌else◌, Result, Ok, Err}
+use Rattle.std.specs.Prelude.{◌≡◌, ◌<◌, ℕ, List, [], ◌∷◌, length, map, Option, Some, None, Bool, true, false, ◌&&◌, ◌==◌, nat_le, Result, Ok, Err}
 use Rattle.posix_terms.specs.declared.limits.TheConstants.Limits as limit
 use Rattle.posix_terms.specs.declared.transcript.Settings.{Settings}
 use Rattle.input_log.specs.Format.{text_of}
 use Rattle.input_log.specs.declared.log.Header.{Header}
 use Rattle.input_log.specs.declared.log.LogText.{LogText}
-use Rattle.lock_model.specs.Schedule.{EndsIn}
+use Rattle.lock_model.specs.Machine.{Setup}
+use Rattle.lock_model.specs.Schedule.{IsOver, plain_run}
 use Rattle.lock_model.specs.State as lock
-use Rattle.lock_model.specs.State.{Phase, State}
-use Rattle.lock_model.specs.State.Phase.{Ended}
+use Rattle.lock_model.specs.State.{Phase, State, live_clocks, thread_of}
+use Rattle.lock_model.specs.State.Phase.{Ended, Outside}
+use Rattle.logical_clocks.specs.TurnOrder.{turn_holder}
 use Rattle.call_machine.specs.History.{transcripts_of}
 use Rattle.lock_model.specs.Rows.{shown}
+use Rattle.call_machine.specs.Logs.{plain_records}
+use Rattle.call_machine.specs.Strays.{diverging}
 use Rattle.call_machine.specs.Setup.{Inputs, first_state, setup_of}
 use Rattle.call_machine.specs.declared.fault.PlainFault.{PlainFault}
 use Rattle.call_machine.specs.declared.fault.PlainFault.TheVariants as plain_fault
@@ -26,28 +30,39 @@ abbrev pub all_true : List Bool → Bool
 all_true [] = true
 all_true (b ∷ bs) = b && all_true bs
 
--- a run that is over before all threads have ended came to a clock that is full: nothing else stops it so far
-abbrev pub stop_of : List Bool → Option Stop
-stop_of ended = if all_true ended then None else Some stop.ClockFull
+-- what a thread is stuck for that has the turn: an outcome that is not there, or room on its clock
+abbrev pub stuck_in : Phase → ℕ → Stop
+stuck_in (Outside job) i = stop.EndOfLog i
+stuck_in phase i = stop.ClockFull
+
+-- by whoever has the turn: nobody has, once all threads have ended
+abbrev pub stop_by : State → Option ℕ → Option Stop
+stop_by s (Some i) = Some (stuck_in (thread_of s i).phase i)
+stop_by s None = None
+
+-- by the thread at which the run diverges
+abbrev pub stop_of : State → Option ℕ → Option Stop
+stop_of s (Some i) = Some (stop.Diverged i (length (thread_of s i).came))
+stop_of s None = stop_by s (turn_holder (live_clocks s))
 
 -- the header of a run's log: the number of its threads, and its settings
 abbrev pub header_of : Inputs → Header
 header_of input = record { threads = length input.scripts; patience = input.settings.patience; door_cost = input.settings.door_cost }
 
--- the log of a run with this header: its end stands where all threads ended. So far nothing comes from outside
-abbrev pub log_of : Header → List Bool → LogText
-log_of header ended = record { header = header; records = []; closed = all_true ended }
+-- the log of so many events of a plain run: its end stands where all threads ended
+abbrev pub log_of : Inputs → ℕ → List Bool → LogText
+log_of input count ended = record { header = header_of input; records = plain_records (setup_of input) count (first_state input); closed = all_true ended }
 
--- what the last state of a plain run shows
-abbrev pub plain_of : Inputs → State → Plain
-plain_of input last =
+-- what a plain run shows that came to this state after so many events
+abbrev pub plain_of : Inputs → ℕ → State → Plain
+plain_of input count last =
     let rows = map shown last.rows in
     let ended = map (λ (t : lock.Thread). has_ended t.phase) last.threads in
     record {
       transcripts = transcripts_of (length last.threads) rows;
       history = record { rows = rows; asked = map (λ (t : lock.Thread). t.asked) last.threads };
-      log = text_of (log_of (header_of input) ended);
-      stop = stop_of ended;
+      log = text_of (log_of input count ended);
+      stop = stop_of last (diverging (setup_of input) last);
     }
 
 -- 1 to 8 scripts, with as many lists of outcomes
@@ -60,13 +75,20 @@ are_threads input = counts_fit (length input.scripts) (length input.outcomes)
 abbrev pub are_settings : Settings → Bool
 are_settings settings = nat_le 1 settings.patience && nat_le settings.patience limit.PATIENCE && (nat_le 1 settings.door_cost && nat_le settings.door_cost limit.DOOR_COST)
 
--- this is the plain run
+-- so many events of the plain schedule lead to this state, none of which is behind a state where the run diverges
+pub record GoesTo (setup : Setup) (first : State) (count : ℕ) (last : State) : Type 0 where
+  pub reached : plain_run setup count first ≡ last
+  pub straight : (k : ℕ) → k < count → diverging setup (plain_run setup k first) ≡ None
+
+-- this is the plain run: it goes on until it diverges, or no event is next
 pub record IsPlainRun (input : Inputs) (plain : Plain) : Type 0 where
   pub threads : are_threads input ≡ true
   pub settings : are_settings input.settings ≡ true
+  pub count : ℕ
   pub last : State
-  pub ends : EndsIn (setup_of input) (first_state input) last
-  pub shows : plain ≡ plain_of input last
+  pub goes : GoesTo (setup_of input) (first_state input) count last
+  pub ends : diverging (setup_of input) last ≡ None → IsOver (setup_of input) last
+  pub shows : plain ≡ plain_of input count last
 
 -- a run was made, or there is none: for the number of scripts or of lists, then for the settings, and only then for want of memory
 abbrev pub Runs : Result Plain PlainFault → Inputs → Type 0

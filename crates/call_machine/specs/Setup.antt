@@ -1,7 +1,6 @@
 -- What a plain run is made of, as a setup of the lock machine.
-use Rattle.std.specs.Prelude.{ℕ, List, [], length, map, slice_index_or}
+use Rattle.std.specs.Prelude.{ℕ, List, [], length, slice_index_or}
 use Rattle.posix_terms.specs.declared.outcome.Given.{Given}
-use Rattle.posix_terms.specs.declared.outcome.Outcome.{Outcome}
 use Rattle.posix_terms.specs.declared.transcript.Settings.{Settings}
 use Rattle.thread_scripts.specs.declared.line.Line.{Line}
 use Rattle.lock_model.specs.Machine.{Setup}
@@ -18,8 +17,8 @@ pub record Inputs : Type 0 where
 abbrev pub script_of : Inputs → ℕ → List Line
 script_of input i = slice_index_or input.scripts i []
 
-abbrev pub outcomes_of : Inputs → ℕ → List Outcome
-outcomes_of input i = map (λ (g : Given). g.outcome) (slice_index_or input.outcomes i [])
+abbrev pub outcomes_of : Inputs → ℕ → List Given
+outcomes_of input i = slice_index_or input.outcomes i []
 
 abbrev pub setup_of : Inputs → Setup
 setup_of input = real_setup input.settings (record { next = λ i. scripted (script_of input i); outcomes = outcomes_of input })

@@ -1,6 +1,6 @@
 -- A run at its start, and what it comes to.
-use Rattle.std.specs.Prelude.{ℕ, List, [], length, map, replicate, None, Bool, true, false}
-use Rattle.input_log.specs.Format.{text_of}
+use Rattle.std.specs.Prelude.{ℕ, List, [], ◌++◌, get_or, length, map, replicate, Option, Some, None, Bool, true, false}
+use Rattle.input_log.specs.Format.{closing, header_text}
 use Rattle.input_log.specs.declared.log.Header.{Header}
 use Rattle.object_store.specs.Store.{first_stored}
 use Rattle.posix_terms.specs.declared.limits.TheConstants.Limits as limit
@@ -8,8 +8,13 @@ use Rattle.thread_scripts.specs.Meaning.{start_of}
 use Rattle.thread_scripts.specs.declared.line.Line.{Line}
 use Rattle.det_mutex.specs.Attempt.{new_lock}
 use Rattle.call_machine.specs.History.{transcripts_of}
-use Rattle.call_machine.specs.Plain.{log_of, stop_of}
+use Rattle.call_machine.specs.Plain.{all_true}
 use Rattle.call_machine.specs.Shows.{Whole}
+use Rattle.call_machine.specs.Views.{clocks_of, no_thread}
+use Rattle.call_machine.specs.declared.fault.Stop.{Stop}
+use Rattle.call_machine.specs.declared.fault.Stop.TheVariants as stop
+use Rattle.logical_clocks.specs.TurnOrder.{turn_holder}
+use Rattle.posix_terms.specs.declared.outcome.Given.{Given}
 use Rattle.call_machine.specs.declared.plain.Plain.{Plain}
 use Rattle.call_machine.specs.declared.thread.Phase.{Phase}
 use Rattle.call_machine.specs.declared.thread.Phase.TheVariants as phase
@@ -18,25 +23,50 @@ use Rattle.call_machine.specs.declared.thread.Thread as declared
 
 -- a thread before its script's first line, without its clock
 abbrev pub first_item : List Line → declared.Thread
-first_item script = record { phase = phase.Working; asked = []; actor = start_of script; last = None }
+first_item script = record { phase = phase.Working; asked = []; actor = start_of script; last = None; came = 0 }
 
 abbrev pub first_thread : List Line → Thread
-first_thread script = record { phase = phase.Working; clock = 1; asked = []; actor = start_of script; last = None }
+first_thread script = record { phase = phase.Working; clock = 1; asked = []; actor = start_of script; last = None; came = 0 }
 
-abbrev pub first_whole : ℕ → List (List Line) → Whole
-first_whole patience scripts = record { patience = patience; threads = map first_thread scripts; lock = new_lock; objects = replicate limit.OBJECTS new_lock; table = first_stored; rows = [] }
+abbrev pub first_whole : Header → List (List Line) → List (List Given) → Whole
+first_whole header scripts outcomes =
+    record {
+      patience = header.patience;
+      door_cost = header.door_cost;
+      outcomes = outcomes;
+      log = record { text = header_text header; records = 0 };
+      threads = map first_thread scripts;
+      lock = new_lock;
+      objects = replicate limit.OBJECTS new_lock;
+      table = first_stored;
+      rows = [];
+    }
 
 abbrev pub is_ended : Phase → Bool
 is_ended phase.Ended = true
 is_ended p = false
 
--- what a run that is over tells, whose log has this header
-abbrev pub told : Header → Whole → Plain
-told header w =
+-- what a thread is stuck for that has the turn
+abbrev pub stuck_for : Phase → ℕ → Stop
+stuck_for (phase.Outside outing) i = stop.EndOfLog i
+stuck_for p i = stop.ClockFull
+
+abbrev pub stop_for : List Thread → Option ℕ → Option Stop
+stop_for threads (Some i) = let t : Thread = get_or threads i no_thread in Some (stuck_for t.phase i)
+stop_for threads None = None
+
+-- why a run stopped that diverged at this thread, or not
+abbrev pub stop_told : List Thread → Option ℕ → Option Stop
+stop_told threads (Some i) = let t : Thread = get_or threads i no_thread in Some (stop.Diverged i t.came)
+stop_told threads None = stop_for threads (turn_holder (clocks_of threads))
+
+-- what a run tells that has come to its end, or diverged at this thread
+abbrev pub told : Option ℕ → Whole → Plain
+told strayed w =
     let ended = map (λ (t : Thread). is_ended t.phase) w.threads in
     record {
       transcripts = transcripts_of (length w.threads) w.rows;
       history = record { rows = w.rows; asked = map (λ (t : Thread). t.asked) w.threads };
-      log = text_of (log_of header ended);
-      stop = stop_of ended;
+      log = w.log.text ++ closing (all_true ended) w.log.records;
+      stop = stop_told w.threads strayed;
     }

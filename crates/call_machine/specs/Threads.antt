@@ -15,9 +15,10 @@ pub record Thread : Type 0 where
   pub asked : List Step
   pub actor : ScriptState
   pub last : Option Reply
+  pub came : ℕ
 
 abbrev pub timed : declared.Thread → ℕ → Thread
-timed t clock = record { phase = t.phase; clock = clock; asked = t.asked; actor = t.actor; last = t.last }
+timed t clock = record { phase = t.phase; clock = clock; asked = t.asked; actor = t.actor; last = t.last; came = t.came }
 
 -- each with its clock
 abbrev pub joined : List declared.Thread → List ThreadClock → List Thread

@@ -19,7 +19,7 @@ clocks_of threads = map live_clock_of threads
 
 -- past the last thread
 abbrev pub no_item : declared.Thread
-no_item = record { phase = phase.Ended; asked = []; actor = start_of []; last = None }
+no_item = record { phase = phase.Ended; asked = []; actor = start_of []; last = None; came = 0 }
 
 abbrev pub no_thread : Thread
 no_thread = timed no_item 0

@@ -3,17 +3,19 @@ ghost use Rattle.std.specs.Prelude.{◌≡◌, ◌<◌, ◌&&◌, ℕ, true, IfO
 ghost use Rattle.det_mutex.specs.Attempt.{takes};
 ghost use Rattle.lock_model.specs.Machine.{is_number};
 ghost use Rattle.logical_clocks.specs.ThreadClocks.{clock_at};
-ghost use Rattle.call_machine.specs.Events.{Answers, Grants, GrantsObject, PlansTo, Reaches, Tries, object_taken, parts};
+ghost use Rattle.call_machine.specs.Events.{Answers, Grants, wants_to_keep, GrantsObject, PlansTo, Reaches, Tries, object_taken, parts};
 ghost use Rattle.call_machine.specs.Lives.{is_live};
 ghost use Rattle.call_machine.specs.Held.{end_held, turn_ended, phase_behind, told_as};
 ghost use Rattle.call_machine.specs.Threads.{KeepsOthers, timed};
+ghost use Rattle.call_machine.specs.declared.thread.Phase.TheVariants as phase;
 ghost use Rattle.object_store.specs.Store.{Stored, number_locked};
 
 use crate::machine::Shared;
-use crate::thread::{Phase, Thread};
+use crate::outside::keeps_table;
+use crate::thread::{Outing, Phase, Thread};
 use det_mutex::DetLock;
 use logical_clocks::Clocks;
-use object_store::TurnEnd;
+use object_store::{TurnEnd, TurnStart};
 use posix_terms::{Answer, Call, HistoryRow, Turn};
 use std::alloc::{AllocError, Global};
 use std::mem;
@@ -74,7 +76,7 @@ fn answered(
 }
 
 // Whether thread i holds a lock.
-fn holds(lock: DetLock, i: usize) -> bool
+pub fn holds(lock: DetLock, i: usize) -> bool
     ensures { result ≡ is_number lock.holder i }
 {
     match lock.holder {
@@ -146,8 +148,8 @@ fn plan(
     }
 }
 
-// `try_object`, by a thread that has the turn: takes the object where it can, for 1 either way. Then the table
-// is free, for 1 more, and the call is granted.
+// `try_object`, by a thread that has the turn: takes the object where it can, for 1 either way. Then the call is
+// granted and, unless it keeps the table, this is free, for 1 more.
 pub fn try_object(
     alloc: Global,
     patience: u32,
@@ -165,8 +167,9 @@ pub fn try_object(
         return Ok(false);
     };
     let now = clocks.clock(i);
+    let keeps = wants_to_keep(&thread.phase);
     let taken = taken_object(shared.lock, *lock, i, now);
-    let cost = if taken.is_some() { 2 } else { 1 };
+    let cost = if taken.is_some() && !keeps { 2 } else { 1 };
     if clocks.add(i, cost).is_err() {
         return Ok(false);
     }
@@ -174,9 +177,21 @@ pub fn try_object(
         return Ok(true);
     };
     *lock = taken;
-    shared.lock.free(i, now + 1);
+    if !keeps {
+        shared.lock.free(i, now + 1);
+    }
     grant_object(alloc, patience, i, thread, shared)?;
     Ok(true)
+}
+
+// Whether the call that wants an object keeps the table to its answer.
+fn wants_to_keep(phase: &Phase) -> bool
+    ensures { result ≡ wants_to_keep phase.now }
+{
+    match phase {
+        Phase::WantsObject { call, .. } => keeps_table(call),
+        _ => false,
+    }
 }
 
 // Grants the call of thread i that wants an object.
@@ -241,8 +256,28 @@ fn grant(
     ensures live { is_live thread.old.phase ≡ true → is_live thread.new.phase ≡ true }
 {
     shared.rows.reserve(1)?;
-    let ends = shared.store.make(alloc, &call, patience, turns)?;
-    hold(thread, shared.rows.len(), object, ends);
+    let (descriptions, objects) = shared.store.table.made();
+    // No run comes so far.
+    if descriptions >= 1 << 126 || objects >= 1 << 126 {
+        return Err(AllocError);
+    }
+    let row = shared.rows.len();
+    match shared.store.make(alloc, &call, patience, turns)? {
+        TurnStart::Ended(ends) => hold(thread, row, object, ends),
+        TurnStart::GoesOut(errand) => {
+            let keeps_table = keeps_table(&call);
+            go_out(
+                thread,
+                Outing {
+                    row,
+                    object,
+                    turns,
+                    errand,
+                    keeps_table,
+                },
+            );
+        }
+    }
     shared
         .rows
         .push(HistoryRow {
@@ -272,4 +307,12 @@ fn hold(thread: &mut Thread, row: usize, object: Option<usize>, ends: TurnEnd)
         object,
         blocked,
     };
+}
+
+// A turn goes outside, which has this row.
+fn go_out(thread: &mut Thread, outing: Outing)
+    ensures goes { (clock : ℕ) → timed thread.new clock ≡ record (timed thread.old clock) { phase = phase.ToOutside outing } }
+    ensures live { is_live thread.new.phase ≡ true }
+{
+    thread.phase = Phase::ToOutside(outing);
 }

@@ -1,29 +1,29 @@
 ghost use Rattle.std.specs.Prelude.{◌≡◌, ℕ, List, IfOk, map};
 ghost use Rattle.call_machine.specs.History.{transcript_of, transcripts_of};
 ghost use Rattle.call_machine.specs.Plain.{all_true};
-ghost use Rattle.call_machine.specs.Shows.{whole_of};
-ghost use Rattle.call_machine.specs.Starting.{is_ended, told};
+ghost use Rattle.call_machine.specs.Shows.{thread_at, whole_of};
+ghost use Rattle.call_machine.specs.Starting.{is_ended, stop_told, stuck_for, told};
 ghost use Rattle.call_machine.specs.declared.thread.Thread.{Thread};
 
 use crate::fault::Stop;
 use crate::history::{History, Steps};
-use crate::log::log_text;
 use crate::machine::Machine;
 use crate::plain::Plain;
 use crate::thread::{Phase, Thread};
-use input_log::Header;
 use posix_terms::{Answer, HistoryRow, Row, Transcript, Transcripts};
 use std::alloc::{AllocError, Global};
 
 impl Machine {
-    // What a run that is over tells, whose log has this header.
+    // What a run tells that has come to its end, or diverged at this thread.
     #[tactic(auto, using(crate::proofs::Joining::joining))]
-    pub fn finish(self, alloc: Global, header: Header) -> Result<Plain, AllocError>
-        ensures { IfOk result (λ plain. plain ≡ told header (whole_of self)) }
+    pub fn finish(self, alloc: Global, strayed: Option<usize>) -> Result<Plain, AllocError>
+        ensures { IfOk result (λ plain. plain ≡ told strayed (whole_of self)) }
     {
+        let stop = self.stop(strayed);
         let Machine {
             threads,
             shared,
+            log,
             ..
         } = self;
         let rows = shared.rows;
@@ -33,9 +33,43 @@ impl Machine {
         Ok(Plain {
             transcripts: Transcripts::from_vec(transcripts),
             history: History::new(rows, asked),
-            log: log_text(alloc, header, ended)?,
-            stop: if ended { None } else { Some(Stop::ClockFull) },
+            log: log.finish(ended)?,
+            stop,
         })
+    }
+
+    // Why a run stopped that diverged at this thread, or not: nobody has the turn once all threads have ended.
+    fn stop(&self, strayed: Option<usize>) -> Option<Stop>
+        ensures { result ≡ (let w = whole_of self.now in stop_told w.threads strayed) }
+    {
+        if let Some(i) = strayed {
+            return Some(Stop::Diverged(i, self.came(i)));
+        }
+        let i = self.clocks.turn_holder()?;
+        match self.threads.get(i) {
+            Some(thread) => Some(stuck_for(&thread.phase, i)),
+            None => Some(Stop::ClockFull),
+        }
+    }
+
+    // How many outcomes came for thread i.
+    fn came(&self, i: usize) -> u32
+        ensures { result ≡ (let w = whole_of self.now in (thread_at w i).came) }
+    {
+        match self.threads.get(i) {
+            Some(thread) => thread.came,
+            None => 0,
+        }
+    }
+}
+
+// What thread i is stuck for, which has the turn.
+fn stuck_for(phase: &Phase, i: usize) -> Stop
+    ensures { result ≡ stuck_for phase.now i }
+{
+    match phase {
+        Phase::Outside(_) => Stop::EndOfLog(i),
+        _ => Stop::ClockFull,
     }
 }
 

@@ -8,8 +8,10 @@ mod events;
 mod fault;
 mod finish;
 mod history;
+mod laws;
 mod log;
 mod machine;
+mod outside;
 mod plain;
 mod run;
 mod start;
@@ -19,5 +21,6 @@ mod thread;
 
 pub use fault::{PlainFault, Stop};
 pub use history::{History, Steps};
+pub use laws::logs_of_plain_runs;
 pub use plain::Plain;
 pub use run::plain_run;

@@ -1,11 +1,12 @@
-ghost use Rattle.std.specs.Prelude.{◌≡◌, ◌≤◌, ◌*◌, length};
+ghost use Rattle.std.specs.Prelude.{◌≡◌, length};
 ghost use Rattle.call_machine.specs.Lives.{Agree};
 
+use crate::log::Log;
 use crate::thread::Thread;
 use det_mutex::DetLock;
 use logical_clocks::Clocks;
 use object_store::Store;
-use posix_terms::HistoryRow;
+use posix_terms::{HistoryRow, Outcomes};
 
 // The table with its lock and the bodies of the objects, and the rows of what was granted so far.
 #[derive(Drop)]
@@ -13,10 +14,6 @@ pub struct Shared {
     pub lock: DetLock,
     pub store: Store,
     pub rows: Vec<HistoryRow>,
-
-    // each call makes two descriptions and one object at most
-    ghost descriptions: { store.table.descriptions.made ≤ 2 * length rows.items },
-    ghost objects: { store.table.made_objects ≤ length rows.items },
 }
 
 // The threads of a run with their clocks, what they share, and the lock of each object number. A number that
@@ -25,6 +22,12 @@ pub struct Shared {
 pub struct Machine {
     // a call that is blocked for so many turns is not made again
     pub patience: u32,
+    // what a call that goes outside adds to its thread's clock
+    pub door_cost: u32,
+    // by thread, what comes for it from outside
+    pub outcomes: Vec<Outcomes>,
+    // the record of each outcome that came
+    pub log: Log,
     pub threads: Vec<Thread>,
     pub clocks: Clocks,
     pub shared: Shared,

@@ -1,6 +1,18 @@
 use crate::history::Steps;
+use descriptor_table::Errand;
 use posix_terms::{Call, Reply};
 use thread_scripts::ScriptActor;
+
+// A call that goes outside: the row of the history that it has, the object whose lock it holds, for how many turns it
+// was blocked before, what it asks, and whether it keeps the table to its answer.
+#[derive(Clone, Copy)]
+pub struct Outing {
+    pub row: usize,
+    pub object: Option<usize>,
+    pub turns: u32,
+    pub errand: Errand,
+    pub keeps_table: bool,
+}
 
 // Where a thread is between its events.
 #[derive(Drop)]
@@ -25,6 +37,12 @@ pub enum Phase {
         object: Option<usize>,
         blocked: Option<u32>,
     },
+    // in a call that was granted and has still to go outside
+    ToOutside(Outing),
+    // outside, where its outcome is awaited
+    Outside(Outing),
+    // its outcome came and stands in the log
+    Recorded(Outing),
     // in a call that was blocked for so many turns, which it makes again
     Blocked {
         call: Call,
@@ -35,12 +53,13 @@ pub enum Phase {
     Ended,
 }
 
-// A thread of a run: with its script, the steps that it asked, and the last reply, which its script sees
-// with its next step.
+// A thread of a run: with its script, the steps that it asked, the last reply, which its script sees with its
+// next step, and how many outcomes came for it from outside.
 #[derive(Drop)]
 pub struct Thread {
     pub phase: Phase,
     pub asked: Steps,
     pub actor: ScriptActor,
     pub last: Option<Reply>,
+    pub came: u32,
 }

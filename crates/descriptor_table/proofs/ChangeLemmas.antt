@@ -13,12 +13,10 @@ use Rattle.posix_terms.specs.Descriptors.{is_key}
 use Rattle.posix_terms.specs.Duplicates as duplicates
 use Rattle.posix_terms.specs.Names.{links_of}
 use Rattle.posix_terms.specs.Object as object
-use Rattle.posix_terms.specs.Object.{State, Content, File, Node, FileNode, Directory, path_cmp}
+use Rattle.posix_terms.specs.Object.{State, Content, File, Node, FileNode, Directory, path_cmp, content_of}
 use Rattle.file_descriptions.proofs.SoundLemmas.{AreSound-removed}
 use Rattle.file_descriptions.specs.Descriptions.{AreSound, ContainsKey, DescriptionMap, description_at, new_description, no_description, with_description, with_holder, with_new, with_offset, without}
 use Rattle.file_descriptions.specs.declared.description.Description.{Description}
-use Rattle.posix_terms.specs.Sockets as sockets
-use Rattle.posix_terms.specs.Transfers.{content_of}
 use Rattle.posix_terms.specs.declared.object.End.{End}
 use Rattle.posix_terms.specs.declared.object.End.TheVariants as part
 use Rattle.file_descriptions.specs.declared.description.StatusFlags.{StatusFlags}
@@ -522,12 +520,12 @@ pub birth_of_new : (t : TableState) (node : ℕ) → node < length t.objects →
 birth_of_new t node inside = ap (λ (o : Option ℕ). unwrap_or o (t.made_objects + 1)) (get_or-set_same t.objects node (Some t.made_objects) None inside)
 
 -- what a new object holds
-pub content_of_new : (t : TableState) (s : State) (node : ℕ) (content : Content) → Shows t s → node < length t.objects → content_of (sockets.with_object s content) (birth_at (with_object t node) node) ≡ content
+pub content_of_new : (t : TableState) (s : State) (node : ℕ) (content : Content) → Shows t s → node < length t.objects → content_of (object.with_object s content) (birth_at (with_object t node) node) ≡ content
 content_of_new t s node content shows inside =
     ap (λ (b : ℕ). unwrap_or (fin.get (fin.insert s.objects s.next_object content) b) (File [])) (birth_of_new t node inside ∙ sym shows.next_object)
     ∙ ap (λ (o : Option Content). unwrap_or o (File [])) (get-insert_same s.objects s.next_object content)
 
-pub shows-with_object : (t : TableState) (s : State) (content : Content) (node : ℕ) → IsSound t → Shows t s → node < length t.objects → slice_index_or t.objects node None ≡ None → Shows (with_object t node) (sockets.with_object s content)
+pub shows-with_object : (t : TableState) (s : State) (content : Content) (node : ℕ) → IsSound t → Shows t s → node < length t.objects → slice_index_or t.objects node None ≡ None → Shows (with_object t node) (object.with_object s content)
 shows-with_object t s content node sound shows inside free =
     record {
       descriptors = shows.descriptors;
@@ -549,7 +547,7 @@ shows-with_object t s content node sound shows inside free =
     older : (n : ℕ) → is_used t n ≡ true → birth_at t n ≢ s.next_object
     older n used same = let below : birth_at t n < t.made_objects = birth_below t n sound used in absurd (omega (arith, below, same, shows.next_object))
 
-    content_still : (n : ℕ) → is_used t n ≡ true → content_of (sockets.with_object s content) (birth_at new n) ≡ content_of s (birth_at t n)
+    content_still : (n : ℕ) → is_used t n ≡ true → content_of (object.with_object s content) (birth_at new n) ≡ content_of s (birth_at t n)
     content_still n used =
         ap (λ (b : ℕ). unwrap_or (fin.get (fin.insert s.objects s.next_object content) b) (File [])) (birth_still t node n free used)
         ∙ ap (λ (o : Option Content). unwrap_or o (File [])) (get-insert_other s.objects s.next_object content (birth_at t n) (older n used))
@@ -583,15 +581,15 @@ shows-with_object t s content node sound shows inside free =
 pub shows-with_file : (t : TableState) (s : State) (components : List (List ℕ)) (node : ℕ) → IsSound t → Shows t s → node < length t.objects → slice_index_or t.objects node None ≡ None
     → Shows (with_file t (fin.insert t.paths components (FileNode node)) node) (posix.with_file s components)
 shows-with_file t s components node sound shows inside free =
-    subst (λ (b : ℕ). Shows (with_file t (fin.insert t.paths components (FileNode node)) node) (record (sockets.with_object s (File [])) { paths = fin.insert s.paths components (FileNode b) }))
+    subst (λ (b : ℕ). Shows (with_file t (fin.insert t.paths components (FileNode node)) node) (record (object.with_object s (File [])) { paths = fin.insert s.paths components (FileNode b) }))
     (birth_of_new t node inside ∙ sym shows.next_object)
-    (shows-name (with_object t node) (sockets.with_object s (File [])) components (FileNode node) (shows-with_object t s (File []) node sound shows inside free) (λ n e. is_file n (same_node n e)))
+    (shows-name (with_object t node) (object.with_object s (File [])) components (FileNode node) (shows-with_object t s (File []) node sound shows inside free) (λ n e. is_file n (same_node n e)))
   where
     same_node : (n : ℕ) → FileNode node ≡ FileNode n → node ≡ n
     same_node n e = cc
 
-    is_file : (n : ℕ) → node ≡ n → is_of part.Only (content_of (sockets.with_object s (File [])) (birth_at (with_object t node) n)) ≡ true
-    is_file n same = ap (λ (k : ℕ). is_of part.Only (content_of (sockets.with_object s (File [])) (birth_at (with_object t node) k))) (sym same) ∙ ap (is_of part.Only) (content_of_new t s node (File []) shows inside)
+    is_file : (n : ℕ) → node ≡ n → is_of part.Only (content_of (object.with_object s (File [])) (birth_at (with_object t node) n)) ≡ true
+    is_file n same = ap (λ (k : ℕ). is_of part.Only (content_of (object.with_object s (File [])) (birth_at (with_object t node) k))) (sym same) ∙ ap (is_of part.Only) (content_of_new t s node (File []) shows inside)
 
 -- ## An offset that is set
 

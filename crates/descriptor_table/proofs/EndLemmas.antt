@@ -1,5 +1,5 @@
 -- The ends of objects: which are open, and what the ends say of what an object is.
-use Rattle.std.proofs.Common.{◌≡◌, ℕ, ◌<◌, ◌==◌, ◌&&◌, List, Option, Some, None, is_some, Ok, Err, Bool, true, false, not, if◌then◌else◌, count_by, refl, sym, ap, ◌∙◌}
+use Rattle.std.proofs.Common.{◌≡◌, ℕ, ℤ, ◌<◌, ◌==◌, ◌&&◌, List, Option, Some, None, is_some, Ok, Err, Bool, true, false, not, if◌then◌else◌, count_by, refl, sym, ap, ◌∙◌}
 use Rattle.std.proofs.lemmas.Bool.{false≢true}
 use Rattle.std.specs.Cmp.{nat_cmp_total}
 use Rattle.std.specs.FinMap as fin
@@ -8,13 +8,16 @@ use Rattle.std.specs.Ordering.{nat_cmp}
 use Rattle.posix_terms.specs.Descriptors as posix
 use Rattle.posix_terms.specs.Descriptors.{is_of_end}
 use Rattle.posix_terms.specs.Ends.{is_end, is_first}
-use Rattle.posix_terms.specs.Object.{State, Content, File, Pipe, Pair, any_below}
+use Rattle.posix_terms.specs.Object.{State, Content, File, Pipe, Pair, DoorTo, any_below, content_of}
 use Rattle.posix_terms.specs.Object as object
 use Rattle.posix_terms.specs.Streams.{PairState}
-use Rattle.posix_terms.specs.Transfers.{content_of}
 use Rattle.posix_terms.specs.Refusals.{refuse_if}
 use Rattle.posix_terms.specs.declared.errno.Errno.{Errno}
-use Rattle.posix_terms.specs.declared.errno.Errno.TheVariants.{ENOTSOCK}
+use Rattle.posix_terms.specs.declared.call.ShutdownHow.{ShutdownHow}
+use Rattle.posix_terms.specs.declared.call.Whence.{Whence}
+use Rattle.posix_terms.specs.declared.errno.Errno.TheVariants.{ENOTSOCK, ESPIPE}
+use Rattle.posix_terms.specs.declared.object.Door.{Door}
+use Rattle.posix_terms.specs.declared.object.Door.TheVariants as door
 use Rattle.posix_terms.specs.declared.reply.Reply.{Reply}
 use Rattle.posix_terms.specs.declared.object.End.{End}
 use Rattle.posix_terms.specs.declared.object.End.TheVariants as part
@@ -27,33 +30,64 @@ use Rattle.descriptor_table.proofs.EntryLemmas.{any_of, any_second, counted_none
 use Rattle.descriptor_table.proofs.KnownLemmas.{equal_nat}
 use Rattle.descriptor_table.proofs.PathLemmas.{any_of_first, births_alike, first_of_any}
 use Rattle.descriptor_table.specs.Acts.{is_open}
-use Rattle.descriptor_table.specs.Plans.{locks, moves, of_file, socket_side, stream_kind}
-use Rattle.descriptor_table.specs.Shows.{Shows, birth_at, is_of, shown}
+use Rattle.descriptor_table.specs.Plans.{act_or_ask, leads_outside, locks, moves, not_listener, of_file, of_listener, seekable, shut_act, stat_by}
+use Rattle.descriptor_table.specs.Shows.{Shows, birth_at, is_of, same_door, shown}
 use Rattle.descriptor_table.specs.Table.{TableState, IsSound, is_used}
 use Rattle.descriptor_table.specs.declared.plan.Op.{Op}
 use Rattle.descriptor_table.specs.declared.plan.Plan.TheVariants as plan
 
 -- ## What an object is
 
+-- what is planned for an end of a pipe
+pub record IsPipeEnd (e : End) : Type 0 where
+  pub stream : is_end e part.Only ≡ false
+  pub told : stat_by e ≡ Some (kind.Pipe, 0)
+  pub inside : leads_outside e ≡ false
+  pub transfers : not_listener e ≡ Ok tt
+  pub no_offset : (offset : ℤ) (whence : Whence) → seekable e offset whence ≡ Err ESPIPE
+  pub no_socket : (d : Description) (how : ShutdownHow) → shut_act d how e ≡ Err ENOTSOCK
+  pub no_listener : of_listener e ≡ Err ENOTSOCK
+
 -- what an object is that has this end
 pub data Kind (e : End) (c : Content) : Type 0 where
   IsFile : (file : List ℕ) → (its : e ≡ part.Only) → (is : c ≡ File file) → Kind e c
-  IsPipe : (waiting : List ℕ) → (stream : is_end e part.Only ≡ false) → (told : stream_kind e ≡ Some kind.Pipe) → (no_side : socket_side e ≡ Err ENOTSOCK) → (is : c ≡ Pipe waiting) → Kind e c
+  IsPipe : (waiting : List ℕ) → (pipe : IsPipeEnd e) → (is : c ≡ Pipe waiting) → Kind e c
   IsPair : (p : PairState) → (side : Side) → (its : e ≡ part.Socket side) → (is : c ≡ Pair p) → Kind e c
+  IsDoor : (d : Door) → (its : e ≡ part.Door d) → (is : c ≡ DoorTo d) → Kind e c
+
+-- doors that are of one kind, and listeners of one port, are the same
+pub one_door : (one other : Door) → same_door one other ≡ true → other ≡ one
+one_door door.HostFile door.HostFile same = refl
+one_door (door.Listener port) (door.Listener other) same = ap (λ (p : ℕ). door.Listener p) (sym (equal_nat port other same))
+one_door door.Stream door.Stream same = refl
+one_door door.HostFile (door.Listener other) same = absurd (false≢true same)
+one_door door.HostFile door.Stream same = absurd (false≢true same)
+one_door (door.Listener port) door.HostFile same = absurd (false≢true same)
+one_door (door.Listener port) door.Stream same = absurd (false≢true same)
+one_door door.Stream door.HostFile same = absurd (false≢true same)
+one_door door.Stream (door.Listener other) same = absurd (false≢true same)
 
 pub kind_of : (e : End) (c : Content) → is_of e c ≡ true → Kind e c
 kind_of part.Only (File file) has = IsFile file refl refl
-kind_of part.Read (Pipe waiting) has = IsPipe waiting refl refl refl refl
-kind_of part.Write (Pipe waiting) has = IsPipe waiting refl refl refl refl
+kind_of part.Read (Pipe waiting) has = IsPipe waiting (record { stream = refl; told = refl; inside = refl; transfers = refl; no_offset = λ offset whence. refl; no_socket = λ d how. refl; no_listener = refl }) refl
+kind_of part.Write (Pipe waiting) has = IsPipe waiting (record { stream = refl; told = refl; inside = refl; transfers = refl; no_offset = λ offset whence. refl; no_socket = λ d how. refl; no_listener = refl }) refl
 kind_of (part.Socket side) (Pair p) has = IsPair p side refl refl
+kind_of (part.Door one) (DoorTo other) has = IsDoor one refl (ap (λ (d : Door). DoorTo d) (one_door one other has))
 kind_of part.Only (Pipe waiting) has = absurd (false≢true has)
 kind_of part.Only (Pair p) has = absurd (false≢true has)
+kind_of part.Only (DoorTo door) has = absurd (false≢true has)
 kind_of part.Read (File file) has = absurd (false≢true has)
 kind_of part.Read (Pair p) has = absurd (false≢true has)
+kind_of part.Read (DoorTo door) has = absurd (false≢true has)
 kind_of part.Write (File file) has = absurd (false≢true has)
 kind_of part.Write (Pair p) has = absurd (false≢true has)
+kind_of part.Write (DoorTo door) has = absurd (false≢true has)
 kind_of (part.Socket side) (File file) has = absurd (false≢true has)
 kind_of (part.Socket side) (Pipe waiting) has = absurd (false≢true has)
+kind_of (part.Socket side) (DoorTo door) has = absurd (false≢true has)
+kind_of (part.Door door) (File file) has = absurd (false≢true has)
+kind_of (part.Door door) (Pipe waiting) has = absurd (false≢true has)
+kind_of (part.Door door) (Pair p) has = absurd (false≢true has)
 
 -- the one end of a file
 pub file_only : (e : End) (file : List ℕ) → is_of e (File file) ≡ true → e ≡ part.Only
@@ -61,6 +95,7 @@ file_only part.Only file has = refl
 file_only part.Read file has = absurd (false≢true has)
 file_only part.Write file has = absurd (false≢true has)
 file_only (part.Socket side) file has = absurd (false≢true has)
+file_only (part.Door door) file has = absurd (false≢true has)
 
 -- the ends of a pair
 pub pair_side : (e : End) (p : PairState) → is_of e (Pair p) ≡ true → (side : Side) × (e ≡ part.Socket side)
@@ -68,6 +103,7 @@ pair_side part.Only p has = absurd (false≢true has)
 pair_side part.Read p has = absurd (false≢true has)
 pair_side part.Write p has = absurd (false≢true has)
 pair_side (part.Socket side) p has = (side, refl)
+pair_side (part.Door door) p has = absurd (false≢true has)
 
 -- a socket is no file
 pub socket_stream : (e : End) (side : Side) → e ≡ part.Socket side → is_end e part.Only ≡ false
@@ -98,6 +134,13 @@ moves_stream d n none act stream = ap (λ (x : Bool). if (n == 0) && not x then 
     by_zero true = refl
     by_zero false = refl
 
+-- what a call does where there is no door, and what it asks of one
+pub acts_inside : (d : Description) (act ask : Op) → leads_outside d.«end» ≡ false → act_or_ask d act ask ≡ act
+acts_inside d act ask inside = ap (λ (b : Bool). if b then ask else act) inside
+
+pub asks_outside : (d : Description) (act ask : Op) (door : Door) → d.«end» ≡ part.Door door → act_or_ask d act ask ≡ ask
+asks_outside d act ask door its = ap (λ (e : End). if leads_outside e then ask else act) its
+
 -- ## Contents of one kind
 
 -- a content that has the ends of another
@@ -109,6 +152,8 @@ file_alike (File bytes) file has part.Only its = refl
 file_alike (File bytes) file has part.Read its = absurd (false≢true its)
 file_alike (File bytes) file has part.Write its = absurd (false≢true its)
 file_alike (File bytes) file has (part.Socket side) its = absurd (false≢true its)
+file_alike (File bytes) file has (part.Door door) its = absurd (false≢true its)
+file_alike (DoorTo door) file has which its = absurd (false≢true has)
 file_alike (Pipe bytes) file has which its = absurd (false≢true has)
 file_alike (Pair p) file has which its = absurd (false≢true has)
 
@@ -123,6 +168,7 @@ alike_pipe c bytes other is which its = same which (sym (ap (is_of which) is) �
     same part.Read has = has
     same part.Write has = has
     same (part.Socket side) has = has
+    same (part.Door door) has = has
 
 pub alike_pair : (c : Content) (p other : PairState) → c ≡ Pair other → HasEndsOf (Pair p) c
 alike_pair c p other is which its = same which (sym (ap (is_of which) is) ∙ its)
@@ -132,6 +178,7 @@ alike_pair c p other is which its = same which (sym (ap (is_of which) is) ∙ it
     same part.Read has = has
     same part.Write has = has
     same (part.Socket side) has = has
+    same (part.Door door) has = has
 
 -- ## Ends that are open
 
@@ -183,6 +230,22 @@ same_end (Pair p) (part.Socket Side0) (part.Socket Side0) x y = refl
 same_end (Pair p) (part.Socket Side0) (part.Socket Side1) x y = refl
 same_end (Pair p) (part.Socket Side1) (part.Socket Side0) x y = refl
 same_end (Pair p) (part.Socket Side1) (part.Socket Side1) x y = refl
+same_end (DoorTo door) (part.Door one) (part.Door other) x y = refl
+same_end (DoorTo door) (part.Door one) part.Only x y = absurd (false≢true y)
+same_end (DoorTo door) (part.Door one) part.Read x y = absurd (false≢true y)
+same_end (DoorTo door) (part.Door one) part.Write x y = absurd (false≢true y)
+same_end (DoorTo door) (part.Door one) (part.Socket side) x y = absurd (false≢true y)
+same_end (DoorTo door) part.Only b x y = absurd (false≢true x)
+same_end (DoorTo door) part.Read b x y = absurd (false≢true x)
+same_end (DoorTo door) part.Write b x y = absurd (false≢true x)
+same_end (DoorTo door) (part.Socket side) b x y = absurd (false≢true x)
+same_end (File bytes) (part.Door one) b x y = absurd (false≢true x)
+same_end (File bytes) part.Only (part.Door other) x y = absurd (false≢true y)
+same_end (Pipe bytes) (part.Door one) b x y = absurd (false≢true x)
+same_end (Pipe bytes) part.Read (part.Door other) x y = absurd (false≢true y)
+same_end (Pipe bytes) part.Write (part.Door other) x y = absurd (false≢true y)
+same_end (Pair p) (part.Door one) b x y = absurd (false≢true x)
+same_end (Pair p) (part.Socket side) (part.Door other) x y = absurd (false≢true y)
 same_end (File bytes) part.Read b x y = absurd (false≢true x)
 same_end (File bytes) part.Write b x y = absurd (false≢true x)
 same_end (File bytes) (part.Socket side) b x y = absurd (false≢true x)

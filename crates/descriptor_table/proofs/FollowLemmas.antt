@@ -12,23 +12,25 @@ use Rattle.posix_terms.specs.Descriptors as posix
 use Rattle.posix_terms.specs.Descriptors.{close_result, open_result}
 use Rattle.posix_terms.specs.Duplicates as duplicates
 use Rattle.posix_terms.specs.Duplicates.{dup_result, dup_from_result, dup2_result, descriptor_number}
-use Rattle.posix_terms.specs.Effects.{Effect, Blocks, Completes}
+use Rattle.posix_terms.specs.Doors as doors
+use Rattle.posix_terms.specs.Doors.{host_open_result, host_path, port_of, tcp_accept_result, tcp_connect_result, tcp_listen_result}
+use Rattle.posix_terms.specs.Effects.{Effect, Asking, Asks, Blocks, Completes, asks_of}
 use Rattle.posix_terms.specs.Files.{bytes_at, resized, written}
 use Rattle.posix_terms.specs.Names as names
 use Rattle.posix_terms.specs.Names.{PathMap, added, file_named, file_node, has_entries, link_result, mkdir_result, removed, removed_dir, removed_dir_at, rmdir_result, unlink_result}
 use Rattle.posix_terms.specs.Paths.{node_at, resolved}
 use Rattle.std.specs.FinMap.{FinMap}
 use Rattle.std.specs.Ordering.{nat_cmp}
-use Rattle.posix_terms.specs.Object.{State, Content, File, Pipe, Pair, Node, FileNode, Directory}
+use Rattle.posix_terms.specs.Object.{State, Content, File, Pipe, Pair, DoorTo, Node, FileNode, Directory, content_of}
 use Rattle.posix_terms.specs.Object as object
 use Rattle.posix_terms.specs.Refusals.{◌>>=◌, count_of, position_of, refuse_if, some_or}
 use Rattle.posix_terms.specs.Status.{fstat_result, getfl_result, setfl_result}
 use Rattle.posix_terms.specs.Ends.{side_of}
 use Rattle.posix_terms.specs.Sockets as sockets
-use Rattle.posix_terms.specs.Sockets.{pair_in, pipe_result, shutdown_result, socketpair_result}
-use Rattle.posix_terms.specs.Step.{Carried, concluded, step, waited}
-use Rattle.posix_terms.specs.Streams.{PairState, Reading, Reads, Ends, NothingYet, Writing, Writes, Breaks, NoRoom, new_pair, pair_read, pair_write, peer_of, shut, stream_read, stream_write, with_waiting}
-use Rattle.posix_terms.specs.Transfers.{base_of, content_of, file_in, has_peer, offset_of, read_content, read_done, seek_content, write_at, write_content, write_done, read_result, write_result, pread_result, pwrite_result, lseek_result, ftruncate_result, size_of, start_of}
+use Rattle.posix_terms.specs.Sockets.{pipe_result, shut_content, shutdown_result, shuttable, socketpair_result}
+use Rattle.posix_terms.specs.Step.{Carried, Stepped, asks, closes_door, concluded, failed, is_again, outside, step, waited}
+use Rattle.posix_terms.specs.Streams.{Reading, Reads, Ends, NothingYet, Writing, Writes, Breaks, NoRoom, new_pair, pair_read, pair_write, peer_of, shut, stream_read, stream_write, with_waiting}
+use Rattle.posix_terms.specs.Transfers.{base_of, file_in, has_peer, host_offset, not_listener, offset_of, read_content, read_done, seek_content, write_at, write_content, write_done, read_result, write_result, pread_result, pwrite_result, lseek_result, ftruncate_result, size_of, start_of}
 use Rattle.posix_terms.specs.declared.call.Access.{Access}
 use Rattle.posix_terms.specs.declared.call.Access.TheVariants.{ReadOnly, WriteOnly, ReadWrite}
 use Rattle.posix_terms.specs.declared.call.Call.{Call}
@@ -37,12 +39,18 @@ use Rattle.posix_terms.specs.declared.call.OpenFlags.{OpenFlags}
 use Rattle.posix_terms.specs.declared.call.ShutdownHow.{ShutdownHow}
 use Rattle.posix_terms.specs.declared.call.Whence.{Whence}
 use Rattle.posix_terms.specs.declared.errno.Errno.{Errno}
-use Rattle.posix_terms.specs.declared.errno.Errno.TheVariants.{EAGAIN, EBADF, EBUSY, EEXIST, EINVAL, EISDIR, EMFILE, ENFILE, ENOENT, ENOSPC, ENOTEMPTY, ENOTSOCK, ESPIPE}
+use Rattle.posix_terms.specs.declared.errno.Errno.TheVariants.{EAGAIN, EBADF, EBUSY, EEXIST, EINTR, EINVAL, EIO, EISDIR, EMFILE, ENFILE, ENOENT, ENOSPC, ENOTEMPTY, ESPIPE}
+use Rattle.posix_terms.specs.declared.object.Door.{Door}
+use Rattle.posix_terms.specs.declared.object.Door.TheVariants as door
 use Rattle.posix_terms.specs.declared.object.End.{End}
 use Rattle.posix_terms.specs.declared.object.End.TheVariants as part
 use Rattle.posix_terms.specs.declared.object.Side.{Side}
 use Rattle.posix_terms.specs.declared.object.Side.TheVariants.{Side0, Side1}
+use Rattle.posix_terms.specs.declared.outcome.OutKind.{OutKind}
+use Rattle.posix_terms.specs.declared.outcome.OutKind.TheVariants as out
 use Rattle.posix_terms.specs.declared.outcome.Outcome.{Outcome}
+use Rattle.posix_terms.specs.declared.outcome.Outcome.TheVariants as came
+use Rattle.posix_terms.specs.declared.request.Request.{Request}
 use Rattle.posix_terms.specs.declared.reply.Reply.{Reply}
 use Rattle.posix_terms.specs.declared.reply.Reply.TheVariants as reply
 use Rattle.posix_terms.specs.declared.transcript.Settings.{Settings}
@@ -51,32 +59,38 @@ use Rattle.file_descriptions.specs.declared.description.Description.{Description
 use Rattle.descriptor_table.proofs.ChangeLemmas.{birth_of_new, content_of_new, description_got, shows-opened, shows-with_file, shows-with_object, shows-closed, shows-content, shows-flags, shows-name, shows-offset, shows-shared, shows-without_gone}
 use Rattle.file_descriptions.proofs.SoundLemmas.{AreSound-changed, AreSound-new, AreSound-removed}
 use Rattle.std.proofs.lemmas.List.{get_or-set_same}
-use Rattle.descriptor_table.proofs.EndLemmas.{HasEndsOf, alike_file, alike_pair, alike_pipe, file_alike}
+use Rattle.descriptor_table.proofs.EndLemmas.{HasEndsOf, alike_file, alike_pair, alike_pipe, file_alike, kind_of}
 use Rattle.descriptor_table.proofs.KnownLemmas.{lowest_below, some_inside}
 use Rattle.descriptor_table.proofs.PathLemmas.{birth_is, file_at_name, has_entries_shown, names_shown, node_shown, resolved_shown}
-use Rattle.descriptor_table.proofs.PlanLemmas.{AreFree, full_shown, lowest_none, named_shown, plans-as_step, shows-without_name, some_shown, two_free, two_shown}
+use Rattle.descriptor_table.proofs.PlanLemmas.{AreFree, ends_shown, full_shown, listener_by, lowest_none, named_shown, plans-as_step, shows-without_name, some_shown, two_free, two_shown}
 use Rattle.descriptor_table.proofs.ShownLemmas.{FoundBoth, Shut, Open, found_both, key_known, key_shown, lowest_shown}
-use Rattle.descriptor_table.proofs.SoundLemmas.{closed_other, get-insert_same, get-remove_other, named_as, named_at, names_without, none_past, ok_same, room_of, sound-freed, sound-let_go, sound-named, sound-opened, sound-with_file, sound-with_object}
-use Rattle.descriptor_table.specs.Changes.{AreOpened, Changes, IsOpened, TwoEnds, no_flags, two_ends, two_given, with_object, file_at, is_refused, numbers_given, opened_number, Opening, found_or_made, opened, opening, status_flags, with_file, close_change, closed, closed_if_open, dup2_change, dup_change, dup_from_change, kept_or, let_go, link_change, mkdir_change, rmdir_change, setfl_change, shared, unlink_change, with_paths, without_gone}
+use Rattle.descriptor_table.proofs.SoundLemmas.{closed_other, get-insert_same, get-remove_other, itself, named_as, named_at, names_without, none_past, ok_same, room_of, sound-freed, sound-let_go, sound-named, sound-opened, sound-with_file, sound-with_object}
+use Rattle.descriptor_table.specs.Changes as changes
+use Rattle.descriptor_table.specs.Changes.{AreOpened, Changes, IsOpened, NewDoor, OpensDoor, TwoEnds, door_flags, door_given, door_number, new_door, no_flags, two_ends, two_given, with_object, file_at, is_refused, numbers_given, opened_number, Opening, found_or_made, opened, opening, status_flags, with_file, close_change, closed, closed_if_open, dup2_change, dup_change, dup_from_change, kept_or, let_go, link_change, mkdir_change, rmdir_change, setfl_change, shared, unlink_change, with_paths, without_gone}
 use Rattle.directories.specs.Lookup.{looked_up}
-use Rattle.descriptor_table.specs.Plans.{answered, locks, planned, open_new, open_node, open_plan, open_there, two_ends_plan}
+use Rattle.descriptor_table.specs.Plans.{answered, dup2_plan, ends_a_door, host_open_plan, locks, of_listener, open_new, open_node, open_plan, open_there, opens_plan, planned, replaced, tcp_accept_plan, tcp_connect_plan, tcp_listen_plan, two_ends_plan}
 use Rattle.descriptor_table.specs.declared.plan.NewNumbers.{NewNumbers}
 use Rattle.descriptor_table.specs.declared.plan.NewNumbers.TheVariants as numbers
 use Rattle.descriptor_table.specs.declared.plan.Op.{Op}
 use Rattle.descriptor_table.specs.declared.plan.Op.TheVariants as op
 use Rattle.descriptor_table.specs.declared.plan.Plan.{Plan}
 use Rattle.descriptor_table.specs.declared.plan.Plan.TheVariants as plan
-use Rattle.descriptor_table.specs.Agreement.{AgreesOn, ChangesAsStep, TellsAsStep, numbers_told}
+use Rattle.descriptor_table.specs.Agreement.{AgreesOn, ChangesAsStep, IsMadeWith, TellsAsStep, numbers_told}
 use Rattle.posix_terms.proofs.Refused.{fail_leaves_state}
 use Rattle.posix_terms.specs.Locked.{locked_object}
 use Rattle.posix_terms.specs.declared.reply.Answer.TheVariants as answer
-use Rattle.descriptor_table.specs.Shows.{Shows, birth_at, birth_of, is_of, shown, shown_node}
+use Rattle.descriptor_table.specs.Shows.{Shows, birth_at, birth_of, is_of, same_door, shown, shown_node}
 use Rattle.descriptor_table.specs.Table.{TableState, IsSound, described, free_object, is_gone, is_used, key_at, lowest_from, two_numbers}
 
--- both are refused, or the table after shows the state after
+-- whatever comes of what is asked outside, the table shows what is left
+abbrev pub LeavesShown : TableState → Asking → Type 0
+LeavesShown u a = Shows u a.otherwise × ((value : ℕ) (bytes : List ℕ) → Shows u (a.succeeds value bytes).0)
+
+-- both are refused, or the table after shows the state after, whatever comes of what is asked outside; and that does not make the call wait
 abbrev pub Follows : Result TableState Errno → Result Effect Errno → Type 0
 Follows (Ok u) (Ok (Completes after r)) = Shows u after
 Follows (Ok u) (Ok Blocks) = ⊥
+Follows (Ok u) (Ok (Asks a)) = LeavesShown u a × (a.waits ≡ false)
 Follows (Ok u) (Err e) = ⊥
 Follows (Err e) (Ok effect) = ⊥
 Follows (Err e) (Err f) = Unit {0}
@@ -84,6 +98,13 @@ Follows (Err e) (Err f) = Unit {0}
 pub follows_after : (t : TableState) (settings : Settings) (s : State) (outcome : Option Outcome) (carried : Carried) (u : Result TableState Errno) (does : Result Effect Errno) → Shows t s → Follows u does → Shows (kept_or t u) (concluded settings s outcome carried does).after
 follows_after t settings s outcome carried (Ok u) (Ok (Completes after r)) shows follows = follows
 follows_after t settings s outcome carried (Ok u) (Ok Blocks) shows follows = absurd follows
+follows_after t settings s (Some (came.Ok value bytes)) carried (Ok u) (Ok (Asks a)) shows follows = follows.0.1 value bytes
+follows_after t settings s (Some (came.Fail e)) carried (Ok u) (Ok (Asks a)) shows follows = by_waits a.waits follows.1
+  where
+    by_waits : (b : Bool) → b ≡ false → Shows u (if b && is_again e then waited settings s carried else failed a.otherwise e).after
+    by_waits true is = absurd (true≢false is)
+    by_waits false is = follows.0.0
+follows_after t settings s None carried (Ok u) (Ok (Asks a)) shows follows = follows.0.0
 follows_after t settings s outcome carried (Ok u) (Err e) shows follows = absurd follows
 follows_after t settings s outcome carried (Err e) (Ok effect) shows follows = absurd follows
 follows_after t settings s outcome carried (Err e) (Err f) shows follows = shows
@@ -96,11 +117,19 @@ waited_after settings s carried = grind arith
 abbrev pub Stays : TableState → Result Effect Errno → Type 0
 Stays t (Ok (Completes after r)) = Shows t after
 Stays t (Ok Blocks) = Unit {0}
+Stays t (Ok (Asks a)) = LeavesShown t a
 Stays t (Err e) = Unit {0}
 
 pub stays_after : (t : TableState) (settings : Settings) (s : State) (outcome : Option Outcome) (carried : Carried) (does : Result Effect Errno) → Shows t s → Stays t does → Shows t (concluded settings s outcome carried does).after
 stays_after t settings s outcome carried (Ok (Completes after r)) shows stays = stays
 stays_after t settings s outcome carried (Ok Blocks) shows stays = subst (Shows t) (sym (waited_after settings s carried)) shows
+stays_after t settings s (Some (came.Ok value bytes)) carried (Ok (Asks a)) shows stays = stays.1 value bytes
+stays_after t settings s (Some (came.Fail e)) carried (Ok (Asks a)) shows stays = by_waits (a.waits && is_again e)
+  where
+    by_waits : (b : Bool) → Shows t (if b then waited settings s carried else failed a.otherwise e).after
+    by_waits true = subst (Shows t) (sym (waited_after settings s carried)) shows
+    by_waits false = stays.0
+stays_after t settings s None carried (Ok (Asks a)) shows stays = stays.0
 stays_after t settings s outcome carried (Err e) shows stays = shows
 
 through : (t : TableState) {A : Type 0} (r : Result A Errno) (f : A → Result Effect Errno) → ((x : A) → Stays t (f x)) → Stays t (r >>= f)
@@ -115,11 +144,7 @@ pub file_is : (c : Content) (e : Errno) (file : List ℕ) → file_in c e ≡ Ok
 file_is (File bytes) e file is = ap (λ (bs : List ℕ). File bs) (ok_same bytes file is)
 file_is (Pipe bytes) e file is = cc
 file_is (Pair p) e file is = cc
-
-pub pair_is : (c : Content) (e : Errno) (p : PairState) → pair_in c e ≡ Ok p → c ≡ Pair p
-pair_is (Pair q) e p is = ap (λ (x : PairState). Pair x) (ok_same q p is)
-pair_is (File bytes) e p is = cc
-pair_is (Pipe bytes) e p is = cc
+file_is (DoorTo door) e file is = cc
 
 number_below : (number : ℤ) (e : Errno) (n : ℕ) → descriptor_number number e ≡ Ok n → n < 32
 number_below (pos m) e n is = grind (arith, nat_tests)
@@ -166,7 +191,7 @@ module _ (t : TableState) (s : State) (sound : IsSound t) (all : AreSound t.desc
   stays-read : (descriptor count : ℤ) → FoundBoth t s descriptor → Stays t (read_result s descriptor count)
   unfolding read_result
   stays-read descriptor count (Shut table state) = rw state tt
-  stays-read descriptor count (Open key d offset at got there table state) = rw state (by_access (not (can_read d.access)))
+  stays-read descriptor count (Open key d offset at got there table state) = rw state (by_access (not_listener (content_of s (birth_at t d.node))) (not (can_read d.access)))
     where
       by_reading : (holds : List ℕ → Content) (r : Reading) → ((left : List ℕ) → HasEndsOf (holds left) (content_of s (birth_at t d.node))) → Stays t (read_done s (shown t d offset) holds r)
       by_reading holds (Reads bytes left) alike = shows-content t s (birth_at t d.node) (holds left) shows (object_there key d got) (alike left)
@@ -177,19 +202,25 @@ module _ (t : TableState) (s : State) (sound : IsSound t) (all : AreSound t.desc
       by_stream true holds r alike = shows
       by_stream false holds r alike = by_reading holds r alike
 
+      by_door : (n : ℕ) (b : Bool) → Stays t (Ok (if b then Completes s (reply.Data []) else asks_of s out.Read n (not d.flags.nonblock) (λ value bytes. reply.Data bytes)))
+      by_door n true = shows
+      by_door n false = (shows, λ value bytes. shows)
+
       by_content : (n : ℕ) (c : Content) → content_of s (birth_at t d.node) ≡ c → Stays t (read_content s d.birth (shown t d offset) n c)
       by_content n (File file) is = shows-offset t s key (offset + length (bytes_at file offset n)) d all shows got
       by_content n (Pipe waiting) is = by_stream (n == 0) (λ left. Pipe left) (stream_read waiting n (posix.has_end s (birth_at t d.node) part.Write)) (λ left. alike_pipe (content_of s (birth_at t d.node)) left waiting is)
       by_content n (Pair p) is = by_stream (n == 0) (λ left. Pair (with_waiting p (side_of d.«end») left)) (pair_read p (side_of d.«end») n (has_peer s (birth_at t d.node) (side_of d.«end»))) (λ left. alike_pair (content_of s (birth_at t d.node)) (with_waiting p (side_of d.«end») left) p is)
+      by_content n (DoorTo door) is = by_door n (n == 0)
 
-      by_access : (b : Bool) → Stays t ((refuse_if b EBADF >>= (λ _. Ok (d.birth, shown t d offset))) >>= (λ (found : ℕ × object.Description). count_of count >>= (λ n. read_content s found.0 found.1 n (content_of s found.1.object))))
-      by_access true = tt
-      by_access false = through t (count_of count) _ (λ n. by_content n (content_of s (birth_at t d.node)) refl)
+      by_access : (r : Result (Unit {0}) Errno) (b : Bool) → Stays t ((r >>= (λ _. refuse_if b EBADF >>= (λ _. Ok (d.birth, shown t d offset)))) >>= (λ (found : ℕ × object.Description). count_of count >>= (λ n. read_content s found.0 found.1 n (content_of s found.1.object))))
+      by_access (Err e) b = tt
+      by_access (Ok x) true = tt
+      by_access (Ok x) false = through t (count_of count) _ (λ n. by_content n (content_of s (birth_at t d.node)) refl)
 
   stays-write : (descriptor : ℤ) (bytes : List ℕ) → FoundBoth t s descriptor → Stays t (write_result s descriptor bytes)
   unfolding write_result
   stays-write descriptor bytes (Shut table state) = rw state tt
-  stays-write descriptor bytes (Open key d offset at got there table state) = rw state (by_refusals (not (can_write d.access)) (nat_lt 32767 (length bytes)) (length bytes == 0))
+  stays-write descriptor bytes (Open key d offset at got there table state) = rw state (by_refusals (not_listener (content_of s (birth_at t d.node))) (not (can_write d.access)) (nat_lt 32767 (length bytes)) (length bytes == 0))
     where
       by_writing : (holds : List ℕ → Content) (w : Writing) → ((left : List ℕ) → HasEndsOf (holds left) (content_of s (birth_at t d.node))) → Stays t (write_done s (shown t d offset) (length bytes) holds w)
       by_writing holds (Writes left) alike = shows-content t s (birth_at t d.node) (holds left) shows (object_there key d got) (alike left)
@@ -201,12 +232,14 @@ module _ (t : TableState) (s : State) (sound : IsSound t) (all : AreSound t.desc
           (shows-offset t s key (start_of (shown t d offset) file + w.1) d all shows got) (object_there key d got) (alike_file (content_of s (birth_at t d.node)) w.0 file is))
       by_content (Pipe waiting) is = by_writing (λ left. Pipe left) (stream_write waiting bytes (posix.has_end s (birth_at t d.node) part.Read)) (λ left. alike_pipe (content_of s (birth_at t d.node)) left waiting is)
       by_content (Pair p) is = by_writing (λ left. Pair (with_waiting p (peer_of (side_of d.«end»)) left)) (pair_write p (side_of d.«end») bytes (has_peer s (birth_at t d.node) (side_of d.«end»))) (λ left. alike_pair (content_of s (birth_at t d.node)) (with_waiting p (peer_of (side_of d.«end»)) left) p is)
+      by_content (DoorTo door) is = (shows, λ value sent. shows)
 
-      by_refusals : (a b c : Bool) → Stays t ((refuse_if a EBADF >>= (λ _. refuse_if b EINVAL >>= (λ _. Ok (d.birth, shown t d offset)))) >>= (λ (found : ℕ × object.Description). if c then Ok (Completes s (reply.Count 0)) else write_content s found.0 found.1 bytes (content_of s found.1.object)))
-      by_refusals true b c = tt
-      by_refusals false true c = tt
-      by_refusals false false true = shows
-      by_refusals false false false = by_content (content_of s (birth_at t d.node)) refl
+      by_refusals : (r : Result (Unit {0}) Errno) (a b c : Bool) → Stays t ((r >>= (λ _. refuse_if a EBADF >>= (λ _. refuse_if b EINVAL >>= (λ _. Ok (d.birth, shown t d offset))))) >>= (λ (found : ℕ × object.Description). if c then Ok (Completes s (reply.Count 0)) else write_content s found.0 found.1 bytes (content_of s found.1.object)))
+      by_refusals (Err e) a b c = tt
+      by_refusals (Ok x) true b c = tt
+      by_refusals (Ok x) false true c = tt
+      by_refusals (Ok x) false false true = shows
+      by_refusals (Ok x) false false false = by_content (content_of s (birth_at t d.node)) refl
 
   stays-lseek : (descriptor offset : ℤ) (whence : Whence) → FoundBoth t s descriptor → Stays t (lseek_result s descriptor offset whence)
   unfolding lseek_result
@@ -217,6 +250,9 @@ module _ (t : TableState) (s : State) (sound : IsSound t) (all : AreSound t.desc
       by_content (File file) = through t (offset_of (pos (base_of whence at_offset (length file)) +ℤ offset)) _ (λ to. shows-offset t s key to d all shows got)
       by_content (Pipe bytes) = tt
       by_content (Pair p) = tt
+      by_content (DoorTo door.HostFile) = through t (host_offset offset whence) _ (λ _. (shows, λ value bytes. shows))
+      by_content (DoorTo (door.Listener port)) = tt
+      by_content (DoorTo door.Stream) = tt
 
   stays-pwrite : (descriptor : ℤ) (bytes : List ℕ) (position : ℤ) → FoundBoth t s descriptor → Stays t (pwrite_result s descriptor bytes position)
   unfolding pwrite_result
@@ -239,9 +275,15 @@ module _ (t : TableState) (s : State) (sound : IsSound t) (all : AreSound t.desc
   stays-shutdown : (descriptor : ℤ) (how : ShutdownHow) → FoundBoth t s descriptor → Stays t (shutdown_result s descriptor how)
   unfolding shutdown_result
   stays-shutdown descriptor how (Shut table state) = rw state tt
-  stays-shutdown descriptor how (Open key d offset at got there table state) =
-      rw state (through_as t (pair_in (content_of s (birth_at t d.node)) ENOTSOCK) _ (λ p is.
-      shows-content t s (birth_at t d.node) (Pair (shut p (side_of d.«end») how)) shows (object_there key d got) (alike_pair (content_of s (birth_at t d.node)) (shut p (side_of d.«end») how) p (pair_is (content_of s (birth_at t d.node)) ENOTSOCK p is))))
+  stays-shutdown descriptor how (Open key d offset at got there table state) = rw state (by_content (content_of s (birth_at t d.node)) refl)
+    where
+      by_content : (c : Content) → content_of s (birth_at t d.node) ≡ c → Stays t (shuttable c >>= (λ _. Ok (shut_content s (shown t d offset) how c)))
+      by_content (File bytes) is = tt
+      by_content (Pipe bytes) is = tt
+      by_content (Pair p) is = shows-content t s (birth_at t d.node) (Pair (shut p (side_of d.«end») how)) shows (object_there key d got) (alike_pair (content_of s (birth_at t d.node)) (shut p (side_of d.«end») how) p is)
+      by_content (DoorTo door.HostFile) is = tt
+      by_content (DoorTo (door.Listener port)) is = tt
+      by_content (DoorTo door.Stream) is = (shows, λ value bytes. shows)
 
   -- ## Descriptors
 
@@ -291,7 +333,12 @@ module _ (t : TableState) (s : State) (sound : IsSound t) (all : AreSound t.desc
   follows-close (negsuc n) (Open key d offset at got there table state) = cc
   follows-close (pos n) (Open key d offset at got there table state) =
       let inside : n < length t.descriptors = some_inside t.descriptors n (ap (λ (o : Option ℕ). is_some o) at) (none_past t.descriptors n) in
-      rw (table, state, within n (omega (arith, inside, long))) (closed_as n key d offset at got)
+      rw (table, state, within n (omega (arith, inside, long))) (by_door (posix.ends_door s (pos n) (d.birth, shown t d offset)) (closed_as n key d offset at got))
+    where
+      -- a door is closed outside, and the descriptor is free whatever comes of that
+      by_door : {u : TableState} {after : State} (b : Bool) → Shows u after → Follows (Ok u) (Ok (if b then asks_of after out.Close 0 false (λ value bytes. reply.Done) else Completes after reply.Done))
+      by_door true left = ((left, λ value bytes. left), refl)
+      by_door false left = left
 
   -- ## A descriptor that another one replaces
 
@@ -383,20 +430,42 @@ module _ (t : TableState) (s : State) (sound : IsSound t) (all : AreSound t.desc
           let stays : posix.key_at after descriptor ≡ posix.key_at s descriptor = key_stays after n descriptor apart (released_descriptors (posix.freed s (pos n)) e.birth (shown t e offset)) in
           same_Some _ _ (sym later ∙ stays ∙ before) ∙ ap (λ (x : Description). x.birth) (description_got t.descriptions key d got)
 
-  follows-dup2 : (descriptor target : ℤ) → FoundBoth t s descriptor → ((n : ℕ) → FoundBoth t s (pos n)) → Follows (dup2_change t descriptor target) (dup2_result s descriptor target)
-  unfolding dup2_change dup2_result
-  follows-dup2 descriptor target (Shut table state) other = rw (table, state) tt
-  follows-dup2 descriptor (negsuc m) (Open key d offset at got there table state) other = rw (table, state) tt
+  -- where it is planned
+  abbrev FollowsPlan : Result Plan Errno → Result TableState Errno → Result Effect Errno → Type 0
+  FollowsPlan (Ok p) u does = Follows u does
+  FollowsPlan (Err e) u does = Unit {0}
+
+  follows_plan : (p : Result Plan Errno) (u : Result TableState Errno) (does : Result Effect Errno) → FollowsPlan p u does → is_refused (answered p) ≡ false → Follows u does
+  follows_plan (Ok p) u does follows made = follows
+  follows_plan (Err e) u does follows made = absurd (true≢false made)
+
+  follows-dup2 : (descriptor target : ℤ) → FoundBoth t s descriptor → ((n : ℕ) → FoundBoth t s (pos n)) → FollowsPlan (dup2_plan t descriptor target) (dup2_change t descriptor target) (dup2_result s descriptor target)
+  unfolding dup2_plan dup2_change dup2_result
+  follows-dup2 descriptor target (Shut table state) other = rw table tt
+  follows-dup2 descriptor (negsuc m) (Open key d offset at got there table state) other = rw table tt
   follows-dup2 descriptor (pos m) (Open key d offset at got there table state) other = rw (table, state) (by_inside (nat_lt m 32) refl)
     where
-      by_same : (b : Bool) → int_eq descriptor (pos m) ≡ b → m < 32 → Shows (if b then t else shared (closed_if_open t m (described t (pos m))) m key) (if b then s else duplicates.shared (duplicates.closed s (pos m) (posix.described s (pos m))) m d.birth)
-      by_same true is inside = shows
-      by_same false is inside = replaced_as descriptor m key d inside (apart_by descriptor m is) at got (other m)
-
       below : (m : ℕ) → nat_lt m 32 ≡ true → m < 32
       below m h = grind (arith, nat_tests)
 
-      by_inside : (b : Bool) → nat_lt m 32 ≡ b → Follows ((if b then Ok m else Err EBADF) >>= (λ n. Ok (if int_eq descriptor (pos m) then t else shared (closed_if_open t n (described t (pos m))) n key))) ((if b then Ok m else Err EBADF) >>= (λ n. Ok (Completes (if int_eq descriptor (pos m) then s else duplicates.shared (duplicates.closed s (pos m) (posix.described s (pos m))) n d.birth) (reply.Number (pos m)))))
+      by_door : (b c : Bool) → b ≡ c → int_eq descriptor (pos m) ≡ false → m < 32
+          → FollowsPlan (refuse_if b EBUSY >>= (λ _. Ok (replaced (described t (pos m)) (reply.Number (pos m))))) (Ok (shared (closed_if_open t m (described t (pos m))) m key))
+          (refuse_if c EBUSY >>= (λ _. Ok (Completes (duplicates.shared (duplicates.closed s (pos m) (posix.described s (pos m))) m d.birth) (reply.Number (pos m)))))
+      by_door true c same is inside = tt
+      by_door false true same is inside = absurd (false≢true same)
+      by_door false false same is inside = replaced_as descriptor m key d inside (apart_by descriptor m is) at got (other m)
+
+      by_same : (b : Bool) → int_eq descriptor (pos m) ≡ b → m < 32
+          → FollowsPlan (refuse_if (not b && ends_a_door (described t (pos m))) EBUSY >>= (λ _. Ok (if b then plan.Reply (reply.Number (pos m)) else replaced (described t (pos m)) (reply.Number (pos m)))))
+          (Ok (if b then t else shared (closed_if_open t m (described t (pos m))) m key))
+          (refuse_if (not b && duplicates.ends_a_door s (pos m) (posix.described s (pos m))) EBUSY >>= (λ _. Ok (Completes (if b then s else duplicates.shared (duplicates.closed s (pos m) (posix.described s (pos m))) m d.birth) (reply.Number (pos m)))))
+      by_same true is inside = shows
+      by_same false is inside = by_door (ends_a_door (described t (pos m))) (duplicates.ends_a_door s (pos m) (posix.described s (pos m))) (sym (ends_shown t s sound all shows (pos m) (other m))) is inside
+
+      by_inside : (b : Bool) → nat_lt m 32 ≡ b
+          → FollowsPlan ((if b then Ok m else Err EBADF) >>= (λ _. refuse_if (not (int_eq descriptor (pos m)) && ends_a_door (described t (pos m))) EBUSY >>= (λ _. Ok (if int_eq descriptor (pos m) then plan.Reply (reply.Number (pos m)) else replaced (described t (pos m)) (reply.Number (pos m))))))
+          ((if b then Ok m else Err EBADF) >>= (λ n. Ok (if int_eq descriptor (pos m) then t else shared (closed_if_open t n (described t (pos m))) n key)))
+          ((if b then Ok m else Err EBADF) >>= (λ n. refuse_if (not (int_eq descriptor (pos m)) && duplicates.ends_a_door s (pos m) (posix.described s (pos m))) EBUSY >>= (λ _. Ok (Completes (if int_eq descriptor (pos m) then s else duplicates.shared (duplicates.closed s (pos m) (posix.described s (pos m))) n d.birth) (reply.Number (pos m))))))
       by_inside true h = by_same (int_eq descriptor (pos m)) refl (below m h)
       by_inside false h = tt
 
@@ -484,6 +553,7 @@ module _ (t : TableState) (s : State) (sound : IsSound t) (all : AreSound t.desc
   abbrev OpensAs : Access → OpenFlags → Result Plan Errno → Result Opening Errno → Result Effect Errno → Type 0
   OpensAs access flags (Ok p) (Ok o) (Ok (Completes after r)) = ((key : ℕ) → fin.get t.descriptions.by_key key ≡ None → Shows (opened o.ready o.number key o.node part.Only access (status_flags flags)) after) × (r ≡ reply.Number (pos o.number))
   OpensAs access flags (Ok p) (Ok o) (Ok Blocks) = ⊥
+  OpensAs access flags (Ok p) (Ok o) (Ok (Asks a)) = ⊥
   OpensAs access flags (Ok p) (Ok o) (Err e) = ⊥
   OpensAs access flags (Ok p) (Err e) does = ⊥
   OpensAs access flags (Err e) o does = Unit {0}
@@ -592,7 +662,7 @@ module _ (t : TableState) (s : State) (sound : IsSound t) (all : AreSound t.desc
 
   -- and the state
   abbrev opened_both : ℕ → ℕ → ℕ → State
-  opened_both birth first second = posix.opened (posix.opened (sockets.with_object s content) first birth one.0 one.1 false false) second birth other.0 other.1 false false
+  opened_both birth first second = posix.opened (posix.opened (object.with_object s content) first birth one.0 one.1 false false) second birth other.0 other.1 false false
 
   shows-two : (node first second key next : ℕ) → node < 48 → slice_index_or t.objects node None ≡ None → AreFree t.descriptors first second
       → fin.get t.descriptions.by_key key ≡ None → fin.get (one_opened node first key).descriptions.by_key next ≡ None
@@ -600,7 +670,7 @@ module _ (t : TableState) (s : State) (sound : IsSound t) (all : AreSound t.desc
       → Shows (both_opened node first second key next) (opened_both s.next_object first second)
   shows-two node first second key next low free two fresh fresh_too has has_too =
       subst (λ (b : ℕ). Shows (both_opened node first second key next) (opened_both b first second)) (birth_of_new t node inside ∙ sym shows.next_object)
-      (shows-opened between (posix.opened (sockets.with_object s content) first (birth_at made node) one.0 one.1 false false) second next node other.0 other.1 no_flags sound_between all_between shown_between
+      (shows-opened between (posix.opened (object.with_object s content) first (birth_at made node) one.0 one.1 false false) second next node other.0 other.1 no_flags sound_between all_between shown_between
       (omega (arith, two.high, sound_between.numbers)) fresh_too (ap (is_of other.0) (content_of_new t s node content shows inside) ∙ has_too))
     where
       made : TableState
@@ -624,9 +694,9 @@ module _ (t : TableState) (s : State) (sound : IsSound t) (all : AreSound t.desc
       all_between : AreSound between.descriptions
       all_between = AreSound-new t.descriptions key new all fresh (room_of t first sound all two.low two.first_free) refl refl
 
-      shown_between : Shows between (posix.opened (sockets.with_object s content) first (birth_at made node) one.0 one.1 false false)
+      shown_between : Shows between (posix.opened (object.with_object s content) first (birth_at made node) one.0 one.1 false false)
       shown_between =
-          shows-opened made (sockets.with_object s content) first key node one.0 one.1 no_flags sound_made all (shows-with_object t s content node sound shows inside free)
+          shows-opened made (object.with_object s content) first key node one.0 one.1 no_flags sound_made all (shows-with_object t s content node sound shows inside free)
           (omega (arith, two.low, sound_made.numbers)) fresh (ap (is_of one.0) (content_of_new t s node content shows inside) ∙ has)
 
   -- a call that is planned is made, under any keys that are free, and then the table shows the state after
@@ -635,6 +705,7 @@ module _ (t : TableState) (s : State) (sound : IsSound t) (all : AreSound t.desc
       ((key next : ℕ) → fin.get t.descriptions.by_key key ≡ None → fin.get (one_opened two.node two.first key).descriptions.by_key next ≡ None → Shows (both_opened two.node two.first two.second key next) after)
       × (r ≡ reply.Pair (pos two.first) (pos two.second))
   EndsAs (Ok p) (Ok two) (Ok Blocks) = ⊥
+  EndsAs (Ok p) (Ok two) (Ok (Asks a)) = ⊥
   EndsAs (Ok p) (Ok two) (Err e) = ⊥
   EndsAs (Ok p) (Err e) does = ⊥
   EndsAs (Err e) two does = Unit {0}
@@ -656,6 +727,7 @@ module _ (t : TableState) (s : State) (sound : IsSound t) (all : AreSound t.desc
       → EndsAs p two does → is_refused (answered p) ≡ false → AreOpened t one other two after → Shows after (concluded settings s outcome carried does).after
   two_after settings outcome carried (Ok p) (Ok two) (Ok (Completes state r)) after ends made (key, fresh, (next, fresh_too, is)) = subst (λ (u : TableState). Shows u state) (sym is) (ends.0 key next fresh fresh_too)
   two_after settings outcome carried (Ok p) (Ok two) (Ok Blocks) after ends made is = absurd ends
+  two_after settings outcome carried (Ok p) (Ok two) (Ok (Asks a)) after ends made is = absurd ends
   two_after settings outcome carried (Ok p) (Ok two) (Err e) after ends made is = absurd ends
   two_after settings outcome carried (Ok p) (Err e) does after ends made is = absurd ends
   two_after settings outcome carried (Err e) two does after ends made is = absurd (true≢false made)
@@ -665,6 +737,7 @@ module _ (t : TableState) (s : State) (sound : IsSound t) (all : AreSound t.desc
       → EndsAs p two does → is_refused (answered p) ≡ false → ((first second : ℤ) → numbers_told c (answer.Reply (reply.Pair first second)) ≡ numbers.Two first second) → two_given two ≡ numbers_told c (concluded settings s outcome carried does).answer
   two_told settings outcome carried c (Ok p) (Ok two) (Ok (Completes state r)) ends made told = sym (ap (λ (x : Reply). numbers_told c (answer.Reply x)) ends.1 ∙ told (pos two.first) (pos two.second))
   two_told settings outcome carried c (Ok p) (Ok two) (Ok Blocks) ends made told = absurd ends
+  two_told settings outcome carried c (Ok p) (Ok two) (Ok (Asks a)) ends made told = absurd ends
   two_told settings outcome carried c (Ok p) (Ok two) (Err e) ends made told = absurd ends
   two_told settings outcome carried c (Ok p) (Err e) does ends made told = absurd ends
   two_told settings outcome carried c (Err e) two does ends made told = absurd (true≢false made)
@@ -692,9 +765,159 @@ opened_after : (t : TableState) (settings : Settings) (s : State) (outcome : Opt
     → OpensAs t s sound all shows access flags p o does → is_refused (answered p) ≡ false → IsOpened t access flags o after → Shows after (concluded settings s outcome carried does).after
 opened_after t settings s outcome carried access flags (Ok p) (Ok o) (Ok (Completes state r)) after sound all shows opens made (key, fresh, is) = subst (λ (u : TableState). Shows u state) (sym is) (opens.0 key fresh)
 opened_after t settings s outcome carried access flags (Ok p) (Ok o) (Ok Blocks) after sound all shows opens made is = absurd opens
+opened_after t settings s outcome carried access flags (Ok p) (Ok o) (Ok (Asks a)) after sound all shows opens made is = absurd opens
 opened_after t settings s outcome carried access flags (Ok p) (Ok o) (Err e) after sound all shows opens made is = absurd opens
 opened_after t settings s outcome carried access flags (Ok p) (Err e) does after sound all shows opens made is = absurd opens
 opened_after t settings s outcome carried access flags (Err e) o does after sound all shows opens made is = absurd (true≢false made)
+
+-- ## Opening a door
+
+-- a door is the same as itself
+same_itself : (d : Door) → same_door d d ≡ true
+same_itself door.HostFile = refl
+same_itself (door.Listener port) = itself port
+same_itself door.Stream = refl
+
+-- what a call opens outside, and for what
+module _ (t : TableState) (s : State) (sound : IsSound t) (all : AreSound t.descriptions) (shows : Shows t s) (opens_as : ℕ → Door) (access : Access) (append : Bool) where
+  -- the table where the door of a value is open
+  abbrev door_opened : NewDoor → ℕ → ℕ → TableState
+  door_opened new value key = opened (with_object t new.node) new.number key new.node (part.Door (opens_as value)) access (door_flags append)
+
+  -- a call that is planned asks outside; a success opens the door, under any key that is free, and what else comes leaves the state
+  pub record OpensOutside (new : NewDoor) (a : Asking) : Type 0 where
+    pub door_shown : (value : ℕ) (bytes : List ℕ) (key : ℕ) → fin.get t.descriptions.by_key key ≡ None → Shows (door_opened new value key) (a.succeeds value bytes).0
+    pub door_told : (value : ℕ) (bytes : List ℕ) → (a.succeeds value bytes).1 ≡ reply.Number (pos new.number)
+    pub else_same : a.otherwise ≡ s
+
+  abbrev DoorsAs : Result Plan Errno → Result NewDoor Errno → Result Effect Errno → Type 0
+  DoorsAs (Ok p) (Ok new) (Ok (Asks a)) = OpensOutside new a
+  DoorsAs (Ok p) (Ok new) (Ok (Completes after r)) = ⊥
+  DoorsAs (Ok p) (Ok new) (Ok Blocks) = ⊥
+  DoorsAs (Ok p) (Ok new) (Err e) = ⊥
+  DoorsAs (Ok p) (Err e) does = ⊥
+  DoorsAs (Err e) new does = Unit {0}
+
+  doors_through : {A : Type 0} (r : Result A Errno) (p : A → Result Plan Errno) (new : Result NewDoor Errno) (f : A → Result Effect Errno) → ((x : A) → DoorsAs (p x) new (f x)) → DoorsAs (r >>= p) new (r >>= f)
+  doors_through (Ok x) p new f each = each x
+  doors_through (Err e) p new f each = tt
+
+  shows-door : (node n key value : ℕ) → node < 48 → slice_index_or t.objects node None ≡ None → n < 32 → fin.get t.descriptions.by_key key ≡ None
+      → Shows (door_opened (record { number = n; node = node }) value key) (posix.opened (object.with_object s (DoorTo (opens_as value))) n s.next_object (part.Door (opens_as value)) access append false)
+  shows-door node n key value low free inside fresh =
+      subst (λ (b : ℕ). Shows (door_opened (record { number = n; node = node }) value key) (posix.opened (object.with_object s content) n b (part.Door (opens_as value)) access append false)) (birth_of_new t node within_objects ∙ sym shows.next_object)
+      (shows-opened made (object.with_object s content) n key node (part.Door (opens_as value)) access (door_flags append) sound_made all (shows-with_object t s content node sound shows within_objects free)
+      (omega (arith, inside, sound_made.numbers)) fresh (ap (is_of (part.Door (opens_as value))) (content_of_new t s node content shows within_objects) ∙ same_itself (opens_as value)))
+    where
+      content : Content
+      content = DoorTo (opens_as value)
+
+      made : TableState
+      made = with_object t node
+
+      within_objects : node < length t.objects
+      within_objects = let objects : length t.objects ≡ 48 = sound.object_numbers in omega (arith, objects)
+
+      sound_made : IsSound made
+      sound_made = sound-with_object t node low free sound
+
+  abbrev asking : OutKind → ℕ → Bool → ℕ → Asking
+  asking k asked waits n =
+      record {
+        kind = k;
+        asked = asked;
+        succeeds = λ value bytes. (posix.opened (object.with_object s (DoorTo (opens_as value))) n s.next_object (part.Door (opens_as value)) access append false, reply.Number (pos n));
+        otherwise = s;
+        waits = waits;
+      }
+
+  doors-open : (k : OutKind) (asked : ℕ) (waits : Bool) (listener : Option ℕ) → DoorsAs (opens_plan t k asked waits listener) (new_door t) (doors.opens s (record { kind = k; asked = asked; door = opens_as; access = access; append = append; waits = waits }))
+  unfolding new_door
+  doors-open k asked waits listener = rw (lowest_shown t s 32 0 shows, full_shown t s sound all shows) (by_rest (lowest_from t.descriptors 32 0) (free_object t) (λ n is. lowest_below t.descriptors 32 0 n is) (λ node is. (lowest_none t.objects 48 0 node is, lowest_below t.objects 48 0 node is)))
+    where
+      by_rest : (number o : Option ℕ) → ((n : ℕ) → number ≡ Some n → n < 0 + 32) → ((node : ℕ) → o ≡ Some node → (slice_index_or t.objects node None ≡ None) × (node < 0 + 48))
+          → DoorsAs (some_or number EMFILE >>= (λ _. some_or o ENFILE >>= (λ node. Ok (plan.Node node (op.Ask (record { kind = k; asked = asked; waits = waits; door = listener })) true))))
+          (some_or number EMFILE >>= (λ n. some_or o ENFILE >>= (λ node. Ok (record { number = n; node = node }))))
+          (some_or number EMFILE >>= (λ n. refuse_if (not (is_some o)) ENFILE >>= (λ _. Ok (Asks (asking k asked waits n)))))
+      by_rest None o below free = tt
+      by_rest (Some n) None below free = tt
+      by_rest (Some n) (Some node) below free =
+          record {
+            door_shown = λ value bytes key fresh. let at = free node refl in let low : node < 0 + 48 = at.1 in let inside : n < 0 + 32 = below n refl in shows-door node n key value (omega (arith, low)) at.0 (omega (arith, inside)) fresh;
+            door_told = λ value bytes. refl;
+            else_same = refl;
+          }
+
+  -- a call that is not refused, by what came of what it asked
+  door_after : (settings : Settings) (outcome : Option Outcome) (carried : Carried) (p : Result Plan Errno) (new : Result NewDoor Errno) (does : Result Effect Errno) (after : TableState)
+      → new_door t ≡ new → DoorsAs p new does → is_refused (answered p) ≡ false → OpensDoor t opens_as access append outcome after → Shows after (concluded settings s outcome carried does).after
+  door_after settings (Some (came.Ok value bytes)) carried (Ok p) (Ok new) (Ok (Asks a)) after at opens made is = by_made (subst (λ (r : Result NewDoor Errno). changes.IsDoor t (opens_as value) access append r after) at is)
+    where
+      by_made : changes.IsDoor t (opens_as value) access append (Ok new) after → Shows after (a.succeeds value bytes).0
+      by_made (key, fresh, same) = subst (λ (u : TableState). Shows u (a.succeeds value bytes).0) (sym same) (opens.door_shown value bytes key fresh)
+  door_after settings (Some (came.Fail e)) carried (Ok p) (Ok new) (Ok (Asks a)) after at opens made is = subst (λ (u : TableState). Shows u (outside settings s a (Some (came.Fail e)) carried).after) (sym is) (by_waits (a.waits && is_again e))
+    where
+      by_waits : (b : Bool) → Shows t (if b then waited settings s carried else failed a.otherwise e).after
+      by_waits true = subst (Shows t) (sym (waited_after settings s carried)) shows
+      by_waits false = subst (Shows t) (sym opens.else_same) shows
+  door_after settings None carried (Ok p) (Ok new) (Ok (Asks a)) after at opens made is = subst (λ (u : TableState). Shows u a.otherwise) (sym is) (subst (Shows t) (sym opens.else_same) shows)
+  door_after settings outcome carried (Ok p) (Ok new) (Ok (Completes state r)) after at opens made is = absurd opens
+  door_after settings outcome carried (Ok p) (Ok new) (Ok Blocks) after at opens made is = absurd opens
+  door_after settings outcome carried (Ok p) (Ok new) (Err e) after at opens made is = absurd opens
+  door_after settings outcome carried (Ok p) (Err e) does after at opens made is = absurd opens
+  door_after settings outcome carried (Err e) new does after at opens made is = absurd (true≢false made)
+
+  -- its number
+  door_said : (settings : Settings) (outcome : Option Outcome) (carried : Carried) (c : Call) (p : Result Plan Errno) (new : Result NewDoor Errno) (does : Result Effect Errno)
+      → new_door t ≡ new → DoorsAs p new does → is_refused (answered p) ≡ false → ((n : ℤ) → numbers_told c (answer.Reply (reply.Number n)) ≡ numbers.One n) → ((e : Errno) → numbers.None ≡ numbers_told c (answer.Reply (reply.Fail e))) → numbers.None ≡ numbers_told c answer.Again
+      → door_given t outcome ≡ numbers_told c (concluded settings s outcome carried does).answer
+  door_said settings (Some (came.Ok value bytes)) carried c (Ok p) (Ok new) (Ok (Asks a)) at opens made one none again = ap door_number at ∙ sym (ap (λ (x : Reply). numbers_told c (answer.Reply x)) (opens.door_told value bytes) ∙ one (pos new.number))
+  door_said settings (Some (came.Fail e)) carried c (Ok p) (Ok new) (Ok (Asks a)) at opens made one none again = by_waits (a.waits && is_again e)
+    where
+      by_patience : (b : Bool) → numbers.None ≡ numbers_told c (let stepped : Stepped = if b then record { after = s; answer = answer.Again; carried = carried + 1 } else record { after = s; answer = answer.Reply (reply.Fail EINTR); carried = 0 } in stepped.answer)
+      by_patience true = again
+      by_patience false = none EINTR
+
+      by_waits : (b : Bool) → numbers.None ≡ numbers_told c (if b then waited settings s carried else failed a.otherwise e).answer
+      by_waits true = by_patience (nat_lt (carried + 1) settings.patience)
+      by_waits false = none e
+  door_said settings None carried c (Ok p) (Ok new) (Ok (Asks a)) at opens made one none again = none EIO
+  door_said settings outcome carried c (Ok p) (Ok new) (Ok (Completes state r)) at opens made one none again = absurd opens
+  door_said settings outcome carried c (Ok p) (Ok new) (Ok Blocks) at opens made one none again = absurd opens
+  door_said settings outcome carried c (Ok p) (Ok new) (Err e) at opens made one none again = absurd opens
+  door_said settings outcome carried c (Ok p) (Err e) does at opens made one none again = absurd opens
+  door_said settings outcome carried c (Err e) new does at opens made one none again = absurd (true≢false made)
+
+abbrev host_file : ℕ → Door
+host_file value = door.HostFile
+
+abbrev listener_at : ℕ → Door
+listener_at value = door.Listener value
+
+abbrev stream : ℕ → Door
+stream value = door.Stream
+
+module _ (t : TableState) (s : State) (sound : IsSound t) (all : AreSound t.descriptions) (shows : Shows t s) where
+  doors-host_open : (path : List ℕ) (access : Access) (flags : OpenFlags) → DoorsAs t s sound all shows host_file access flags.append (host_open_plan t path access flags) (new_door t) (host_open_result s path access flags)
+  unfolding host_open_plan host_open_result
+  doors-host_open path access flags =
+      doors_through t s sound all shows host_file access flags.append (refuse_if (flags.truncate && not (can_write access)) EINVAL) _ (new_door t) _ (λ _.
+      doors_through t s sound all shows host_file access flags.append (host_path path) _ (new_door t) _ (λ _. doors-open t s sound all shows host_file access flags.append out.Open 0 false None))
+
+  doors-listen : (port : ℤ) → DoorsAs t s sound all shows listener_at ReadWrite false (tcp_listen_plan t port) (new_door t) (tcp_listen_result s port)
+  unfolding tcp_listen_plan tcp_listen_result
+  doors-listen port = doors_through t s sound all shows listener_at ReadWrite false (port_of 0 port) _ (new_door t) _ (λ asked. doors-open t s sound all shows listener_at ReadWrite false out.Listen asked false None)
+
+  doors-connect : (port : ℤ) → DoorsAs t s sound all shows stream ReadWrite false (tcp_connect_plan t port) (new_door t) (tcp_connect_result s port)
+  unfolding tcp_connect_plan tcp_connect_result
+  doors-connect port = doors_through t s sound all shows stream ReadWrite false (port_of 1 port) _ (new_door t) _ (λ asked. doors-open t s sound all shows stream ReadWrite false out.Connect asked false None)
+
+  doors-accept : (descriptor : ℤ) → FoundBoth t s descriptor → DoorsAs t s sound all shows stream ReadWrite false (tcp_accept_plan t descriptor) (new_door t) (tcp_accept_result s descriptor)
+  unfolding tcp_accept_plan tcp_accept_result
+  doors-accept descriptor (Shut table state) = rw table tt
+  doors-accept descriptor (Open key d offset at got there table state) =
+      rw (table, state, listener_by d.«end» (content_of s (birth_at t d.node)) (kind_of d.«end» (content_of s (birth_at t d.node)) (shows.ends key d got)))
+      (doors_through t s sound all shows stream ReadWrite false (of_listener d.«end») _ (new_door t) _ (λ _. doors-open t s sound all shows stream ReadWrite false out.Accept 0 (not d.flags.nonblock) (Some d.node)))
 
 -- ## All calls
 
@@ -708,87 +931,51 @@ module _ (t : TableState) (s : State) (settings : Settings) (outcome : Option Ou
   found_at : (descriptor : ℤ) → FoundBoth t s descriptor
   found_at descriptor = found_both t s descriptor sound shows
 
-  pub changes_call : (c : Call) (after : TableState) → is_refused (planned t c) ≡ false → Changes t c after → Shows after (step settings s c outcome carried).after
-  changes_call (call.Open path access flags) after made is = opened_after t settings s outcome carried access flags (open_plan t path access flags) (opening t path) (open_result s path access flags) after sound all shows (opens t s sound all shows path access flags) made is
-  changes_call (call.Close descriptor) after made is = follows_call after (close_change t descriptor) (close_result s descriptor) (follows-close t s sound all shows descriptor (found_at descriptor)) is
-  changes_call (call.Read descriptor count) after made is = stays_call after (read_result s descriptor count) (stays-read t s sound all shows descriptor count (found_at descriptor)) is
-  changes_call (call.Write descriptor bytes) after made is = stays_call after (write_result s descriptor bytes) (stays-write t s sound all shows descriptor bytes (found_at descriptor)) is
-  changes_call (call.Pread descriptor count position) after made is = stays_call after (pread_result s descriptor count position) (stays-pread t s sound all shows descriptor count position) is
-  changes_call (call.Pwrite descriptor bytes position) after made is = stays_call after (pwrite_result s descriptor bytes position) (stays-pwrite t s sound all shows descriptor bytes position (found_at descriptor)) is
-  changes_call (call.Lseek descriptor offset whence) after made is = stays_call after (lseek_result s descriptor offset whence) (stays-lseek t s sound all shows descriptor offset whence (found_at descriptor)) is
-  changes_call (call.Ftruncate descriptor size) after made is = stays_call after (ftruncate_result s descriptor size) (stays-ftruncate t s sound all shows descriptor size (found_at descriptor)) is
-  changes_call (call.Fstat descriptor) after made is = stays_call after (fstat_result s descriptor) (stays-fstat t s sound all shows descriptor) is
-  changes_call (call.Dup descriptor) after made is = follows_call after (dup_change t descriptor) (dup_result s descriptor) (follows-dup t s sound all shows descriptor (found_at descriptor)) is
-  changes_call (call.DupFrom descriptor least) after made is = follows_call after (dup_from_change t descriptor least) (dup_from_result s descriptor least) (follows-dup_from t s sound all shows descriptor least (found_at descriptor)) is
-  changes_call (call.Dup2 descriptor target) after made is = follows_call after (dup2_change t descriptor target) (dup2_result s descriptor target) (follows-dup2 t s sound all shows descriptor target (found_at descriptor) (λ n. found_at (pos n))) is
-  changes_call (call.Getfl descriptor) after made is = stays_call after (getfl_result s descriptor) (stays-getfl t s sound all shows descriptor) is
-  changes_call (call.Setfl descriptor append nonblock) after made is = follows_call after (setfl_change t descriptor append nonblock) (setfl_result s descriptor append nonblock) (follows-setfl t s sound all shows descriptor append nonblock (found_at descriptor)) is
-  changes_call (call.Link old_path new_path) after made is = follows_call after (link_change t old_path new_path) (link_result s old_path new_path) (follows-link t s sound all shows old_path new_path) is
-  changes_call (call.Unlink path) after made is = follows_call after (unlink_change t path) (unlink_result s path) (follows-unlink t s sound all shows path) is
-  changes_call (call.Mkdir path) after made is = follows_call after (mkdir_change t path) (mkdir_result s path) (follows-mkdir t s sound all shows path) is
-  changes_call (call.Rmdir path) after made is = follows_call after (rmdir_change t path) (rmdir_result s path) (follows-rmdir t s sound all shows path) is
-  changes_call call.Pipe after made is = two_after t s sound all shows (Pipe []) read_end write_end settings outcome carried (two_ends_plan t op.Pipe) (two_ends t) (pipe_result s) after (ends-pipe t s sound all shows) made is
-  changes_call call.Socketpair after made is = two_after t s sound all shows (Pair new_pair) (socket_end Side0) (socket_end Side1) settings outcome carried (two_ends_plan t op.Socketpair) (two_ends t) (socketpair_result s) after (ends-socketpair t s sound all shows) made is
-  changes_call (call.Shutdown descriptor how) after made is = stays_call after (shutdown_result s descriptor how) (stays-shutdown t s sound all shows descriptor how (found_at descriptor)) is
+  pub changes_call : (c : Call) (made_with : Option Outcome) (after : TableState) → IsMadeWith c made_with outcome → is_refused (planned t c) ≡ false → Changes t c made_with after → Shows after (step settings s c outcome carried).after
+  changes_call (call.Open path access flags) made_with after same made is = opened_after t settings s outcome carried access flags (open_plan t path access flags) (opening t path) (open_result s path access flags) after sound all shows (opens t s sound all shows path access flags) made is
+  changes_call (call.Close descriptor) made_with after same made is = follows_call after (close_change t descriptor) (close_result s descriptor) (follows-close t s sound all shows descriptor (found_at descriptor)) is
+  changes_call (call.Read descriptor count) made_with after same made is = stays_call after (read_result s descriptor count) (stays-read t s sound all shows descriptor count (found_at descriptor)) is
+  changes_call (call.Write descriptor bytes) made_with after same made is = stays_call after (write_result s descriptor bytes) (stays-write t s sound all shows descriptor bytes (found_at descriptor)) is
+  changes_call (call.Pread descriptor count position) made_with after same made is = stays_call after (pread_result s descriptor count position) (stays-pread t s sound all shows descriptor count position) is
+  changes_call (call.Pwrite descriptor bytes position) made_with after same made is = stays_call after (pwrite_result s descriptor bytes position) (stays-pwrite t s sound all shows descriptor bytes position (found_at descriptor)) is
+  changes_call (call.Lseek descriptor offset whence) made_with after same made is = stays_call after (lseek_result s descriptor offset whence) (stays-lseek t s sound all shows descriptor offset whence (found_at descriptor)) is
+  changes_call (call.Ftruncate descriptor size) made_with after same made is = stays_call after (ftruncate_result s descriptor size) (stays-ftruncate t s sound all shows descriptor size (found_at descriptor)) is
+  changes_call (call.Fstat descriptor) made_with after same made is = stays_call after (fstat_result s descriptor) (stays-fstat t s sound all shows descriptor) is
+  changes_call (call.Dup descriptor) made_with after same made is = follows_call after (dup_change t descriptor) (dup_result s descriptor) (follows-dup t s sound all shows descriptor (found_at descriptor)) is
+  changes_call (call.DupFrom descriptor least) made_with after same made is = follows_call after (dup_from_change t descriptor least) (dup_from_result s descriptor least) (follows-dup_from t s sound all shows descriptor least (found_at descriptor)) is
+  changes_call (call.Dup2 descriptor target) made_with after same made is = follows_call after (dup2_change t descriptor target) (dup2_result s descriptor target)
+      (follows_plan t s sound all shows (dup2_plan t descriptor target) (dup2_change t descriptor target) (dup2_result s descriptor target) (follows-dup2 t s sound all shows descriptor target (found_at descriptor) (λ n. found_at (pos n))) made) is
+  changes_call (call.Getfl descriptor) made_with after same made is = stays_call after (getfl_result s descriptor) (stays-getfl t s sound all shows descriptor) is
+  changes_call (call.Setfl descriptor append nonblock) made_with after same made is = follows_call after (setfl_change t descriptor append nonblock) (setfl_result s descriptor append nonblock) (follows-setfl t s sound all shows descriptor append nonblock (found_at descriptor)) is
+  changes_call (call.Link old_path new_path) made_with after same made is = follows_call after (link_change t old_path new_path) (link_result s old_path new_path) (follows-link t s sound all shows old_path new_path) is
+  changes_call (call.Unlink path) made_with after same made is = follows_call after (unlink_change t path) (unlink_result s path) (follows-unlink t s sound all shows path) is
+  changes_call (call.Mkdir path) made_with after same made is = follows_call after (mkdir_change t path) (mkdir_result s path) (follows-mkdir t s sound all shows path) is
+  changes_call (call.Rmdir path) made_with after same made is = follows_call after (rmdir_change t path) (rmdir_result s path) (follows-rmdir t s sound all shows path) is
+  changes_call call.Pipe made_with after same made is = two_after t s sound all shows (Pipe []) read_end write_end settings outcome carried (two_ends_plan t op.Pipe) (two_ends t) (pipe_result s) after (ends-pipe t s sound all shows) made is
+  changes_call call.Socketpair made_with after same made is = two_after t s sound all shows (Pair new_pair) (socket_end Side0) (socket_end Side1) settings outcome carried (two_ends_plan t op.Socketpair) (two_ends t) (socketpair_result s) after (ends-socketpair t s sound all shows) made is
+  changes_call (call.Shutdown descriptor how) made_with after same made is = stays_call after (shutdown_result s descriptor how) (stays-shutdown t s sound all shows descriptor how (found_at descriptor)) is
+  changes_call (call.HostOpen path access flags) made_with after same made is =
+      door_after t s sound all shows host_file access flags.append settings outcome carried (host_open_plan t path access flags) (new_door t) (host_open_result s path access flags) after refl (doors-host_open t s sound all shows path access flags) made
+      (subst (λ (o : Option Outcome). OpensDoor t host_file access flags.append o after) (sym (same refl)) is)
+  changes_call (call.TcpListen port) made_with after same made is =
+      door_after t s sound all shows listener_at ReadWrite false settings outcome carried (tcp_listen_plan t port) (new_door t) (tcp_listen_result s port) after refl (doors-listen t s sound all shows port) made
+      (subst (λ (o : Option Outcome). OpensDoor t listener_at ReadWrite false o after) (sym (same refl)) is)
+  changes_call (call.TcpConnect port) made_with after same made is =
+      door_after t s sound all shows stream ReadWrite false settings outcome carried (tcp_connect_plan t port) (new_door t) (tcp_connect_result s port) after refl (doors-connect t s sound all shows port) made
+      (subst (λ (o : Option Outcome). OpensDoor t stream ReadWrite false o after) (sym (same refl)) is)
+  changes_call (call.TcpAccept descriptor) made_with after same made is =
+      door_after t s sound all shows stream ReadWrite false settings outcome carried (tcp_accept_plan t descriptor) (new_door t) (tcp_accept_result s descriptor) after refl (doors-accept t s sound all shows descriptor (found_at descriptor)) made
+      (subst (λ (o : Option Outcome). OpensDoor t stream ReadWrite false o after) (sym (same refl)) is)
 
 -- the number of an `open` that is not refused
 told_after : (t : TableState) (settings : Settings) (s : State) (outcome : Option Outcome) (carried : Carried) (path : List ℕ) (access : Access) (flags : OpenFlags) (p : Result Plan Errno) (o : Result Opening Errno) (does : Result Effect Errno) (sound : IsSound t) (all : AreSound t.descriptions) (shows : Shows t s)
     → OpensAs t s sound all shows access flags p o does → is_refused (answered p) ≡ false → opened_number o ≡ numbers_told (call.Open path access flags) (concluded settings s outcome carried does).answer
 told_after t settings s outcome carried path access flags (Ok p) (Ok o) (Ok (Completes state r)) sound all shows opens made = ap (λ (x : Reply). numbers_told (call.Open path access flags) (answer.Reply x)) (sym opens.1)
 told_after t settings s outcome carried path access flags (Ok p) (Ok o) (Ok Blocks) sound all shows opens made = absurd opens
+told_after t settings s outcome carried path access flags (Ok p) (Ok o) (Ok (Asks a)) sound all shows opens made = absurd opens
 told_after t settings s outcome carried path access flags (Ok p) (Ok o) (Err e) sound all shows opens made = absurd opens
 told_after t settings s outcome carried path access flags (Ok p) (Err e) does sound all shows opens made = absurd opens
 told_after t settings s outcome carried path access flags (Err e) o does sound all shows opens made = absurd (true≢false made)
-
-tells_call : (t : TableState) (settings : Settings) (s : State) (outcome : Option Outcome) (carried : Carried) → IsSound t → AreSound t.descriptions → Shows t s → (c : Call) → is_refused (planned t c) ≡ false → numbers_given t c ≡ numbers_told c (step settings s c outcome carried).answer
-tells_call t settings s outcome carried sound all shows (call.Open path access flags) made = told_after t settings s outcome carried path access flags (open_plan t path access flags) (opening t path) (open_result s path access flags) sound all shows (opens t s sound all shows path access flags) made
-tells_call t settings s outcome carried sound all shows (call.Close descriptor) made = refl
-tells_call t settings s outcome carried sound all shows (call.Read descriptor count) made = refl
-tells_call t settings s outcome carried sound all shows (call.Write descriptor bytes) made = refl
-tells_call t settings s outcome carried sound all shows (call.Pread descriptor count position) made = refl
-tells_call t settings s outcome carried sound all shows (call.Pwrite descriptor bytes position) made = refl
-tells_call t settings s outcome carried sound all shows (call.Lseek descriptor offset whence) made = refl
-tells_call t settings s outcome carried sound all shows (call.Ftruncate descriptor size) made = refl
-tells_call t settings s outcome carried sound all shows (call.Fstat descriptor) made = refl
-tells_call t settings s outcome carried sound all shows (call.Dup descriptor) made = refl
-tells_call t settings s outcome carried sound all shows (call.DupFrom descriptor least) made = refl
-tells_call t settings s outcome carried sound all shows (call.Dup2 descriptor target) made = refl
-tells_call t settings s outcome carried sound all shows (call.Getfl descriptor) made = refl
-tells_call t settings s outcome carried sound all shows (call.Setfl descriptor append nonblock) made = refl
-tells_call t settings s outcome carried sound all shows (call.Link old_path new_path) made = refl
-tells_call t settings s outcome carried sound all shows (call.Unlink path) made = refl
-tells_call t settings s outcome carried sound all shows (call.Mkdir path) made = refl
-tells_call t settings s outcome carried sound all shows (call.Rmdir path) made = refl
-tells_call t settings s outcome carried sound all shows call.Pipe made = two_told t s sound all shows (Pipe []) read_end write_end settings outcome carried call.Pipe (two_ends_plan t op.Pipe) (two_ends t) (pipe_result s) (ends-pipe t s sound all shows) made (λ first second. refl)
-tells_call t settings s outcome carried sound all shows call.Socketpair made = two_told t s sound all shows (Pair new_pair) (socket_end Side0) (socket_end Side1) settings outcome carried call.Socketpair (two_ends_plan t op.Socketpair) (two_ends t) (socketpair_result s) (ends-socketpair t s sound all shows) made (λ first second. refl)
-tells_call t settings s outcome carried sound all shows (call.Shutdown descriptor how) made = refl
-
--- ## A call that the table refuses
-
-refused_as : (p : Plan) → is_refused p ≡ true → (e : Errno) × (p ≡ plan.Reply (reply.Fail e))
-refused_as (plan.Reply (reply.Fail e)) refused = (e, refl)
-refused_as (plan.Reply (reply.Count n)) refused = absurd (false≢true refused)
-refused_as (plan.Reply (reply.Data bytes)) refused = absurd (false≢true refused)
-refused_as (plan.Reply (reply.Number n)) refused = absurd (false≢true refused)
-refused_as (plan.Reply (reply.Pair a b)) refused = absurd (false≢true refused)
-refused_as (plan.Reply (reply.Stat kind number links)) refused = absurd (false≢true refused)
-refused_as (plan.Reply reply.Done) refused = absurd (false≢true refused)
-refused_as (plan.Node node act keep_table) refused = absurd (false≢true refused)
-
-refused_answer : (t : TableState) (settings : Settings) (s : State) (outcome : Option Outcome) (carried : Carried) → IsSound t → AreSound t.descriptions → Shows t s → (c : Call) → is_refused (planned t c) ≡ true → (e : Errno) × ((step settings s c outcome carried).answer ≡ answer.Reply (reply.Fail e))
-refused_answer t settings s outcome carried sound all shows c refused =
-    let how = refused_as (planned t c) refused in
-    let agrees : AgreesOn t (plan.Reply (reply.Fail how.0)) (locked_object s c carried) (step settings s c outcome carried).answer = subst (λ (p : Plan). AgreesOn t p (locked_object s c carried) (step settings s c outcome carried).answer) how.1 (plans-as_step t c sound all settings s outcome carried shows) in
-    (how.0, agrees.1)
-
-pub changes-as_step : (t : TableState) (c : Call) (after : TableState) → IsSound t → AreSound t.descriptions → (IsTrue (is_refused (planned t c)) → after ≡ t) → (is_refused (planned t c) ≡ false → Changes t c after) → ChangesAsStep t c after
-changes-as_step t c after sound all kept changed settings s outcome carried shows = by_test (is_refused (planned t c)) refl
-  where
-    by_test : (b : Bool) → is_refused (planned t c) ≡ b → Shows after (step settings s c outcome carried).after
-    by_test false made = changes_call t s settings outcome carried sound all shows c after made (changed made)
-    by_test true refused =
-        let fails = refused_answer t settings s outcome carried sound all shows c refused in
-        subst (λ (x : State). Shows after x) (sym (fail_leaves_state settings s c outcome carried fails.0 fails.1)) (subst (λ (u : TableState). Shows u s) (sym (kept refused)) shows)
 
 none_told : (c : Call) (e : Errno) → numbers.None ≡ numbers_told c (answer.Reply (reply.Fail e))
 none_told (call.Open path access flags) e = refl
@@ -812,12 +999,104 @@ none_told (call.Rmdir path) e = refl
 none_told call.Pipe e = refl
 none_told call.Socketpair e = refl
 none_told (call.Shutdown descriptor how) e = refl
+none_told (call.HostOpen path access flags) e = refl
+none_told (call.TcpListen port) e = refl
+none_told (call.TcpConnect port) e = refl
+none_told (call.TcpAccept descriptor) e = refl
 
-pub tells-as_step : (t : TableState) (c : Call) (number : NewNumbers) → IsSound t → AreSound t.descriptions → (IsTrue (is_refused (planned t c)) → number ≡ numbers.None) → (is_refused (planned t c) ≡ false → number ≡ numbers_given t c) → TellsAsStep t c number
-tells-as_step t c number sound all silent told settings s outcome carried shows = by_test (is_refused (planned t c)) refl
+tells_call : (t : TableState) (settings : Settings) (s : State) (outcome : Option Outcome) (carried : Carried) → IsSound t → AreSound t.descriptions → Shows t s → (c : Call) (made_with : Option Outcome) → IsMadeWith c made_with outcome → is_refused (planned t c) ≡ false → numbers_given t c made_with ≡ numbers_told c (step settings s c outcome carried).answer
+tells_call t settings s outcome carried sound all shows (call.Open path access flags) made_with same made = told_after t settings s outcome carried path access flags (open_plan t path access flags) (opening t path) (open_result s path access flags) sound all shows (opens t s sound all shows path access flags) made
+tells_call t settings s outcome carried sound all shows (call.Close descriptor) made_with same made = refl
+tells_call t settings s outcome carried sound all shows (call.Read descriptor count) made_with same made = refl
+tells_call t settings s outcome carried sound all shows (call.Write descriptor bytes) made_with same made = refl
+tells_call t settings s outcome carried sound all shows (call.Pread descriptor count position) made_with same made = refl
+tells_call t settings s outcome carried sound all shows (call.Pwrite descriptor bytes position) made_with same made = refl
+tells_call t settings s outcome carried sound all shows (call.Lseek descriptor offset whence) made_with same made = refl
+tells_call t settings s outcome carried sound all shows (call.Ftruncate descriptor size) made_with same made = refl
+tells_call t settings s outcome carried sound all shows (call.Fstat descriptor) made_with same made = refl
+tells_call t settings s outcome carried sound all shows (call.Dup descriptor) made_with same made = refl
+tells_call t settings s outcome carried sound all shows (call.DupFrom descriptor least) made_with same made = refl
+tells_call t settings s outcome carried sound all shows (call.Dup2 descriptor target) made_with same made = refl
+tells_call t settings s outcome carried sound all shows (call.Getfl descriptor) made_with same made = refl
+tells_call t settings s outcome carried sound all shows (call.Setfl descriptor append nonblock) made_with same made = refl
+tells_call t settings s outcome carried sound all shows (call.Link old_path new_path) made_with same made = refl
+tells_call t settings s outcome carried sound all shows (call.Unlink path) made_with same made = refl
+tells_call t settings s outcome carried sound all shows (call.Mkdir path) made_with same made = refl
+tells_call t settings s outcome carried sound all shows (call.Rmdir path) made_with same made = refl
+tells_call t settings s outcome carried sound all shows call.Pipe made_with same made = two_told t s sound all shows (Pipe []) read_end write_end settings outcome carried call.Pipe (two_ends_plan t op.Pipe) (two_ends t) (pipe_result s) (ends-pipe t s sound all shows) made (λ first second. refl)
+tells_call t settings s outcome carried sound all shows call.Socketpair made_with same made = two_told t s sound all shows (Pair new_pair) (socket_end Side0) (socket_end Side1) settings outcome carried call.Socketpair (two_ends_plan t op.Socketpair) (two_ends t) (socketpair_result s) (ends-socketpair t s sound all shows) made (λ first second. refl)
+tells_call t settings s outcome carried sound all shows (call.Shutdown descriptor how) made_with same made = refl
+tells_call t settings s outcome carried sound all shows (call.HostOpen path access flags) made_with same made =
+    ap (door_given t) (sym (same refl)) ∙ door_said t s sound all shows host_file access flags.append settings outcome carried (call.HostOpen path access flags) (host_open_plan t path access flags) (new_door t) (host_open_result s path access flags) refl (doors-host_open t s sound all shows path access flags) made (λ n. refl) (none_told (call.HostOpen path access flags)) refl
+tells_call t settings s outcome carried sound all shows (call.TcpListen port) made_with same made =
+    ap (door_given t) (sym (same refl)) ∙ door_said t s sound all shows listener_at ReadWrite false settings outcome carried (call.TcpListen port) (tcp_listen_plan t port) (new_door t) (tcp_listen_result s port) refl (doors-listen t s sound all shows port) made (λ n. refl) (none_told (call.TcpListen port)) refl
+tells_call t settings s outcome carried sound all shows (call.TcpConnect port) made_with same made =
+    ap (door_given t) (sym (same refl)) ∙ door_said t s sound all shows stream ReadWrite false settings outcome carried (call.TcpConnect port) (tcp_connect_plan t port) (new_door t) (tcp_connect_result s port) refl (doors-connect t s sound all shows port) made (λ n. refl) (none_told (call.TcpConnect port)) refl
+tells_call t settings s outcome carried sound all shows (call.TcpAccept descriptor) made_with same made =
+    ap (door_given t) (sym (same refl)) ∙ door_said t s sound all shows stream ReadWrite false settings outcome carried (call.TcpAccept descriptor) (tcp_accept_plan t descriptor) (new_door t) (tcp_accept_result s descriptor) refl (doors-accept t s sound all shows descriptor (found_both t s descriptor sound shows)) made (λ n. refl) (none_told (call.TcpAccept descriptor)) refl
+
+-- ## A call that the table refuses
+
+refused_as : (p : Plan) → is_refused p ≡ true → (e : Errno) × (p ≡ plan.Reply (reply.Fail e))
+refused_as (plan.Reply (reply.Fail e)) refused = (e, refl)
+refused_as (plan.Reply (reply.Count n)) refused = absurd (false≢true refused)
+refused_as (plan.Reply (reply.Data bytes)) refused = absurd (false≢true refused)
+refused_as (plan.Reply (reply.Number n)) refused = absurd (false≢true refused)
+refused_as (plan.Reply (reply.Pair a b)) refused = absurd (false≢true refused)
+refused_as (plan.Reply (reply.Stat kind number links)) refused = absurd (false≢true refused)
+refused_as (plan.Reply reply.Done) refused = absurd (false≢true refused)
+refused_as (plan.Node node act keep_table) refused = absurd (false≢true refused)
+
+-- it asks nothing outside, and so closes no door
+refused_answer : (t : TableState) (settings : Settings) (s : State) (outcome : Option Outcome) (carried : Carried) → IsSound t → AreSound t.descriptions → Shows t s → (c : Call) → is_refused (planned t c) ≡ true
+    → (e : Errno) × ((asks s c carried ≡ None) × ((step settings s c outcome carried).answer ≡ answer.Reply (reply.Fail e)))
+refused_answer t settings s outcome carried sound all shows c refused =
+    let how = refused_as (planned t c) refused in
+    let agrees : AgreesOn t c (plan.Reply (reply.Fail how.0)) (locked_object s c carried) (asks s c carried) (step settings s c outcome carried).answer =
+    subst (λ (p : Plan). AgreesOn t c p (locked_object s c carried) (asks s c carried) (step settings s c outcome carried).answer) how.1 (plans-as_step t c sound all settings s outcome carried shows) in
+    (how.0, agrees.1)
+
+closes_none : (s : State) (c : Call) (carried : Carried) → asks s c carried ≡ None → closes_door s c carried ≡ false
+closes_none s (call.Open path access flags) carried none = refl
+closes_none s (call.Close descriptor) carried none = ap (λ (o : Option Request). is_some o) none
+closes_none s (call.Read descriptor count) carried none = refl
+closes_none s (call.Write descriptor bytes) carried none = refl
+closes_none s (call.Pread descriptor count position) carried none = refl
+closes_none s (call.Pwrite descriptor bytes position) carried none = refl
+closes_none s (call.Lseek descriptor offset whence) carried none = refl
+closes_none s (call.Ftruncate descriptor size) carried none = refl
+closes_none s (call.Fstat descriptor) carried none = refl
+closes_none s (call.Dup descriptor) carried none = refl
+closes_none s (call.DupFrom descriptor least) carried none = refl
+closes_none s (call.Dup2 descriptor target) carried none = refl
+closes_none s (call.Getfl descriptor) carried none = refl
+closes_none s (call.Setfl descriptor append nonblock) carried none = refl
+closes_none s (call.Link old_path new_path) carried none = refl
+closes_none s (call.Unlink path) carried none = refl
+closes_none s (call.Mkdir path) carried none = refl
+closes_none s (call.Rmdir path) carried none = refl
+closes_none s call.Pipe carried none = refl
+closes_none s call.Socketpair carried none = refl
+closes_none s (call.Shutdown descriptor how) carried none = refl
+closes_none s (call.HostOpen path access flags) carried none = refl
+closes_none s (call.TcpListen port) carried none = refl
+closes_none s (call.TcpConnect port) carried none = refl
+closes_none s (call.TcpAccept descriptor) carried none = refl
+
+pub changes-as_step : (t : TableState) (c : Call) (made_with : Option Outcome) (after : TableState) → IsSound t → AreSound t.descriptions → (IsTrue (is_refused (planned t c)) → after ≡ t) → (is_refused (planned t c) ≡ false → Changes t c made_with after) → ChangesAsStep t c made_with after
+changes-as_step t c made_with after sound all kept changed settings s outcome carried same shows = by_test (is_refused (planned t c)) refl
   where
-    by_test : (b : Bool) → is_refused (planned t c) ≡ b → number ≡ numbers_told c (step settings s c outcome carried).answer
-    by_test false made = told made ∙ tells_call t settings s outcome carried sound all shows c made
+    by_test : (b : Bool) → is_refused (planned t c) ≡ b → Shows after (step settings s c outcome carried).after
+    by_test false made = changes_call t s settings outcome carried sound all shows c made_with after same made (changed made)
     by_test true refused =
         let fails = refused_answer t settings s outcome carried sound all shows c refused in
-        silent refused ∙ none_told c fails.0 ∙ ap (numbers_told c) (sym fails.1)
+        subst (λ (x : State). Shows after x) (sym (fail_leaves_state settings s c outcome carried fails.0 (closes_none s c carried fails.1.0) fails.1.1)) (subst (λ (u : TableState). Shows u s) (sym (kept refused)) shows)
+
+pub tells-as_step : (t : TableState) (c : Call) (made_with : Option Outcome) (number : NewNumbers) → IsSound t → AreSound t.descriptions → (IsTrue (is_refused (planned t c)) → number ≡ numbers.None) → (is_refused (planned t c) ≡ false → number ≡ numbers_given t c made_with) → TellsAsStep t c made_with number
+tells-as_step t c made_with number sound all silent told settings s outcome carried same shows = by_test (is_refused (planned t c)) refl
+  where
+    by_test : (b : Bool) → is_refused (planned t c) ≡ b → number ≡ numbers_told c (step settings s c outcome carried).answer
+    by_test false made = told made ∙ tells_call t settings s outcome carried sound all shows c made_with same made
+    by_test true refused =
+        let fails = refused_answer t settings s outcome carried sound all shows c refused in
+        silent refused ∙ none_told c fails.0 ∙ ap (numbers_told c) (sym fails.1.1)

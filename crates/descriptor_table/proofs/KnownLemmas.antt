@@ -5,6 +5,7 @@ use Rattle.std.specs.FinMap as fin
 use Rattle.std.specs.Ordering.{int_eq}
 use Rattle.std.specs.Prelude.{ℤ, pos, negsuc, IfOk, nat_le, nat_lt, slice_index_or}
 use Rattle.posix_terms.specs.Calls.{can_read, can_write}
+use Rattle.posix_terms.specs.Doors.{host_path, port_of}
 use Rattle.posix_terms.specs.Duplicates.{descriptor_number}
 use Rattle.posix_terms.specs.Ends.{is_end}
 use Rattle.posix_terms.specs.Names.{file_named, links_of, removed_dir}
@@ -17,17 +18,22 @@ use Rattle.posix_terms.specs.declared.call.Call.{Call}
 use Rattle.posix_terms.specs.declared.call.Call.TheVariants as call
 use Rattle.posix_terms.specs.declared.call.OpenFlags.{OpenFlags}
 use Rattle.posix_terms.specs.declared.call.ShutdownHow.{ShutdownHow}
+use Rattle.posix_terms.specs.declared.call.Whence.{Whence}
+use Rattle.posix_terms.specs.declared.object.Door.TheVariants as door
+use Rattle.posix_terms.specs.declared.object.End.{End}
 use Rattle.posix_terms.specs.declared.object.End.TheVariants as part
+use Rattle.posix_terms.specs.declared.outcome.OutKind.{OutKind}
+use Rattle.posix_terms.specs.declared.outcome.OutKind.TheVariants as out
 use Rattle.posix_terms.specs.declared.reply.ObjectKind.{ObjectKind}
 use Rattle.posix_terms.specs.declared.errno.Errno.{Errno}
 use Rattle.posix_terms.specs.declared.limits.TheConstants.Limits as limit
-use Rattle.posix_terms.specs.declared.errno.Errno.TheVariants.{EBADF, EFBIG, EINVAL, EEXIST, EMFILE, ENFILE, ENOENT, ENOSPC, ESPIPE}
+use Rattle.posix_terms.specs.declared.errno.Errno.TheVariants.{EBADF, EBUSY, EFBIG, EINVAL, EEXIST, EMFILE, ENFILE, ENOENT, ENOSPC, ESPIPE}
 use Rattle.posix_terms.specs.declared.reply.Reply.{Reply}
 use Rattle.posix_terms.specs.declared.reply.Reply.TheVariants as reply
 use Rattle.file_descriptions.specs.Descriptions.{ContainsKey, description_at}
 use Rattle.file_descriptions.specs.declared.description.Description.{Description}
-use Rattle.descriptor_table.proofs.SoundLemmas.{known_of, named_at, none_past, used_of, used-named}
-use Rattle.descriptor_table.specs.Plans.{IsKnownNumber, LocksKnown, MovesKnown, addable, answered, close_plan, dup2_plan, dup_from_plan, dup_plan, fstat_plan, ftruncate_plan, getfl_plan, link_plan, lseek_plan, mkdir_plan, moves, of_file, open_new, open_node, open_plan, open_there, plan_of, planned, pread_plan, pwrite_plan, read_plan, release, replaced, rmdir_plan, seen, setfl_plan, shutdown_plan, socket_side, stat_plan, stream_kind, two_ends_plan, unlink_plan, write_plan}
+use Rattle.descriptor_table.proofs.SoundLemmas.{known_of, named_at, none_past, ok_same, used_of, used-named}
+use Rattle.descriptor_table.specs.Plans.{IsKnownNumber, IsThere, LocksKnown, MovesKnown, act_or_ask, addable, answered, close_plan, dup2_plan, dup_from_plan, dup_plan, ends_a_door, errand, fstat_plan, ftruncate_plan, getfl_plan, host_open_plan, leads_outside, link_plan, lseek_plan, mkdir_plan, moves, not_listener, of_file, of_listener, open_new, open_node, open_plan, open_there, opens_plan, plan_of, planned, pread_plan, pwrite_plan, read_plan, release, replaced, rmdir_plan, seekable, seen, setfl_plan, shut_act, shutdown_plan, stat_by, stat_plan, tcp_accept_plan, tcp_connect_plan, tcp_listen_plan, two_ends_plan, unlink_plan, write_plan}
 use Rattle.descriptor_table.specs.Table.{TableState, IsSound, described, free_object, is_last_name, is_used, key_at, lowest_free, lowest_from, two_numbers}
 use Rattle.descriptor_table.specs.declared.plan.Op.{Op}
 use Rattle.descriptor_table.specs.declared.plan.Op.TheVariants as op
@@ -120,12 +126,19 @@ pub was_some : (o : Option ℕ) (e : Errno) (n : ℕ) → some_or o e ≡ Ok n �
 was_some None e n is = cc
 was_some (Some m) e n is = cc
 
-known-release : (t : TableState) (d : Description) (r : Reply) → IsKnownNumber t d.node → LocksKnown t (release d r)
-known-release t d r known = by_test (d.holders == 1)
+known-act : (t : TableState) (d : Description) (act ask : Op) → MovesKnown t act → MovesKnown t ask → MovesKnown t (act_or_ask d act ask)
+known-act t d act ask acts asks = by_test (leads_outside d.«end»)
   where
-    by_test : (b : Bool) → LocksKnown t (if b then plan.Node d.node op.Release false else plan.Reply r)
-    by_test true = (known, tt)
-    by_test false = tt
+    by_test : (b : Bool) → MovesKnown t (if b then ask else act)
+    by_test true = asks
+    by_test false = acts
+
+known-release : (t : TableState) (d : Description) (r : Reply) → IsSound t → is_used t d.node ≡ true → LocksKnown t (release d r)
+known-release t d r sound used = by_test (d.holders == 1) (known-act t d op.Release (errand d out.Close 0 false) tt used)
+  where
+    by_test : (b : Bool) → MovesKnown t (act_or_ask d op.Release (errand d out.Close 0 false)) → LocksKnown t (if b then plan.Node d.node (act_or_ask d op.Release (errand d out.Close 0 false)) false else plan.Reply r)
+    by_test true moved = (used_known t d.node sound used, moved)
+    by_test false moved = tt
 
 known-moves : (t : TableState) (d : Description) (count : ℕ) (none : Reply) (act : Op) → IsKnownNumber t d.node → MovesKnown t act → LocksKnown t (moves d count none act)
 known-moves t d count none act known moved = by_test ((count == 0) && not (is_end d.«end» part.Only))
@@ -134,9 +147,9 @@ known-moves t d count none act known moved = by_test ((count == 0) && not (is_en
     by_test true = tt
     by_test false = (known, moved)
 
-known-stat : (t : TableState) (d : Description) (links : ℕ) (k : Option ObjectKind) → IsKnownNumber t d.node → LocksKnown t (stat_plan d links k)
+known-stat : (t : TableState) (d : Description) (links : ℕ) (told : Option (ObjectKind × ℕ)) → IsKnownNumber t d.node → LocksKnown t (stat_plan d links told)
 known-stat t d links None known = (known, tt)
-known-stat t d links (Some k) known = tt
+known-stat t d links (Some (k, number)) known = tt
 
 known-there : (t : TableState) (node : Node) (flags : OpenFlags) → ((n : ℕ) → node ≡ FileNode n → IsKnownNumber t n) → IfOk (open_there t node flags) (LocksKnown t)
 known-there t Directory flags known = tt
@@ -151,10 +164,41 @@ known-two_ends : (t : TableState) (act : Op) → MovesKnown t act → IfOk (two_
 known-two_ends t act moved =
     through t (two_numbers t) _ (λ two x. through t (some_or (free_object t) ENFILE) _ (λ node is. (free_known t node (was_some (free_object t) ENFILE node is), moved)))
 
+known-shut : (t : TableState) (d : Description) (how : ShutdownHow) (e : End) (act : Op) → is_used t d.node ≡ true → shut_act d how e ≡ Ok act → MovesKnown t act
+known-shut t d how part.Only act used is = cc
+known-shut t d how part.Read act used is = cc
+known-shut t d how part.Write act used is = cc
+known-shut t d how (part.Socket side) act used is = subst (MovesKnown t) (ok_same (op.Shutdown side how) act is) tt
+known-shut t d how (part.Door door.HostFile) act used is = cc
+known-shut t d how (part.Door (door.Listener port)) act used is = cc
+known-shut t d how (part.Door door.Stream) act used is = subst (MovesKnown t) (ok_same (errand d out.Shutdown 0 false) act is) used
+
 known-shutdown : (t : TableState) (descriptor : ℤ) (how : ShutdownHow) → IsSound t → IfOk (shutdown_plan t descriptor how) (LocksKnown t)
 unfolding shutdown_plan
 known-shutdown t descriptor how sound =
-    through t (described t descriptor) _ (λ found is. through t (socket_side found.1.«end») _ (λ side x. (found_known t descriptor found sound is, tt)))
+    through t (described t descriptor) _ (λ found is. through t (shut_act found.1 how found.1.«end») _ (λ act x. (found_known t descriptor found sound is, known-shut t found.1 how found.1.«end» act (found_used t descriptor found sound is) x)))
+
+known-opens : (t : TableState) (k : OutKind) (asked : ℕ) (waits : Bool) (listener : Option ℕ) → IsThere t listener → IfOk (opens_plan t k asked waits listener) (LocksKnown t)
+known-opens t k asked waits listener there =
+    through t (some_or (lowest_free t 0) EMFILE) _ (λ n x. through t (some_or (free_object t) ENFILE) _ (λ node is. (free_known t node (was_some (free_object t) ENFILE node is), there)))
+
+known-host_open : (t : TableState) (path : List ℕ) (access : Access) (flags : OpenFlags) → IfOk (host_open_plan t path access flags) (LocksKnown t)
+unfolding host_open_plan
+known-host_open t path access flags =
+    through t (refuse_if (flags.truncate && not (can_write access)) EINVAL) _ (λ a x. through t (host_path path) _ (λ b y. known-opens t out.Open 0 false None tt))
+
+known-listen : (t : TableState) (port : ℤ) → IfOk (tcp_listen_plan t port) (LocksKnown t)
+unfolding tcp_listen_plan
+known-listen t port = through t (port_of 0 port) _ (λ asked x. known-opens t out.Listen asked false None tt)
+
+known-connect : (t : TableState) (port : ℤ) → IfOk (tcp_connect_plan t port) (LocksKnown t)
+unfolding tcp_connect_plan
+known-connect t port = through t (port_of 1 port) _ (λ asked x. known-opens t out.Connect asked false None tt)
+
+known-accept : (t : TableState) (descriptor : ℤ) → IsSound t → IfOk (tcp_accept_plan t descriptor) (LocksKnown t)
+unfolding tcp_accept_plan
+known-accept t descriptor sound =
+    through t (described t descriptor) _ (λ found is. through t (of_listener found.1.«end») _ (λ a x. known-opens t out.Accept 0 (not found.1.flags.nonblock) (Some found.1.node) (found_used t descriptor found sound is)))
 
 known-node : (t : TableState) (node : Option Node) (flags : OpenFlags) → ((n : ℕ) → node ≡ Some (FileNode n) → IsKnownNumber t n) → IfOk (open_node t node flags) (LocksKnown t)
 known-node t None flags known = known-new t flags
@@ -168,19 +212,25 @@ known-open t path access flags sound =
 
 known-close : (t : TableState) (descriptor : ℤ) → IsSound t → IfOk (close_plan t descriptor) (LocksKnown t)
 unfolding close_plan
-known-close t descriptor sound = through t (described t descriptor) _ (λ found is. known-release t found.1 reply.Done (found_known t descriptor found sound is))
+known-close t descriptor sound = through t (described t descriptor) _ (λ found is. known-release t found.1 reply.Done sound (found_used t descriptor found sound is))
 
 known-read : (t : TableState) (descriptor count : ℤ) → IsSound t → IfOk (read_plan t descriptor count) (LocksKnown t)
 unfolding read_plan
 known-read t descriptor count sound =
-    through t (described t descriptor) _ (λ found is. through t (refuse_if (not (can_read found.1.access)) EBADF) _ (λ a x.
-    through t (count_of count) _ (λ n y. known-moves t found.1 n (reply.Data []) (op.Read (seen found.0 found.1) n) (found_known t descriptor found sound is) (found_key t descriptor found sound is))))
+    through t (described t descriptor) _ (λ found is. through t (not_listener found.1.«end») _ (λ l w. through t (refuse_if (not (can_read found.1.access)) EBADF) _ (λ a x.
+    through t (count_of count) _ (λ n y.
+    let act : Op = op.Read (seen found.0 found.1) n in
+    let ask : Op = errand found.1 out.Read n (not found.1.flags.nonblock) in
+    known-moves t found.1 n (reply.Data []) (act_or_ask found.1 act ask) (found_known t descriptor found sound is) (known-act t found.1 act ask (found_key t descriptor found sound is) (found_used t descriptor found sound is))))))
 
 known-write : (t : TableState) (descriptor : ℤ) (count : ℕ) → IsSound t → IfOk (write_plan t descriptor count) (LocksKnown t)
 unfolding write_plan
 known-write t descriptor count sound =
-    through t (described t descriptor) _ (λ found is. through t (refuse_if (not (can_write found.1.access)) EBADF) _ (λ a x.
-    through t (refuse_if (nat_lt 32767 count) EINVAL) _ (λ b y. known-moves t found.1 count (reply.Count 0) (op.Write (seen found.0 found.1)) (found_known t descriptor found sound is) (found_key t descriptor found sound is))))
+    through t (described t descriptor) _ (λ found is. through t (not_listener found.1.«end») _ (λ l w. through t (refuse_if (not (can_write found.1.access)) EBADF) _ (λ a x.
+    through t (refuse_if (nat_lt 32767 count) EINVAL) _ (λ b y.
+    let act : Op = op.Write (seen found.0 found.1) in
+    let ask : Op = errand found.1 out.Write count (not found.1.flags.nonblock) in
+    known-moves t found.1 count (reply.Count 0) (act_or_ask found.1 act ask) (found_known t descriptor found sound is) (known-act t found.1 act ask (found_key t descriptor found sound is) (found_used t descriptor found sound is))))))
 
 known-pread : (t : TableState) (descriptor count position : ℤ) → IsSound t → IfOk (pread_plan t descriptor count position) (LocksKnown t)
 unfolding pread_plan
@@ -194,9 +244,11 @@ known-pwrite t descriptor count position sound =
     through t (described t descriptor) _ (λ found is. through t (of_file found.1 ESPIPE) _ (λ f w. through t (refuse_if (not (can_write found.1.access)) EBADF) _ (λ a x.
     through t (refuse_if (nat_lt 32767 count) EINVAL) _ (λ b y. through t (position_of position) _ (λ p z. (found_known t descriptor found sound is, tt))))))
 
-known-lseek : (t : TableState) (descriptor : ℤ) → IsSound t → IfOk (lseek_plan t descriptor) (LocksKnown t)
+known-lseek : (t : TableState) (descriptor offset : ℤ) (whence : Whence) → IsSound t → IfOk (lseek_plan t descriptor offset whence) (LocksKnown t)
 unfolding lseek_plan
-known-lseek t descriptor sound = through t (described t descriptor) _ (λ found is. through t (of_file found.1 ESPIPE) _ (λ f w. (found_known t descriptor found sound is, found_key t descriptor found sound is)))
+known-lseek t descriptor offset whence sound =
+    through t (described t descriptor) _ (λ found is. through t (seekable found.1.«end» offset whence) _ (λ f w.
+    (found_known t descriptor found sound is, known-act t found.1 (op.Lseek (seen found.0 found.1)) (errand found.1 out.Seek 0 false) (found_key t descriptor found sound is) (found_used t descriptor found sound is))))
 
 -- a size that is taken is one that a file may have
 small_size : (size : ℤ) (n : ℕ) → size_of size ≡ Ok n → n ≤ limit.FILE_BYTES
@@ -218,7 +270,7 @@ known-ftruncate t descriptor size sound =
 
 known-fstat : (t : TableState) (descriptor : ℤ) → IsSound t → IfOk (fstat_plan t descriptor) (LocksKnown t)
 unfolding fstat_plan
-known-fstat t descriptor sound = through t (described t descriptor) _ (λ found is. known-stat t found.1 (links_of t.paths found.1.node) (stream_kind found.1.«end») (found_known t descriptor found sound is))
+known-fstat t descriptor sound = through t (described t descriptor) _ (λ found is. known-stat t found.1 (links_of t.paths found.1.node) (stat_by found.1.«end») (found_known t descriptor found sound is))
 
 known-dup : (t : TableState) (descriptor : ℤ) → IfOk (dup_plan t descriptor) (LocksKnown t)
 unfolding dup_plan
@@ -230,18 +282,19 @@ known-dup_from t descriptor least =
     through t (described t descriptor) _ (λ found is. through t (descriptor_number least EINVAL) _ (λ first x.
     through t (some_or (lowest_free t first) EMFILE) _ (λ n y. tt)))
 
-known-replaced : (t : TableState) (found : Result (ℕ × Description) Errno) (r : Reply) → ((x : ℕ × Description) → found ≡ Ok x → IsKnownNumber t x.1.node) → LocksKnown t (replaced found r)
-known-replaced t (Ok x) r known = known-release t x.1 r (known x refl)
-known-replaced t (Err e) r known = tt
+known-replaced : (t : TableState) (found : Result (ℕ × Description) Errno) (r : Reply) → IsSound t → ((x : ℕ × Description) → found ≡ Ok x → is_used t x.1.node ≡ true) → LocksKnown t (replaced found r)
+known-replaced t (Ok x) r sound used = known-release t x.1 r sound (used x refl)
+known-replaced t (Err e) r sound used = tt
 
 known-dup2 : (t : TableState) (descriptor target : ℤ) → IsSound t → IfOk (dup2_plan t descriptor target) (LocksKnown t)
 unfolding dup2_plan
 known-dup2 t descriptor target sound =
-    through t (described t descriptor) _ (λ found is. through t (descriptor_number target EBADF) _ (λ n x. by_test (int_eq descriptor target)))
+    through t (described t descriptor) _ (λ found is. through t (descriptor_number target EBADF) _ (λ n x.
+    through t (refuse_if (not (int_eq descriptor target) && ends_a_door (described t target)) EBUSY) _ (λ a y. by_test (int_eq descriptor target))))
   where
     by_test : (b : Bool) → LocksKnown t (if b then plan.Reply (reply.Number target) else replaced (described t target) (reply.Number target))
     by_test true = tt
-    by_test false = known-replaced t (described t target) (reply.Number target) (λ x is. found_known t target x sound is)
+    by_test false = known-replaced t (described t target) (reply.Number target) sound (λ x is. found_used t target x sound is)
 
 known-getfl : (t : TableState) (descriptor : ℤ) → IfOk (getfl_plan t descriptor) (LocksKnown t)
 unfolding getfl_plan
@@ -278,7 +331,7 @@ known-call t (call.Read descriptor count) sound = known-read t descriptor count 
 known-call t (call.Write descriptor bytes) sound = known-write t descriptor (length bytes) sound
 known-call t (call.Pread descriptor count position) sound = known-pread t descriptor count position sound
 known-call t (call.Pwrite descriptor bytes position) sound = known-pwrite t descriptor (length bytes) position sound
-known-call t (call.Lseek descriptor offset whence) sound = known-lseek t descriptor sound
+known-call t (call.Lseek descriptor offset whence) sound = known-lseek t descriptor offset whence sound
 known-call t (call.Ftruncate descriptor size) sound = known-ftruncate t descriptor size sound
 known-call t (call.Fstat descriptor) sound = known-fstat t descriptor sound
 known-call t (call.Dup descriptor) sound = known-dup t descriptor
@@ -293,6 +346,10 @@ known-call t (call.Rmdir path) sound = known-rmdir t path
 known-call t call.Pipe sound = known-two_ends t op.Pipe tt
 known-call t call.Socketpair sound = known-two_ends t op.Socketpair tt
 known-call t (call.Shutdown descriptor how) sound = known-shutdown t descriptor how sound
+known-call t (call.HostOpen path access flags) sound = known-host_open t path access flags
+known-call t (call.TcpListen port) sound = known-listen t port
+known-call t (call.TcpConnect port) sound = known-connect t port
+known-call t (call.TcpAccept descriptor) sound = known-accept t descriptor sound
 
 known-answered : (t : TableState) (r : Result Plan Errno) → IfOk r (LocksKnown t) → LocksKnown t (answered r)
 known-answered t (Ok p) known = known

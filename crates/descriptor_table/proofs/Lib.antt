@@ -14,3 +14,4 @@ pub mod PlanLemmas
 pub mod ShownLemmas
 pub mod SlotLemmas
 pub mod SoundLemmas
+pub mod TextLemmas

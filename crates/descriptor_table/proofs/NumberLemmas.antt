@@ -10,12 +10,16 @@ use Rattle.posix_terms.specs.Object.{Node, FileNode, Directory}
 use Rattle.posix_terms.specs.Refusals.{◌>>=◌, some_or}
 use Rattle.posix_terms.specs.declared.call.Access.{Access}
 use Rattle.posix_terms.specs.declared.call.Access.TheVariants.{ReadOnly, WriteOnly, ReadWrite}
+use Rattle.posix_terms.specs.declared.object.Door.{Door}
+use Rattle.posix_terms.specs.declared.object.Door.TheVariants as door
 use Rattle.posix_terms.specs.declared.object.End.{End}
 use Rattle.posix_terms.specs.declared.object.End.TheVariants as part
 use Rattle.posix_terms.specs.declared.object.Side.TheVariants.{Side0, Side1}
 use Rattle.posix_terms.specs.declared.call.Call.{Call}
 use Rattle.posix_terms.specs.declared.call.Call.TheVariants as call
 use Rattle.posix_terms.specs.declared.call.OpenFlags.{OpenFlags}
+use Rattle.posix_terms.specs.declared.outcome.Outcome.{Outcome}
+use Rattle.posix_terms.specs.declared.outcome.Outcome.TheVariants as came
 use Rattle.posix_terms.specs.declared.errno.Errno.{Errno}
 use Rattle.posix_terms.specs.declared.errno.Errno.TheVariants.{EBADF, EINVAL, EMFILE, ENFILE, ENOSPC}
 use Rattle.directories.specs.Lookup.{looked_up}
@@ -26,7 +30,7 @@ use Rattle.descriptor_table.proofs.SoundLemmas.{bind_ok, ok_same}
 use Rattle.descriptor_table.proofs.PlanLemmas.{lowest_none}
 use Rattle.descriptor_table.proofs.ObjectLemmas.{IsNew, IsOld, Taken, freed_slot, taken_slot}
 use Rattle.descriptor_table.specs.Agreement.{IsBorn, NumbersStay}
-use Rattle.descriptor_table.specs.Changes.{AreOpened, Changes, IsOpened, TwoEnds, two_ends, with_object, Opening, close_change, closed, closed_if_open, dup2_change, dup_change, dup_from_change, file_at, found_or_made, kept_or, let_go, link_change, mkdir_change, opening, rmdir_change, setfl_change, shared, unlink_change, with_file, with_paths, without_gone}
+use Rattle.descriptor_table.specs.Changes.{AreOpened, Changes, IsDoor, IsOpened, NewDoor, OpensDoor, TwoEnds, new_door, two_ends, with_object, Opening, close_change, closed, closed_if_open, dup2_change, dup_change, dup_from_change, file_at, found_or_made, kept_or, let_go, link_change, mkdir_change, opening, rmdir_change, setfl_change, shared, unlink_change, with_file, with_paths, without_gone}
 use Rattle.descriptor_table.specs.Table.{TableState, IsSound, described, free_object, is_gone, lowest_free, two_numbers}
 
 numbers_same : (t u : TableState) → u.objects ≡ t.objects → u.made_objects ≡ t.made_objects → u.descriptions.made ≡ t.descriptions.made → NumbersStay t u
@@ -214,30 +218,58 @@ two_stay t after one other (Ok two) sound at (key, fresh, (next, fresh_too, is))
     let ready = ready_file t t.paths two.node sound (two_object t two at) in
     subst (NumbersStay t) (sym is) (record { numbers = ready.0.numbers; objects = ready.0.objects; born = born_along t (with_object t two.node) _ refl refl ready.0.born; descriptions = omega arith })
 
+-- ## Opening a door
+
+abbrev door_at : ℕ → ℕ → Result NewDoor Errno
+door_at n node = Ok (record { number = n; node = node })
+
+-- the object is the next that was free
+door_object : (t : TableState) (new : NewDoor) → new_door t ≡ Ok new → free_object t ≡ Some new.node
+unfolding new_door
+door_object t new is =
+    let number = bind_ok (some_or (lowest_free t 0) EMFILE) (λ n. some_or (free_object t) ENFILE >>= (λ node. door_at n node)) new is in
+    let object = bind_ok (some_or (free_object t) ENFILE) (λ node. door_at number.0 node) new number.1.1 in
+    was_some (free_object t) ENFILE object.0 object.1.0 ∙ ap (λ (x : NewDoor). Some x.node) (ok_same (record { number = number.0; node = object.0 }) new object.1.1)
+
+door_made : (t after : TableState) (d : Door) (access : Access) (append : Bool) (r : Result NewDoor Errno) → IsSound t → new_door t ≡ r → IsDoor t d access append r after → NumbersStay t after
+door_made t after d access append (Err e) sound at is = subst (NumbersStay t) (sym is) (numbers_same t t refl refl refl)
+door_made t after d access append (Ok new) sound at (key, fresh, is) =
+    let ready = ready_file t t.paths new.node sound (door_object t new at) in
+    subst (NumbersStay t) (sym is) (record { numbers = ready.0.numbers; objects = ready.0.objects; born = born_along t (with_object t new.node) _ refl refl ready.0.born; descriptions = omega arith })
+
+door_stay : (t after : TableState) (opens_as : ℕ → Door) (access : Access) (append : Bool) (o : Option Outcome) → IsSound t → OpensDoor t opens_as access append o after → NumbersStay t after
+door_stay t after opens_as access append (Some (came.Ok value bytes)) sound is = door_made t after (opens_as value) access append (new_door t) sound refl is
+door_stay t after opens_as access append (Some (came.Fail e)) sound is = subst (NumbersStay t) (sym is) (numbers_same t t refl refl refl)
+door_stay t after opens_as access append None sound is = subst (NumbersStay t) (sym is) (numbers_same t t refl refl refl)
+
 -- ## All calls
 
-pub numbers-stay : (t : TableState) (c : Call) (after : TableState) → IsSound t → Changes t c after → NumbersStay t after
-numbers-stay t (call.Open path access flags) after sound is = opened_stay t after access flags (opening t path) (opening_ready t path sound) is
-numbers-stay t (call.Close descriptor) after sound is = kept t after (close_change t descriptor) (stay-close t descriptor) is
-numbers-stay t (call.Read descriptor count) after sound is = kept t after (Ok t) (numbers_same t t refl refl refl) is
-numbers-stay t (call.Write descriptor bytes) after sound is = kept t after (Ok t) (numbers_same t t refl refl refl) is
-numbers-stay t (call.Pread descriptor count position) after sound is = kept t after (Ok t) (numbers_same t t refl refl refl) is
-numbers-stay t (call.Pwrite descriptor bytes position) after sound is = kept t after (Ok t) (numbers_same t t refl refl refl) is
-numbers-stay t (call.Lseek descriptor offset whence) after sound is = kept t after (Ok t) (numbers_same t t refl refl refl) is
-numbers-stay t (call.Ftruncate descriptor size) after sound is = kept t after (Ok t) (numbers_same t t refl refl refl) is
-numbers-stay t (call.Fstat descriptor) after sound is = kept t after (Ok t) (numbers_same t t refl refl refl) is
-numbers-stay t (call.Dup descriptor) after sound is = kept t after (dup_change t descriptor) (stay-dup t descriptor) is
-numbers-stay t (call.DupFrom descriptor least) after sound is = kept t after (dup_from_change t descriptor least) (stay-dup_from t descriptor least) is
-numbers-stay t (call.Dup2 descriptor target) after sound is = kept t after (dup2_change t descriptor target) (stay-dup2 t descriptor target) is
-numbers-stay t (call.Getfl descriptor) after sound is = kept t after (Ok t) (numbers_same t t refl refl refl) is
-numbers-stay t (call.Setfl descriptor append nonblock) after sound is = kept t after (setfl_change t descriptor append nonblock) (stay-setfl t descriptor append nonblock) is
-numbers-stay t (call.Link old_path new_path) after sound is = kept t after (link_change t old_path new_path) (stay-link t old_path new_path) is
-numbers-stay t (call.Unlink path) after sound is = kept t after (unlink_change t path) (stay-unlink t path) is
-numbers-stay t (call.Mkdir path) after sound is = kept t after (mkdir_change t path) (stay-mkdir t path) is
-numbers-stay t (call.Rmdir path) after sound is = kept t after (rmdir_change t path) (stay-rmdir t path) is
-numbers-stay t call.Pipe after sound is = two_stay t after (part.Read, ReadOnly) (part.Write, WriteOnly) (two_ends t) sound refl is
-numbers-stay t call.Socketpair after sound is = two_stay t after (part.Socket Side0, ReadWrite) (part.Socket Side1, ReadWrite) (two_ends t) sound refl is
-numbers-stay t (call.Shutdown descriptor how) after sound is = kept t after (Ok t) (numbers_same t t refl refl refl) is
+pub numbers-stay : (t : TableState) (c : Call) (o : Option Outcome) (after : TableState) → IsSound t → Changes t c o after → NumbersStay t after
+numbers-stay t (call.Open path access flags) o after sound is = opened_stay t after access flags (opening t path) (opening_ready t path sound) is
+numbers-stay t (call.Close descriptor) o after sound is = kept t after (close_change t descriptor) (stay-close t descriptor) is
+numbers-stay t (call.Read descriptor count) o after sound is = kept t after (Ok t) (numbers_same t t refl refl refl) is
+numbers-stay t (call.Write descriptor bytes) o after sound is = kept t after (Ok t) (numbers_same t t refl refl refl) is
+numbers-stay t (call.Pread descriptor count position) o after sound is = kept t after (Ok t) (numbers_same t t refl refl refl) is
+numbers-stay t (call.Pwrite descriptor bytes position) o after sound is = kept t after (Ok t) (numbers_same t t refl refl refl) is
+numbers-stay t (call.Lseek descriptor offset whence) o after sound is = kept t after (Ok t) (numbers_same t t refl refl refl) is
+numbers-stay t (call.Ftruncate descriptor size) o after sound is = kept t after (Ok t) (numbers_same t t refl refl refl) is
+numbers-stay t (call.Fstat descriptor) o after sound is = kept t after (Ok t) (numbers_same t t refl refl refl) is
+numbers-stay t (call.Dup descriptor) o after sound is = kept t after (dup_change t descriptor) (stay-dup t descriptor) is
+numbers-stay t (call.DupFrom descriptor least) o after sound is = kept t after (dup_from_change t descriptor least) (stay-dup_from t descriptor least) is
+numbers-stay t (call.Dup2 descriptor target) o after sound is = kept t after (dup2_change t descriptor target) (stay-dup2 t descriptor target) is
+numbers-stay t (call.Getfl descriptor) o after sound is = kept t after (Ok t) (numbers_same t t refl refl refl) is
+numbers-stay t (call.Setfl descriptor append nonblock) o after sound is = kept t after (setfl_change t descriptor append nonblock) (stay-setfl t descriptor append nonblock) is
+numbers-stay t (call.Link old_path new_path) o after sound is = kept t after (link_change t old_path new_path) (stay-link t old_path new_path) is
+numbers-stay t (call.Unlink path) o after sound is = kept t after (unlink_change t path) (stay-unlink t path) is
+numbers-stay t (call.Mkdir path) o after sound is = kept t after (mkdir_change t path) (stay-mkdir t path) is
+numbers-stay t (call.Rmdir path) o after sound is = kept t after (rmdir_change t path) (stay-rmdir t path) is
+numbers-stay t call.Pipe o after sound is = two_stay t after (part.Read, ReadOnly) (part.Write, WriteOnly) (two_ends t) sound refl is
+numbers-stay t call.Socketpair o after sound is = two_stay t after (part.Socket Side0, ReadWrite) (part.Socket Side1, ReadWrite) (two_ends t) sound refl is
+numbers-stay t (call.Shutdown descriptor how) o after sound is = kept t after (Ok t) (numbers_same t t refl refl refl) is
+numbers-stay t (call.HostOpen path access flags) o after sound is = door_stay t after (λ value. door.HostFile) access flags.append o sound is
+numbers-stay t (call.TcpListen port) o after sound is = door_stay t after (λ value. door.Listener value) ReadWrite false o sound is
+numbers-stay t (call.TcpConnect port) o after sound is = door_stay t after (λ value. door.Stream) ReadWrite false o sound is
+numbers-stay t (call.TcpAccept descriptor) o after sound is = door_stay t after (λ value. door.Stream) ReadWrite false o sound is
 
 pub numbers-unchanged : (t : TableState) → NumbersStay t t
 numbers-unchanged t = numbers_same t t refl refl refl

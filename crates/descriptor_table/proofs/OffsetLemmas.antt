@@ -11,12 +11,16 @@ use Rattle.posix_terms.specs.Object.{Node, FileNode, Directory}
 use Rattle.posix_terms.specs.Refusals.{◌>>=◌, some_or}
 use Rattle.posix_terms.specs.declared.call.Access.{Access}
 use Rattle.posix_terms.specs.declared.call.Access.TheVariants.{ReadOnly, WriteOnly, ReadWrite}
+use Rattle.posix_terms.specs.declared.object.Door.{Door}
+use Rattle.posix_terms.specs.declared.object.Door.TheVariants as door
 use Rattle.posix_terms.specs.declared.object.End.{End}
 use Rattle.posix_terms.specs.declared.object.Side.TheVariants.{Side0, Side1}
 use Rattle.file_descriptions.specs.declared.description.StatusFlags.{StatusFlags}
 use Rattle.posix_terms.specs.declared.call.Call.{Call}
 use Rattle.posix_terms.specs.declared.call.Call.TheVariants as call
 use Rattle.posix_terms.specs.declared.call.OpenFlags.{OpenFlags}
+use Rattle.posix_terms.specs.declared.outcome.Outcome.{Outcome}
+use Rattle.posix_terms.specs.declared.outcome.Outcome.TheVariants as came
 use Rattle.posix_terms.specs.declared.errno.Errno.{Errno}
 use Rattle.posix_terms.specs.declared.errno.Errno.TheVariants.{EBADF, EINVAL, EMFILE, ENOSPC}
 use Rattle.directories.specs.Lookup.{looked_up}
@@ -28,7 +32,7 @@ use Rattle.descriptor_table.proofs.KnownLemmas.{found_key, some_inside}
 use Rattle.descriptor_table.proofs.ShownLemmas.{key_known}
 use Rattle.descriptor_table.proofs.SoundLemmas.{closed_other, none_past, sound-freed, sound-let_go, get-insert_other, get-insert_same, get-remove_other, get-remove_same, known_at}
 use Rattle.descriptor_table.specs.Agreement.{OffsetsStay}
-use Rattle.descriptor_table.specs.Changes.{AreOpened, Changes, IsOpened, TwoEnds, no_flags, two_ends, with_object, Opening, close_change, closed, closed_if_open, dup2_change, dup_change, dup_from_change, file_at, found_or_made, kept_or, let_go, link_change, mkdir_change, opened, opening, status_flags, rmdir_change, setfl_change, shared, unlink_change, with_paths, without_gone}
+use Rattle.descriptor_table.specs.Changes.{AreOpened, Changes, IsDoor, IsOpened, NewDoor, OpensDoor, door_flags, new_door, TwoEnds, no_flags, two_ends, with_object, Opening, close_change, closed, closed_if_open, dup2_change, dup_change, dup_from_change, file_at, found_or_made, kept_or, let_go, link_change, mkdir_change, opened, opening, status_flags, rmdir_change, setfl_change, shared, unlink_change, with_paths, without_gone}
 use Rattle.descriptor_table.specs.Table.{TableState, IsSound, described, free_object, is_gone, key_at, lowest_free}
 
 -- each description was there, with its birth and its offset
@@ -234,30 +238,46 @@ two_stay t after one other (Ok two) (key, fresh, (next, fresh_too, is)) =
     (opened_offsets t (opened (with_object t two.node) two.first key two.node one.0 one.1 no_flags) two.second next two.node other.0 other.1 no_flags (omega arith)
     (opened_offsets t (with_object t two.node) two.first key two.node one.0 one.1 no_flags (omega arith) (λ q d got. inl (stood_same t.descriptions q d got))))
 
+-- ## Opening a door
+
+door_made : (t after : TableState) (d : Door) (access : Access) (append : Bool) (r : Result NewDoor Errno) → IsDoor t d access append r after → OffsetsStay t after
+door_made t after d access append (Err e) is = offsets_of t after (Ok t) (stood_same t.descriptions) is
+door_made t after d access append (Ok new) (key, fresh, is) =
+    subst (OffsetsStay t) (sym is) (opened_offsets t (with_object t new.node) new.number key new.node (part.Door d) access (door_flags append) (omega arith) (λ q d got. inl (stood_same t.descriptions q d got)))
+
+door_stay : (t after : TableState) (opens_as : ℕ → Door) (access : Access) (append : Bool) (o : Option Outcome) → OpensDoor t opens_as access append o after → OffsetsStay t after
+door_stay t after opens_as access append (Some (came.Ok value bytes)) is = door_made t after (opens_as value) access append (new_door t) is
+door_stay t after opens_as access append (Some (came.Fail e)) is = offsets_of t after (Ok t) (stood_same t.descriptions) is
+door_stay t after opens_as access append None is = offsets_of t after (Ok t) (stood_same t.descriptions) is
+
 -- ## All calls
 
 pub offsets-unchanged : (t : TableState) → OffsetsStay t t
 offsets-unchanged t = offsets_of t t (Ok t) (stood_same t.descriptions) refl
 
-pub offsets-stay : (t : TableState) (c : Call) (after : TableState) → IsSound t → Changes t c after → OffsetsStay t after
-offsets-stay t (call.Open path access flags) after sound is = opened_stay t after access flags (opening t path) (opening_kept t path) is
-offsets-stay t (call.Close descriptor) after sound is = offsets_of t after (close_change t descriptor) (stay-close t sound descriptor) is
-offsets-stay t (call.Read descriptor count) after sound is = offsets_of t after (Ok t) (stood_same t.descriptions) is
-offsets-stay t (call.Write descriptor bytes) after sound is = offsets_of t after (Ok t) (stood_same t.descriptions) is
-offsets-stay t (call.Pread descriptor count position) after sound is = offsets_of t after (Ok t) (stood_same t.descriptions) is
-offsets-stay t (call.Pwrite descriptor bytes position) after sound is = offsets_of t after (Ok t) (stood_same t.descriptions) is
-offsets-stay t (call.Lseek descriptor offset whence) after sound is = offsets_of t after (Ok t) (stood_same t.descriptions) is
-offsets-stay t (call.Ftruncate descriptor size) after sound is = offsets_of t after (Ok t) (stood_same t.descriptions) is
-offsets-stay t (call.Fstat descriptor) after sound is = offsets_of t after (Ok t) (stood_same t.descriptions) is
-offsets-stay t (call.Dup descriptor) after sound is = offsets_of t after (dup_change t descriptor) (stay-dup t sound descriptor) is
-offsets-stay t (call.DupFrom descriptor least) after sound is = offsets_of t after (dup_from_change t descriptor least) (stay-dup_from t sound descriptor least) is
-offsets-stay t (call.Dup2 descriptor target) after sound is = offsets_of t after (dup2_change t descriptor target) (stay-dup2 t sound descriptor target) is
-offsets-stay t (call.Getfl descriptor) after sound is = offsets_of t after (Ok t) (stood_same t.descriptions) is
-offsets-stay t (call.Setfl descriptor append nonblock) after sound is = offsets_of t after (setfl_change t descriptor append nonblock) (stay-setfl t sound descriptor append nonblock) is
-offsets-stay t (call.Link old_path new_path) after sound is = offsets_of t after (link_change t old_path new_path) (stay-link t sound old_path new_path) is
-offsets-stay t (call.Unlink path) after sound is = offsets_of t after (unlink_change t path) (stay-unlink t sound path) is
-offsets-stay t (call.Mkdir path) after sound is = offsets_of t after (mkdir_change t path) (stay-mkdir t sound path) is
-offsets-stay t (call.Rmdir path) after sound is = offsets_of t after (rmdir_change t path) (stay-rmdir t sound path) is
-offsets-stay t call.Pipe after sound is = two_stay t after (part.Read, ReadOnly) (part.Write, WriteOnly) (two_ends t) is
-offsets-stay t call.Socketpair after sound is = two_stay t after (part.Socket Side0, ReadWrite) (part.Socket Side1, ReadWrite) (two_ends t) is
-offsets-stay t (call.Shutdown descriptor how) after sound is = offsets_of t after (Ok t) (stood_same t.descriptions) is
+pub offsets-stay : (t : TableState) (c : Call) (o : Option Outcome) (after : TableState) → IsSound t → Changes t c o after → OffsetsStay t after
+offsets-stay t (call.Open path access flags) o after sound is = opened_stay t after access flags (opening t path) (opening_kept t path) is
+offsets-stay t (call.Close descriptor) o after sound is = offsets_of t after (close_change t descriptor) (stay-close t sound descriptor) is
+offsets-stay t (call.Read descriptor count) o after sound is = offsets_of t after (Ok t) (stood_same t.descriptions) is
+offsets-stay t (call.Write descriptor bytes) o after sound is = offsets_of t after (Ok t) (stood_same t.descriptions) is
+offsets-stay t (call.Pread descriptor count position) o after sound is = offsets_of t after (Ok t) (stood_same t.descriptions) is
+offsets-stay t (call.Pwrite descriptor bytes position) o after sound is = offsets_of t after (Ok t) (stood_same t.descriptions) is
+offsets-stay t (call.Lseek descriptor offset whence) o after sound is = offsets_of t after (Ok t) (stood_same t.descriptions) is
+offsets-stay t (call.Ftruncate descriptor size) o after sound is = offsets_of t after (Ok t) (stood_same t.descriptions) is
+offsets-stay t (call.Fstat descriptor) o after sound is = offsets_of t after (Ok t) (stood_same t.descriptions) is
+offsets-stay t (call.Dup descriptor) o after sound is = offsets_of t after (dup_change t descriptor) (stay-dup t sound descriptor) is
+offsets-stay t (call.DupFrom descriptor least) o after sound is = offsets_of t after (dup_from_change t descriptor least) (stay-dup_from t sound descriptor least) is
+offsets-stay t (call.Dup2 descriptor target) o after sound is = offsets_of t after (dup2_change t descriptor target) (stay-dup2 t sound descriptor target) is
+offsets-stay t (call.Getfl descriptor) o after sound is = offsets_of t after (Ok t) (stood_same t.descriptions) is
+offsets-stay t (call.Setfl descriptor append nonblock) o after sound is = offsets_of t after (setfl_change t descriptor append nonblock) (stay-setfl t sound descriptor append nonblock) is
+offsets-stay t (call.Link old_path new_path) o after sound is = offsets_of t after (link_change t old_path new_path) (stay-link t sound old_path new_path) is
+offsets-stay t (call.Unlink path) o after sound is = offsets_of t after (unlink_change t path) (stay-unlink t sound path) is
+offsets-stay t (call.Mkdir path) o after sound is = offsets_of t after (mkdir_change t path) (stay-mkdir t sound path) is
+offsets-stay t (call.Rmdir path) o after sound is = offsets_of t after (rmdir_change t path) (stay-rmdir t sound path) is
+offsets-stay t call.Pipe o after sound is = two_stay t after (part.Read, ReadOnly) (part.Write, WriteOnly) (two_ends t) is
+offsets-stay t call.Socketpair o after sound is = two_stay t after (part.Socket Side0, ReadWrite) (part.Socket Side1, ReadWrite) (two_ends t) is
+offsets-stay t (call.Shutdown descriptor how) o after sound is = offsets_of t after (Ok t) (stood_same t.descriptions) is
+offsets-stay t (call.HostOpen path access flags) o after sound is = door_stay t after (λ value. door.HostFile) access flags.append o is
+offsets-stay t (call.TcpListen port) o after sound is = door_stay t after (λ value. door.Listener value) ReadWrite false o is
+offsets-stay t (call.TcpConnect port) o after sound is = door_stay t after (λ value. door.Stream) ReadWrite false o is
+offsets-stay t (call.TcpAccept descriptor) o after sound is = door_stay t after (λ value. door.Stream) ReadWrite false o is

@@ -11,22 +11,23 @@ use Rattle.std.specs.Prelude.{ℤ, ◌+ℤ◌, pos, negsuc, nat_le, nat_lt, slic
 use Rattle.posix_terms.specs.Calls.{can_read, can_write}
 use Rattle.posix_terms.specs.Descriptors as posix
 use Rattle.posix_terms.specs.Descriptors.{close_result, open_result}
+use Rattle.posix_terms.specs.Doors.{NewDoor, host_open_result, host_path, opens, port_of, tcp_accept_result, tcp_connect_result, tcp_listen_result}
 use Rattle.posix_terms.specs.Duplicates as duplicates
 use Rattle.posix_terms.specs.Duplicates.{dup_result, dup_from_result, dup2_result, descriptor_number}
-use Rattle.posix_terms.specs.Effects.{Effect, Blocks, Completes}
+use Rattle.posix_terms.specs.Effects.{Effect, Asks, Blocks, Completes, asks_of}
 use Rattle.posix_terms.specs.Files.{bytes_at, resized, written}
 use Rattle.posix_terms.specs.Names.{PathMap, added, file_named, link_result, mkdir_result, removed, removed_dir, rmdir_result, unlink_result, with_paths}
-use Rattle.posix_terms.specs.Object.{State, Content, File, Pipe, Pair, Node, FileNode, Directory, with_content}
+use Rattle.posix_terms.specs.Object.{State, Content, File, Pipe, Pair, DoorTo, Node, FileNode, Directory, with_content, content_of}
 use Rattle.posix_terms.specs.Object as object
 use Rattle.posix_terms.specs.Ends.{side_of}
 use Rattle.posix_terms.specs.Paths.{node_at, resolved}
 use Rattle.posix_terms.specs.Refusals.{◌>>=◌, count_of, position_of, refuse_if, some_or}
 use Rattle.posix_terms.specs.Status.{fstat_result, getfl_result, setfl_result}
 use Rattle.posix_terms.specs.Sockets as sockets
-use Rattle.posix_terms.specs.Sockets.{NewEnd, pair_in, pipe_result, shutdown_result, socketpair_result}
-use Rattle.posix_terms.specs.Streams.{PairState, Reading, Reads, Ends, NothingYet, Writing, Writes, Breaks, NoRoom, new_pair, pair_read, pair_write, peer_of, shut, stream_read, stream_write, with_waiting}
-use Rattle.posix_terms.specs.Step.{Carried, concluded, effect_of}
-use Rattle.posix_terms.specs.Transfers.{base_of, content_of, file_in, has_peer, offset_of, read_content, read_done, seek_content, write_at, write_content, write_done, read_result, write_result, pread_result, pwrite_result, lseek_result, ftruncate_result, size_of, start_of}
+use Rattle.posix_terms.specs.Sockets.{NewEnd, pipe_result, shut_content, shuttable, shutdown_result, socketpair_result}
+use Rattle.posix_terms.specs.Streams.{Reading, Reads, Ends, NothingYet, Writing, Writes, Breaks, NoRoom, new_pair, pair_read, pair_write, peer_of, shut, stream_read, stream_write, with_waiting}
+use Rattle.posix_terms.specs.Step.{Carried, concluded, effect_of, failed, is_again, waited}
+use Rattle.posix_terms.specs.Transfers.{base_of, file_in, has_peer, host_offset, offset_of, read_content, read_done, seek_content, write_at, write_content, write_done, read_result, write_result, pread_result, pwrite_result, lseek_result, ftruncate_result, size_of, start_of}
 use Rattle.posix_terms.specs.declared.call.Access.{Access}
 use Rattle.posix_terms.specs.declared.call.Access.TheVariants.{ReadOnly, WriteOnly, ReadWrite}
 use Rattle.posix_terms.specs.declared.call.Call.{Call}
@@ -35,25 +36,30 @@ use Rattle.posix_terms.specs.declared.call.OpenFlags.{OpenFlags}
 use Rattle.posix_terms.specs.declared.call.ShutdownHow.{ShutdownHow}
 use Rattle.posix_terms.specs.declared.call.Whence.{Whence}
 use Rattle.posix_terms.specs.declared.errno.Errno.{Errno}
-use Rattle.posix_terms.specs.declared.errno.Errno.TheVariants.{EAGAIN, EBADF, EEXIST, EINVAL, EMFILE, ENFILE, ENOENT, ENOSPC, ENOTSOCK, ESPIPE}
+use Rattle.posix_terms.specs.declared.errno.Errno.TheVariants.{EAGAIN, EBADF, EBUSY, EEXIST, EINVAL, EMFILE, ENFILE, ENOENT, ENOSPC, ESPIPE}
+use Rattle.posix_terms.specs.declared.object.Door.{Door}
+use Rattle.posix_terms.specs.declared.object.Door.TheVariants as door
 use Rattle.posix_terms.specs.declared.object.End.{End}
 use Rattle.posix_terms.specs.declared.object.End.TheVariants as part
-use Rattle.posix_terms.specs.declared.object.Side.{Side}
 use Rattle.posix_terms.specs.declared.object.Side.TheVariants.{Side0, Side1}
+use Rattle.posix_terms.specs.declared.outcome.OutKind.{OutKind}
+use Rattle.posix_terms.specs.declared.outcome.OutKind.TheVariants as out
 use Rattle.posix_terms.specs.declared.outcome.Outcome.{Outcome}
+use Rattle.posix_terms.specs.declared.outcome.Outcome.TheVariants as outcomes
+use Rattle.posix_terms.specs.declared.reply.Reply.{Reply}
 use Rattle.posix_terms.specs.declared.reply.Reply.TheVariants as reply
 use Rattle.posix_terms.specs.declared.transcript.Settings.{Settings}
 use Rattle.file_descriptions.specs.Descriptions.{AreSound}
 use Rattle.file_descriptions.specs.declared.description.Description.{Description}
 use Rattle.descriptor_table.proofs.ChangeLemmas.{birth_got}
-use Rattle.descriptor_table.proofs.EndLemmas.{Kind, IsFile, IsPipe, IsPair, file_only, kind_of, moves_file, moves_stream, of_file_file, pair_side, socket_stream}
-use Rattle.descriptor_table.proofs.FollowLemmas.{file_is, pair_is, waited_after}
+use Rattle.descriptor_table.proofs.EndLemmas.{Kind, IsDoor, IsFile, IsPipe, IsPair, file_only, kind_of, of_file_file, socket_stream}
+use Rattle.descriptor_table.proofs.FollowLemmas.{file_is, waited_after}
 use Rattle.descriptor_table.proofs.PathLemmas.{names_shown, node_shown, resolved_shown}
-use Rattle.descriptor_table.proofs.PlanLemmas.{full_shown, lowest_none, two_shown}
+use Rattle.descriptor_table.proofs.PlanLemmas.{asking_of, full_shown, listener_by, lowest_none, moves_file_inside, moves_inside, moves_outside, transfers_by, two_shown}
 use Rattle.descriptor_table.proofs.ShownLemmas.{FoundBoth, Shut, Open, found_both, lowest_shown}
 use Rattle.descriptor_table.proofs.SoundLemmas.{get-insert_other, get-insert_same, get-remove_other, get-remove_same}
 use Rattle.descriptor_table.specs.Acts.{OthersStay, StaysAsStep, offset_at}
-use Rattle.descriptor_table.specs.Plans.{answered, ftruncate_plan, locks, lseek_plan, moves, of_file, open_new, open_node, open_plan, open_there, planned, pwrite_plan, read_plan, seen, shutdown_plan, socket_side, two_ends_plan, write_plan}
+use Rattle.descriptor_table.specs.Plans.{act_or_ask, answered, errand, ftruncate_plan, host_open_plan, leads_outside, locks, lseek_plan, moves, not_listener, of_file, of_listener, open_new, open_node, open_plan, open_there, opens_plan, planned, pwrite_plan, read_plan, seekable, seen, shut_act, shutdown_plan, tcp_accept_plan, tcp_connect_plan, tcp_listen_plan, two_ends_plan, write_plan}
 use Rattle.descriptor_table.specs.Shows.{Shows, birth_at, birth_of, is_of, shown, shown_node}
 use Rattle.descriptor_table.specs.Table.{TableState, IsSound, free_object, lowest_from, two_numbers}
 use Rattle.descriptor_table.specs.declared.plan.Op.{Op}
@@ -77,6 +83,7 @@ fewer_others t p s after fewer = record { contents = λ birth content other at. 
 abbrev FewerAfter : State → Result Effect Errno → Type 0
 FewerAfter s (Ok (Completes after r)) = Fewer s after
 FewerAfter s (Ok Blocks) = Unit {0}
+FewerAfter s (Ok (Asks asking)) = ((value : ℕ) (bytes : List ℕ) → Fewer s (asking.succeeds value bytes).0) × Fewer s asking.otherwise
 FewerAfter s (Err e) = Unit {0}
 
 through : (s : State) {A : Type 0} (r : Result A Errno) (f : A → Result Effect Errno) → ((x : A) → FewerAfter s (f x)) → FewerAfter s (r >>= f)
@@ -128,7 +135,11 @@ fewer_paths s paths = record { contents = λ birth content at. at; offsets = λ 
 module _ (s : State) where
   fewer-close : (descriptor : ℤ) → FewerAfter s (close_result s descriptor)
   unfolding close_result
-  fewer-close descriptor = through s (posix.described s descriptor) _ (λ found. fewer_released s (posix.freed s descriptor) found.0 found.1 (fewer_freed s descriptor))
+  fewer-close descriptor = through s (posix.described s descriptor) _ (λ found. by_door (posix.released (posix.freed s descriptor) found.0 found.1) (fewer_released s (posix.freed s descriptor) found.0 found.1 (fewer_freed s descriptor)) (posix.ends_door s descriptor found))
+    where
+      by_door : (after : State) → Fewer s after → (b : Bool) → FewerAfter s (Ok (if b then asks_of after out.Close 0 false (λ value bytes. reply.Done) else Completes after reply.Done))
+      by_door after fewer true = (λ value bytes. fewer, fewer)
+      by_door after fewer false = fewer
 
   fewer-fstat : (descriptor : ℤ) → FewerAfter s (fstat_result s descriptor)
   unfolding fstat_result
@@ -154,7 +165,8 @@ module _ (s : State) where
 
   fewer-dup2 : (descriptor target : ℤ) → FewerAfter s (dup2_result s descriptor target)
   unfolding dup2_result
-  fewer-dup2 descriptor target = through s (posix.described s descriptor) _ (λ found. through s (descriptor_number target EBADF) _ (λ n. by_same n found.0 (int_eq descriptor target)))
+  fewer-dup2 descriptor target = through s (posix.described s descriptor) _ (λ found. through s (descriptor_number target EBADF) _ (λ n.
+      through s (refuse_if (not (int_eq descriptor target) && duplicates.ends_a_door s target (posix.described s target)) EBUSY) _ (λ a. by_same n found.0 (int_eq descriptor target))))
     where
       by_same : (n key : ℕ) (b : Bool) → Fewer s (if b then s else duplicates.shared (duplicates.closed s target (posix.described s target)) n key)
       by_same n key true = fewer_same s
@@ -182,11 +194,13 @@ module _ (s : State) where
 abbrev pub Others : TableState → State → Plan → Result Effect Errno → Type 0
 Others t s p (Ok (Completes after r)) = OthersStay t p s after
 Others t s p (Ok Blocks) = Unit {0}
+Others t s p (Ok (Asks asking)) = ((value : ℕ) (bytes : List ℕ) → OthersStay t p s (asking.succeeds value bytes).0) × OthersStay t p s asking.otherwise
 Others t s p (Err e) = Unit {0}
 
 by_fewer : (t : TableState) (s : State) (p : Plan) (does : Result Effect Errno) → FewerAfter s does → Others t s p does
 by_fewer t s p (Ok (Completes after r)) fewer = fewer_others t p s after fewer
 by_fewer t s p (Ok Blocks) fewer = tt
+by_fewer t s p (Ok (Asks asking)) fewer = (λ value bytes. fewer_others t p s (asking.succeeds value bytes).0 (fewer.0 value bytes), fewer_others t p s asking.otherwise fewer.1)
 by_fewer t s p (Err e) fewer = tt
 
 module _ (t : TableState) (s : State) (sound : IsSound t) (all : AreSound t.descriptions) (shows : Shows t s) where
@@ -224,6 +238,10 @@ module _ (t : TableState) (s : State) (sound : IsSound t) (all : AreSound t.desc
   others_nothing : (p : Plan) → OthersStay t p s s
   others_nothing p = fewer_others t p s s (fewer_same s)
 
+  -- what leaves the state whatever comes
+  others_asked : (p : Plan) (k : OutKind) (asked : ℕ) (waits : Bool) (told : ℕ → List ℕ → Reply) → Others t s p (Ok (asks_of s k asked waits told))
+  others_asked p k asked waits told = (λ value bytes. others_nothing p, others_nothing p)
+
   others_blocked : (p : Plan) (b : Bool) → Others t s p (if b then Err EAGAIN else Ok Blocks)
   others_blocked p true = tt
   others_blocked p false = tt
@@ -238,8 +256,14 @@ module _ (t : TableState) (s : State) (sound : IsSound t) (all : AreSound t.desc
   others-read : (descriptor count : ℤ) → FoundBoth t s descriptor → Others t s (answered (read_plan t descriptor count)) (read_result s descriptor count)
   unfolding read_plan read_result
   others-read descriptor count (Shut table state) = rw (table, state) tt
-  others-read descriptor count (Open key d offset at got there table state) = rw (table, state) (by_refusals (not (can_read d.access)) (count_of count))
+  others-read descriptor count (Open key d offset at got there table state) = rw (table, state, transfers_by d.«end» (content_of s (birth_at t d.node)) (kind_at key d got)) (by_refusals (not_listener d.«end») (not (can_read d.access)) (count_of count))
     where
+      act : ℕ → Op
+      act n = op.Read (seen key d) n
+
+      ask : ℕ → Op
+      ask n = errand d out.Read n (not d.flags.nonblock)
+
       by_reading : (act : Op) (holds : List ℕ → Content) (r : Reading) → Others t s (locks d.node act) (read_done s (shown t d offset) holds r)
       by_reading act holds (Reads bytes left) = others_put d.node act (holds left)
       by_reading act holds Ends = others_nothing (locks d.node act)
@@ -249,70 +273,110 @@ module _ (t : TableState) (s : State) (sound : IsSound t) (all : AreSound t.desc
       by_stream true act holds r = others_nothing (plan.Reply (reply.Data []))
       by_stream false act holds r = by_reading act holds r
 
-      by_kind : (n : ℕ) → Kind d.«end» (content_of s (birth_at t d.node)) → Others t s (moves d n (reply.Data []) (op.Read (seen key d) n)) (read_content s d.birth (shown t d offset) n (content_of s (birth_at t d.node)))
-      by_kind n (IsFile file its is) =
-          others_as _ (locks d.node (op.Read (seen key d) n)) _ (File file) (read_content s d.birth (shown t d offset) n) (moves_file d n (reply.Data []) (op.Read (seen key d) n) its) is
-          (record { contents = λ birth content other at. at; offsets = λ birth o still stands. inl (still_at key birth o (offset + length (bytes_at file offset n)) d got still stands) })
-      by_kind n (IsPipe waiting stream told no_side is) =
-          others_as _ (if n == 0 then plan.Reply (reply.Data []) else locks d.node (op.Read (seen key d) n)) _ (Pipe waiting) (read_content s d.birth (shown t d offset) n) (moves_stream d n (reply.Data []) (op.Read (seen key d) n) stream) is
-          (by_stream (n == 0) (op.Read (seen key d) n) (λ left. Pipe left) (stream_read waiting n (posix.has_end s (birth_at t d.node) part.Write)))
-      by_kind n (IsPair p side its is) =
-          others_as _ (if n == 0 then plan.Reply (reply.Data []) else locks d.node (op.Read (seen key d) n)) _ (Pair p) (read_content s d.birth (shown t d offset) n) (moves_stream d n (reply.Data []) (op.Read (seen key d) n) (socket_stream d.«end» side its)) is
-          (by_stream (n == 0) (op.Read (seen key d) n) (λ left. Pair (with_waiting p (side_of d.«end») left)) (pair_read p (side_of d.«end») n (has_peer s (birth_at t d.node) (side_of d.«end»))))
+      by_outside : (b : Bool) (n : ℕ) → Others t s (if b then plan.Reply (reply.Data []) else locks d.node (ask n)) (Ok (if b then Completes s (reply.Data []) else asks_of s out.Read n (not d.flags.nonblock) (λ value bytes. reply.Data bytes)))
+      by_outside true n = others_nothing (plan.Reply (reply.Data []))
+      by_outside false n = others_asked (locks d.node (ask n)) out.Read n (not d.flags.nonblock) (λ value bytes. reply.Data bytes)
 
-      by_refusals : (b : Bool) (r : Result ℕ Errno) → Others t s (answered (refuse_if b EBADF >>= (λ _. r >>= (λ n. Ok (moves d n (reply.Data []) (op.Read (seen key d) n)))))) ((refuse_if b EBADF >>= (λ _. Ok (d.birth, shown t d offset))) >>= (λ (found : ℕ × object.Description). r >>= (λ n. read_content s found.0 found.1 n (content_of s found.1.object))))
-      by_refusals true r = tt
-      by_refusals false (Err e) = tt
-      by_refusals false (Ok n) = by_kind n (kind_at key d got)
+      by_kind : (n : ℕ) → Kind d.«end» (content_of s (birth_at t d.node)) → Others t s (moves d n (reply.Data []) (act_or_ask d (act n) (ask n))) (read_content s d.birth (shown t d offset) n (content_of s (birth_at t d.node)))
+      by_kind n (IsFile file its is) =
+          others_as _ (locks d.node (act n)) _ (File file) (read_content s d.birth (shown t d offset) n) (moves_file_inside d n (reply.Data []) (act n) (ask n) its) is
+          (record { contents = λ birth content other at. at; offsets = λ birth o still stands. inl (still_at key birth o (offset + length (bytes_at file offset n)) d got still stands) })
+      by_kind n (IsPipe waiting pipe is) =
+          others_as _ (if n == 0 then plan.Reply (reply.Data []) else locks d.node (act n)) _ (Pipe waiting) (read_content s d.birth (shown t d offset) n) (moves_inside d n (reply.Data []) (act n) (ask n) pipe.stream pipe.inside) is
+          (by_stream (n == 0) (act n) (λ left. Pipe left) (stream_read waiting n (posix.has_end s (birth_at t d.node) part.Write)))
+      by_kind n (IsPair p side its is) =
+          others_as _ (if n == 0 then plan.Reply (reply.Data []) else locks d.node (act n)) _ (Pair p) (read_content s d.birth (shown t d offset) n) (moves_inside d n (reply.Data []) (act n) (ask n) (socket_stream d.«end» side its) (ap leads_outside its)) is
+          (by_stream (n == 0) (act n) (λ left. Pair (with_waiting p (side_of d.«end») left)) (pair_read p (side_of d.«end») n (has_peer s (birth_at t d.node) (side_of d.«end»))))
+      by_kind n (IsDoor door its is) =
+          others_as _ (if n == 0 then plan.Reply (reply.Data []) else locks d.node (ask n)) _ (DoorTo door) (read_content s d.birth (shown t d offset) n) (moves_outside d n (reply.Data []) (act n) (ask n) door its) is (by_outside (n == 0) n)
+
+      by_refusals : (l : Result (Unit {0}) Errno) (b : Bool) (r : Result ℕ Errno) → Others t s (answered (l >>= (λ _. refuse_if b EBADF >>= (λ _. r >>= (λ n. Ok (moves d n (reply.Data []) (act_or_ask d (act n) (ask n))))))))
+          ((l >>= (λ _. refuse_if b EBADF >>= (λ _. Ok (d.birth, shown t d offset)))) >>= (λ (found : ℕ × object.Description). r >>= (λ n. read_content s found.0 found.1 n (content_of s found.1.object))))
+      by_refusals (Err e) b r = tt
+      by_refusals (Ok u) true r = tt
+      by_refusals (Ok u) false (Err e) = tt
+      by_refusals (Ok u) false (Ok n) = by_kind n (kind_at key d got)
 
   others-write : (descriptor : ℤ) (bytes : List ℕ) → FoundBoth t s descriptor → Others t s (answered (write_plan t descriptor (length bytes))) (write_result s descriptor bytes)
   unfolding write_plan write_result
   others-write descriptor bytes (Shut table state) = rw (table, state) tt
-  others-write descriptor bytes (Open key d offset at got there table state) = rw (table, state) (by_refusals (not (can_write d.access)) (nat_lt 32767 (length bytes)))
+  others-write descriptor bytes (Open key d offset at got there table state) = rw (table, state, transfers_by d.«end» (content_of s (birth_at t d.node)) (kind_at key d got)) (by_refusals (not_listener d.«end») (not (can_write d.access)) (nat_lt 32767 (length bytes)))
     where
-      by_written : (file : List ℕ) (r : Result (List ℕ × ℕ) Errno) → Others t s (locks d.node (op.Write (seen key d))) (r >>= (λ w. Ok (Completes (with_content (record s { descriptions = fin.insert s.descriptions d.birth (shown t d (start_of (shown t d offset) file + w.1)) }) (birth_at t d.node) (File w.0)) (reply.Count w.1))))
+      act : Op
+      act = op.Write (seen key d)
+
+      ask : Op
+      ask = errand d out.Write (length bytes) (not d.flags.nonblock)
+
+      by_written : (file : List ℕ) (r : Result (List ℕ × ℕ) Errno) → Others t s (locks d.node act) (r >>= (λ w. Ok (Completes (with_content (record s { descriptions = fin.insert s.descriptions d.birth (shown t d (start_of (shown t d offset) file + w.1)) }) (birth_at t d.node) (File w.0)) (reply.Count w.1))))
       by_written file (Ok w) = record { contents = λ birth content other is. other_at birth (birth_at t d.node) content (File w.0) other is; offsets = λ birth o still is. inl (still_at key birth o (start_of (shown t d offset) file + w.1) d got still is) }
       by_written file (Err e) = tt
 
-      by_file : (file : List ℕ) (b : Bool) → Others t s (locks d.node (op.Write (seen key d))) (if b then Ok (Completes s (reply.Count 0)) else write_content s d.birth (shown t d offset) bytes (File file))
-      by_file file true = others_nothing (locks d.node (op.Write (seen key d)))
+      by_file : (file : List ℕ) (b : Bool) → Others t s (locks d.node act) (if b then Ok (Completes s (reply.Count 0)) else write_content s d.birth (shown t d offset) bytes (File file))
+      by_file file true = others_nothing (locks d.node act)
       by_file file false = by_written file (written file (start_of (shown t d offset) file) bytes)
 
-      by_writing : (b : Bool) (holds : List ℕ → Content) (w : Writing) → Others t s (if b then plan.Reply (reply.Count 0) else locks d.node (op.Write (seen key d))) (if b then Ok (Completes s (reply.Count 0)) else write_done s (shown t d offset) (length bytes) holds w)
+      by_writing : (b : Bool) (holds : List ℕ → Content) (w : Writing) → Others t s (if b then plan.Reply (reply.Count 0) else locks d.node act) (if b then Ok (Completes s (reply.Count 0)) else write_done s (shown t d offset) (length bytes) holds w)
       by_writing true holds w = others_nothing (plan.Reply (reply.Count 0))
-      by_writing false holds (Writes left) = others_put d.node (op.Write (seen key d)) (holds left)
+      by_writing false holds (Writes left) = others_put d.node act (holds left)
       by_writing false holds Breaks = tt
-      by_writing false holds NoRoom = others_blocked (locks d.node (op.Write (seen key d))) d.flags.nonblock
+      by_writing false holds NoRoom = others_blocked (locks d.node act) d.flags.nonblock
 
-      by_kind : Kind d.«end» (content_of s (birth_at t d.node)) → Others t s (moves d (length bytes) (reply.Count 0) (op.Write (seen key d))) (if length bytes == 0 then Ok (Completes s (reply.Count 0)) else write_content s d.birth (shown t d offset) bytes (content_of s (birth_at t d.node)))
+      by_outside : (b : Bool) → Others t s (if b then plan.Reply (reply.Count 0) else locks d.node ask) (if b then Ok (Completes s (reply.Count 0)) else Ok (asks_of s out.Write (length bytes) (not d.flags.nonblock) (λ value sent. reply.Count value)))
+      by_outside true = others_nothing (plan.Reply (reply.Count 0))
+      by_outside false = others_asked (locks d.node ask) out.Write (length bytes) (not d.flags.nonblock) (λ value sent. reply.Count value)
+
+      by_kind : Kind d.«end» (content_of s (birth_at t d.node)) → Others t s (moves d (length bytes) (reply.Count 0) (act_or_ask d act ask)) (if length bytes == 0 then Ok (Completes s (reply.Count 0)) else write_content s d.birth (shown t d offset) bytes (content_of s (birth_at t d.node)))
       by_kind (IsFile file its is) =
-          others_as _ (locks d.node (op.Write (seen key d))) _ (File file) (λ c. if length bytes == 0 then Ok (Completes s (reply.Count 0)) else write_content s d.birth (shown t d offset) bytes c) (moves_file d (length bytes) (reply.Count 0) (op.Write (seen key d)) its) is
+          others_as _ (locks d.node act) _ (File file) (λ c. if length bytes == 0 then Ok (Completes s (reply.Count 0)) else write_content s d.birth (shown t d offset) bytes c) (moves_file_inside d (length bytes) (reply.Count 0) act ask its) is
           (by_file file (length bytes == 0))
-      by_kind (IsPipe waiting stream told no_side is) =
-          others_as _ (if length bytes == 0 then plan.Reply (reply.Count 0) else locks d.node (op.Write (seen key d))) _ (Pipe waiting) (λ c. if length bytes == 0 then Ok (Completes s (reply.Count 0)) else write_content s d.birth (shown t d offset) bytes c) (moves_stream d (length bytes) (reply.Count 0) (op.Write (seen key d)) stream) is
+      by_kind (IsPipe waiting pipe is) =
+          others_as _ (if length bytes == 0 then plan.Reply (reply.Count 0) else locks d.node act) _ (Pipe waiting) (λ c. if length bytes == 0 then Ok (Completes s (reply.Count 0)) else write_content s d.birth (shown t d offset) bytes c) (moves_inside d (length bytes) (reply.Count 0) act ask pipe.stream pipe.inside) is
           (by_writing (length bytes == 0) (λ left. Pipe left) (stream_write waiting bytes (posix.has_end s (birth_at t d.node) part.Read)))
       by_kind (IsPair p side its is) =
-          others_as _ (if length bytes == 0 then plan.Reply (reply.Count 0) else locks d.node (op.Write (seen key d))) _ (Pair p) (λ c. if length bytes == 0 then Ok (Completes s (reply.Count 0)) else write_content s d.birth (shown t d offset) bytes c) (moves_stream d (length bytes) (reply.Count 0) (op.Write (seen key d)) (socket_stream d.«end» side its)) is
+          others_as _ (if length bytes == 0 then plan.Reply (reply.Count 0) else locks d.node act) _ (Pair p) (λ c. if length bytes == 0 then Ok (Completes s (reply.Count 0)) else write_content s d.birth (shown t d offset) bytes c) (moves_inside d (length bytes) (reply.Count 0) act ask (socket_stream d.«end» side its) (ap leads_outside its)) is
           (by_writing (length bytes == 0) (λ left. Pair (with_waiting p (peer_of (side_of d.«end»)) left)) (pair_write p (side_of d.«end») bytes (has_peer s (birth_at t d.node) (side_of d.«end»))))
+      by_kind (IsDoor door its is) =
+          others_as _ (if length bytes == 0 then plan.Reply (reply.Count 0) else locks d.node ask) _ (DoorTo door) (λ c. if length bytes == 0 then Ok (Completes s (reply.Count 0)) else write_content s d.birth (shown t d offset) bytes c) (moves_outside d (length bytes) (reply.Count 0) act ask door its) is (by_outside (length bytes == 0))
 
-      by_refusals : (a b : Bool) → Others t s (answered (refuse_if a EBADF >>= (λ _. refuse_if b EINVAL >>= (λ _. Ok (moves d (length bytes) (reply.Count 0) (op.Write (seen key d))))))) ((refuse_if a EBADF >>= (λ _. refuse_if b EINVAL >>= (λ _. Ok (d.birth, shown t d offset)))) >>= (λ (found : ℕ × object.Description). if length bytes == 0 then Ok (Completes s (reply.Count 0)) else write_content s found.0 found.1 bytes (content_of s found.1.object)))
-      by_refusals true b = tt
-      by_refusals false true = tt
-      by_refusals false false = by_kind (kind_at key d got)
+      by_refusals : (l : Result (Unit {0}) Errno) (a b : Bool) → Others t s (answered (l >>= (λ _. refuse_if a EBADF >>= (λ _. refuse_if b EINVAL >>= (λ _. Ok (moves d (length bytes) (reply.Count 0) (act_or_ask d act ask)))))))
+          ((l >>= (λ _. refuse_if a EBADF >>= (λ _. refuse_if b EINVAL >>= (λ _. Ok (d.birth, shown t d offset))))) >>= (λ (found : ℕ × object.Description). if length bytes == 0 then Ok (Completes s (reply.Count 0)) else write_content s found.0 found.1 bytes (content_of s found.1.object)))
+      by_refusals (Err e) a b = tt
+      by_refusals (Ok u) true b = tt
+      by_refusals (Ok u) false true = tt
+      by_refusals (Ok u) false false = by_kind (kind_at key d got)
 
-  others-lseek : (descriptor to : ℤ) (whence : Whence) → FoundBoth t s descriptor → Others t s (answered (lseek_plan t descriptor)) (lseek_result s descriptor to whence)
+  others-lseek : (descriptor to : ℤ) (whence : Whence) → FoundBoth t s descriptor → Others t s (answered (lseek_plan t descriptor to whence)) (lseek_result s descriptor to whence)
   unfolding lseek_plan lseek_result
   others-lseek descriptor to whence (Shut table state) = rw (table, state) tt
-  others-lseek descriptor to whence (Open key d offset at got there table state) = rw (table, state) (by_content (content_of s (birth_at t d.node)) refl)
+  others-lseek descriptor to whence (Open key d offset at got there table state) = rw (table, state) (by_kind (kind_at key d got))
     where
+      ask : Op
+      ask = errand d out.Seek 0 false
+
+      -- the plan for an end
+      by_end : End → Result Plan Errno
+      by_end e = seekable e to whence >>= (λ _. Ok (locks d.node (if leads_outside e then ask else op.Lseek (seen key d))))
+
       by_offset : (r : Result ℕ Errno) → Others t s (locks d.node (op.Lseek (seen key d))) (r >>= (λ to. Ok (Completes (record s { descriptions = fin.insert s.descriptions d.birth (shown t d to) }) (reply.Number (pos to)))))
       by_offset (Ok to) = record { contents = λ birth content other is. is; offsets = λ birth o still is. inl (still_at key birth o to d got still is) }
       by_offset (Err e) = tt
 
-      by_content : (c : Content) → content_of s (birth_at t d.node) ≡ c → Others t s (answered (of_file d ESPIPE >>= (λ _. Ok (locks d.node (op.Lseek (seen key d)))))) (seek_content s d.birth (shown t d offset) to whence c)
-      by_content (File file) is = rw (of_file_file d ESPIPE (file_only d.«end» file (ap (is_of d.«end») (sym is) ∙ shows.ends key d got))) (by_offset (offset_of (pos (base_of whence offset (length file)) +ℤ to)))
-      by_content (Pipe bytes) is = tt
-      by_content (Pair p) is = tt
+      by_host : (r : Result (Unit {0}) Errno) → Others t s (answered (r >>= (λ _. Ok (locks d.node ask)))) (r >>= (λ _. Ok (asks_of s out.Seek 0 false (λ value bytes. reply.Number (pos value)))))
+      by_host (Ok u) = others_asked (locks d.node ask) out.Seek 0 false (λ value bytes. reply.Number (pos value))
+      by_host (Err e) = tt
+
+      by_door : (door : Door) → Others t s (answered (by_end (part.Door door))) (seek_content s d.birth (shown t d offset) to whence (DoorTo door))
+      by_door door.HostFile = by_host (host_offset to whence)
+      by_door (door.Listener port) = tt
+      by_door door.Stream = tt
+
+      by_kind : Kind d.«end» (content_of s (birth_at t d.node)) → Others t s (answered (by_end d.«end»)) (seek_content s d.birth (shown t d offset) to whence (content_of s (birth_at t d.node)))
+      by_kind (IsFile file its is) =
+          others_as _ (answered (by_end part.Only)) _ (File file) (seek_content s d.birth (shown t d offset) to whence) (ap (λ (e : End). answered (by_end e)) its) is (by_offset (offset_of (pos (base_of whence offset (length file)) +ℤ to)))
+      by_kind (IsPipe waiting pipe is) = others_as _ (answered (by_end d.«end»)) _ (Pipe waiting) (seek_content s d.birth (shown t d offset) to whence) refl is tt
+      by_kind (IsPair p side its is) = others_as _ (answered (by_end d.«end»)) _ (Pair p) (seek_content s d.birth (shown t d offset) to whence) refl is tt
+      by_kind (IsDoor door its is) = others_as _ (answered (by_end (part.Door door))) _ (DoorTo door) (seek_content s d.birth (shown t d offset) to whence) (ap (λ (e : End). answered (by_end e)) its) is (by_door door)
 
   others-pwrite : (descriptor : ℤ) (bytes : List ℕ) (position : ℤ) → FoundBoth t s descriptor → Others t s (answered (pwrite_plan t descriptor (length bytes) position)) (pwrite_result s descriptor bytes position)
   unfolding pwrite_plan pwrite_result
@@ -359,15 +423,24 @@ module _ (t : TableState) (s : State) (sound : IsSound t) (all : AreSound t.desc
   others-shutdown : (descriptor : ℤ) (how : ShutdownHow) → FoundBoth t s descriptor → Others t s (answered (shutdown_plan t descriptor how)) (shutdown_result s descriptor how)
   unfolding shutdown_plan shutdown_result
   others-shutdown descriptor how (Shut table state) = rw (table, state) tt
-  others-shutdown descriptor how (Open key d offset at got there table state) = rw (table, state) (by_pair (pair_in (content_of s (birth_at t d.node)) ENOTSOCK) refl)
+  others-shutdown descriptor how (Open key d offset at got there table state) = rw (table, state) (by_kind (kind_at key d got))
     where
-      by_side : (e : End) (p : PairState) (content : Content) → (side : Side) × (e ≡ part.Socket side) → Others t s (answered (socket_side e >>= (λ side. Ok (locks d.node (op.Shutdown side how))))) (Ok (Completes (with_content s (birth_at t d.node) content) reply.Done))
-      by_side e p content its = rw its.1 (others_put d.node (op.Shutdown its.0 how) content)
+      by_end : End → Result Plan Errno
+      by_end e = shut_act d how e >>= (λ act. Ok (locks d.node act))
 
-      by_pair : (f : Result PairState Errno) → pair_in (content_of s (birth_at t d.node)) ENOTSOCK ≡ f
-          → Others t s (answered (socket_side d.«end» >>= (λ side. Ok (locks d.node (op.Shutdown side how))))) (f >>= (λ p. Ok (Completes (with_content s (birth_at t d.node) (Pair (shut p (side_of d.«end») how))) reply.Done)))
-      by_pair (Err e) is = tt
-      by_pair (Ok p) is = by_side d.«end» p (Pair (shut p (side_of d.«end») how)) (pair_side d.«end» p (ap (is_of d.«end») (sym (pair_is (content_of s (birth_at t d.node)) ENOTSOCK p is)) ∙ shows.ends key d got))
+      does : Content → Result Effect Errno
+      does c = shuttable c >>= (λ _. Ok (shut_content s (shown t d offset) how c))
+
+      by_door : (door : Door) → Others t s (answered (by_end (part.Door door))) (does (DoorTo door))
+      by_door door.HostFile = tt
+      by_door (door.Listener port) = tt
+      by_door door.Stream = others_asked (locks d.node (errand d out.Shutdown 0 false)) out.Shutdown 0 false (λ value bytes. reply.Done)
+
+      by_kind : Kind d.«end» (content_of s (birth_at t d.node)) → Others t s (answered (by_end d.«end»)) (does (content_of s (birth_at t d.node)))
+      by_kind (IsFile file its is) = others_as _ (answered (by_end d.«end»)) _ (File file) does refl is tt
+      by_kind (IsPipe waiting pipe is) = others_as _ (answered (by_end d.«end»)) _ (Pipe waiting) does refl is tt
+      by_kind (IsPair p side its is) = others_as _ (answered (by_end (part.Socket side))) _ (Pair p) does (ap (λ (e : End). answered (by_end e)) its) is (others_put d.node (op.Shutdown side how) (Pair (shut p (side_of d.«end») how)))
+      by_kind (IsDoor door its is) = others_as _ (answered (by_end (part.Door door))) _ (DoorTo door) does (ap (λ (e : End). answered (by_end e)) its) is (by_door door)
 
   -- ## Opening
 
@@ -441,7 +514,7 @@ module _ (t : TableState) (s : State) (sound : IsSound t) (all : AreSound t.desc
 
       by_rest : (r : Result (ℕ × ℕ) Errno) (o : Option ℕ) → ((node : ℕ) → o ≡ Some node → slice_index_or t.objects node None ≡ None)
           → Others t s (answered (r >>= (λ _. some_or o ENFILE >>= (λ node. Ok (locks node act)))))
-          (r >>= (λ numbers. refuse_if (not (is_some o)) ENFILE >>= (λ _. Ok (Completes (posix.opened (posix.opened (sockets.with_object s content) numbers.0 s.next_object one.which one.access false false) numbers.1 s.next_object other.which other.access false false) (reply.Pair (pos numbers.0) (pos numbers.1))))))
+          (r >>= (λ numbers. refuse_if (not (is_some o)) ENFILE >>= (λ _. Ok (Completes (posix.opened (posix.opened (object.with_object s content) numbers.0 s.next_object one.which one.access false false) numbers.1 s.next_object other.which other.access false false) (reply.Pair (pos numbers.0) (pos numbers.1))))))
       by_rest (Err e) o free = tt
       by_rest (Ok two) None free = tt
       by_rest (Ok two) (Some node) free = record {
@@ -456,6 +529,74 @@ module _ (t : TableState) (s : State) (sound : IsSound t) (all : AreSound t.desc
   others-socketpair : Others t s (answered (two_ends_plan t op.Socketpair)) (socketpair_result s)
   unfolding socketpair_result
   others-socketpair = others-two op.Socketpair (Pair new_pair) (record { which = part.Socket Side0; access = ReadWrite }) (record { which = part.Socket Side1; access = ReadWrite })
+
+  -- ## Opening a door
+
+  others-opens : (o : NewDoor) (listener : Option ℕ) → Others t s (answered (opens_plan t o.kind o.asked o.waits listener)) (opens s o)
+  others-opens o listener = rw (lowest_shown t s 32 0 shows, full_shown t s sound all shows) (by_rest (lowest_from t.descriptors 32 0) (free_object t) (λ node is. lowest_none t.objects 48 0 node is))
+    where
+      act : Op
+      act = op.Ask (record { kind = o.kind; asked = o.asked; waits = o.waits; door = listener })
+
+      by_rest : (number free : Option ℕ) → ((node : ℕ) → free ≡ Some node → slice_index_or t.objects node None ≡ None)
+          → Others t s (answered (some_or number EMFILE >>= (λ _. some_or free ENFILE >>= (λ node. Ok (plan.Node node act true)))))
+          (some_or number EMFILE >>= (λ n. refuse_if (not (is_some free)) ENFILE >>= (λ _. Ok (Asks (asking_of s o n)))))
+      by_rest None free unused = tt
+      by_rest (Some n) None unused = tt
+      by_rest (Some n) (Some node) unused = (
+        λ value bytes. record {
+          contents = λ birth held apart is. other_at birth s.next_object held (DoorTo (o.door value)) (λ e. apart (e ∙ shows.next_object ∙ ap (λ (o : Option ℕ). unwrap_or o t.made_objects) (sym (unused node refl)))) is;
+          offsets = λ birth stood still is. new_at birth stood (record { object = s.next_object; «end» = part.Door (o.door value); access = o.access; offset = 0; append = o.append; nonblock = false }) refl is;
+        },
+        others_nothing (plan.Node node act true),
+      )
+
+  others-host_open : (path : List ℕ) (access : Access) (flags : OpenFlags) → Others t s (answered (host_open_plan t path access flags)) (host_open_result s path access flags)
+  unfolding host_open_plan host_open_result
+  others-host_open path access flags = by_refusals (flags.truncate && not (can_write access)) (host_path path)
+    where
+      opening : NewDoor
+      opening = record { kind = out.Open; asked = 0; door = λ value. door.HostFile; access = access; append = flags.append; waits = false }
+
+      by_refusals : (b : Bool) (r : Result (Unit {0}) Errno) → Others t s (answered (refuse_if b EINVAL >>= (λ _. r >>= (λ _. opens_plan t out.Open 0 false None)))) (refuse_if b EINVAL >>= (λ _. r >>= (λ _. opens s opening)))
+      by_refusals true r = tt
+      by_refusals false (Err e) = tt
+      by_refusals false (Ok u) = others-opens opening None
+
+  others-listen : (port : ℤ) → Others t s (answered (tcp_listen_plan t port)) (tcp_listen_result s port)
+  unfolding tcp_listen_plan tcp_listen_result
+  others-listen port = by_port (port_of 0 port)
+    where
+      opening : ℕ → NewDoor
+      opening asked = record { kind = out.Listen; asked = asked; door = λ value. door.Listener value; access = ReadWrite; append = false; waits = false }
+
+      by_port : (r : Result ℕ Errno) → Others t s (answered (r >>= (λ asked. opens_plan t out.Listen asked false None))) (r >>= (λ asked. opens s (opening asked)))
+      by_port (Ok asked) = others-opens (opening asked) None
+      by_port (Err e) = tt
+
+  others-connect : (port : ℤ) → Others t s (answered (tcp_connect_plan t port)) (tcp_connect_result s port)
+  unfolding tcp_connect_plan tcp_connect_result
+  others-connect port = by_port (port_of 1 port)
+    where
+      opening : ℕ → NewDoor
+      opening asked = record { kind = out.Connect; asked = asked; door = λ value. door.Stream; access = ReadWrite; append = false; waits = false }
+
+      by_port : (r : Result ℕ Errno) → Others t s (answered (r >>= (λ asked. opens_plan t out.Connect asked false None))) (r >>= (λ asked. opens s (opening asked)))
+      by_port (Ok asked) = others-opens (opening asked) None
+      by_port (Err e) = tt
+
+  others-accept : (descriptor : ℤ) → FoundBoth t s descriptor → Others t s (answered (tcp_accept_plan t descriptor)) (tcp_accept_result s descriptor)
+  unfolding tcp_accept_plan tcp_accept_result
+  others-accept descriptor (Shut table state) = rw (table, state) tt
+  others-accept descriptor (Open key d offset at got there table state) =
+      rw (table, state, listener_by d.«end» (content_of s (birth_at t d.node)) (kind_at key d got)) (by_listener (of_listener d.«end»))
+    where
+      opening : NewDoor
+      opening = record { kind = out.Accept; asked = 0; door = λ value. door.Stream; access = ReadWrite; append = false; waits = not d.flags.nonblock }
+
+      by_listener : (r : Result (Unit {0}) Errno) → Others t s (answered (r >>= (λ _. opens_plan t out.Accept 0 (not d.flags.nonblock) (Some d.node)))) (r >>= (λ _. opens s opening))
+      by_listener (Ok u) = others-opens opening (Some d.node)
+      by_listener (Err e) = tt
 
   found_at : (descriptor : ℤ) → FoundBoth t s descriptor
   found_at descriptor = found_both t s descriptor sound shows
@@ -482,10 +623,24 @@ module _ (t : TableState) (s : State) (sound : IsSound t) (all : AreSound t.desc
   others_call call.Pipe carried = others-pipe
   others_call call.Socketpair carried = others-socketpair
   others_call (call.Shutdown descriptor how) carried = others-shutdown descriptor how (found_at descriptor)
+  others_call (call.HostOpen path access flags) carried = others-host_open path access flags
+  others_call (call.TcpListen port) carried = others-listen port
+  others_call (call.TcpConnect port) carried = others-connect port
+  others_call (call.TcpAccept descriptor) carried = others-accept descriptor (found_at descriptor)
+
+waited_others : (t : TableState) (s : State) (settings : Settings) (carried : Carried) (p : Plan) → OthersStay t p s (waited settings s carried).after
+waited_others t s settings carried p = subst (OthersStay t p s) (sym (waited_after settings s carried)) (fewer_others t p s s (fewer_same s))
 
 concluded_others : (t : TableState) (s : State) (settings : Settings) (outcome : Option Outcome) (carried : Carried) (p : Plan) (does : Result Effect Errno) → Others t s p does → OthersStay t p s (concluded settings s outcome carried does).after
 concluded_others t s settings outcome carried p (Ok (Completes after r)) others = others
-concluded_others t s settings outcome carried p (Ok Blocks) others = subst (OthersStay t p s) (sym (waited_after settings s carried)) (fewer_others t p s s (fewer_same s))
+concluded_others t s settings outcome carried p (Ok Blocks) others = waited_others t s settings carried p
+concluded_others t s settings (Some (outcomes.Ok value bytes)) carried p (Ok (Asks asking)) others = others.0 value bytes
+concluded_others t s settings (Some (outcomes.Fail e)) carried p (Ok (Asks asking)) others = by_waiting (asking.waits && is_again e)
+  where
+    by_waiting : (b : Bool) → OthersStay t p s (if b then waited settings s carried else failed asking.otherwise e).after
+    by_waiting true = waited_others t s settings carried p
+    by_waiting false = others.1
+concluded_others t s settings None carried p (Ok (Asks asking)) others = others.1
 concluded_others t s settings outcome carried p (Err e) others = fewer_others t p s s (fewer_same s)
 
 pub stays-as_step : (t : TableState) (c : Call) → IsSound t → AreSound t.descriptions → StaysAsStep t c (planned t c)

@@ -14,7 +14,7 @@ use Rattle.std.specs.Prelude.{slice_index_or}
 use Rattle.posix_terms.specs.Descriptors as posix
 use Rattle.posix_terms.specs.Descriptors.{is_file, is_of}
 use Rattle.posix_terms.specs.Names.{has_entries, is_inside, links_of}
-use Rattle.posix_terms.specs.Object.{State, Content, Node, FileNode, Directory, any_below, path_cmp}
+use Rattle.posix_terms.specs.Object.{State, Content, Node, FileNode, Directory, any_below, path_cmp, content_of}
 use Rattle.posix_terms.specs.Object as object
 use Rattle.posix_terms.specs.Paths.{node_at, passed, path_form, resolved, walked}
 use Rattle.posix_terms.specs.Refusals.{◌>>=◌}
@@ -25,7 +25,6 @@ use Rattle.file_descriptions.specs.declared.description.Description.{Description
 use Rattle.descriptor_table.proofs.EntryLemmas.{any_of, any_second, counted_none, entries-mapped, standing_in}
 use Rattle.descriptor_table.proofs.KnownLemmas.{equal_nat}
 use Rattle.descriptor_table.proofs.SoundLemmas.{get-remove_other, get-remove_same, not_described, paths_total, same_nat}
-use Rattle.posix_terms.specs.Transfers.{content_of}
 use Rattle.posix_terms.specs.declared.object.End.TheVariants as part
 use Rattle.descriptor_table.specs.Shows as shown_by
 use Rattle.descriptor_table.specs.Shows.{Shows, birth_at, shown, shown_node}

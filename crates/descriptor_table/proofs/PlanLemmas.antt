@@ -1,35 +1,39 @@
 -- The plan of each call, beside what the sequential object does.
 use Rattle.std.proofs.Common.{◌≡◌, ℕ, ◌+◌, ◌-◌, ◌==◌, ◌&&◌, ◌||◌, List, [], ◌∷◌, length, Option, Some, None, is_some, unwrap_or, zero, suc, ◌<◌, ◌≤◌, Result, Ok, Err, Bool, true, false, cond, not, if◌then◌else◌, refl, sym, ap, ◌∙◌, subst, inl, inr, arith}
-use Rattle.std.proofs.lemmas.Bool.{cases_eq}
+use Rattle.std.proofs.lemmas.Bool.{cases_eq, true≢false}
 use Rattle.std.proofs.lemmas.Bool.Decides.{nat_tests}
 use Rattle.std.proofs.lemmas.List.Sums.{sum_by-cons}
 use Rattle.std.proofs.lemmas.Option.{none-some, same_Some}
 use Rattle.std.specs.FinMap as fin
 use Rattle.std.specs.FinMap.{get-remove}
 use Rattle.std.specs.Ordering.{eq_by_cmp}
-use Rattle.posix_terms.specs.Object.{path_cmp}
+use Rattle.posix_terms.specs.Object.{path_cmp, content_of, is_door}
 use Rattle.posix_terms.specs.Object as Object
 use Rattle.std.specs.Ordering.{int_eq}
 use Rattle.std.specs.Option.{option_map}
-use Rattle.std.specs.Prelude.{ℤ, pos, negsuc, nat_le, slice_index_or}
+use Rattle.std.specs.Prelude.{ℤ, ◌+ℤ◌, pos, negsuc, nat_le, slice_index_or}
 use Rattle.posix_terms.specs.Calls.{can_write}
 use Rattle.posix_terms.specs.Descriptors as posix
 use Rattle.posix_terms.specs.Descriptors.{close_result, is_file, open_result, opened, truncated, with_file, without_unused}
+use Rattle.posix_terms.specs.Doors.{NewDoor, host_open_result, host_path, listener_in, opens, port_of, tcp_accept_result, tcp_connect_result, tcp_listen_result}
+use Rattle.posix_terms.specs.Duplicates as duplicates
 use Rattle.posix_terms.specs.Duplicates.{dup_result, dup_from_result, dup2_result, closed, descriptor_number, shared}
-use Rattle.posix_terms.specs.Effects.{Effect, Blocks, Completes}
-use Rattle.posix_terms.specs.Locked.{closed_object, locked, locked_by_new, locked_object, unless_refused, unnamed_object}
+use Rattle.posix_terms.specs.Ends.{is_end}
+use Rattle.posix_terms.specs.Effects.{Effect, Asking, Asks, Blocks, Completes, asks_of}
+use Rattle.posix_terms.specs.Locked.{closed_object, keeps_table, locked, locked_by_new, locked_object, unless_refused, unnamed_object}
 use Rattle.posix_terms.specs.Names.{PathMap, added, file_named, file_node, link_result, mkdir_result, removed, removed_dir, removed_dir_at, rmdir_result, unlink_result, has_entries, links_of, with_paths}
-use Rattle.posix_terms.specs.Object.{State, Content, File, Pipe, Pair, Node, FileNode, Directory}
+use Rattle.posix_terms.specs.Object.{State, Content, Pipe, Pair, DoorTo, Node, FileNode, Directory}
 use Rattle.posix_terms.specs.Paths.{node_at, resolved}
 use Rattle.posix_terms.specs.Refusals.{◌>>=◌, refuse_if, some_or}
 use Rattle.posix_terms.specs.Sockets as sockets
 use Rattle.posix_terms.specs.Sockets.{NewEnd, pipe_result, shutdown_result, socketpair_result}
 use Rattle.posix_terms.specs.Streams.{new_pair}
 use Rattle.posix_terms.specs.Status.{fstat_result, getfl_result, setfl_result}
-use Rattle.posix_terms.specs.Step.{Carried, concluded, effect_of, nothing_carried}
+use Rattle.posix_terms.specs.Step.{Carried, concluded, effect_of, nothing_carried, request_of}
 use Rattle.posix_terms.specs.declared.outcome.Outcome.{Outcome}
 use Rattle.posix_terms.specs.declared.transcript.Settings.{Settings}
-use Rattle.posix_terms.specs.Transfers.{content_of, read_result, write_result, pread_result, pwrite_result, lseek_result, ftruncate_result}
+use Rattle.posix_terms.specs.Transfers as transfers
+use Rattle.posix_terms.specs.Transfers.{host_offset, read_result, write_result, pread_result, pwrite_result, lseek_result, ftruncate_result}
 use Rattle.posix_terms.specs.declared.call.Access.{Access}
 use Rattle.posix_terms.specs.declared.call.Access.TheVariants.{ReadOnly, WriteOnly, ReadWrite}
 use Rattle.posix_terms.specs.declared.call.Call.{Call}
@@ -39,9 +43,12 @@ use Rattle.posix_terms.specs.declared.call.ShutdownHow.{ShutdownHow}
 use Rattle.posix_terms.specs.declared.call.Whence.{Whence}
 use Rattle.posix_terms.specs.declared.errno.Errno.{Errno}
 use Rattle.posix_terms.specs.declared.errno.Errno.TheVariants.{EBADF, EEXIST, EINVAL, EBUSY, EMFILE, ENFILE, ENOENT, ENOSPC, ENOTEMPTY}
+use Rattle.posix_terms.specs.declared.object.Door.{Door}
+use Rattle.posix_terms.specs.declared.object.Door.TheVariants as door
 use Rattle.posix_terms.specs.declared.object.End.{End}
 use Rattle.posix_terms.specs.declared.object.End.TheVariants as part
 use Rattle.posix_terms.specs.declared.object.Side.TheVariants.{Side0, Side1}
+use Rattle.posix_terms.specs.declared.outcome.OutKind.TheVariants as out
 use Rattle.posix_terms.specs.declared.reply.Answer.{Answer}
 use Rattle.posix_terms.specs.declared.reply.Answer.TheVariants as answer
 use Rattle.posix_terms.specs.declared.reply.Reply.{Reply}
@@ -49,14 +56,15 @@ use Rattle.posix_terms.specs.declared.reply.Reply.TheVariants as reply
 use Rattle.file_descriptions.specs.Descriptions.{AreSound}
 use Rattle.file_descriptions.specs.declared.description.Description.{Description}
 use Rattle.descriptor_table.proofs.ShownLemmas.{FoundBoth, Shut, Open, found_both, last_shown, lowest_shown}
-use Rattle.descriptor_table.proofs.EndLemmas.{Kind, IsFile, IsPipe, IsPair, kind_of}
+use Rattle.descriptor_table.proofs.EndLemmas.{Kind, IsDoor, IsFile, IsPipe, IsPair, acts_inside, asks_outside, kind_of, moves_file, moves_stream}
 use Rattle.descriptor_table.proofs.EntryLemmas.{counted-remove}
 use Rattle.descriptor_table.proofs.KnownLemmas.{lowest_above, lowest_below, was_some}
 use Rattle.descriptor_table.proofs.PathLemmas.{closed_shown, has_entries_shown, holds_of, linked_shown, names_shown, node_shown, objects_counted, paths_apart, resolved_shown, taken}
 use Rattle.descriptor_table.proofs.SoundLemmas.{bind_ok, get-insert_other, get-insert_same, named_at, not_all_open, ok_same, paths_total, same_nat, names_without, sound-named}
+use Rattle.descriptor_table.specs.Agreement as agreement
 use Rattle.descriptor_table.specs.Agreement.{AgreesOn, PlansAsStep}
-use Rattle.descriptor_table.specs.Plans.{answered, close_plan, dup_plan, dup_from_plan, dup2_plan, fstat_plan, ftruncate_plan, getfl_plan, locks, lseek_plan, pread_plan, pwrite_plan, read_plan, replaced, setfl_plan, write_plan, addable, link_plan, mkdir_plan, open_new, open_node, open_plan, open_there, plan_of, planned, rmdir_plan, shutdown_plan, two_ends_plan, unlink_plan}
-use Rattle.descriptor_table.specs.Shows.{Shows, birth_at, is_of, shown_node}
+use Rattle.descriptor_table.specs.Plans.{act_or_ask, answered, close_plan, dup_plan, dup_from_plan, dup2_plan, ends_a_door, errand, fstat_plan, ftruncate_plan, getfl_plan, host_open_plan, leads_outside, locks, lseek_plan, moves, pread_plan, pwrite_plan, read_plan, replaced, setfl_plan, write_plan, addable, link_plan, mkdir_plan, not_listener, of_listener, open_new, open_node, open_plan, open_there, opens_plan, plan_of, planned, rmdir_plan, seekable, shutdown_plan, tcp_accept_plan, tcp_connect_plan, tcp_listen_plan, two_ends_plan, unlink_plan}
+use Rattle.descriptor_table.specs.Shows.{Shows, birth_at, is_of, shown, shown_node}
 use Rattle.descriptor_table.specs.Table.{TableState, IsSound, described, free_object, is_last_name, is_used, key_at, lowest_from, two_numbers}
 use Rattle.descriptor_table.specs.declared.plan.Op.{Op}
 use Rattle.descriptor_table.specs.declared.plan.Op.TheVariants as op
@@ -67,11 +75,75 @@ use Rattle.descriptor_table.specs.declared.plan.Plan.TheVariants as plan
 abbrev pub answer_of : Result Effect Errno → Answer
 answer_of (Ok (Completes after r)) = answer.Reply r
 answer_of (Ok Blocks) = answer.Again
+answer_of (Ok (Asks asking)) = answer.Again
 answer_of (Err e) = answer.Reply (reply.Fail e)
 
--- a plan, the object that is locked and what is done agree
-abbrev pub Ties : TableState → Result Plan Errno → Result (Option ℕ) Errno → Result Effect Errno → Type 0
-Ties t p object does = AgreesOn t (answered p) (unless_refused object) (answer_of does)
+-- a plan, the object that is locked, what is asked outside and what is done agree
+abbrev pub Ties : TableState → Call → Result Plan Errno → Result (Option ℕ) Errno → Result Effect Errno → Type 0
+Ties t c p object does = AgreesOn t c (answered p) (unless_refused object) (request_of c does) (answer_of does)
+
+-- ## What an object is, by its end and by its content
+
+pub outside_by : (e : End) (c : Content) → Kind e c → is_door c ≡ leads_outside e
+outside_by e c (IsFile file its is) = ap is_door is ∙ sym (ap leads_outside its)
+outside_by e c (IsPipe waiting pipe is) = ap is_door is ∙ sym pipe.inside
+outside_by e c (IsPair p side its is) = ap is_door is ∙ sym (ap leads_outside its)
+outside_by e c (IsDoor d its is) = ap is_door is ∙ sym (ap leads_outside its)
+
+pub listener_by : (e : End) (c : Content) → Kind e c → listener_in c ≡ of_listener e
+listener_by e c (IsFile file its is) = ap listener_in is ∙ sym (ap of_listener its)
+listener_by e c (IsPipe waiting pipe is) = ap listener_in is ∙ sym pipe.no_listener
+listener_by e c (IsPair p side its is) = ap listener_in is ∙ sym (ap of_listener its)
+listener_by e c (IsDoor d its is) = ap listener_in is ∙ by_door d ∙ sym (ap of_listener its)
+  where
+    by_door : (d : Door) → listener_in (DoorTo d) ≡ of_listener (part.Door d)
+    by_door door.HostFile = refl
+    by_door (door.Listener port) = refl
+    by_door door.Stream = refl
+
+pub transfers_by : (e : End) (c : Content) → Kind e c → transfers.not_listener c ≡ not_listener e
+transfers_by e c (IsFile file its is) = ap transfers.not_listener is ∙ sym (ap not_listener its)
+transfers_by e c (IsPipe waiting pipe is) = ap transfers.not_listener is ∙ sym pipe.transfers
+transfers_by e c (IsPair p side its is) = ap transfers.not_listener is ∙ sym (ap not_listener its)
+transfers_by e c (IsDoor d its is) = ap transfers.not_listener is ∙ by_door d ∙ sym (ap not_listener its)
+  where
+    by_door : (d : Door) → transfers.not_listener (DoorTo d) ≡ not_listener (part.Door d)
+    by_door door.HostFile = refl
+    by_door (door.Listener port) = refl
+    by_door door.Stream = refl
+
+pub offset_by : (e : End) (c : Content) (offset : ℤ) (whence : Whence) → Kind e c → transfers.seekable c offset whence ≡ seekable e offset whence
+offset_by e c offset whence (IsFile file its is) = ap (λ (x : Content). transfers.seekable x offset whence) is ∙ sym (ap (λ (x : End). seekable x offset whence) its)
+offset_by e c offset whence (IsPipe waiting pipe is) = ap (λ (x : Content). transfers.seekable x offset whence) is ∙ sym (pipe.no_offset offset whence)
+offset_by e c offset whence (IsPair p side its is) = ap (λ (x : Content). transfers.seekable x offset whence) is ∙ sym (ap (λ (x : End). seekable x offset whence) its)
+offset_by e c offset whence (IsDoor d its is) = ap (λ (x : Content). transfers.seekable x offset whence) is ∙ by_door d ∙ sym (ap (λ (x : End). seekable x offset whence) its)
+  where
+    by_door : (d : Door) → transfers.seekable (DoorTo d) offset whence ≡ seekable (part.Door d) offset whence
+    by_door door.HostFile = refl
+    by_door (door.Listener port) = refl
+    by_door door.Stream = refl
+
+-- a call that moves bytes where there is no door, and of one
+pub moves_file_inside : (d : Description) (n : ℕ) (none : Reply) (act ask : Op) → d.«end» ≡ part.Only → moves d n none (act_or_ask d act ask) ≡ locks d.node act
+moves_file_inside d n none act ask its = moves_file d n none (act_or_ask d act ask) its ∙ ap (λ (x : Op). locks d.node x) (acts_inside d act ask (ap leads_outside its))
+
+pub moves_inside : (d : Description) (n : ℕ) (none : Reply) (act ask : Op) → is_end d.«end» part.Only ≡ false → leads_outside d.«end» ≡ false → moves d n none (act_or_ask d act ask) ≡ (if n == 0 then plan.Reply none else locks d.node act)
+moves_inside d n none act ask stream inside = moves_stream d n none (act_or_ask d act ask) stream ∙ ap (λ (x : Op). if n == 0 then plan.Reply none else locks d.node x) (acts_inside d act ask inside)
+
+pub moves_outside : (d : Description) (n : ℕ) (none : Reply) (act ask : Op) (door : Door) → d.«end» ≡ part.Door door → moves d n none (act_or_ask d act ask) ≡ (if n == 0 then plan.Reply none else locks d.node ask)
+moves_outside d n none act ask door its =
+    moves_stream d n none (act_or_ask d act ask) (ap (λ (e : End). is_end e part.Only) its) ∙ ap (λ (x : Op). if n == 0 then plan.Reply none else locks d.node x) (asks_outside d act ask door its)
+
+-- what a call asks that opens a door at number n
+abbrev pub asking_of : State → NewDoor → ℕ → Asking
+asking_of s o n =
+    record {
+      kind = o.kind;
+      asked = o.asked;
+      succeeds = λ value bytes. (opened (Object.with_object s (DoorTo (o.door value))) n s.next_object (part.Door (o.door value)) o.access o.append false, reply.Number (pos n));
+      otherwise = s;
+      waits = o.waits;
+    }
 
 -- ## The lowest number
 
@@ -162,120 +234,161 @@ shows-without_name t s path shows =
     moved false o = refl
 
 module _ (t : TableState) (s : State) (sound : IsSound t) (all : AreSound t.descriptions) (shows : Shows t s) where
-  ties-getfl : (descriptor : ℤ) → FoundBoth t s descriptor → Ties t (getfl_plan t descriptor) (locked s (call.Getfl descriptor) nothing_carried) (getfl_result s descriptor)
+  ties-getfl : (descriptor : ℤ) → FoundBoth t s descriptor → Ties t (call.Getfl descriptor) (getfl_plan t descriptor) (locked s (call.Getfl descriptor) nothing_carried) (getfl_result s descriptor)
   unfolding getfl_plan getfl_result
-  ties-getfl descriptor (Shut table state) = rw (table, state) (refl, refl)
-  ties-getfl descriptor (Open key d offset at got there table state) = rw (table, state) (refl, refl)
+  ties-getfl descriptor (Shut table state) = rw (table, state) (refl, (refl, refl))
+  ties-getfl descriptor (Open key d offset at got there table state) = rw (table, state) (refl, (refl, refl))
 
-  ties-setfl : (descriptor : ℤ) (append nonblock : Bool) → FoundBoth t s descriptor → Ties t (setfl_plan t descriptor) (locked s (call.Setfl descriptor append nonblock) nothing_carried) (setfl_result s descriptor append nonblock)
+  ties-setfl : (descriptor : ℤ) (append nonblock : Bool) → FoundBoth t s descriptor → Ties t (call.Setfl descriptor append nonblock) (setfl_plan t descriptor) (locked s (call.Setfl descriptor append nonblock) nothing_carried) (setfl_result s descriptor append nonblock)
   unfolding setfl_plan setfl_result
-  ties-setfl descriptor append nonblock (Shut table state) = rw (table, state) (refl, refl)
-  ties-setfl descriptor append nonblock (Open key d offset at got there table state) = rw (table, state) (refl, refl)
+  ties-setfl descriptor append nonblock (Shut table state) = rw (table, state) (refl, (refl, refl))
+  ties-setfl descriptor append nonblock (Open key d offset at got there table state) = rw (table, state) (refl, (refl, refl))
 
   kind_at : (key : ℕ) (d : Description) → fin.get t.descriptions.by_key key ≡ Some d → Kind d.«end» (content_of s (birth_at t d.node))
   kind_at key d got = kind_of d.«end» (content_of s (birth_at t d.node)) (shows.ends key d got)
 
-  ties-lseek : (descriptor offset : ℤ) (whence : Whence) → FoundBoth t s descriptor → Ties t (lseek_plan t descriptor) (locked s (call.Lseek descriptor offset whence) nothing_carried) (lseek_result s descriptor offset whence)
+  ties-lseek : (descriptor offset : ℤ) (whence : Whence) → FoundBoth t s descriptor → Ties t (call.Lseek descriptor offset whence) (lseek_plan t descriptor offset whence) (locked s (call.Lseek descriptor offset whence) nothing_carried) (lseek_result s descriptor offset whence)
   unfolding lseek_plan lseek_result
-  ties-lseek descriptor offset whence (Shut table state) = rw (table, state) (refl, refl)
+  ties-lseek descriptor offset whence (Shut table state) = rw (table, state) (refl, (refl, refl))
   ties-lseek descriptor offset whence (Open key d at_offset at got there table state) = by_kind (kind_at key d got)
     where
-      by_kind : Kind d.«end» (content_of s (birth_at t d.node)) → Ties t (lseek_plan t descriptor) (locked s (call.Lseek descriptor offset whence) nothing_carried) (lseek_result s descriptor offset whence)
-      by_kind (IsFile file its is) = grind (arith, table, state, its, is)
-      by_kind (IsPipe waiting stream told no_side is) = grind (arith, table, state, stream, told, no_side, is)
-      by_kind (IsPair p side its is) = grind (arith, table, state, its, is)
+      by_file : (r : Result ℕ Errno) → request_of (call.Lseek descriptor offset whence) (r >>= (λ to. Ok (Completes (transfers.with_offset s d.birth (record { object = birth_at t d.node; «end» = part.Only; access = d.access; offset = at_offset; append = d.flags.append; nonblock = d.flags.nonblock }) to) (reply.Number (pos to))))) ≡ None
+      by_file (Ok to) = refl
+      by_file (Err e) = refl
 
-  ties-fstat : (descriptor : ℤ) → FoundBoth t s descriptor → Ties t (fstat_plan t descriptor) (locked s (call.Fstat descriptor) nothing_carried) (fstat_result s descriptor)
+      by_offset : (r : Result (Unit {0}) Errno) → Ties t (call.Lseek descriptor offset whence) (r >>= (λ _. Ok (locks d.node (errand d out.Seek 0 false)))) (r >>= (λ _. Ok (Some (birth_at t d.node)))) (r >>= (λ _. Ok (asks_of s out.Seek 0 false (λ value bytes. reply.Number (pos value)))))
+      by_offset (Ok u) = (refl, (refl, refl))
+      by_offset (Err e) = (refl, (refl, refl))
+
+      by_door : (door : Door) → d.«end» ≡ part.Door door → content_of s (birth_at t d.node) ≡ DoorTo door → Ties t (call.Lseek descriptor offset whence) (lseek_plan t descriptor offset whence) (locked s (call.Lseek descriptor offset whence) nothing_carried) (lseek_result s descriptor offset whence)
+      by_door door.HostFile its is = rw (table, state, its, is) (by_offset (host_offset offset whence))
+      by_door (door.Listener port) its is = rw (table, state, its, is) (refl, (refl, refl))
+      by_door door.Stream its is = rw (table, state, its, is) (refl, (refl, refl))
+
+      by_kind : Kind d.«end» (content_of s (birth_at t d.node)) → Ties t (call.Lseek descriptor offset whence) (lseek_plan t descriptor offset whence) (locked s (call.Lseek descriptor offset whence) nothing_carried) (lseek_result s descriptor offset whence)
+      by_kind (IsFile file its is) = rw (table, state, its, is) (refl, (by_file (transfers.offset_of (pos (transfers.base_of whence at_offset (length file)) +ℤ offset)), refl))
+      by_kind (IsPipe waiting pipe is) = rw (table, state, pipe.no_offset offset whence, is) (refl, (refl, refl))
+      by_kind (IsPair p side its is) = rw (table, state, its, is) (refl, (refl, refl))
+      by_kind (IsDoor d its is) = by_door d its is
+
+  ties-fstat : (descriptor : ℤ) → FoundBoth t s descriptor → Ties t (call.Fstat descriptor) (fstat_plan t descriptor) (locked s (call.Fstat descriptor) nothing_carried) (fstat_result s descriptor)
   unfolding fstat_plan fstat_result
-  ties-fstat descriptor (Shut table state) = rw (table, state) (refl, refl)
+  ties-fstat descriptor (Shut table state) = rw (table, state) (refl, (refl, refl))
   ties-fstat descriptor (Open key d at_offset at got there table state) = by_kind (kind_at key d got)
     where
-      by_kind : Kind d.«end» (content_of s (birth_at t d.node)) → Ties t (fstat_plan t descriptor) (locked s (call.Fstat descriptor) nothing_carried) (fstat_result s descriptor)
-      by_kind (IsFile file its is) = grind (arith, table, state, its, is)
-      by_kind (IsPipe waiting stream told no_side is) = grind (arith, table, state, stream, told, no_side, is)
-      by_kind (IsPair p side its is) = grind (arith, table, state, its, is)
+      by_door : (door : Door) → d.«end» ≡ part.Door door → content_of s (birth_at t d.node) ≡ DoorTo door → Ties t (call.Fstat descriptor) (fstat_plan t descriptor) (locked s (call.Fstat descriptor) nothing_carried) (fstat_result s descriptor)
+      by_door door.HostFile its is = grind (arith, table, state, its, is)
+      by_door (door.Listener port) its is = grind (arith, table, state, its, is)
+      by_door door.Stream its is = grind (arith, table, state, its, is)
 
-  ties-read : (descriptor count : ℤ) → FoundBoth t s descriptor → Ties t (read_plan t descriptor count) (locked s (call.Read descriptor count) nothing_carried) (read_result s descriptor count)
+      by_kind : Kind d.«end» (content_of s (birth_at t d.node)) → Ties t (call.Fstat descriptor) (fstat_plan t descriptor) (locked s (call.Fstat descriptor) nothing_carried) (fstat_result s descriptor)
+      by_kind (IsFile file its is) = grind (arith, table, state, its, is)
+      by_kind (IsPipe waiting pipe is) = grind (arith, table, state, pipe.stream, pipe.told, pipe.inside, pipe.transfers, is)
+      by_kind (IsPair p side its is) = grind (arith, table, state, its, is)
+      by_kind (IsDoor d its is) = by_door d its is
+
+  ties-read : (descriptor count : ℤ) → FoundBoth t s descriptor → Ties t (call.Read descriptor count) (read_plan t descriptor count) (locked s (call.Read descriptor count) nothing_carried) (read_result s descriptor count)
   unfolding read_plan read_result
-  ties-read descriptor count (Shut table state) = rw (table, state) (refl, refl)
+  ties-read descriptor count (Shut table state) = rw (table, state) (refl, (refl, refl))
   ties-read descriptor count (Open key d at_offset at got there table state) = by_kind (kind_at key d got)
     where
-      by_kind : Kind d.«end» (content_of s (birth_at t d.node)) → Ties t (read_plan t descriptor count) (locked s (call.Read descriptor count) nothing_carried) (read_result s descriptor count)
-      by_kind (IsFile file its is) = grind (arith, table, state, its, is)
-      by_kind (IsPipe waiting stream told no_side is) = grind (arith, table, state, stream, told, no_side, is)
-      by_kind (IsPair p side its is) = grind (arith, table, state, its, is)
+      by_door : (door : Door) → d.«end» ≡ part.Door door → content_of s (birth_at t d.node) ≡ DoorTo door → Ties t (call.Read descriptor count) (read_plan t descriptor count) (locked s (call.Read descriptor count) nothing_carried) (read_result s descriptor count)
+      by_door door.HostFile its is = grind (arith, table, state, its, is)
+      by_door (door.Listener port) its is = grind (arith, table, state, its, is)
+      by_door door.Stream its is = grind (arith, table, state, its, is)
 
-  ties-write : (descriptor : ℤ) (bytes : List ℕ) → FoundBoth t s descriptor → Ties t (write_plan t descriptor (length bytes)) (locked s (call.Write descriptor bytes) nothing_carried) (write_result s descriptor bytes)
+      by_kind : Kind d.«end» (content_of s (birth_at t d.node)) → Ties t (call.Read descriptor count) (read_plan t descriptor count) (locked s (call.Read descriptor count) nothing_carried) (read_result s descriptor count)
+      by_kind (IsFile file its is) = grind (arith, table, state, its, is)
+      by_kind (IsPipe waiting pipe is) = grind (arith, table, state, pipe.stream, pipe.told, pipe.inside, pipe.transfers, is)
+      by_kind (IsPair p side its is) = grind (arith, table, state, its, is)
+      by_kind (IsDoor d its is) = by_door d its is
+
+  ties-write : (descriptor : ℤ) (bytes : List ℕ) → FoundBoth t s descriptor → Ties t (call.Write descriptor bytes) (write_plan t descriptor (length bytes)) (locked s (call.Write descriptor bytes) nothing_carried) (write_result s descriptor bytes)
   unfolding write_plan write_result
-  ties-write descriptor bytes (Shut table state) = rw (table, state) (refl, refl)
+  ties-write descriptor bytes (Shut table state) = rw (table, state) (refl, (refl, refl))
   ties-write descriptor bytes (Open key d at_offset at got there table state) = by_kind (kind_at key d got)
     where
-      by_kind : Kind d.«end» (content_of s (birth_at t d.node)) → Ties t (write_plan t descriptor (length bytes)) (locked s (call.Write descriptor bytes) nothing_carried) (write_result s descriptor bytes)
-      by_kind (IsFile file its is) = grind (arith, table, state, its, is)
-      by_kind (IsPipe waiting stream told no_side is) = grind (arith, table, state, stream, told, no_side, is)
-      by_kind (IsPair p side its is) = grind (arith, table, state, its, is)
+      by_door : (door : Door) → d.«end» ≡ part.Door door → content_of s (birth_at t d.node) ≡ DoorTo door → Ties t (call.Write descriptor bytes) (write_plan t descriptor (length bytes)) (locked s (call.Write descriptor bytes) nothing_carried) (write_result s descriptor bytes)
+      by_door door.HostFile its is = grind (arith, table, state, its, is)
+      by_door (door.Listener port) its is = grind (arith, table, state, its, is)
+      by_door door.Stream its is = grind (arith, table, state, its, is)
 
-  ties-pread : (descriptor count position : ℤ) → FoundBoth t s descriptor → Ties t (pread_plan t descriptor count position) (locked s (call.Pread descriptor count position) nothing_carried) (pread_result s descriptor count position)
+      by_kind : Kind d.«end» (content_of s (birth_at t d.node)) → Ties t (call.Write descriptor bytes) (write_plan t descriptor (length bytes)) (locked s (call.Write descriptor bytes) nothing_carried) (write_result s descriptor bytes)
+      by_kind (IsFile file its is) = grind (arith, table, state, its, is)
+      by_kind (IsPipe waiting pipe is) = grind (arith, table, state, pipe.stream, pipe.told, pipe.inside, pipe.transfers, is)
+      by_kind (IsPair p side its is) = grind (arith, table, state, its, is)
+      by_kind (IsDoor d its is) = by_door d its is
+
+  ties-pread : (descriptor count position : ℤ) → FoundBoth t s descriptor → Ties t (call.Pread descriptor count position) (pread_plan t descriptor count position) (locked s (call.Pread descriptor count position) nothing_carried) (pread_result s descriptor count position)
   unfolding pread_plan pread_result
-  ties-pread descriptor count position (Shut table state) = rw (table, state) (refl, refl)
+  ties-pread descriptor count position (Shut table state) = rw (table, state) (refl, (refl, refl))
   ties-pread descriptor count position (Open key d at_offset at got there table state) = by_kind (kind_at key d got)
     where
-      by_kind : Kind d.«end» (content_of s (birth_at t d.node)) → Ties t (pread_plan t descriptor count position) (locked s (call.Pread descriptor count position) nothing_carried) (pread_result s descriptor count position)
+      by_kind : Kind d.«end» (content_of s (birth_at t d.node)) → Ties t (call.Pread descriptor count position) (pread_plan t descriptor count position) (locked s (call.Pread descriptor count position) nothing_carried) (pread_result s descriptor count position)
       by_kind (IsFile file its is) = grind (arith, table, state, its, is)
-      by_kind (IsPipe waiting stream told no_side is) = grind (arith, table, state, stream, told, no_side, is)
+      by_kind (IsPipe waiting pipe is) = grind (arith, table, state, pipe.stream, pipe.told, pipe.inside, pipe.transfers, is)
       by_kind (IsPair p side its is) = grind (arith, table, state, its, is)
+      by_kind (IsDoor d its is) = grind (arith, table, state, its, is)
 
-  ties-pwrite : (descriptor : ℤ) (bytes : List ℕ) (position : ℤ) → FoundBoth t s descriptor → Ties t (pwrite_plan t descriptor (length bytes) position) (locked s (call.Pwrite descriptor bytes position) nothing_carried) (pwrite_result s descriptor bytes position)
+  ties-pwrite : (descriptor : ℤ) (bytes : List ℕ) (position : ℤ) → FoundBoth t s descriptor → Ties t (call.Pwrite descriptor bytes position) (pwrite_plan t descriptor (length bytes) position) (locked s (call.Pwrite descriptor bytes position) nothing_carried) (pwrite_result s descriptor bytes position)
   unfolding pwrite_plan pwrite_result
-  ties-pwrite descriptor bytes position (Shut table state) = rw (table, state) (refl, refl)
+  ties-pwrite descriptor bytes position (Shut table state) = rw (table, state) (refl, (refl, refl))
   ties-pwrite descriptor bytes position (Open key d at_offset at got there table state) = by_kind (kind_at key d got)
     where
-      by_kind : Kind d.«end» (content_of s (birth_at t d.node)) → Ties t (pwrite_plan t descriptor (length bytes) position) (locked s (call.Pwrite descriptor bytes position) nothing_carried) (pwrite_result s descriptor bytes position)
+      by_kind : Kind d.«end» (content_of s (birth_at t d.node)) → Ties t (call.Pwrite descriptor bytes position) (pwrite_plan t descriptor (length bytes) position) (locked s (call.Pwrite descriptor bytes position) nothing_carried) (pwrite_result s descriptor bytes position)
       by_kind (IsFile file its is) = grind (arith, table, state, its, is)
-      by_kind (IsPipe waiting stream told no_side is) = grind (arith, table, state, stream, told, no_side, is)
+      by_kind (IsPipe waiting pipe is) = grind (arith, table, state, pipe.stream, pipe.told, pipe.inside, pipe.transfers, is)
       by_kind (IsPair p side its is) = grind (arith, table, state, its, is)
+      by_kind (IsDoor d its is) = grind (arith, table, state, its, is)
 
-  ties-ftruncate : (descriptor size : ℤ) → FoundBoth t s descriptor → Ties t (ftruncate_plan t descriptor size) (locked s (call.Ftruncate descriptor size) nothing_carried) (ftruncate_result s descriptor size)
+  ties-ftruncate : (descriptor size : ℤ) → FoundBoth t s descriptor → Ties t (call.Ftruncate descriptor size) (ftruncate_plan t descriptor size) (locked s (call.Ftruncate descriptor size) nothing_carried) (ftruncate_result s descriptor size)
   unfolding ftruncate_plan ftruncate_result
-  ties-ftruncate descriptor size (Shut table state) = rw (table, state) (refl, refl)
+  ties-ftruncate descriptor size (Shut table state) = rw (table, state) (refl, (refl, refl))
   ties-ftruncate descriptor size (Open key d at_offset at got there table state) = by_kind (kind_at key d got)
     where
-      by_kind : Kind d.«end» (content_of s (birth_at t d.node)) → Ties t (ftruncate_plan t descriptor size) (locked s (call.Ftruncate descriptor size) nothing_carried) (ftruncate_result s descriptor size)
+      by_kind : Kind d.«end» (content_of s (birth_at t d.node)) → Ties t (call.Ftruncate descriptor size) (ftruncate_plan t descriptor size) (locked s (call.Ftruncate descriptor size) nothing_carried) (ftruncate_result s descriptor size)
       by_kind (IsFile file its is) = grind (arith, table, state, its, is)
-      by_kind (IsPipe waiting stream told no_side is) = grind (arith, table, state, stream, told, no_side, is)
+      by_kind (IsPipe waiting pipe is) = grind (arith, table, state, pipe.stream, pipe.told, pipe.inside, pipe.transfers, is)
       by_kind (IsPair p side its is) = grind (arith, table, state, its, is)
+      by_kind (IsDoor d its is) = grind (arith, table, state, its, is)
 
-  ties-shutdown : (descriptor : ℤ) (how : ShutdownHow) → FoundBoth t s descriptor → Ties t (shutdown_plan t descriptor how) (locked s (call.Shutdown descriptor how) nothing_carried) (shutdown_result s descriptor how)
+  ties-shutdown : (descriptor : ℤ) (how : ShutdownHow) → FoundBoth t s descriptor → Ties t (call.Shutdown descriptor how) (shutdown_plan t descriptor how) (locked s (call.Shutdown descriptor how) nothing_carried) (shutdown_result s descriptor how)
   unfolding shutdown_plan shutdown_result
-  ties-shutdown descriptor how (Shut table state) = rw (table, state) (refl, refl)
+  ties-shutdown descriptor how (Shut table state) = rw (table, state) (refl, (refl, refl))
   ties-shutdown descriptor how (Open key d at_offset at got there table state) = by_kind (kind_at key d got)
     where
-      by_kind : Kind d.«end» (content_of s (birth_at t d.node)) → Ties t (shutdown_plan t descriptor how) (locked s (call.Shutdown descriptor how) nothing_carried) (shutdown_result s descriptor how)
-      by_kind (IsFile file its is) = grind (arith, table, state, its, is)
-      by_kind (IsPipe waiting stream told no_side is) = grind (arith, table, state, stream, told, no_side, is)
-      by_kind (IsPair p side its is) = grind (arith, table, state, its, is)
+      by_door : (door : Door) → d.«end» ≡ part.Door door → content_of s (birth_at t d.node) ≡ DoorTo door → Ties t (call.Shutdown descriptor how) (shutdown_plan t descriptor how) (locked s (call.Shutdown descriptor how) nothing_carried) (shutdown_result s descriptor how)
+      by_door door.HostFile its is = grind (arith, table, state, its, is)
+      by_door (door.Listener port) its is = grind (arith, table, state, its, is)
+      by_door door.Stream its is = grind (arith, table, state, its, is)
 
-  ties-dup : (descriptor : ℤ) → FoundBoth t s descriptor → Ties t (dup_plan t descriptor) (locked s (call.Dup descriptor) nothing_carried) (dup_result s descriptor)
+      by_kind : Kind d.«end» (content_of s (birth_at t d.node)) → Ties t (call.Shutdown descriptor how) (shutdown_plan t descriptor how) (locked s (call.Shutdown descriptor how) nothing_carried) (shutdown_result s descriptor how)
+      by_kind (IsFile file its is) = grind (arith, table, state, its, is)
+      by_kind (IsPipe waiting pipe is) = grind (arith, table, state, pipe.stream, pipe.told, pipe.inside, pipe.transfers, is)
+      by_kind (IsPair p side its is) = grind (arith, table, state, its, is)
+      by_kind (IsDoor d its is) = by_door d its is
+
+  ties-dup : (descriptor : ℤ) → FoundBoth t s descriptor → Ties t (call.Dup descriptor) (dup_plan t descriptor) (locked s (call.Dup descriptor) nothing_carried) (dup_result s descriptor)
   unfolding dup_plan dup_result
-  ties-dup descriptor (Shut table state) = rw (table, state) (refl, refl)
+  ties-dup descriptor (Shut table state) = rw (table, state) (refl, (refl, refl))
   ties-dup descriptor (Open key d offset at got there table state) = rw (table, state, lowest_shown t s 32 0 shows) (by_number (lowest_from t.descriptors 32 0))
     where
-      by_number : (o : Option ℕ) → Ties t (some_or o EMFILE >>= (λ n. Ok (plan.Reply (reply.Number (pos n))))) (Ok None) (some_or o EMFILE >>= (λ n. Ok (Completes (shared s n d.birth) (reply.Number (pos n)))))
-      by_number None = (refl, refl)
-      by_number (Some n) = (refl, refl)
+      by_number : (o : Option ℕ) → Ties t (call.Dup descriptor) (some_or o EMFILE >>= (λ n. Ok (plan.Reply (reply.Number (pos n))))) (Ok None) (some_or o EMFILE >>= (λ n. Ok (Completes (shared s n d.birth) (reply.Number (pos n)))))
+      by_number None = (refl, (refl, refl))
+      by_number (Some n) = (refl, (refl, refl))
 
-  ties-dup_from : (descriptor least : ℤ) → FoundBoth t s descriptor → Ties t (dup_from_plan t descriptor least) (locked s (call.DupFrom descriptor least) nothing_carried) (dup_from_result s descriptor least)
+  ties-dup_from : (descriptor least : ℤ) → FoundBoth t s descriptor → Ties t (call.DupFrom descriptor least) (dup_from_plan t descriptor least) (locked s (call.DupFrom descriptor least) nothing_carried) (dup_from_result s descriptor least)
   unfolding dup_from_plan dup_from_result
-  ties-dup_from descriptor least (Shut table state) = rw (table, state) (refl, refl)
+  ties-dup_from descriptor least (Shut table state) = rw (table, state) (refl, (refl, refl))
   ties-dup_from descriptor least (Open key d offset at got there table state) = rw (table, state) (by_first (descriptor_number least EINVAL))
     where
-      by_number : (o : Option ℕ) → Ties t (some_or o EMFILE >>= (λ n. Ok (plan.Reply (reply.Number (pos n))))) (Ok None) (some_or o EMFILE >>= (λ n. Ok (Completes (shared s n d.birth) (reply.Number (pos n)))))
-      by_number None = (refl, refl)
-      by_number (Some n) = (refl, refl)
+      by_number : (o : Option ℕ) → Ties t (call.DupFrom descriptor least) (some_or o EMFILE >>= (λ n. Ok (plan.Reply (reply.Number (pos n))))) (Ok None) (some_or o EMFILE >>= (λ n. Ok (Completes (shared s n d.birth) (reply.Number (pos n)))))
+      by_number None = (refl, (refl, refl))
+      by_number (Some n) = (refl, (refl, refl))
 
-      by_first : (r : Result ℕ Errno) → Ties t (r >>= (λ first. some_or (lowest_from t.descriptors (32 - first) first) EMFILE >>= (λ n. Ok (plan.Reply (reply.Number (pos n)))))) (Ok None) (r >>= (λ first. some_or (posix.lowest_from s (32 - first) first) EMFILE >>= (λ n. Ok (Completes (shared s n d.birth) (reply.Number (pos n))))))
+      by_first : (r : Result ℕ Errno) → Ties t (call.DupFrom descriptor least) (r >>= (λ first. some_or (lowest_from t.descriptors (32 - first) first) EMFILE >>= (λ n. Ok (plan.Reply (reply.Number (pos n)))))) (Ok None) (r >>= (λ first. some_or (posix.lowest_from s (32 - first) first) EMFILE >>= (λ n. Ok (Completes (shared s n d.birth) (reply.Number (pos n))))))
       by_first (Ok first) = rw (lowest_shown t s (32 - first) first shows) (by_number (lowest_from t.descriptors (32 - first) first))
-      by_first (Err e) = (refl, refl)
+      by_first (Err e) = (refl, (refl, refl))
 
   -- the number of a descriptor that is open
   open_number : (descriptor : ℤ) (key : ℕ) → key_at t descriptor ≡ Some key → (n : ℕ) × (descriptor ≡ pos n) × (slice_index_or t.descriptors n None ≡ Some key)
@@ -283,36 +396,70 @@ module _ (t : TableState) (s : State) (sound : IsSound t) (all : AreSound t.desc
   open_number (negsuc n) key at = cc
 
   -- whether a description ends with this descriptor
-  last_open : (descriptor : ℤ) (key : ℕ) (d : Description) → key_at t descriptor ≡ Some key → fin.get t.descriptions.by_key key ≡ Some d → posix.has_descriptor (posix.freed s descriptor) d.birth ≡ not (d.holders == 1)
+  pub last_open : (descriptor : ℤ) (key : ℕ) (d : Description) → key_at t descriptor ≡ Some key → fin.get t.descriptions.by_key key ≡ Some d → posix.has_descriptor (posix.freed s descriptor) d.birth ≡ not (d.holders == 1)
   last_open (pos n) key d at got = last_shown t s n key d sound all shows at got
   last_open (negsuc n) key d at got = cc
 
-  -- the plan to let go of a descriptor agrees with what ends
-  released_as : (d : Description) (r : Reply) (b : Bool) → AgreesOn t (if b then locks d.node op.Release else plan.Reply r) (if not b then None else Some (birth_at t d.node)) (answer.Reply r)
-  released_as d r true = refl
-  released_as d r false = (refl, refl)
+  pub outside_at : (key : ℕ) (d : Description) → fin.get t.descriptions.by_key key ≡ Some d → is_door (content_of s (birth_at t d.node)) ≡ leads_outside d.«end»
+  outside_at key d got = outside_by d.«end» (content_of s (birth_at t d.node)) (kind_at key d got)
 
-  ties-close : (descriptor : ℤ) → FoundBoth t s descriptor → Ties t (close_plan t descriptor) (locked s (call.Close descriptor) nothing_carried) (close_result s descriptor)
+  ties-close : (descriptor : ℤ) → FoundBoth t s descriptor → Ties t (call.Close descriptor) (close_plan t descriptor) (locked s (call.Close descriptor) nothing_carried) (close_result s descriptor)
   unfolding close_plan close_result
-  ties-close descriptor (Shut table state) = rw (table, state) (refl, refl)
-  ties-close descriptor (Open key d offset at got there table state) = rw (table, state, last_open descriptor key d at got) (released_as d reply.Done (d.holders == 1))
-
-  replaced_as : (target : ℤ) → FoundBoth t s target → AgreesOn t (replaced (described t target) (reply.Number target)) (closed_object s target (posix.described s target)) (answer.Reply (reply.Number target))
-  replaced_as target (Shut table state) = rw (table, state) (refl, refl)
-  replaced_as target (Open key d offset at got there table state) = rw (table, state, last_open target key d at got) (released_as d (reply.Number target) (d.holders == 1))
-
-  ties-dup2 : (descriptor target : ℤ) → FoundBoth t s descriptor → FoundBoth t s target → Ties t (dup2_plan t descriptor target) (locked s (call.Dup2 descriptor target) nothing_carried) (dup2_result s descriptor target)
-  unfolding dup2_plan dup2_result
-  ties-dup2 descriptor target (Shut table state) other = rw (table, state) (refl, refl)
-  ties-dup2 descriptor target (Open key d offset at got there table state) other = rw (table, state) (by_number (descriptor_number target EBADF))
+  ties-close descriptor (Shut table state) = rw (table, state) (refl, (refl, refl))
+  ties-close descriptor (Open key d offset at got there table state) =
+      rw (table, state) (by_tests (posix.released (posix.freed s descriptor) d.birth (shown t d offset)) (posix.has_descriptor (posix.freed s descriptor) d.birth) (is_door (content_of s (birth_at t d.node)))
+      (d.holders == 1) (leads_outside d.«end») (last_open descriptor key d at got) (outside_at key d got))
     where
-      by_same : (n : ℕ) (b : Bool) → Ties t (Ok (if b then plan.Reply (reply.Number target) else replaced (described t target) (reply.Number target))) (Ok (if b then None else closed_object s target (posix.described s target))) (Ok (Completes (if b then s else shared (closed s target (posix.described s target)) n d.birth) (reply.Number target)))
-      by_same n true = (refl, refl)
-      by_same n false = replaced_as target other
+      -- whether the description has another descriptor and is of a door, in the state; whether it is its last and leads outside, in the table
+      by_tests : (after : State) (other is_of_door last outside : Bool) → other ≡ not last → is_of_door ≡ outside
+          → Ties t (call.Close descriptor) (Ok (if last then locks d.node (if outside then errand d out.Close 0 false else op.Release) else plan.Reply reply.Done))
+          (Ok (if other then None else Some (birth_at t d.node)))
+          (Ok (if is_of_door && not other then asks_of after out.Close 0 false (λ value bytes. reply.Done) else Completes after reply.Done))
+      by_tests after other is_of_door true true one both_are = rw (one, both_are) (refl, (refl, refl))
+      by_tests after other is_of_door true false one both_are = rw (one, both_are) (refl, (refl, refl))
+      by_tests after other is_of_door false true one both_are = rw (one, both_are) (refl, (refl, refl))
+      by_tests after other is_of_door false false one both_are = rw (one, both_are) (refl, (refl, refl))
 
-      by_number : (r : Result ℕ Errno) → Ties t (r >>= (λ n. Ok (if int_eq descriptor target then plan.Reply (reply.Number target) else replaced (described t target) (reply.Number target)))) (r >>= (λ n. Ok (if int_eq descriptor target then None else closed_object s target (posix.described s target)))) (r >>= (λ n. Ok (Completes (if int_eq descriptor target then s else shared (closed s target (posix.described s target)) n d.birth) (reply.Number target))))
-      by_number (Ok n) = by_same n (int_eq descriptor target)
-      by_number (Err e) = (refl, refl)
+  pub ends_shown : (target : ℤ) → FoundBoth t s target → duplicates.ends_a_door s target (posix.described s target) ≡ ends_a_door (described t target)
+  ends_shown target (Shut table state) = rw (table, state) refl
+  ends_shown target (Open key d offset at got there table state) =
+      rw (table, state) (ap (λ (b : Bool). b && not (posix.has_descriptor (posix.freed s target) d.birth)) (outside_at key d got) ∙ ap (λ (b : Bool). leads_outside d.«end» && not b) (last_open target key d at got) ∙ by_last (d.holders == 1))
+    where
+      by_last : (b : Bool) → (leads_outside d.«end» && not (not b)) ≡ (leads_outside d.«end» && b)
+      by_last true = refl
+      by_last false = refl
+
+  ties-dup2 : (descriptor target : ℤ) → FoundBoth t s descriptor → FoundBoth t s target → Ties t (call.Dup2 descriptor target) (dup2_plan t descriptor target) (locked s (call.Dup2 descriptor target) nothing_carried) (dup2_result s descriptor target)
+  unfolding dup2_plan dup2_result
+  ties-dup2 descriptor target (Shut table state) other = rw (table, state) (refl, (refl, refl))
+  ties-dup2 descriptor target (Open key d offset at got there table state) other = rw (table, state, ends_shown target other) (by_number (descriptor_number target EBADF))
+    where
+      -- what is not the last descriptor of a door
+      by_tests : (e : Description) (after : State) (has last outside : Bool) → has ≡ not last → (outside && last) ≡ false
+          → Ties t (call.Dup2 descriptor target) (Ok (if last then locks e.node (if outside then errand e out.Close 0 false else op.Release) else plan.Reply (reply.Number target)))
+          (Ok (if has then None else Some (birth_at t e.node))) (Ok (Completes after (reply.Number target)))
+      by_tests e after has true true one no_door = absurd (true≢false no_door)
+      by_tests e after has true false one no_door = rw one (refl, (refl, refl))
+      by_tests e after has false true one no_door = rw one (refl, (refl, refl))
+      by_tests e after has false false one no_door = rw one (refl, (refl, refl))
+
+      by_target : (after : State) → FoundBoth t s target → ends_a_door (described t target) ≡ false → Ties t (call.Dup2 descriptor target) (Ok (replaced (described t target) (reply.Number target))) (Ok (closed_object s target (posix.described s target))) (Ok (Completes after (reply.Number target)))
+      by_target after (Shut none nothing) ends = rw (none, nothing) (refl, (refl, refl))
+      by_target after (Open k e o its is there found shown_is) ends =
+          rw (found, shown_is) (by_tests e after (posix.has_descriptor (posix.freed s target) e.birth) (e.holders == 1) (leads_outside e.«end») (last_open target k e its is) (sym (ap ends_a_door found) ∙ ends))
+
+      by_same : (n : ℕ) (same ends : Bool) → ends_a_door (described t target) ≡ ends → Ties t (call.Dup2 descriptor target) (refuse_if (not same && ends) EBUSY >>= (λ _. Ok (if same then plan.Reply (reply.Number target) else replaced (described t target) (reply.Number target))))
+          (refuse_if (not same && ends) EBUSY >>= (λ _. Ok (if same then None else closed_object s target (posix.described s target))))
+          (refuse_if (not same && ends) EBUSY >>= (λ _. Ok (Completes (if same then s else shared (closed s target (posix.described s target)) n d.birth) (reply.Number target))))
+      by_same n true ends is = (refl, (refl, refl))
+      by_same n false true is = (refl, (refl, refl))
+      by_same n false false is = by_target (shared (closed s target (posix.described s target)) n d.birth) other is
+
+      by_number : (r : Result ℕ Errno) → Ties t (call.Dup2 descriptor target) (r >>= (λ n. refuse_if (not (int_eq descriptor target) && ends_a_door (described t target)) EBUSY >>= (λ _. Ok (if int_eq descriptor target then plan.Reply (reply.Number target) else replaced (described t target) (reply.Number target)))))
+          (r >>= (λ n. refuse_if (not (int_eq descriptor target) && ends_a_door (described t target)) EBUSY >>= (λ _. Ok (if int_eq descriptor target then None else closed_object s target (posix.described s target)))))
+          (r >>= (λ n. refuse_if (not (int_eq descriptor target) && ends_a_door (described t target)) EBUSY >>= (λ _. Ok (Completes (if int_eq descriptor target then s else shared (closed s target (posix.described s target)) n d.birth) (reply.Number target)))))
+      by_number (Ok n) = by_same n (int_eq descriptor target) (ends_a_door (described t target)) refl
+      by_number (Err e) = (refl, (refl, refl))
 
   -- ## Names
 
@@ -320,22 +467,22 @@ module _ (t : TableState) (s : State) (sound : IsSound t) (all : AreSound t.desc
   some_shown None = refl
   some_shown (Some node) = refl
 
-  ties-add : (path : List ℕ) (node : Node) → Ties t (addable t.paths path >>= (λ _. Ok (plan.Reply reply.Done))) (Ok None) (added s.paths path node >>= (λ paths. Ok (Completes (with_paths s paths) reply.Done)))
+  ties-add : (c : Call) (path : List ℕ) (node : Node) → Ties t c (addable t.paths path >>= (λ _. Ok (plan.Reply reply.Done))) (Ok None) (added s.paths path node >>= (λ paths. Ok (Completes (with_paths s paths) reply.Done)))
   unfolding addable added
-  ties-add path node = rw (resolved_shown t s path shows) (by_path (resolved t.paths path))
+  ties-add c path node = rw (resolved_shown t s path shows) (by_path (resolved t.paths path))
     where
-      by_refusals : (components : List (List ℕ)) (a b : Bool) → Ties t ((refuse_if a EEXIST >>= (λ _. refuse_if b ENOSPC)) >>= (λ _. Ok (plan.Reply reply.Done))) (Ok None) ((refuse_if a EEXIST >>= (λ _. refuse_if b ENOSPC >>= (λ _. Ok (fin.insert s.paths components node)))) >>= (λ paths. Ok (Completes (with_paths s paths) reply.Done)))
-      by_refusals components true b = (refl, refl)
-      by_refusals components false true = (refl, refl)
-      by_refusals components false false = (refl, refl)
+      by_refusals : (components : List (List ℕ)) (a b : Bool) → Ties t c ((refuse_if a EEXIST >>= (λ _. refuse_if b ENOSPC)) >>= (λ _. Ok (plan.Reply reply.Done))) (Ok None) ((refuse_if a EEXIST >>= (λ _. refuse_if b ENOSPC >>= (λ _. Ok (fin.insert s.paths components node)))) >>= (λ paths. Ok (Completes (with_paths s paths) reply.Done)))
+      by_refusals components true b = (refl, (refl, refl))
+      by_refusals components false true = (refl, (refl, refl))
+      by_refusals components false false = (refl, (refl, refl))
 
-      by_path : (r : Result (List (List ℕ)) Errno) → Ties t ((r >>= (λ components. refuse_if (is_some (node_at t.paths components)) EEXIST >>= (λ _. refuse_if (nat_le 64 (fin.len t.paths)) ENOSPC))) >>= (λ _. Ok (plan.Reply reply.Done))) (Ok None) ((r >>= (λ components. refuse_if (is_some (node_at s.paths components)) EEXIST >>= (λ _. refuse_if (nat_le 64 (fin.len s.paths)) ENOSPC >>= (λ _. Ok (fin.insert s.paths components node))))) >>= (λ paths. Ok (Completes (with_paths s paths) reply.Done)))
-      by_path (Err e) = (refl, refl)
+      by_path : (r : Result (List (List ℕ)) Errno) → Ties t c ((r >>= (λ components. refuse_if (is_some (node_at t.paths components)) EEXIST >>= (λ _. refuse_if (nat_le 64 (fin.len t.paths)) ENOSPC))) >>= (λ _. Ok (plan.Reply reply.Done))) (Ok None) ((r >>= (λ components. refuse_if (is_some (node_at s.paths components)) EEXIST >>= (λ _. refuse_if (nat_le 64 (fin.len s.paths)) ENOSPC >>= (λ _. Ok (fin.insert s.paths components node))))) >>= (λ paths. Ok (Completes (with_paths s paths) reply.Done)))
+      by_path (Err e) = (refl, (refl, refl))
       by_path (Ok components) = rw (node_shown t s components shows, some_shown (node_at t.paths components), names_shown t s shows) (by_refusals components (is_some (node_at t.paths components)) (nat_le 64 (fin.len t.paths)))
 
-  ties-mkdir : (path : List ℕ) → Ties t (mkdir_plan t path) (locked s (call.Mkdir path) nothing_carried) (mkdir_result s path)
+  ties-mkdir : (path : List ℕ) → Ties t (call.Mkdir path) (mkdir_plan t path) (locked s (call.Mkdir path) nothing_carried) (mkdir_result s path)
   unfolding mkdir_plan mkdir_result
-  ties-mkdir path = ties-add path Directory
+  ties-mkdir path = ties-add (call.Mkdir path) path Directory
 
   pub file_node_shown : (o : Option Node) → file_node (option_map (shown_node t) o) ≡ (file_node o >>= (λ node. Ok (birth_at t node)))
   file_node_shown None = refl
@@ -350,40 +497,40 @@ module _ (t : TableState) (s : State) (sound : IsSound t) (all : AreSound t.desc
       by_path (Ok components) = ap file_node (node_shown t s components shows) ∙ file_node_shown (node_at t.paths components)
       by_path (Err e) = refl
 
-  ties-link : (old_path new_path : List ℕ) → Ties t (link_plan t old_path new_path) (locked s (call.Link old_path new_path) nothing_carried) (link_result s old_path new_path)
+  ties-link : (old_path new_path : List ℕ) → Ties t (call.Link old_path new_path) (link_plan t old_path new_path) (locked s (call.Link old_path new_path) nothing_carried) (link_result s old_path new_path)
   unfolding link_plan link_result
   ties-link old_path new_path = rw (named_shown old_path) (by_file (file_named t.paths old_path))
     where
-      by_file : (r : Result ℕ Errno) → Ties t (r >>= (λ node. addable t.paths new_path >>= (λ _. Ok (plan.Reply reply.Done)))) (Ok None) ((r >>= (λ node. Ok (birth_at t node))) >>= (λ object. added s.paths new_path (FileNode object) >>= (λ paths. Ok (Completes (with_paths s paths) reply.Done))))
-      by_file (Ok node) = ties-add new_path (FileNode (birth_at t node))
-      by_file (Err e) = (refl, refl)
+      by_file : (r : Result ℕ Errno) → Ties t (call.Link old_path new_path) (r >>= (λ node. addable t.paths new_path >>= (λ _. Ok (plan.Reply reply.Done)))) (Ok None) ((r >>= (λ node. Ok (birth_at t node))) >>= (λ object. added s.paths new_path (FileNode object) >>= (λ paths. Ok (Completes (with_paths s paths) reply.Done))))
+      by_file (Ok node) = ties-add (call.Link old_path new_path) new_path (FileNode (birth_at t node))
+      by_file (Err e) = (refl, (refl, refl))
 
-  ties-rmdir : (path : List ℕ) → Ties t (rmdir_plan t path) (locked s (call.Rmdir path) nothing_carried) (rmdir_result s path)
+  ties-rmdir : (path : List ℕ) → Ties t (call.Rmdir path) (rmdir_plan t path) (locked s (call.Rmdir path) nothing_carried) (rmdir_result s path)
   unfolding rmdir_plan rmdir_result removed_dir
   ties-rmdir path = rw (resolved_shown t s path shows) (by_path (resolved t.paths path))
     where
-      by_refusals : (components : List (List ℕ)) (a b : Bool) → Ties t ((refuse_if a EBUSY >>= (λ _. refuse_if b ENOTEMPTY >>= (λ _. Ok (fin.remove t.paths components)))) >>= (λ _. Ok (plan.Reply reply.Done))) (Ok None) ((refuse_if a EBUSY >>= (λ _. refuse_if b ENOTEMPTY >>= (λ _. Ok (fin.remove s.paths components)))) >>= (λ paths. Ok (Completes (with_paths s paths) reply.Done)))
-      by_refusals components true b = (refl, refl)
-      by_refusals components false true = (refl, refl)
-      by_refusals components false false = (refl, refl)
+      by_refusals : (components : List (List ℕ)) (a b : Bool) → Ties t (call.Rmdir path) ((refuse_if a EBUSY >>= (λ _. refuse_if b ENOTEMPTY >>= (λ _. Ok (fin.remove t.paths components)))) >>= (λ _. Ok (plan.Reply reply.Done))) (Ok None) ((refuse_if a EBUSY >>= (λ _. refuse_if b ENOTEMPTY >>= (λ _. Ok (fin.remove s.paths components)))) >>= (λ paths. Ok (Completes (with_paths s paths) reply.Done)))
+      by_refusals components true b = (refl, (refl, refl))
+      by_refusals components false true = (refl, (refl, refl))
+      by_refusals components false false = (refl, (refl, refl))
 
-      by_node : (components : List (List ℕ)) (o : Option Node) → Ties t (removed_dir_at t.paths components o >>= (λ _. Ok (plan.Reply reply.Done))) (Ok None) (removed_dir_at s.paths components (option_map (shown_node t) o) >>= (λ paths. Ok (Completes (with_paths s paths) reply.Done)))
-      by_node components None = (refl, refl)
-      by_node components (Some (FileNode node)) = (refl, refl)
+      by_node : (components : List (List ℕ)) (o : Option Node) → Ties t (call.Rmdir path) (removed_dir_at t.paths components o >>= (λ _. Ok (plan.Reply reply.Done))) (Ok None) (removed_dir_at s.paths components (option_map (shown_node t) o) >>= (λ paths. Ok (Completes (with_paths s paths) reply.Done)))
+      by_node components None = (refl, (refl, refl))
+      by_node components (Some (FileNode node)) = (refl, (refl, refl))
       by_node components (Some Directory) = rw (has_entries_shown t s components shows) (by_refusals components (length components == 0) (has_entries t.paths components))
 
-      by_path : (r : Result (List (List ℕ)) Errno) → Ties t ((r >>= (λ components. removed_dir_at t.paths components (node_at t.paths components))) >>= (λ _. Ok (plan.Reply reply.Done))) (Ok None) ((r >>= (λ components. removed_dir_at s.paths components (node_at s.paths components))) >>= (λ paths. Ok (Completes (with_paths s paths) reply.Done)))
+      by_path : (r : Result (List (List ℕ)) Errno) → Ties t (call.Rmdir path) ((r >>= (λ components. removed_dir_at t.paths components (node_at t.paths components))) >>= (λ _. Ok (plan.Reply reply.Done))) (Ok None) ((r >>= (λ components. removed_dir_at s.paths components (node_at s.paths components))) >>= (λ paths. Ok (Completes (with_paths s paths) reply.Done)))
       by_path (Ok components) = rw (node_shown t s components shows) (by_node components (node_at t.paths components))
-      by_path (Err e) = (refl, refl)
+      by_path (Err e) = (refl, (refl, refl))
 
   -- ## The last name of a file
 
   less_one : (n k : ℕ) → n ≡ 1 + k → (n == 1) ≡ (k == 0)
   less_one n k e = grind (arith, nat_tests)
 
-  last_name : (components : List (List ℕ)) (node : ℕ) → node_at t.paths components ≡ Some (FileNode node) → AgreesOn t (if is_last_name t node then locks node op.Release else plan.Reply reply.Done) (unnamed_object (with_paths s (fin.remove s.paths components)) (birth_at t node)) (answer.Reply reply.Done)
-  last_name [] node at = cc
-  last_name (name ∷ names) node at =
+  last_name : (path : List ℕ) (components : List (List ℕ)) (node : ℕ) → node_at t.paths components ≡ Some (FileNode node) → AgreesOn t (call.Unlink path) (if is_last_name t node then locks node op.Release else plan.Reply reply.Done) (unnamed_object (with_paths s (fin.remove s.paths components)) (birth_at t node)) None (answer.Reply reply.Done)
+  last_name path [] node at = cc
+  last_name path (name ∷ names) node at =
       rw (closed_shown after state node kept all shown_after used, less_one (links_of t.paths node) (links_of after.paths node) counted, linked_shown after state node kept shown_after used)
       (by_rest (posix.has_description state (birth_at t node)) (posix.has_path state (birth_at t node)))
     where
@@ -408,48 +555,48 @@ module _ (t : TableState) (s : State) (sound : IsSound t) (all : AreSound t.desc
       counted : links_of t.paths node ≡ 1 + links_of after.paths node
       counted = counted-remove paths_total paths_apart (λ (e : List (List ℕ) × Node). is_file e.1 node) t.paths (name ∷ names) (FileNode node) at ∙ ap (λ (b : Bool). cond b 1 0 + links_of after.paths node) (same_nat node node refl)
 
-      by_rest : (a b : Bool) → AgreesOn t (if not a && not b then locks node op.Release else plan.Reply reply.Done) (if a || b then None else Some (birth_at t node)) (answer.Reply reply.Done)
-      by_rest true b = (refl, refl)
-      by_rest false true = (refl, refl)
-      by_rest false false = refl
+      by_rest : (a b : Bool) → AgreesOn t (call.Unlink path) (if not a && not b then locks node op.Release else plan.Reply reply.Done) (if a || b then None else Some (birth_at t node)) None (answer.Reply reply.Done)
+      by_rest true b = (refl, (refl, refl))
+      by_rest false true = (refl, (refl, refl))
+      by_rest false false = (refl, (refl, refl))
 
   abbrev without_at : List (List ℕ) → ℕ → Result (PathMap × ℕ) Errno
   without_at components object = Ok (fin.remove s.paths components, object)
 
-  ties-unlink : (path : List ℕ) → Ties t (unlink_plan t path) (locked s (call.Unlink path) nothing_carried) (unlink_result s path)
+  ties-unlink : (path : List ℕ) → Ties t (call.Unlink path) (unlink_plan t path) (locked s (call.Unlink path) nothing_carried) (unlink_result s path)
   unfolding unlink_plan unlink_result file_named removed
   ties-unlink path = rw (resolved_shown t s path shows) (by_path (resolved t.paths path))
     where
       by_node : (components : List (List ℕ)) (o : Option Node) → node_at t.paths components ≡ o
-          → Ties t (file_node o >>= (λ node. Ok (if is_last_name t node then locks node op.Release else plan.Reply reply.Done)))
+          → Ties t (call.Unlink path) (file_node o >>= (λ node. Ok (if is_last_name t node then locks node op.Release else plan.Reply reply.Done)))
           ((file_node (option_map (shown_node t) o) >>= (λ object. without_at components object)) >>= (λ without. Ok (unnamed_object (with_paths s without.0) without.1)))
           ((file_node (option_map (shown_node t) o) >>= (λ object. without_at components object)) >>= (λ without. Ok (Completes (without_unused (with_paths s without.0) without.1) reply.Done)))
-      by_node components None at = (refl, refl)
-      by_node components (Some Directory) at = (refl, refl)
-      by_node components (Some (FileNode node)) at = last_name components node at
+      by_node components None at = (refl, (refl, refl))
+      by_node components (Some Directory) at = (refl, (refl, refl))
+      by_node components (Some (FileNode node)) at = last_name path components node at
 
-      by_path : (r : Result (List (List ℕ)) Errno) → Ties t ((r >>= (λ components. file_node (node_at t.paths components))) >>= (λ node. Ok (if is_last_name t node then locks node op.Release else plan.Reply reply.Done)))
+      by_path : (r : Result (List (List ℕ)) Errno) → Ties t (call.Unlink path) ((r >>= (λ components. file_node (node_at t.paths components))) >>= (λ node. Ok (if is_last_name t node then locks node op.Release else plan.Reply reply.Done)))
           ((r >>= (λ components. file_node (node_at s.paths components) >>= (λ object. without_at components object))) >>= (λ without. Ok (unnamed_object (with_paths s without.0) without.1)))
           ((r >>= (λ components. file_node (node_at s.paths components) >>= (λ object. without_at components object))) >>= (λ without. Ok (Completes (without_unused (with_paths s without.0) without.1) reply.Done)))
       by_path (Ok components) = rw (node_shown t s components shows) (by_node components (node_at t.paths components) refl)
-      by_path (Err e) = (refl, refl)
+      by_path (Err e) = (refl, (refl, refl))
 
   -- ## Opening
 
-  abbrev TiesOpen : Result Plan Errno → Result Effect Errno → Type 0
-  TiesOpen p does = Ties t p (locked_by_new s does) does
+  abbrev TiesOpen : Call → Result Plan Errno → Result Effect Errno → Type 0
+  TiesOpen c p does = Ties t c p (locked_by_new s does) does
 
   made_here : (object n : ℕ) (which : End) (access : Access) (append nonblock b : Bool) → option_map (λ (d : Object.Description). d.object) (fin.get (opened (truncated s object b) n object which access append nonblock).descriptions s.next_description) ≡ Some object
   made_here object n which access append nonblock true = ap (option_map (λ (d : Object.Description). d.object)) (get-insert_same s.descriptions s.next_description (record { object = object; «end» = which; access = access; offset = 0; append = append; nonblock = nonblock }))
   made_here object n which access append nonblock false = ap (option_map (λ (d : Object.Description). d.object)) (get-insert_same s.descriptions s.next_description (record { object = object; «end» = which; access = access; offset = 0; append = append; nonblock = nonblock }))
 
-  ties-there : (node : Node) (access : Access) (flags : OpenFlags) → TiesOpen (open_there t node flags) (posix.open_there s (shown_node t node) access flags)
-  ties-there Directory access flags = (refl, refl)
-  ties-there (FileNode node) access flags = rw (lowest_shown t s 32 0 shows) (by_number (lowest_from t.descriptors 32 0))
+  ties-there : (path : List ℕ) (node : Node) (access : Access) (flags : OpenFlags) → TiesOpen (call.Open path access flags) (open_there t node flags) (posix.open_there s (shown_node t node) access flags)
+  ties-there path Directory access flags = (refl, (refl, refl))
+  ties-there path (FileNode node) access flags = rw (lowest_shown t s 32 0 shows) (by_number (lowest_from t.descriptors 32 0))
     where
-      by_number : (o : Option ℕ) → TiesOpen (some_or o EMFILE >>= (λ n. Ok (locks node (op.Open flags.truncate)))) (some_or o EMFILE >>= (λ n. Ok (Completes (opened (truncated s (birth_at t node) flags.truncate) n (birth_at t node) part.Only access flags.append flags.nonblock) (reply.Number (pos n)))))
-      by_number None = (refl, refl)
-      by_number (Some n) = made_here (birth_at t node) n part.Only access flags.append flags.nonblock flags.truncate
+      by_number : (o : Option ℕ) → TiesOpen (call.Open path access flags) (some_or o EMFILE >>= (λ n. Ok (locks node (op.Open flags.truncate)))) (some_or o EMFILE >>= (λ n. Ok (Completes (opened (truncated s (birth_at t node) flags.truncate) n (birth_at t node) part.Only access flags.append flags.nonblock) (reply.Number (pos n)))))
+      by_number None = (refl, (refl, refl))
+      by_number (Some n) = (made_here (birth_at t node) n part.Only access flags.append flags.nonblock flags.truncate, (refl, refl))
 
   -- there is a number for a new object just where there are not as many as there may be
   pub full_shown : nat_le 48 (fin.len s.objects) ≡ not (is_some (free_object t))
@@ -471,36 +618,38 @@ module _ (t : TableState) (s : State) (sound : IsSound t) (all : AreSound t.desc
           let fewer : taken t.objects < length t.objects = not_all_open t.objects n (omega (arith, long)) (lowest_none t.objects 48 0 n is) in
           below (taken t.objects) (omega (arith, long))
 
-  ties-new : (components : List (List ℕ)) (access : Access) (flags : OpenFlags) → TiesOpen (open_new t flags) (posix.open_new s components access flags)
-  ties-new components access flags = rw (names_shown t s shows, full_shown, lowest_shown t s 32 0 shows) (by_rest (not flags.create) (nat_le 64 (fin.len t.paths)) (free_object t) (lowest_from t.descriptors 32 0) (λ node is. lowest_none t.objects 48 0 node is))
+  ties-new : (path : List ℕ) (components : List (List ℕ)) (access : Access) (flags : OpenFlags) → TiesOpen (call.Open path access flags) (open_new t flags) (posix.open_new s components access flags)
+  ties-new path components access flags = rw (names_shown t s shows, full_shown, lowest_shown t s 32 0 shows) (by_rest (not flags.create) (nat_le 64 (fin.len t.paths)) (free_object t) (lowest_from t.descriptors 32 0) (λ node is. lowest_none t.objects 48 0 node is))
     where
       by_rest : (a b : Bool) (o number : Option ℕ) → ((node : ℕ) → o ≡ Some node → slice_index_or t.objects node None ≡ None)
-          → TiesOpen (refuse_if a ENOENT >>= (λ _. refuse_if b ENOSPC >>= (λ _. some_or o ENOSPC >>= (λ node. some_or number EMFILE >>= (λ _. Ok (locks node (op.Open true)))))))
+          → TiesOpen (call.Open path access flags) (refuse_if a ENOENT >>= (λ _. refuse_if b ENOSPC >>= (λ _. some_or o ENOSPC >>= (λ node. some_or number EMFILE >>= (λ _. Ok (locks node (op.Open true)))))))
           (refuse_if a ENOENT >>= (λ _. refuse_if (b || not (is_some o)) ENOSPC >>= (λ _. some_or number EMFILE >>= (λ n. Ok (Completes (opened (with_file s components) n s.next_object part.Only access flags.append flags.nonblock) (reply.Number (pos n)))))))
-      by_rest true b o number free = (refl, refl)
-      by_rest false true o number free = (refl, refl)
-      by_rest false false None number free = (refl, refl)
-      by_rest false false (Some node) None free = (refl, refl)
-      by_rest false false (Some node) (Some n) free =
-          ap (option_map (λ (d : Object.Description). d.object)) (get-insert_same s.descriptions s.next_description (record { object = s.next_object; «end» = part.Only; access = access; offset = 0; append = flags.append; nonblock = flags.nonblock }))
-          ∙ ap (λ (b : ℕ). Some b) shows.next_object ∙ ap (λ (o : Option ℕ). Some (unwrap_or o t.made_objects)) (sym (free node refl))
+      by_rest true b o number free = (refl, (refl, refl))
+      by_rest false true o number free = (refl, (refl, refl))
+      by_rest false false None number free = (refl, (refl, refl))
+      by_rest false false (Some node) None free = (refl, (refl, refl))
+      by_rest false false (Some node) (Some n) free = (
+        ap (option_map (λ (d : Object.Description). d.object)) (get-insert_same s.descriptions s.next_description (record { object = s.next_object; «end» = part.Only; access = access; offset = 0; append = flags.append; nonblock = flags.nonblock }))
+            ∙ ap (λ (b : ℕ). Some b) shows.next_object ∙ ap (λ (o : Option ℕ). Some (unwrap_or o t.made_objects)) (sym (free node refl)),
+        (refl, refl),
+      )
 
-  ties-node : (components : List (List ℕ)) (node : Option Node) (access : Access) (flags : OpenFlags) → TiesOpen (open_node t node flags) (posix.open_node s components (option_map (shown_node t) node) access flags)
-  ties-node components None access flags = ties-new components access flags
-  ties-node components (Some node) access flags = by_refusal (flags.create && flags.exclusive)
+  ties-node : (path : List ℕ) (components : List (List ℕ)) (node : Option Node) (access : Access) (flags : OpenFlags) → TiesOpen (call.Open path access flags) (open_node t node flags) (posix.open_node s components (option_map (shown_node t) node) access flags)
+  ties-node path components None access flags = ties-new path components access flags
+  ties-node path components (Some node) access flags = by_refusal (flags.create && flags.exclusive)
     where
-      by_refusal : (b : Bool) → TiesOpen (refuse_if b EEXIST >>= (λ _. open_there t node flags)) (refuse_if b EEXIST >>= (λ _. posix.open_there s (shown_node t node) access flags))
-      by_refusal true = (refl, refl)
-      by_refusal false = ties-there node access flags
+      by_refusal : (b : Bool) → TiesOpen (call.Open path access flags) (refuse_if b EEXIST >>= (λ _. open_there t node flags)) (refuse_if b EEXIST >>= (λ _. posix.open_there s (shown_node t node) access flags))
+      by_refusal true = (refl, (refl, refl))
+      by_refusal false = ties-there path node access flags
 
-  ties-open : (path : List ℕ) (access : Access) (flags : OpenFlags) → Ties t (open_plan t path access flags) (locked s (call.Open path access flags) nothing_carried) (open_result s path access flags)
+  ties-open : (path : List ℕ) (access : Access) (flags : OpenFlags) → Ties t (call.Open path access flags) (open_plan t path access flags) (locked s (call.Open path access flags) nothing_carried) (open_result s path access flags)
   unfolding open_plan open_result
   ties-open path access flags = rw (resolved_shown t s path shows) (by_rest (flags.truncate && not (can_write access)) (resolved t.paths path))
     where
-      by_rest : (b : Bool) (r : Result (List (List ℕ)) Errno) → TiesOpen (refuse_if b EINVAL >>= (λ _. r >>= (λ components. open_node t (node_at t.paths components) flags))) (refuse_if b EINVAL >>= (λ _. r >>= (λ components. posix.open_node s components (node_at s.paths components) access flags)))
-      by_rest true r = (refl, refl)
-      by_rest false (Err e) = (refl, refl)
-      by_rest false (Ok components) = rw (node_shown t s components shows) (ties-node components (node_at t.paths components) access flags)
+      by_rest : (b : Bool) (r : Result (List (List ℕ)) Errno) → TiesOpen (call.Open path access flags) (refuse_if b EINVAL >>= (λ _. r >>= (λ components. open_node t (node_at t.paths components) flags))) (refuse_if b EINVAL >>= (λ _. r >>= (λ components. posix.open_node s components (node_at s.paths components) access flags)))
+      by_rest true r = (refl, (refl, refl))
+      by_rest false (Err e) = (refl, (refl, refl))
+      by_rest false (Ok components) = rw (node_shown t s components shows) (ties-node path components (node_at t.paths components) access flags)
 
   pub two_shown : sockets.two_numbers s ≡ two_numbers t
   two_shown = ap (λ (o : Option ℕ). some_or o EMFILE >>= (λ first. some_or (posix.lowest_from s (32 - (first + 1)) (first + 1)) EMFILE >>= (λ second. both first second))) (lowest_shown t s 32 0 shows) ∙ by_first (lowest_from t.descriptors 32 0)
@@ -509,31 +658,90 @@ module _ (t : TableState) (s : State) (sound : IsSound t) (all : AreSound t.desc
       by_first None = refl
       by_first (Some first) = ap (λ (o : Option ℕ). some_or o EMFILE >>= (λ second. both first second)) (lowest_shown t s (32 - (first + 1)) (first + 1) shows)
 
-  ties-two_ends : (act : Op) (content : Content) (one other : NewEnd) → TiesOpen (two_ends_plan t act) (sockets.two_ends s content one other)
-  ties-two_ends act content one other = rw (two_shown, full_shown) (by_rest (two_numbers t) (free_object t) (λ node is. lowest_none t.objects 48 0 node is))
+  ties-two_ends : (c : Call) (act : Op) (content : Content) (one other : NewEnd) → keeps_table c ≡ false → agreement.request_of c act ≡ None → TiesOpen c (two_ends_plan t act) (sockets.two_ends s content one other)
+  ties-two_ends c act content one other frees alone = rw (two_shown, full_shown) (by_rest (two_numbers t) (free_object t) (λ node is. lowest_none t.objects 48 0 node is))
     where
-      first_made : (two : ℕ × ℕ) → option_map (λ (d : Object.Description). d.object) (fin.get (opened (opened (sockets.with_object s content) two.0 s.next_object one.which one.access false false) two.1 s.next_object other.which other.access false false).descriptions s.next_description) ≡ Some s.next_object
+      first_made : (two : ℕ × ℕ) → option_map (λ (d : Object.Description). d.object) (fin.get (opened (opened (Object.with_object s content) two.0 s.next_object one.which one.access false false) two.1 s.next_object other.which other.access false false).descriptions s.next_description) ≡ Some s.next_object
       first_made two =
           let first : Object.Description = record { object = s.next_object; «end» = one.which; access = one.access; offset = 0; append = false; nonblock = false } in
           let second : Object.Description = record { object = s.next_object; «end» = other.which; access = other.access; offset = 0; append = false; nonblock = false } in
           ap (option_map (λ (d : Object.Description). d.object)) (get-insert_other (fin.insert s.descriptions s.next_description first) (s.next_description + 1) second s.next_description (λ same. absurd (omega (arith, same))) ∙ get-insert_same s.descriptions s.next_description first)
 
       by_rest : (r : Result (ℕ × ℕ) Errno) (o : Option ℕ) → ((node : ℕ) → o ≡ Some node → slice_index_or t.objects node None ≡ None)
-          → TiesOpen (r >>= (λ _. some_or o ENFILE >>= (λ node. Ok (locks node act))))
-          (r >>= (λ numbers. refuse_if (not (is_some o)) ENFILE >>= (λ _. Ok (Completes (opened (opened (sockets.with_object s content) numbers.0 s.next_object one.which one.access false false) numbers.1 s.next_object other.which other.access false false) (reply.Pair (pos numbers.0) (pos numbers.1))))))
-      by_rest (Err e) o free = (refl, refl)
-      by_rest (Ok two) None free = (refl, refl)
-      by_rest (Ok two) (Some node) free = first_made two ∙ ap (λ (b : ℕ). Some b) shows.next_object ∙ ap (λ (o : Option ℕ). Some (unwrap_or o t.made_objects)) (sym (free node refl))
+          → TiesOpen c (r >>= (λ _. some_or o ENFILE >>= (λ node. Ok (locks node act))))
+          (r >>= (λ numbers. refuse_if (not (is_some o)) ENFILE >>= (λ _. Ok (Completes (opened (opened (Object.with_object s content) numbers.0 s.next_object one.which one.access false false) numbers.1 s.next_object other.which other.access false false) (reply.Pair (pos numbers.0) (pos numbers.1))))))
+      by_rest (Err e) o free = (refl, (refl, refl))
+      by_rest (Ok two) None free = (refl, (refl, refl))
+      by_rest (Ok two) (Some node) free = (first_made two ∙ ap (λ (b : ℕ). Some b) shows.next_object ∙ ap (λ (o : Option ℕ). Some (unwrap_or o t.made_objects)) (sym (free node refl)), (sym alone, sym frees))
 
-  ties-pipe : Ties t (two_ends_plan t op.Pipe) (locked s call.Pipe nothing_carried) (pipe_result s)
+  ties-pipe : Ties t call.Pipe (two_ends_plan t op.Pipe) (locked s call.Pipe nothing_carried) (pipe_result s)
   unfolding pipe_result
-  ties-pipe = ties-two_ends op.Pipe (Pipe []) (record { which = part.Read; access = ReadOnly }) (record { which = part.Write; access = WriteOnly })
+  ties-pipe = ties-two_ends call.Pipe op.Pipe (Pipe []) (record { which = part.Read; access = ReadOnly }) (record { which = part.Write; access = WriteOnly }) refl refl
 
-  ties-socketpair : Ties t (two_ends_plan t op.Socketpair) (locked s call.Socketpair nothing_carried) (socketpair_result s)
+  ties-socketpair : Ties t call.Socketpair (two_ends_plan t op.Socketpair) (locked s call.Socketpair nothing_carried) (socketpair_result s)
   unfolding socketpair_result
-  ties-socketpair = ties-two_ends op.Socketpair (Pair new_pair) (record { which = part.Socket Side0; access = ReadWrite }) (record { which = part.Socket Side1; access = ReadWrite })
+  ties-socketpair = ties-two_ends call.Socketpair op.Socketpair (Pair new_pair) (record { which = part.Socket Side0; access = ReadWrite }) (record { which = part.Socket Side1; access = ReadWrite }) refl refl
 
-  ties-call : (c : Call) (carried : Carried) → Ties t (plan_of t c) (locked s c carried) (effect_of s c carried)
+  -- ## Opening a door
+
+  ties-opens : (c : Call) (o : NewDoor) (listener : Option ℕ) → keeps_table c ≡ true → TiesOpen c (opens_plan t o.kind o.asked o.waits listener) (opens s o)
+  ties-opens c o listener keeps = rw (lowest_shown t s 32 0 shows, full_shown) (by_rest (lowest_from t.descriptors 32 0) (free_object t) (λ node is. lowest_none t.objects 48 0 node is))
+    where
+      by_rest : (number free : Option ℕ) → ((node : ℕ) → free ≡ Some node → slice_index_or t.objects node None ≡ None)
+          → TiesOpen c (some_or number EMFILE >>= (λ _. some_or free ENFILE >>= (λ node. Ok (plan.Node node (op.Ask (record { kind = o.kind; asked = o.asked; waits = o.waits; door = listener })) true))))
+          (some_or number EMFILE >>= (λ n. refuse_if (not (is_some free)) ENFILE >>= (λ _. Ok (Asks (asking_of s o n)))))
+      by_rest None free unused = (refl, (refl, refl))
+      by_rest (Some n) None unused = (refl, (refl, refl))
+      by_rest (Some n) (Some node) unused = (ap (λ (b : ℕ). Some b) shows.next_object ∙ ap (λ (o : Option ℕ). Some (unwrap_or o t.made_objects)) (sym (unused node refl)), (refl, sym keeps))
+
+  ties-host_open : (path : List ℕ) (access : Access) (flags : OpenFlags) → TiesOpen (call.HostOpen path access flags) (host_open_plan t path access flags) (host_open_result s path access flags)
+  unfolding host_open_plan host_open_result
+  ties-host_open path access flags = by_refusals (flags.truncate && not (can_write access)) (host_path path)
+    where
+      opening : NewDoor
+      opening = record { kind = out.Open; asked = 0; door = λ value. door.HostFile; access = access; append = flags.append; waits = false }
+
+      by_refusals : (b : Bool) (r : Result (Unit {0}) Errno) → TiesOpen (call.HostOpen path access flags) (refuse_if b EINVAL >>= (λ _. r >>= (λ _. opens_plan t out.Open 0 false None))) (refuse_if b EINVAL >>= (λ _. r >>= (λ _. opens s opening)))
+      by_refusals true r = (refl, (refl, refl))
+      by_refusals false (Err e) = (refl, (refl, refl))
+      by_refusals false (Ok u) = ties-opens (call.HostOpen path access flags) opening None refl
+
+  ties-listen : (port : ℤ) → TiesOpen (call.TcpListen port) (tcp_listen_plan t port) (tcp_listen_result s port)
+  unfolding tcp_listen_plan tcp_listen_result
+  ties-listen port = by_port (port_of 0 port)
+    where
+      opening : ℕ → NewDoor
+      opening asked = record { kind = out.Listen; asked = asked; door = λ value. door.Listener value; access = ReadWrite; append = false; waits = false }
+
+      by_port : (r : Result ℕ Errno) → TiesOpen (call.TcpListen port) (r >>= (λ asked. opens_plan t out.Listen asked false None)) (r >>= (λ asked. opens s (opening asked)))
+      by_port (Ok asked) = ties-opens (call.TcpListen port) (opening asked) None refl
+      by_port (Err e) = (refl, (refl, refl))
+
+  ties-connect : (port : ℤ) → TiesOpen (call.TcpConnect port) (tcp_connect_plan t port) (tcp_connect_result s port)
+  unfolding tcp_connect_plan tcp_connect_result
+  ties-connect port = by_port (port_of 1 port)
+    where
+      opening : ℕ → NewDoor
+      opening asked = record { kind = out.Connect; asked = asked; door = λ value. door.Stream; access = ReadWrite; append = false; waits = false }
+
+      by_port : (r : Result ℕ Errno) → TiesOpen (call.TcpConnect port) (r >>= (λ asked. opens_plan t out.Connect asked false None)) (r >>= (λ asked. opens s (opening asked)))
+      by_port (Ok asked) = ties-opens (call.TcpConnect port) (opening asked) None refl
+      by_port (Err e) = (refl, (refl, refl))
+
+  ties-accept : (descriptor : ℤ) → FoundBoth t s descriptor → TiesOpen (call.TcpAccept descriptor) (tcp_accept_plan t descriptor) (tcp_accept_result s descriptor)
+  unfolding tcp_accept_plan tcp_accept_result
+  ties-accept descriptor (Shut table state) = rw (table, state) (refl, (refl, refl))
+  ties-accept descriptor (Open key d offset at got there table state) =
+      rw (table, state, listener_by d.«end» (content_of s (birth_at t d.node)) (kind_at key d got)) (by_listener (of_listener d.«end»))
+    where
+      opening : NewDoor
+      opening = record { kind = out.Accept; asked = 0; door = λ value. door.Stream; access = ReadWrite; append = false; waits = not d.flags.nonblock }
+
+      by_listener : (r : Result (Unit {0}) Errno) → TiesOpen (call.TcpAccept descriptor) (r >>= (λ _. opens_plan t out.Accept 0 (not d.flags.nonblock) (Some d.node))) (r >>= (λ _. opens s opening))
+      by_listener (Ok u) = ties-opens (call.TcpAccept descriptor) opening (Some d.node) refl
+      by_listener (Err e) = (refl, (refl, refl))
+
+  ties-call : (c : Call) (carried : Carried) → Ties t c (plan_of t c) (locked s c carried) (effect_of s c carried)
   ties-call (call.Open path access flags) carried = ties-open path access flags
   ties-call (call.Close descriptor) carried = ties-close descriptor (found_both t s descriptor sound shows)
   ties-call (call.Read descriptor count) carried = ties-read descriptor count (found_both t s descriptor sound shows)
@@ -555,15 +763,21 @@ module _ (t : TableState) (s : State) (sound : IsSound t) (all : AreSound t.desc
   ties-call call.Pipe carried = ties-pipe
   ties-call call.Socketpair carried = ties-socketpair
   ties-call (call.Shutdown descriptor how) carried = ties-shutdown descriptor how (found_both t s descriptor sound shows)
+  ties-call (call.HostOpen path access flags) carried = ties-host_open path access flags
+  ties-call (call.TcpListen port) carried = ties-listen port
+  ties-call (call.TcpConnect port) carried = ties-connect port
+  ties-call (call.TcpAccept descriptor) carried = ties-accept descriptor (found_both t s descriptor sound shows)
 
--- what has to wait is not answered by the table
-concluded_agrees : (t : TableState) (settings : Settings) (s : State) (outcome : Option Outcome) (carried : Carried) (p : Plan) (object : Option ℕ) (does : Result Effect Errno) → AgreesOn t p object (answer_of does) → AgreesOn t p object (concluded settings s outcome carried does).answer
-concluded_agrees t settings s outcome carried p object (Ok (Completes after r)) agrees = agrees
-concluded_agrees t settings s outcome carried (plan.Reply r) object (Ok Blocks) agrees = let never : answer.Again ≡ answer.Reply r = agrees.1 in cc
-concluded_agrees t settings s outcome carried (plan.Node node act keep_table) object (Ok Blocks) agrees = agrees
-concluded_agrees t settings s outcome carried p object (Err e) agrees = agrees
+-- what has to wait, or goes outside, is not answered by the table
+concluded_agrees : (t : TableState) (settings : Settings) (s : State) (c : Call) (outcome : Option Outcome) (carried : Carried) (p : Plan) (object : Option ℕ) (does : Result Effect Errno) → AgreesOn t c p object (request_of c does) (answer_of does) → AgreesOn t c p object (request_of c does) (concluded settings s outcome carried does).answer
+concluded_agrees t settings s c outcome carried p object (Ok (Completes after r)) agrees = agrees
+concluded_agrees t settings s c outcome carried (plan.Reply r) object (Ok Blocks) agrees = let never : answer.Again ≡ answer.Reply r = agrees.1.1 in cc
+concluded_agrees t settings s c outcome carried (plan.Node node act keep_table) object (Ok Blocks) agrees = agrees
+concluded_agrees t settings s c outcome carried (plan.Reply r) object (Ok (Asks asking)) agrees = let never : answer.Again ≡ answer.Reply r = agrees.1.1 in cc
+concluded_agrees t settings s c outcome carried (plan.Node node act keep_table) object (Ok (Asks asking)) agrees = agrees
+concluded_agrees t settings s c outcome carried p object (Err e) agrees = agrees
 
 pub plans-as_step : (t : TableState) (c : Call) → IsSound t → AreSound t.descriptions → PlansAsStep t c (planned t c)
 unfolding locked_object
 plans-as_step t c sound all settings s outcome carried shows =
-    concluded_agrees t settings s outcome carried (planned t c) (unless_refused (locked s c carried)) (effect_of s c carried) (ties-call t s sound all shows c carried)
+    concluded_agrees t settings s c outcome carried (planned t c) (unless_refused (locked s c carried)) (effect_of s c carried) (ties-call t s sound all shows c carried)

@@ -1,21 +1,26 @@
 -- What an act does with the object that is locked for it.
-use Rattle.std.specs.Prelude.{◌≡◌, ◌≢◌, ◌⊎◌, ◌≤◌, ℕ, ◌+◌, Bool, not, pos, ◌+ℤ◌, List, [], length, ◌==◌, Option, Some, Result, Ok, Err, if◌then◌else◌}
+use Rattle.std.specs.Prelude.{◌≡◌, ◌≢◌, ◌⊎◌, ◌≤◌, ℕ, ◌+◌, Bool, not, pos, ◌+ℤ◌, ◌&&◌, List, [], length, ◌==◌, Option, Some, None, Result, Ok, Err, if◌then◌else◌}
 use Rattle.std.specs.Option.{option_map}
 use Rattle.std.specs.FinMap as map
 use Rattle.posix_terms.specs.Files.{bytes_at, resized, written}
 use Rattle.posix_terms.specs.Object as posix
 use Rattle.posix_terms.specs.Ends.{is_first, side_of}
-use Rattle.posix_terms.specs.Object.{State, Content, File, Pipe, Pair}
-use Rattle.posix_terms.specs.Step.{Carried, Stepped, nothing_carried, step, waited}
+use Rattle.posix_terms.specs.Object.{State, Content, File, Pipe, Pair, DoorTo, content_of}
+use Rattle.posix_terms.specs.Step.{Carried, Stepped, is_again, nothing_carried, step, waited}
 use Rattle.posix_terms.specs.Streams.{Reading, Reads, Ends, NothingYet, Writing, Writes, Breaks, NoRoom, new_pair, pair_read, pair_write, peer_of, shut, stream_read, stream_write, with_waiting}
-use Rattle.posix_terms.specs.Transfers.{base_of, content_of, offset_of}
+use Rattle.posix_terms.specs.Transfers.{base_of, offset_of}
 use Rattle.posix_terms.specs.declared.call.Call.{Call}
 use Rattle.posix_terms.specs.declared.call.Call.TheVariants as call
 use Rattle.posix_terms.specs.declared.errno.Errno.{Errno}
-use Rattle.posix_terms.specs.declared.errno.Errno.TheVariants.{EAGAIN, EPIPE}
+use Rattle.posix_terms.specs.declared.errno.Errno.TheVariants.{EAGAIN, EIO, EPIPE}
+use Rattle.posix_terms.specs.declared.object.Door.{Door}
+use Rattle.posix_terms.specs.declared.object.Door.TheVariants as door
 use Rattle.posix_terms.specs.declared.object.End.{End}
 use Rattle.posix_terms.specs.declared.object.End.TheVariants as part
+use Rattle.posix_terms.specs.declared.outcome.OutKind.{OutKind}
+use Rattle.posix_terms.specs.declared.outcome.OutKind.TheVariants as out
 use Rattle.posix_terms.specs.declared.outcome.Outcome.{Outcome}
+use Rattle.posix_terms.specs.declared.outcome.Outcome.TheVariants as outcome
 use Rattle.posix_terms.specs.declared.reply.Answer.{Answer}
 use Rattle.posix_terms.specs.declared.reply.Answer.TheVariants as answer
 use Rattle.posix_terms.specs.declared.reply.ObjectKind.TheVariants as kind
@@ -26,6 +31,7 @@ use Rattle.descriptor_table.specs.Agreement.{numbers_told}
 use Rattle.descriptor_table.specs.Shows.{Shows, birth_at, birth_of}
 use Rattle.descriptor_table.specs.Table.{TableState}
 use Rattle.file_descriptions.specs.Descriptions.{ends_of}
+use Rattle.descriptor_table.specs.declared.plan.Errand.{Errand}
 use Rattle.descriptor_table.specs.declared.plan.NewNumbers.{NewNumbers}
 use Rattle.descriptor_table.specs.declared.plan.NewNumbers.TheVariants as numbers
 use Rattle.descriptor_table.specs.declared.plan.Op.{Op}
@@ -84,6 +90,39 @@ has_written to holds content offset count (Writes left) = replied (reply.Count c
 has_written to holds content offset count Breaks = replied (reply.Fail EPIPE) content offset
 has_written to holds content offset count NoRoom = stopped to content offset
 
+-- ## What comes of a request
+
+-- the reply to a success
+abbrev pub told_outside : OutKind → NewNumbers → ℕ → List ℕ → Reply
+told_outside out.Open given value bytes = numbers_reply given
+told_outside out.Read given value bytes = reply.Data bytes
+told_outside out.Write given value bytes = reply.Count value
+told_outside out.Seek given value bytes = reply.Number (pos value)
+told_outside out.Listen given value bytes = numbers_reply given
+told_outside out.Connect given value bytes = numbers_reply given
+told_outside out.Accept given value bytes = numbers_reply given
+told_outside out.Shutdown given value bytes = reply.Done
+told_outside out.Close given value bytes = reply.Done
+
+-- what the object holds after a success: a new one is a door
+abbrev pub held_after : OutKind → ℕ → Content → Content
+held_after out.Open value content = DoorTo door.HostFile
+held_after out.Listen value content = DoorTo (door.Listener value)
+held_after out.Connect value content = DoorTo door.Stream
+held_after out.Accept value content = DoorTo door.Stream
+held_after k value content = content
+
+-- EAGAIN may make a call wait, and every other failure is its reply. While the outcome is missing the ending says nothing
+abbrev pub outside_ending : Errand → NewNumbers → Option Outcome → Ending
+outside_ending e given (Some (outcome.Ok value bytes)) = Replies (told_outside e.kind given value bytes)
+outside_ending e given (Some (outcome.Fail error)) = if e.waits && is_again error then Waits else Replies (reply.Fail error)
+outside_ending e given None = Replies (reply.Fail EIO)
+
+abbrev pub outside_content : Errand → Content → Option Outcome → Content
+outside_content e content (Some (outcome.Ok value bytes)) = held_after e.kind value content
+outside_content e content (Some (outcome.Fail error)) = content
+outside_content e content None = content
+
 -- ## All acts
 
 -- by what the object holds, and the offset of the description
@@ -93,6 +132,8 @@ read_acted t node from count (Pipe waiting) offset = has_read from Pipe (Pipe wa
 read_acted t node from count (Pair p) offset =
     let side = side_of from.«end» in
     has_read from (λ left. Pair (with_waiting p side left)) (Pair p) offset (pair_read p side count (is_open t node (part.Socket (peer_of side))))
+-- a door is not read here
+read_acted t node from count (DoorTo door) offset = replied reply.Done (DoorTo door) offset
 
 abbrev pub write_acted : TableState → ℕ → Opened → List ℕ → Content → ℕ → Acted
 write_acted t node to bytes (File file) offset =
@@ -102,24 +143,27 @@ write_acted t node to bytes (Pipe waiting) offset = has_written to Pipe (Pipe wa
 write_acted t node to bytes (Pair p) offset =
     let side = side_of to.«end» in
     has_written to (λ left. Pair (with_waiting p (peer_of side) left)) (Pair p) offset (length bytes) (pair_write p side bytes (is_open t node (part.Socket (peer_of side))))
+-- and not written here
+write_acted t node to bytes (DoorTo door) offset = replied reply.Done (DoorTo door) offset
 
--- with the numbers that were given
-abbrev pub acted : TableState → ℕ → Op → Call → NewNumbers → Content → ℕ → Acted
-acted t node (op.Open cut) c given content offset = replied (numbers_reply given) (if cut then File [] else content) offset
-acted t node op.Release (call.Dup2 descriptor target) given content offset = replied (reply.Number target) content offset
-acted t node op.Release _ given content offset = replied reply.Done content offset
-acted t node (op.Read from count) c given content offset = read_acted t node from count content offset
-acted t node (op.Write to) (call.Write descriptor bytes) given content offset = write_acted t node to bytes content offset
-acted t node (op.Pread count position) c given (File file) offset = replied (reply.Data (bytes_at file position count)) (File file) offset
-acted t node (op.Pwrite start) (call.Pwrite descriptor bytes position) given (File file) offset =
+-- with the numbers that were given, and the outcome of a call that goes outside
+abbrev pub acted : TableState → ℕ → Op → Call → Option Outcome → NewNumbers → Content → ℕ → Acted
+acted t node (op.Open cut) c o given content offset = replied (numbers_reply given) (if cut then File [] else content) offset
+acted t node op.Release (call.Dup2 descriptor target) o given content offset = replied (reply.Number target) content offset
+acted t node op.Release _ o given content offset = replied reply.Done content offset
+acted t node (op.Read from count) c o given content offset = read_acted t node from count content offset
+acted t node (op.Write to) (call.Write descriptor bytes) o given content offset = write_acted t node to bytes content offset
+acted t node (op.Pread count position) c o given (File file) offset = replied (reply.Data (bytes_at file position count)) (File file) offset
+acted t node (op.Pwrite start) (call.Pwrite descriptor bytes position) o given (File file) offset =
     if length bytes == 0 then replied (reply.Count 0) (File file) offset else wrote (written file start bytes) file offset (λ count. offset)
-acted t node (op.Lseek at) (call.Lseek descriptor to whence) given (File file) offset = sought (offset_of (pos (base_of whence offset (length file)) +ℤ to)) file offset
-acted t node (op.Ftruncate size) c given (File file) offset = replied reply.Done (File (resized file size)) offset
-acted t node (op.Fstat links) c given (File file) offset = replied (reply.Stat kind.File (length file) links) (File file) offset
-acted t node op.Pipe c given content offset = replied (numbers_reply given) (Pipe []) offset
-acted t node op.Socketpair c given content offset = replied (numbers_reply given) (Pair new_pair) offset
-acted t node (op.Shutdown side how) c given (Pair p) offset = replied reply.Done (Pair (shut p side how)) offset
-acted t node _ c given content offset = replied reply.Done content offset
+acted t node (op.Lseek at) (call.Lseek descriptor to whence) o given (File file) offset = sought (offset_of (pos (base_of whence offset (length file)) +ℤ to)) file offset
+acted t node (op.Ftruncate size) c o given (File file) offset = replied reply.Done (File (resized file size)) offset
+acted t node (op.Fstat links) c o given (File file) offset = replied (reply.Stat kind.File (length file) links) (File file) offset
+acted t node op.Pipe c o given content offset = replied (numbers_reply given) (Pipe []) offset
+acted t node op.Socketpair c o given content offset = replied (numbers_reply given) (Pair new_pair) offset
+acted t node (op.Shutdown side how) c o given (Pair p) offset = replied reply.Done (Pair (shut p side how)) offset
+acted t node (op.Ask errand) c o given content offset = record { ending = outside_ending errand given o; content = outside_content errand content o; offset = offset }
+acted t node _ c o given content offset = replied reply.Done content offset
 
 abbrev pub offset_at : State → ℕ → Option ℕ
 offset_at s birth = option_map (λ (d : posix.Description). d.offset) (map.get s.descriptions birth)
@@ -154,7 +198,7 @@ ActsAsStep t c (plan.Node node act keep_table) =
     (settings : Settings) (s : State) (outcome : Option Outcome) (carried : Carried) (content : Content) (offset : ℕ)
     → Shows t s → content_of s (birth_at t node) ≡ content → StandsAt t s act offset
     → let stepped = step settings s c outcome carried in
-    let done : Acted = acted t node act c (numbers_told c stepped.answer) content offset in
+    let done : Acted = acted t node act c outcome (numbers_told c stepped.answer) content offset in
     IsActed t node act done (ended settings s carried done.ending) stepped
 
 -- ## What stays

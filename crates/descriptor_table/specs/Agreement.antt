@@ -1,10 +1,10 @@
 -- That a plan and its change are what the sequential object does.
-use Rattle.std.specs.Prelude.{◌≡◌, ◌⊎◌, ◌≤◌, ◌+◌, slice_index_or, ℕ, List, Option, Some, None, Result, Ok, Err}
+use Rattle.std.specs.Prelude.{◌≡◌, ◌⊎◌, ◌≤◌, ◌+◌, slice_index_or, ℕ, true, List, Option, Some, None, Result, Ok, Err}
 use Rattle.std.specs.FinMap as map
 use Rattle.file_descriptions.specs.declared.description.Description.{Description}
-use Rattle.posix_terms.specs.Locked.{locked_object}
+use Rattle.posix_terms.specs.Locked.{keeps_table, locked_object}
 use Rattle.posix_terms.specs.Object.{State}
-use Rattle.posix_terms.specs.Step.{Carried, step}
+use Rattle.posix_terms.specs.Step.{Carried, asks, step}
 use Rattle.posix_terms.specs.declared.call.Access.{Access}
 use Rattle.posix_terms.specs.declared.call.Call.{Call}
 use Rattle.posix_terms.specs.declared.call.Call.TheVariants as call
@@ -14,6 +14,7 @@ use Rattle.posix_terms.specs.declared.outcome.Outcome.{Outcome}
 use Rattle.posix_terms.specs.declared.reply.Answer.{Answer}
 use Rattle.posix_terms.specs.declared.reply.Answer.TheVariants as answer
 use Rattle.posix_terms.specs.declared.reply.Reply.TheVariants as reply
+use Rattle.posix_terms.specs.declared.request.Request.{Request}
 use Rattle.posix_terms.specs.declared.transcript.Settings.{Settings}
 use Rattle.descriptor_table.specs.Changes.{Opening, opening}
 use Rattle.descriptor_table.specs.Plans.{open_plan}
@@ -21,6 +22,8 @@ use Rattle.descriptor_table.specs.Shows.{Shows, birth_at}
 use Rattle.descriptor_table.specs.Table.{TableState, free_object}
 use Rattle.descriptor_table.specs.declared.plan.NewNumbers.{NewNumbers}
 use Rattle.descriptor_table.specs.declared.plan.NewNumbers.TheVariants as numbers
+use Rattle.descriptor_table.specs.declared.plan.Op.{Op}
+use Rattle.descriptor_table.specs.declared.plan.Op.TheVariants as op
 use Rattle.descriptor_table.specs.declared.plan.Plan.{Plan}
 use Rattle.descriptor_table.specs.declared.plan.Plan.TheVariants as plan
 
@@ -41,30 +44,46 @@ OpenIsAsPlanned = (t : TableState) (path : List ℕ) (access : Access) (flags : 
 
 -- ## Plan and step
 
--- where the table answers, that is the answer, and no object's lock is taken; else the lock of the plan's object is taken
-abbrev pub AgreesOn : TableState → Plan → Option ℕ → Answer → Type 0
-AgreesOn t (plan.Reply r) object answered = (object ≡ None) × (answered ≡ answer.Reply r)
-AgreesOn t (plan.Node node act keep_table) object answered = object ≡ Some (birth_at t node)
+-- what an act asks of the outside
+abbrev pub request_of : Call → Op → Option Request
+request_of c (op.Ask errand) = Some (record { kind = errand.kind; asked = errand.asked; call = c })
+request_of c act = None
+
+-- where the table answers, that is the answer, no object's lock is taken and nothing is asked outside; else the lock of the plan's object is taken,
+-- what the act asks is asked, and the plan says whether the call keeps the table
+abbrev pub AgreesOn : TableState → Call → Plan → Option ℕ → Option Request → Answer → Type 0
+AgreesOn t c (plan.Reply r) object request answered = (object ≡ None) × ((request ≡ None) × (answered ≡ answer.Reply r))
+AgreesOn t c (plan.Node node act keep_table) object request answered = (object ≡ Some (birth_at t node)) × ((request ≡ request_of c act) × (keep_table ≡ keeps_table c))
 
 -- whatever the objects hold and wherever the offsets are
 abbrev pub PlansAsStep : TableState → Call → Plan → Type 0
-PlansAsStep t c p = (settings : Settings) (s : State) (outcome : Option Outcome) (carried : Carried) → Shows t s → AgreesOn t p (locked_object s c carried) (step settings s c outcome carried).answer
+PlansAsStep t c p = (settings : Settings) (s : State) (outcome : Option Outcome) (carried : Carried) → Shows t s → AgreesOn t c p (locked_object s c carried) (asks s c carried) (step settings s c outcome carried).answer
 
 -- ## Change and step
 
+-- an outcome that a change was made with: it matters to a call that keeps the table alone
+abbrev pub IsMadeWith : Call → Option Outcome → Option Outcome → Type 0
+IsMadeWith c made_with outcome = keeps_table c ≡ true → outcome ≡ made_with
+
 -- the table after a call shows the state after it
-abbrev pub ChangesAsStep : TableState → Call → TableState → Type 0
-ChangesAsStep t c after = (settings : Settings) (s : State) (outcome : Option Outcome) (carried : Carried) → Shows t s → Shows after (step settings s c outcome carried).after
+abbrev pub ChangesAsStep : TableState → Call → Option Outcome → TableState → Type 0
+ChangesAsStep t c made_with after =
+    (settings : Settings) (s : State) (outcome : Option Outcome) (carried : Carried) → IsMadeWith c made_with outcome → Shows t s → Shows after (step settings s c outcome carried).after
 
 -- the numbers that a call answers which opens descriptors
 abbrev pub numbers_told : Call → Answer → NewNumbers
 numbers_told (call.Open path access flags) (answer.Reply (reply.Number n)) = numbers.One n
 numbers_told call.Pipe (answer.Reply (reply.Pair first second)) = numbers.Two first second
 numbers_told call.Socketpair (answer.Reply (reply.Pair first second)) = numbers.Two first second
+numbers_told (call.HostOpen path access flags) (answer.Reply (reply.Number n)) = numbers.One n
+numbers_told (call.TcpListen port) (answer.Reply (reply.Number n)) = numbers.One n
+numbers_told (call.TcpConnect port) (answer.Reply (reply.Number n)) = numbers.One n
+numbers_told (call.TcpAccept descriptor) (answer.Reply (reply.Number n)) = numbers.One n
 numbers_told _ _ = numbers.None
 
-abbrev pub TellsAsStep : TableState → Call → NewNumbers → Type 0
-TellsAsStep t c given = (settings : Settings) (s : State) (outcome : Option Outcome) (carried : Carried) → Shows t s → given ≡ numbers_told c (step settings s c outcome carried).answer
+abbrev pub TellsAsStep : TableState → Call → Option Outcome → NewNumbers → Type 0
+TellsAsStep t c made_with given =
+    (settings : Settings) (s : State) (outcome : Option Outcome) (carried : Carried) → IsMadeWith c made_with outcome → Shows t s → given ≡ numbers_told c (step settings s c outcome carried).answer
 
 -- ## Numbers and births
 

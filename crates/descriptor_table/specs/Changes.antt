@@ -1,5 +1,5 @@
 -- How each call changes the table: its descriptors, descriptions and names, and the numbers of its objects.
-use Rattle.std.specs.Prelude.{◌≡◌, ℕ, ◌+◌, ℤ, pos, List, slice_set, Bool, true, false, Option, Some, None, Result, Ok, Err, if◌then◌else◌}
+use Rattle.std.specs.Prelude.{◌≡◌, ℕ, ◌+◌, ◌<◌, ◌^◌, ℤ, pos, List, slice_set, Bool, true, false, Option, Some, None, Result, Ok, Err, if◌then◌else◌}
 use Rattle.std.specs.FinMap as map
 use Rattle.std.specs.Ordering.{int_eq}
 use Rattle.posix_terms.specs.Duplicates.{descriptor_number}
@@ -13,11 +13,15 @@ use Rattle.posix_terms.specs.declared.call.Call.TheVariants as call
 use Rattle.posix_terms.specs.declared.call.OpenFlags.{OpenFlags}
 use Rattle.posix_terms.specs.declared.errno.Errno.{Errno}
 use Rattle.posix_terms.specs.declared.errno.Errno.TheVariants.{EBADF, EINVAL, EISDIR, EMFILE, ENFILE, ENOSPC}
+use Rattle.posix_terms.specs.declared.outcome.Outcome.{Outcome}
+use Rattle.posix_terms.specs.declared.outcome.Outcome.TheVariants as outcome
 use Rattle.posix_terms.specs.declared.reply.Reply.{Reply}
 use Rattle.posix_terms.specs.declared.reply.Reply.TheVariants as reply
 use Rattle.directories.specs.Lookup.{looked_up}
 use Rattle.file_descriptions.specs.Descriptions.{description_at, is_last_held, new_description, with_flags, with_holder, with_new, without_holder}
 use Rattle.file_descriptions.specs.declared.description.Description.{Description}
+use Rattle.posix_terms.specs.declared.object.Door.{Door}
+use Rattle.posix_terms.specs.declared.object.Door.TheVariants as door
 use Rattle.posix_terms.specs.declared.object.End.{End}
 use Rattle.posix_terms.specs.declared.object.End.TheVariants as part
 use Rattle.posix_terms.specs.declared.object.Side.TheVariants.{Side0, Side1}
@@ -204,30 +208,95 @@ abbrev pub two_given : Result TwoEnds Errno → NewNumbers
 two_given (Ok two) = numbers.Two (pos two.first) (pos two.second)
 two_given (Err e) = numbers.None
 
+-- ## Opening a door
+
+-- a descriptor that is about to refer to a new door: its number and its object
+pub record NewDoor : Type 0 where
+  pub number : ℕ
+  pub node : ℕ
+
+unfoldable pub new_door : TableState → Result NewDoor Errno
+new_door t = do
+  n ← some_or (lowest_free t 0) EMFILE
+  node ← some_or (free_object t) ENFILE
+  Ok (record { number = n; node = node })
+
+-- with O_APPEND or without it
+abbrev pub door_flags : Bool → StatusFlags
+door_flags append = record { append = append; nonblock = false }
+
+-- The new description may have any key that is free
+abbrev pub IsDoor : TableState → Door → Access → Bool → Result NewDoor Errno → TableState → Type 0
+IsDoor t door access append (Ok new) after =
+    (key : ℕ) × (map.get t.descriptions.by_key key ≡ None) × (after ≡ opened (with_object t new.node) new.number key new.node (part.Door door) access (door_flags append))
+IsDoor t door access append (Err e) after = after ≡ t
+
+-- only where a door was opened outside, by the value of that
+abbrev pub OpensDoor : TableState → (ℕ → Door) → Access → Bool → Option Outcome → TableState → Type 0
+OpensDoor t door access append (Some (outcome.Ok value bytes)) after = IsDoor t (door value) access append (new_door t) after
+OpensDoor t door access append (Some (outcome.Fail e)) after = after ≡ t
+OpensDoor t door access append None after = after ≡ t
+
+abbrev pub door_number : Result NewDoor Errno → NewNumbers
+door_number (Ok new) = numbers.One (pos new.number)
+door_number (Err e) = numbers.None
+
+abbrev pub door_given : TableState → Option Outcome → NewNumbers
+door_given t (Some (outcome.Ok value bytes)) = door_number (new_door t)
+door_given t (Some (outcome.Fail e)) = numbers.None
+door_given t None = numbers.None
+
+-- a listener is opened at a port
+abbrev pub IsPortOf : Call → ℕ → Type 0
+IsPortOf (call.TcpListen port) value = value < 2 ^ 16
+IsPortOf c value = Unit {0}
+
+-- the value of a success is a port, where a port is asked for
+abbrev pub IsAtPort : Call → Option Outcome → Type 0
+IsAtPort c (Some (outcome.Ok value bytes)) = IsPortOf c value
+IsAtPort c (Some (outcome.Fail e)) = Unit {0}
+IsAtPort c None = Unit {0}
+
 -- ## All calls
 
--- what a call changes where it is not refused
-abbrev pub Changes : TableState → Call → TableState → Type 0
-Changes t (call.Open path access flags) after = IsOpened t access flags (opening t path) after
-Changes t (call.Close descriptor) after = after ≡ kept_or t (close_change t descriptor)
-Changes t (call.Dup descriptor) after = after ≡ kept_or t (dup_change t descriptor)
-Changes t (call.DupFrom descriptor least) after = after ≡ kept_or t (dup_from_change t descriptor least)
-Changes t (call.Dup2 descriptor target) after = after ≡ kept_or t (dup2_change t descriptor target)
-Changes t (call.Setfl descriptor append nonblock) after = after ≡ kept_or t (setfl_change t descriptor append nonblock)
-Changes t (call.Link old_path new_path) after = after ≡ kept_or t (link_change t old_path new_path)
-Changes t (call.Unlink path) after = after ≡ kept_or t (unlink_change t path)
-Changes t (call.Mkdir path) after = after ≡ kept_or t (mkdir_change t path)
-Changes t (call.Rmdir path) after = after ≡ kept_or t (rmdir_change t path)
-Changes t call.Pipe after = AreOpened t (part.Read, ReadOnly) (part.Write, WriteOnly) (two_ends t) after
-Changes t call.Socketpair after = AreOpened t (part.Socket Side0, ReadWrite) (part.Socket Side1, ReadWrite) (two_ends t) after
-Changes t _ after = after ≡ t
+-- what a call changes where it is not refused, by the outcome of what it asks outside
+abbrev pub Changes : TableState → Call → Option Outcome → TableState → Type 0
+Changes t (call.Open path access flags) o after = IsOpened t access flags (opening t path) after
+Changes t (call.Close descriptor) o after = after ≡ kept_or t (close_change t descriptor)
+Changes t (call.Dup descriptor) o after = after ≡ kept_or t (dup_change t descriptor)
+Changes t (call.DupFrom descriptor least) o after = after ≡ kept_or t (dup_from_change t descriptor least)
+Changes t (call.Dup2 descriptor target) o after = after ≡ kept_or t (dup2_change t descriptor target)
+Changes t (call.Setfl descriptor append nonblock) o after = after ≡ kept_or t (setfl_change t descriptor append nonblock)
+Changes t (call.Link old_path new_path) o after = after ≡ kept_or t (link_change t old_path new_path)
+Changes t (call.Unlink path) o after = after ≡ kept_or t (unlink_change t path)
+Changes t (call.Mkdir path) o after = after ≡ kept_or t (mkdir_change t path)
+Changes t (call.Rmdir path) o after = after ≡ kept_or t (rmdir_change t path)
+Changes t call.Pipe o after = AreOpened t (part.Read, ReadOnly) (part.Write, WriteOnly) (two_ends t) after
+Changes t call.Socketpair o after = AreOpened t (part.Socket Side0, ReadWrite) (part.Socket Side1, ReadWrite) (two_ends t) after
+Changes t (call.Read descriptor count) o after = after ≡ t
+Changes t (call.Write descriptor bytes) o after = after ≡ t
+Changes t (call.Pread descriptor count position) o after = after ≡ t
+Changes t (call.Pwrite descriptor bytes position) o after = after ≡ t
+Changes t (call.Lseek descriptor offset whence) o after = after ≡ t
+Changes t (call.Ftruncate descriptor size) o after = after ≡ t
+Changes t (call.Fstat descriptor) o after = after ≡ t
+Changes t (call.Getfl descriptor) o after = after ≡ t
+Changes t (call.Shutdown descriptor how) o after = after ≡ t
+Changes t (call.HostOpen path access flags) o after = OpensDoor t (λ value. door.HostFile) access flags.append o after
+Changes t (call.TcpListen port) o after = OpensDoor t (λ value. door.Listener value) ReadWrite false o after
+Changes t (call.TcpConnect port) o after = OpensDoor t (λ value. door.Stream) ReadWrite false o after
+Changes t (call.TcpAccept descriptor) o after = OpensDoor t (λ value. door.Stream) ReadWrite false o after
 
 -- the numbers that a call gives new descriptors when it is applied
-abbrev pub numbers_given : TableState → Call → NewNumbers
-numbers_given t (call.Open path access flags) = opened_number (opening t path)
-numbers_given t call.Pipe = two_given (two_ends t)
-numbers_given t call.Socketpair = two_given (two_ends t)
-numbers_given t _ = numbers.None
+abbrev pub numbers_given : TableState → Call → Option Outcome → NewNumbers
+numbers_given t (call.Open path access flags) o = opened_number (opening t path)
+numbers_given t call.Pipe o = two_given (two_ends t)
+numbers_given t call.Socketpair o = two_given (two_ends t)
+numbers_given t (call.HostOpen path access flags) o = door_given t o
+numbers_given t (call.TcpListen port) o = door_given t o
+numbers_given t (call.TcpConnect port) o = door_given t o
+numbers_given t (call.TcpAccept descriptor) o = door_given t o
+numbers_given t _ o = numbers.None
 
 abbrev pub is_failure : Reply → Bool
 is_failure (reply.Fail e) = true

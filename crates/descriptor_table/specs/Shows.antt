@@ -1,11 +1,12 @@
 -- What a table shows of the sequential object: all but what the objects hold, and but the offsets, which a call
 -- moves at its answer. The keys of the sequential object are the births of descriptions and of objects.
-use Rattle.std.specs.Prelude.{◌≡◌, ℕ, List, Bool, true, false, Some, None, is_some, unwrap_or, slice_index_or}
+use Rattle.std.specs.Prelude.{◌≡◌, ℕ, ◌==◌, List, Bool, true, false, Some, None, is_some, unwrap_or, slice_index_or}
 use Rattle.std.specs.Option.{option_map}
 use Rattle.std.specs.FinMap as map
 use Rattle.posix_terms.specs.Object as posix
-use Rattle.posix_terms.specs.Object.{State, Content, File, Pipe, Pair, Node, FileNode, Directory}
-use Rattle.posix_terms.specs.Transfers.{content_of}
+use Rattle.posix_terms.specs.Object.{State, Content, File, Pipe, Pair, DoorTo, Node, FileNode, Directory, content_of}
+use Rattle.posix_terms.specs.declared.object.Door.{Door}
+use Rattle.posix_terms.specs.declared.object.Door.TheVariants as door
 use Rattle.posix_terms.specs.declared.object.End.{End}
 use Rattle.posix_terms.specs.declared.object.End.TheVariants as part
 use Rattle.file_descriptions.specs.Descriptions.{description_at}
@@ -28,12 +29,20 @@ abbrev pub shown_node : TableState → Node → Node
 shown_node t (FileNode node) = FileNode (birth_at t node)
 shown_node t Directory = Directory
 
+-- whether two doors are of one kind, and two listeners of one port
+abbrev pub same_door : Door → Door → Bool
+same_door door.HostFile door.HostFile = true
+same_door (door.Listener port) (door.Listener other) = port == other
+same_door door.Stream door.Stream = true
+same_door one other = false
+
 -- whether an object with this content has this end
 abbrev pub is_of : End → Content → Bool
 is_of part.Only (File bytes) = true
 is_of part.Read (Pipe bytes) = true
 is_of part.Write (Pipe bytes) = true
 is_of (part.Socket side) (Pair sockets) = true
+is_of (part.Door one) (DoorTo other) = same_door one other
 is_of which content = false
 
 pub record Shows (t : TableState) (s : State) : Type 0 where

@@ -1,10 +1,12 @@
-ghost use Rattle.std.specs.Prelude.{◌≡◌, ◌≢◌, ◌<◌, ◌^◌, ℤ, pos, IfOk, IfErr, Ok, Err, Some, None, IsTrue, true, false, if◌then◌else◌};
+ghost use Rattle.std.specs.Prelude.{◌≡◌, ◌≢◌, ◌<◌, ◌^◌, ℤ, pos, IfOk, IfErr, Ok, Err, Some, None, IsTrue, true, false, if◌then◌else◌, option_copied};
 ghost use Rattle.std.specs.FinMap as map;
-ghost use Rattle.descriptor_table.specs.Changes.{Changes, IsOpened, close_change, closed, closed_if_open, dup_change, dup_from_change, dup2_change, found_or_made, AreOpened, is_refused, kept_or, link_change, mkdir_change, numbers_given, two_ends, two_given, opened_number, opening, shared, rmdir_change, setfl_change, unlink_change};
+ghost use Rattle.descriptor_table.specs.Changes.{Changes, IsOpened, close_change, closed, closed_if_open, IsAtPort, OpensDoor, door_given, door_flags, new_door, dup_change, dup_from_change, dup2_change, found_or_made, AreOpened, is_refused, kept_or, link_change, mkdir_change, numbers_given, two_ends, two_given, opened_number, opening, shared, rmdir_change, setfl_change, unlink_change};
 ghost use Rattle.descriptor_table.specs.Agreement.{ChangesAsStep, NumbersStay, OffsetsStay, TellsAsStep};
 ghost use Rattle.descriptor_table.specs.Plans.{planned};
 ghost use Rattle.descriptor_table.specs.declared.plan.NewNumbers.TheVariants as numbers;
+ghost use Rattle.posix_terms.specs.declared.call.Access.TheVariants.{ReadWrite};
 ghost use Rattle.posix_terms.specs.declared.call.Call.TheVariants as calls;
+ghost use Rattle.posix_terms.specs.declared.object.Door.TheVariants as doors;
 ghost use Rattle.descriptor_table.specs.Table.{described, is_used, key_at};
 
 use crate::numbers::descriptor_number;
@@ -12,7 +14,7 @@ use crate::plan::{NewNumbers, Plan};
 use crate::table::Table;
 use directories::Node;
 use file_descriptions::StatusFlags;
-use posix_terms::{Access, Call, End, Errno, Limits, OpenFlags, Outcome, Side};
+use posix_terms::{Access, Call, Door, End, Errno, Limits, OpenFlags, Outcome, Side};
 
 impl Table {
     /// Makes the change of a call that was planned: of descriptors, descriptions, names and objects. After
@@ -20,29 +22,31 @@ impl Table {
     /// So the table goes on showing the sequential object after the call (`step`), and the numbers are those
     /// of its answer (`tells`). An object keeps its number while it is there, and a new one gets the next that
     /// is free (`numbers`). A description stands where it stood, and a new one at 0 (`offsets`).
-    pub fn apply(&mut self, call: &Call, plan: &Plan, _outcome: Option<&Outcome>) -> NewNumbers
+    pub fn apply(&mut self, call: &Call, plan: &Plan, outcome: Option<&Outcome>) -> NewNumbers
         requires descriptions { self.old.descriptions.made < 2 ^ 127 }
         requires objects { self.old.made_objects < 2 ^ 127 }
+        requires port { IsAtPort call.now (option_copied outcome) }
         ensures refused { IsTrue (is_refused plan.now) → (self.new ≡ self.old) × (result ≡ numbers.None) }
-        ensures changes { is_refused plan.now ≡ false → Changes self.old call.now self.new }
-        ensures number { is_refused plan.now ≡ false → result ≡ numbers_given self.old call.now }
-        ensures step { plan.now ≡ planned self.old call.now → ChangesAsStep self.old call.now self.new }
+        ensures changes { is_refused plan.now ≡ false → Changes self.old call.now (option_copied outcome.entry) self.new }
+        ensures number { is_refused plan.now ≡ false → result ≡ numbers_given self.old call.now (option_copied outcome.entry) }
+        ensures step { plan.now ≡ planned self.old call.now → ChangesAsStep self.old call.now (option_copied outcome.entry) self.new }
         ensures numbers { NumbersStay self.old self.new }
         ensures offsets { OffsetsStay self.old self.new }
-        ensures tells { plan.now ≡ planned self.old call.now → TellsAsStep self.old call.now result }
+        ensures tells { plan.now ≡ planned self.old call.now → TellsAsStep self.old call.now (option_copied outcome.entry) result }
     {
         self.known();
         if plan.is_refused() {
             return NewNumbers::None;
         }
-        self.change(call)
+        self.change(call, outcome)
     }
 
-    fn change(&mut self, call: &Call) -> NewNumbers
+    fn change(&mut self, call: &Call, outcome: Option<&Outcome>) -> NewNumbers
         requires descriptions { self.old.descriptions.made < 2 ^ 127 }
         requires objects { self.old.made_objects < 2 ^ 127 }
-        ensures changes { Changes self.old call.now self.new }
-        ensures number { result ≡ numbers_given self.old call.now }
+        requires port { IsAtPort call.now (option_copied outcome) }
+        ensures changes { Changes self.old call.now (option_copied outcome.entry) self.new }
+        ensures number { result ≡ numbers_given self.old call.now (option_copied outcome.entry) }
     {
         match call {
             Call::Open {
@@ -68,6 +72,13 @@ impl Table {
             Call::Rmdir { path } => self.rmdir(path.as_slice()),
             Call::Pipe => return self.pipe(),
             Call::Socketpair => return self.socketpair(),
+            Call::HostOpen { access, flags, .. } => {
+                return self.open_door(Door::HostFile, *access, flags.append, outcome);
+            }
+            Call::TcpListen { port } => return self.listen(*port, outcome),
+            Call::TcpConnect { .. } | Call::TcpAccept { .. } => {
+                return self.open_door(Door::Stream, Access::ReadWrite, false, outcome);
+            }
             Call::Read { .. }
             | Call::Write { .. }
             | Call::Pread { .. }
@@ -105,8 +116,8 @@ impl Table {
     fn pipe(&mut self) -> NewNumbers
         requires descriptions { self.old.descriptions.made < 2 ^ 127 }
         requires objects { self.old.made_objects < 2 ^ 127 }
-        ensures changes { Changes self.old calls.Pipe self.new }
-        ensures number { result ≡ numbers_given self.old calls.Pipe }
+        ensures changes { Changes self.old calls.Pipe None self.new }
+        ensures number { result ≡ numbers_given self.old calls.Pipe None }
     {
         let read = (End::Read, Access::ReadOnly);
         let write = (End::Write, Access::WriteOnly);
@@ -116,8 +127,8 @@ impl Table {
     fn socketpair(&mut self) -> NewNumbers
         requires descriptions { self.old.descriptions.made < 2 ^ 127 }
         requires objects { self.old.made_objects < 2 ^ 127 }
-        ensures changes { Changes self.old calls.Socketpair self.new }
-        ensures number { result ≡ numbers_given self.old calls.Socketpair }
+        ensures changes { Changes self.old calls.Socketpair None self.new }
+        ensures number { result ≡ numbers_given self.old calls.Socketpair None }
     {
         let side0 = (End::Socket(Side::Side0), Access::ReadWrite);
         let side1 = (End::Socket(Side::Side1), Access::ReadWrite);
@@ -146,6 +157,57 @@ impl Table {
         let _ = self.open_number(first, node, one.0, one.1, flags);
         let _ = self.open_number(second, node, other.0, other.1, flags);
         NewNumbers::Two(first as i64, second as i64)
+    }
+
+    // A listener that was asked for at a port, at the one that the outcome tells.
+    fn listen(&mut self, asked: i64, outcome: Option<&Outcome>) -> NewNumbers
+        requires descriptions { self.old.descriptions.made < 2 ^ 127 }
+        requires objects { self.old.made_objects < 2 ^ 127 }
+        requires port { IsAtPort (calls.TcpListen asked) (option_copied outcome) }
+        ensures opened { OpensDoor self.old (λ value. doors.Listener value) ReadWrite false (option_copied outcome.entry) self.new }
+        ensures number { result ≡ door_given self.old (option_copied outcome.entry) }
+    {
+        let Some(Outcome::Ok { value, .. }) = outcome else {
+            return NewNumbers::None;
+        };
+        self.open_door(
+            Door::Listener(*value as u16),
+            Access::ReadWrite,
+            false,
+            outcome,
+        )
+    }
+
+    // Where a door was opened outside: a new object, to which the least number refers.
+    #[tactic(auto, unfolding(crate::specs::Changes::new_door))]
+    fn open_door(
+        &mut self,
+        door: Door,
+        access: Access,
+        append: bool,
+        outcome: Option<&Outcome>,
+    ) -> NewNumbers
+        requires descriptions { self.old.descriptions.made < 2 ^ 127 }
+        requires objects { self.old.made_objects < 2 ^ 127 }
+        ensures opened { OpensDoor self.old (λ value. door) access append (option_copied outcome.entry) self.new }
+        ensures number { result ≡ door_given self.old (option_copied outcome.entry) }
+    {
+        let Some(Outcome::Ok { .. }) = outcome else {
+            return NewNumbers::None;
+        };
+        let Some(number) = self.free_number(0) else {
+            return NewNumbers::None;
+        };
+        let Some(node) = self.free_object() else {
+            return NewNumbers::None;
+        };
+        let flags = StatusFlags {
+            append,
+            nonblock: false,
+        };
+        self.make_object(node);
+        let _ = self.open_number(number, node, End::Door(door), access, flags);
+        NewNumbers::One(number as i64)
     }
 
     // The file of a path, which is made if it is missing.

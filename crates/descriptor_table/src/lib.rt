@@ -12,5 +12,5 @@ mod table;
 mod tests;
 
 pub use laws::opens_as_planned;
-pub use plan::{NewNumbers, Op, Opened, Plan};
+pub use plan::{Errand, NewNumbers, Op, Opened, Plan};
 pub use table::Table;

@@ -1,4 +1,6 @@
 ghost use Rattle.std.specs.Prelude.{◌≡◌, ◌<◌, pos, IfOk};
+ghost use Rattle.std.specs.Str.{is_utf8};
+ghost use Rattle.posix_terms.specs.Doors.{host_path, port_of};
 ghost use Rattle.posix_terms.specs.Duplicates.{descriptor_number};
 ghost use Rattle.posix_terms.specs.Refusals.{count_of, position_of};
 ghost use Rattle.posix_terms.specs.Transfers.{size_of};
@@ -33,6 +35,43 @@ pub fn size_of(size: i64) -> Result<usize, Errno>
         Ok(size) if size <= Limits::FILE_BYTES => Ok(size),
         Ok(_) => Err(Errno::EFBIG),
         Err(_) => Err(Errno::EINVAL),
+    }
+}
+
+// A port from this one on.
+pub fn port_of(least: u64, port: i64) -> Result<u64, Errno>
+    ensures { result ≡ port_of least port }
+{
+    match u64::try_from(port) {
+        Ok(port) if port >= least && port <= 65_535 => Ok(port),
+        _ => Err(Errno::EINVAL),
+    }
+}
+
+// A path that can be handed to the host.
+pub fn check_host_path(path: &[u8]) -> Result<(), Errno>
+    ensures { result ≡ host_path path.now }
+{
+    if path.is_empty() {
+        return Err(Errno::ENOENT);
+    }
+    if path.len() > Limits::PATH_BYTES {
+        return Err(Errno::ENAMETOOLONG);
+    }
+    if path.contains(&0) || !is_utf8(path) {
+        return Err(Errno::EINVAL);
+    }
+    Ok(())
+}
+
+// Whether bytes are the UTF-8 of some text.
+#[tactic(auto, using(crate::proofs::TextLemmas::utf8))]
+fn is_utf8(bytes: &[u8]) -> bool
+    ensures { result ≡ is_utf8 bytes.now }
+{
+    match str::from_utf8(bytes) {
+        Ok(_) => true,
+        Err(_) => false,
     }
 }
 

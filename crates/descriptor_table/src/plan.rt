@@ -2,7 +2,7 @@ ghost use Rattle.std.specs.Prelude.{◌≡◌};
 ghost use Rattle.descriptor_table.specs.Changes.{is_refused};
 
 use file_descriptions::StatusFlags;
-use posix_terms::{End, Reply, ShutdownHow, Side};
+use posix_terms::{End, OutKind, Reply, ShutdownHow, Side};
 
 /// An open file description, as it is when the call is planned.
 #[derive(Clone, Copy, Debug, PartialEq, Eq)]
@@ -10,6 +10,20 @@ pub struct Opened {
     pub key: usize,
     pub end: End,
     pub flags: StatusFlags,
+}
+
+/// What a call asks of the outside.
+#[derive(Clone, Copy, Debug, PartialEq, Eq)]
+pub struct Errand {
+    pub kind: OutKind,
+    /// For a read and a write the count of bytes; for a listener the port, or 0 for any port; for a
+    /// connection the port; else 0.
+    pub asked: u64,
+    /// Whether the failure EAGAIN is no reply, but makes the call wait.
+    pub waits: bool,
+    /// The object whose door is taken along; none where a file or a listener is opened, or a peer
+    /// connected to.
+    pub door: Option<usize>,
 }
 
 /// What a call does to the object that it locks.
@@ -32,6 +46,8 @@ pub enum Op {
     /// A pair of sockets is made, where nothing waits and nothing is shut.
     Socketpair,
     Shutdown { side: Side, how: ShutdownHow },
+    /// The call goes outside: to the object, which is a door, or for the door that the object becomes.
+    Ask(Errand),
 }
 
 /// The numbers of the descriptors that a call opened, where its plan has not told them.

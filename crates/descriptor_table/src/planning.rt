@@ -3,26 +3,30 @@ ghost use Rattle.descriptor_table.specs.Acts.{ActsAsStep, StaysAsStep};
 ghost use Rattle.descriptor_table.specs.Agreement.{PlansAsStep};
 ghost use Rattle.descriptor_table.specs.Table.{is_used};
 ghost use Rattle.posix_terms.specs.Names.{file_named};
-ghost use Rattle.descriptor_table.specs.Plans.{LocksKnown, addable, open_plan, close_plan, read_plan, write_plan, pread_plan, pwrite_plan, lseek_plan, ftruncate_plan, fstat_plan, dup_plan, dup_from_plan, dup2_plan, status_number, getfl_plan, setfl_plan, shutdown_plan, stream_kind, two_ends_plan, link_plan, unlink_plan, mkdir_plan, rmdir_plan, plan_of, planned, locks, seen, release, open_there, open_new, open_node};
+ghost use Rattle.descriptor_table.specs.Plans.{LocksKnown, addable, open_plan, close_plan, read_plan, write_plan, pread_plan, pwrite_plan, lseek_plan, ftruncate_plan, fstat_plan, dup_plan, dup_from_plan, dup2_plan, status_number, getfl_plan, setfl_plan, shutdown_plan, stat_by, two_ends_plan, act_or_ask, errand, host_open_plan, leads_outside, not_listener, of_listener, opens_plan, seekable, shut_act, tcp_accept_plan, tcp_connect_plan, tcp_listen_plan, link_plan, unlink_plan, mkdir_plan, rmdir_plan, plan_of, planned, locks, seen, release, open_there, open_new, open_node};
 ghost use Rattle.directories.specs.Entries.{node_of};
 ghost use Rattle.std.specs.Prelude.{not};
 ghost use Rattle.posix_terms.specs.Ends.{is_end};
 ghost use Rattle.posix_terms.specs.Refusals.{refuse_if};
 ghost use Rattle.posix_terms.specs.declared.object.End.TheVariants as part;
 
-use crate::numbers::{count_of, descriptor_number, position_of, size_of};
-use crate::plan::{Op, Opened, Plan};
+use crate::numbers::{check_host_path, count_of, descriptor_number, port_of, position_of, size_of};
+use crate::plan::{Errand, Op, Opened, Plan};
 use crate::table::Table;
 use directories::Node;
 use file_descriptions::Description;
-use posix_terms::{Access, Call, End, Errno, Limits, ObjectKind, OpenFlags, Reply, ShutdownHow};
+use posix_terms::{
+    Access, Call, Door, End, Errno, Limits, ObjectKind, OpenFlags, OutKind, Reply, ShutdownHow,
+    Whence,
+};
 
 impl Table {
     /// What the table makes of a call: its reply, exactly where the call takes no object's lock. Otherwise
     /// the object, and what the call does there with the description, its end, its flags and the number of
     /// names as they are now. That object is there, or it is the one that the call makes, and a description
-    /// whose offset the call reads or moves is there (`object`). The reply and the object are those of the
-    /// step of the sequential object, of which the table shows all but contents and offsets (`step`). What
+    /// whose offset the call reads or moves is there, and so is an object whose door is taken along
+    /// (`object`). The reply, the object, what is asked outside and whether the call keeps the table are those
+    /// of the sequential object, of which the table shows all but contents and offsets (`step`). What
     /// the call does with the object's content and the offset, and whether it has to wait, is what the step
     /// does (`acts`), and the step leaves other objects and other offsets as they are (`others`).
     #[tactic(auto, using(crate::proofs::KnownLemmas::known))]
@@ -65,7 +69,11 @@ impl Table {
                 bytes,
                 position,
             } => self.plan_pwrite(*descriptor, bytes.as_slice().len(), *position),
-            Call::Lseek { descriptor, .. } => self.plan_lseek(*descriptor),
+            Call::Lseek {
+                descriptor,
+                offset,
+                whence,
+            } => self.plan_lseek(*descriptor, *offset, *whence),
             Call::Ftruncate { descriptor, size } => self.plan_ftruncate(*descriptor, *size),
             Call::Fstat { descriptor } => self.plan_fstat(*descriptor),
             Call::Dup { descriptor } => self.plan_dup(*descriptor),
@@ -83,6 +91,14 @@ impl Table {
             Call::Pipe => self.plan_two_ends(Op::Pipe),
             Call::Socketpair => self.plan_two_ends(Op::Socketpair),
             Call::Shutdown { descriptor, how } => self.plan_shutdown(*descriptor, *how),
+            Call::HostOpen {
+                path,
+                access,
+                flags,
+            } => self.plan_host_open(path.as_slice(), *access, *flags),
+            Call::TcpListen { port } => self.plan_listen(*port),
+            Call::TcpConnect { port } => self.plan_connect(*port),
+            Call::TcpAccept { descriptor } => self.plan_accept(*descriptor),
         }
     }
 
@@ -142,6 +158,7 @@ impl Table {
         ensures { result ≡ read_plan self.now descriptor count }
     {
         let (key, description) = self.described(descriptor)?;
+        check_not_listener(description.end)?;
         if !description.access.can_read() {
             return Err(Errno::EBADF);
         }
@@ -150,7 +167,10 @@ impl Table {
             return Ok(Plan::Reply(Reply::Data(self.no_bytes())));
         }
         let from = seen(key, &description);
-        Ok(locks(description.node, Op::Read { from, count }))
+        let waits = !description.flags.nonblock;
+        let ask = errand(&description, OutKind::Read, count as u64, waits);
+        let op = act_or_ask(&description, Op::Read { from, count }, ask);
+        Ok(locks(description.node, op))
     }
 
     #[tactic(auto, unfolding(crate::specs::Plans::write_plan))]
@@ -158,6 +178,7 @@ impl Table {
         ensures { result ≡ write_plan self.now descriptor count }
     {
         let (key, description) = self.described(descriptor)?;
+        check_not_listener(description.end)?;
         if !description.access.can_write() {
             return Err(Errno::EBADF);
         }
@@ -168,7 +189,10 @@ impl Table {
             return Ok(Plan::Reply(Reply::Count(0)));
         }
         let to = seen(key, &description);
-        Ok(locks(description.node, Op::Write { to }))
+        let waits = !description.flags.nonblock;
+        let ask = errand(&description, OutKind::Write, count as u64, waits);
+        let op = act_or_ask(&description, Op::Write { to }, ask);
+        Ok(locks(description.node, op))
     }
 
     #[tactic(auto, unfolding(crate::specs::Plans::pread_plan))]
@@ -202,13 +226,15 @@ impl Table {
     }
 
     #[tactic(auto, unfolding(crate::specs::Plans::lseek_plan))]
-    fn plan_lseek(&self, descriptor: i64) -> Result<Plan, Errno>
-        ensures { result ≡ lseek_plan self.now descriptor }
+    fn plan_lseek(&self, descriptor: i64, offset: i64, whence: Whence) -> Result<Plan, Errno>
+        ensures { result ≡ lseek_plan self.now descriptor offset whence }
     {
         let (key, description) = self.described(descriptor)?;
-        check_file(&description, Errno::ESPIPE)?;
+        check_seekable(description.end, offset, whence)?;
         let at = seen(key, &description);
-        Ok(locks(description.node, Op::Lseek { at }))
+        let ask = errand(&description, OutKind::Seek, 0, false);
+        let op = act_or_ask(&description, Op::Lseek { at }, ask);
+        Ok(locks(description.node, op))
     }
 
     #[tactic(auto, unfolding(crate::specs::Plans::ftruncate_plan))]
@@ -229,13 +255,13 @@ impl Table {
         ensures { result ≡ fstat_plan self.now descriptor }
     {
         let (_, description) = self.described(descriptor)?;
-        let Some(kind) = stream_kind(description.end) else {
+        let Some((kind, number)) = stat_by(description.end) else {
             let links = self.names().links(description.node);
             return Ok(locks(description.node, Op::Fstat { links }));
         };
         Ok(Plan::Reply(Reply::Stat {
             kind,
-            number: 0,
+            number,
             links: 0,
         }))
     }
@@ -268,10 +294,13 @@ impl Table {
         if descriptor == target {
             return Ok(Plan::Reply(Reply::Number(target)));
         }
-        match self.described(target) {
-            Ok((_, description)) => Ok(release(&description, Reply::Number(target))),
-            Err(_) => Ok(Plan::Reply(Reply::Number(target))),
+        let Ok((_, description)) = self.described(target) else {
+            return Ok(Plan::Reply(Reply::Number(target)));
+        };
+        if leads_outside(description.end) && description.holders == 1 {
+            return Err(Errno::EBUSY);
         }
+        Ok(release(&description, Reply::Number(target)))
     }
 
     #[tactic(auto, unfolding(crate::specs::Plans::getfl_plan))]
@@ -340,10 +369,69 @@ impl Table {
         ensures { result ≡ shutdown_plan self.now descriptor how }
     {
         let (_, description) = self.described(descriptor)?;
-        let End::Socket(side) = description.end else {
-            return Err(Errno::ENOTSOCK);
-        };
-        Ok(locks(description.node, Op::Shutdown { side, how }))
+        let op = shut_act(&description, how)?;
+        Ok(locks(description.node, op))
+    }
+
+    #[tactic(auto, unfolding(crate::specs::Plans::host_open_plan))]
+    fn plan_host_open(&self, path: &[u8], access: Access, flags: OpenFlags) -> Result<Plan, Errno>
+        ensures { result ≡ host_open_plan self.now path.now access flags }
+    {
+        if flags.truncate && !access.can_write() {
+            return Err(Errno::EINVAL);
+        }
+        check_host_path(path)?;
+        self.plan_opening(OutKind::Open, 0, false, None)
+    }
+
+    #[tactic(auto, unfolding(crate::specs::Plans::tcp_listen_plan))]
+    fn plan_listen(&self, port: i64) -> Result<Plan, Errno>
+        ensures { result ≡ tcp_listen_plan self.now port }
+    {
+        let asked = port_of(0, port)?;
+        self.plan_opening(OutKind::Listen, asked, false, None)
+    }
+
+    #[tactic(auto, unfolding(crate::specs::Plans::tcp_connect_plan))]
+    fn plan_connect(&self, port: i64) -> Result<Plan, Errno>
+        ensures { result ≡ tcp_connect_plan self.now port }
+    {
+        let asked = port_of(1, port)?;
+        self.plan_opening(OutKind::Connect, asked, false, None)
+    }
+
+    #[tactic(auto, unfolding(crate::specs::Plans::tcp_accept_plan))]
+    fn plan_accept(&self, descriptor: i64) -> Result<Plan, Errno>
+        ensures { result ≡ tcp_accept_plan self.now descriptor }
+    {
+        let (_, description) = self.described(descriptor)?;
+        check_listener(description.end)?;
+        let waits = !description.flags.nonblock;
+        self.plan_opening(OutKind::Accept, 0, waits, Some(description.node))
+    }
+
+    // A call that opens a door, and may take along a listener.
+    fn plan_opening(
+        &self,
+        kind: OutKind,
+        asked: u64,
+        waits: bool,
+        door: Option<usize>,
+    ) -> Result<Plan, Errno>
+        ensures { result ≡ opens_plan self.now kind asked waits door }
+    {
+        self.free_number(0).ok_or(Errno::EMFILE)?;
+        let node = self.free_object().ok_or(Errno::ENFILE)?;
+        Ok(Plan::Node {
+            node,
+            op: Op::Ask(Errand {
+                kind,
+                asked,
+                waits,
+                door,
+            }),
+            keep_table: true,
+        })
     }
 
     // The file that a path names.
@@ -407,23 +495,103 @@ fn check_file(description: &Description, error: Errno) -> Result<(), Errno>
     }
 }
 
-// What a stream in memory is; the end of a file is of none.
-fn stream_kind(end: End) -> Option<ObjectKind>
-    ensures { result ≡ stream_kind end }
+// What the object is whose end this is, and the port of a listener; the end of a file says neither.
+fn stat_by(end: End) -> Option<(ObjectKind, u64)>
+    ensures { result ≡ stat_by end }
 {
     match end {
         End::Only => None,
-        End::Read | End::Write => Some(ObjectKind::Pipe),
-        End::Socket(_) => Some(ObjectKind::SocketPair),
+        End::Read | End::Write => Some((ObjectKind::Pipe, 0)),
+        End::Socket(_) => Some((ObjectKind::SocketPair, 0)),
+        End::Door(Door::HostFile) => Some((ObjectKind::HostFile, 0)),
+        End::Door(Door::Listener(port)) => Some((ObjectKind::Listener, u64::from(port))),
+        End::Door(Door::Stream) => Some((ObjectKind::Stream, 0)),
     }
 }
 
-// One descriptor less refers to a description: its object is locked where that was the last one.
+// Whether this is the end of a door.
+fn leads_outside(end: End) -> bool
+    ensures { result ≡ leads_outside end }
+{
+    matches!(end, End::Door(_))
+}
+
+// What a call asks of the door that it locks.
+fn errand(description: &Description, kind: OutKind, asked: u64, waits: bool) -> Op
+    ensures { result ≡ errand description.now kind asked waits }
+{
+    Op::Ask(Errand {
+        kind,
+        asked,
+        waits,
+        door: Some(description.node),
+    })
+}
+
+// What a call does where there is no door, and what it asks of one.
+fn act_or_ask(description: &Description, act: Op, ask: Op) -> Op
+    ensures { result ≡ act_or_ask description.now act ask }
+{
+    if leads_outside(description.end) {
+        ask
+    } else {
+        act
+    }
+}
+
+// A listener takes part in no transfer.
+fn check_not_listener(end: End) -> Result<(), Errno>
+    ensures { result ≡ not_listener end }
+{
+    match end {
+        End::Door(Door::Listener(_)) => Err(Errno::EINVAL),
+        _ => Ok(()),
+    }
+}
+
+// Only a listener accepts.
+fn check_listener(end: End) -> Result<(), Errno>
+    ensures { result ≡ of_listener end }
+{
+    match end {
+        End::Door(Door::Listener(_)) => Ok(()),
+        End::Door(Door::Stream) | End::Socket(_) => Err(Errno::EINVAL),
+        _ => Err(Errno::ENOTSOCK),
+    }
+}
+
+// An object with an offset is needed; from the start, one in a file of the host is not negative.
+fn check_seekable(end: End, offset: i64, whence: Whence) -> Result<(), Errno>
+    ensures { result ≡ seekable end offset whence }
+{
+    match end {
+        End::Only => Ok(()),
+        End::Door(Door::HostFile) if offset < 0 && whence == Whence::Set => Err(Errno::EINVAL),
+        End::Door(Door::HostFile) => Ok(()),
+        _ => Err(Errno::ESPIPE),
+    }
+}
+
+// What shuts an object.
+fn shut_act(description: &Description, how: ShutdownHow) -> Result<Op, Errno>
+    ensures { result ≡ shut_act description.now how description.now.«end» }
+{
+    match description.end {
+        End::Socket(side) => Ok(Op::Shutdown { side, how }),
+        End::Door(Door::Stream) => Ok(errand(description, OutKind::Shutdown, 0, false)),
+        End::Door(Door::Listener(_)) => Err(Errno::EINVAL),
+        _ => Err(Errno::ENOTSOCK),
+    }
+}
+
+// One descriptor less refers to a description: where that was the last one its object is locked, and a
+// door is closed outside.
 fn release(description: &Description, reply: Reply) -> Plan
     ensures { result ≡ release description.now reply }
 {
     if description.holders == 1 {
-        return locks(description.node, Op::Release);
+        let ask = errand(description, OutKind::Close, 0, false);
+        return locks(description.node, act_or_ask(description, Op::Release, ask));
     }
     Plan::Reply(reply)
 }

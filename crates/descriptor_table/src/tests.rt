@@ -1,5 +1,7 @@
-use crate::{NewNumbers, Op, Plan, Table};
-use posix_terms::{Access, Bytes, Call, Errno, OpenFlags, Reply, ShutdownHow};
+use crate::{Errand, NewNumbers, Op, Plan, Table};
+use posix_terms::{
+    Access, Bytes, Call, Errno, ObjectKind, OpenFlags, OutKind, Outcome, Reply, ShutdownHow,
+};
 use std::alloc::Global;
 use std::test::Fail;
 
@@ -19,6 +21,26 @@ fn make(table: &mut Table, call: &Call) -> Result<(Plan, NewNumbers), Fail> {
     }
     let plan = table.plan(call);
     let numbers = table.apply(call, &plan, None);
+    Ok((plan, numbers))
+}
+
+// The same of a call for a door, which had this outcome outside.
+fn make_with(
+    table: &mut Table,
+    call: &Call,
+    outcome: &Outcome,
+) -> Result<(Plan, NewNumbers), Fail> {
+    let (descriptions, objects) = table.made();
+    if descriptions >= 1_000 || objects >= 1_000 {
+        return Err("too many")?;
+    }
+    if let Outcome::Ok { value, .. } = outcome
+        && *value > 65_535
+    {
+        return Err("no port")?;
+    }
+    let plan = table.plan(call);
+    let numbers = table.apply(call, &plan, Some(outcome));
     Ok((plan, numbers))
 }
 
@@ -50,6 +72,35 @@ fn node(node: usize, op: Op) -> Plan {
         op,
         keep_table: false,
     }
+}
+
+// The plan of a call for a new door, which keeps the table.
+fn opening(node: usize, op: Op) -> Plan {
+    Plan::Node {
+        node,
+        op,
+        keep_table: true,
+    }
+}
+
+fn ask(kind: OutKind, asked: u64, waits: bool, door: Option<usize>) -> Op {
+    Op::Ask(Errand {
+        kind,
+        asked,
+        waits,
+        door,
+    })
+}
+
+// Opens a door, which succeeds outside with this value.
+fn open_door(
+    alloc: Global,
+    table: &mut Table,
+    call: &Call,
+    value: u64,
+) -> Result<(Plan, NewNumbers), Fail> {
+    let bytes = Bytes::from_slice(alloc, b"")?;
+    make_with(table, call, &Outcome::Ok { value, bytes })
 }
 
 fn number(number: i64) -> Plan {
@@ -201,5 +252,113 @@ fn a_file_is_no_socket(rt: HostRuntime) -> Result<(), Fail> {
         how: ShutdownHow::Both,
     };
     assert_eq!(rt; make(&mut table, &shutdown)?.0, fail(Errno::ENOTSOCK));
+    Ok(())
+}
+
+#[test]
+fn an_opening_gives_the_lowest_number(rt: HostRuntime) -> Result<(), Fail> {
+    let mut table = Table::new(rt.alloc())?;
+    for _ in 0..3 {
+        let _ = open(rt.alloc(), &mut table, b"/a")?;
+    }
+    let _ = make(&mut table, &Call::Close { descriptor: 1 })?;
+    let connect = Call::TcpConnect { port: 80 };
+    assert_eq!(rt;
+        open_door(rt.alloc(), &mut table, &connect, 0)?,
+        (
+            opening(1, ask(OutKind::Connect, 80, false, None)),
+            NewNumbers::One(1)
+        )
+    );
+    Ok(())
+}
+
+#[test]
+fn a_failed_opening_changes_nothing(rt: HostRuntime) -> Result<(), Fail> {
+    let mut table = Table::new(rt.alloc())?;
+    let listen = Call::TcpListen { port: 80 };
+    assert_eq!(rt;
+        make_with(&mut table, &listen, &Outcome::Fail(Errno::EADDRINUSE))?,
+        (
+            opening(0, ask(OutKind::Listen, 80, false, None)),
+            NewNumbers::None
+        )
+    );
+    assert_eq!(rt; table.made(), (0, 0));
+    assert_eq!(rt; table.lowest_free(0), Some(0));
+    Ok(())
+}
+
+#[test]
+fn a_read_of_a_door_asks(rt: HostRuntime) -> Result<(), Fail> {
+    let mut table = Table::new(rt.alloc())?;
+    let connect = Call::TcpConnect { port: 80 };
+    let _ = open_door(rt.alloc(), &mut table, &connect, 0)?;
+    let read = Call::Read {
+        descriptor: 0,
+        count: 5,
+    };
+    assert_eq!(rt;
+        table.plan(&read),
+        node(0, ask(OutKind::Read, 5, true, Some(0)))
+    );
+    Ok(())
+}
+
+#[test]
+fn a_close_of_a_door_asks_and_frees_its_number(rt: HostRuntime) -> Result<(), Fail> {
+    let mut table = Table::new(rt.alloc())?;
+    let connect = Call::TcpConnect { port: 80 };
+    let _ = open_door(rt.alloc(), &mut table, &connect, 0)?;
+    assert_eq!(rt;
+        make(&mut table, &Call::Close { descriptor: 0 })?.0,
+        node(0, ask(OutKind::Close, 0, false, Some(0)))
+    );
+    assert_eq!(rt; table.lowest_free(0), Some(0));
+    Ok(())
+}
+
+#[test]
+fn dup2_closes_no_door(rt: HostRuntime) -> Result<(), Fail> {
+    let mut table = Table::new(rt.alloc())?;
+    let connect = Call::TcpConnect { port: 80 };
+    let _ = open_door(rt.alloc(), &mut table, &connect, 0)?;
+    let _ = open(rt.alloc(), &mut table, b"/a")?;
+    let over = Call::Dup2 {
+        descriptor: 1,
+        target: 0,
+    };
+    assert_eq!(rt; table.plan(&over), fail(Errno::EBUSY));
+    Ok(())
+}
+
+#[test]
+fn a_listener_tells_its_port(rt: HostRuntime) -> Result<(), Fail> {
+    let mut table = Table::new(rt.alloc())?;
+    let listen = Call::TcpListen { port: 0 };
+    let _ = open_door(rt.alloc(), &mut table, &listen, 8_080)?;
+    let stat = Reply::Stat {
+        kind: ObjectKind::Listener,
+        number: 8_080,
+        links: 0,
+    };
+    let fstat = Call::Fstat { descriptor: 0 };
+    assert_eq!(rt; table.plan(&fstat), Plan::Reply(stat));
+    Ok(())
+}
+
+#[test]
+fn accept_takes_the_listener_along(rt: HostRuntime) -> Result<(), Fail> {
+    let mut table = Table::new(rt.alloc())?;
+    let listen = Call::TcpListen { port: 0 };
+    let _ = open_door(rt.alloc(), &mut table, &listen, 8_080)?;
+    let accept = Call::TcpAccept { descriptor: 0 };
+    assert_eq!(rt;
+        make_with(&mut table, &accept, &Outcome::Fail(Errno::EAGAIN))?,
+        (
+            opening(1, ask(OutKind::Accept, 0, true, Some(0))),
+            NewNumbers::None
+        )
+    );
     Ok(())
 }

@@ -2,12 +2,14 @@
 use Rattle.std.specs.Prelude.{◌≡◌, ◌≤◌, ◌+◌, ℕ, Bool, true, false, IfSome, replicate, List, [], ◌∷◌, ◌++◌, length, Option, Result, Ok, Err, codes, ◌⊎◌}
 use Rattle.std.specs.Fmt.{decimal}
 use Rattle.std.specs.Io.KnownBytes.{Appends}
+use Rattle.posix_terms.specs.declared.transcript.Row.{Row}
 use Rattle.posix_terms.specs.declared.transcript.Settings.{Settings}
 use Rattle.thread_scripts.specs.Faults.{Fault, bad_line, too_long}
 use Rattle.thread_scripts.specs.Grammar.{script_of}
 use Rattle.thread_scripts.specs.declared.line.Line.{Line}
 use Rattle.call_machine.specs.Plain.{IsPlainRun, are_settings, counts_fit}
 use Rattle.call_machine.specs.Setup.{Inputs}
+use Rattle.call_machine.specs.declared.fault.Stop.{Stop}
 use Rattle.call_machine.specs.declared.plain.Plain.{Plain}
 use Rattle.detio_cmd.specs.Transcripts.{◌+++◌, transcripts_text, end_text, end_status}
 use Rattle.detio_cmd.specs.declared.printed.Printed.{Printed}
@@ -37,9 +39,9 @@ abbrev pub script_fault : ℕ → Fault → Printed
 script_fault i (bad_line n) = fault_printed 3 (codes "script " +++ decimal i +++ codes ": bad line " +++ decimal n +++ codes "\n")
 script_fault i too_long = fault_printed 3 (codes "script " +++ decimal i +++ codes ": too long\n")
 
--- a run that was made
-abbrev pub run_printed : Bool → Plain → Printed
-run_printed turns plain = record { status = end_status plain.stop; output = transcripts_text turns 0 plain.transcripts ++ end_text plain.stop; errors = [] }
+-- a run in which the threads saw this, and which ended so
+abbrev pub run_printed : Bool → List (List Row) → Option Stop → Printed
+run_printed turns transcripts stop = record { status = end_status stop; output = transcripts_text turns 0 transcripts ++ end_text stop; errors = [] }
 
 -- the run of scripts, none of which has outcomes from outside
 abbrev pub inputs_of : Settings → List (List Line) → Inputs
@@ -48,7 +50,7 @@ inputs_of settings scripts = record { scripts = scripts; outcomes = replicate (l
 -- what is printed for a run, whether its settings are in range or not
 abbrev pub RunPrints : Bool → Bool → Inputs → Printed → Type 0
 RunPrints false turns input printed = printed ≡ bad_settings
-RunPrints true turns input printed = (plain : Plain) × IsPlainRun input plain × (printed ≡ run_printed turns plain)
+RunPrints true turns input printed = (plain : Plain) × IsPlainRun input plain × (printed ≡ run_printed turns plain.transcripts plain.stop)
 
 abbrev pub script_before : ℕ → Result (List Line) Fault → Result (List (List Line)) (ℕ × Fault) → Result (List (List Line)) (ℕ × Fault)
 script_before i (Err fault) others = Err (i, fault)

@@ -3,3 +3,4 @@ pub mod Commands
 pub mod FirstFaults
 pub mod LogTexts
 pub mod Shows
+pub mod Replays

@@ -4,7 +4,9 @@ use std::alloc::{AllocError, Global};
 const ABOUT: &str = "Deterministic record and replay of calls on one table of descriptors.
 
 Scripts of calls run against files, pipes and pairs of sockets in memory. The order of the calls
-comes from logical clocks alone, so a run prints the same each time, on every machine.";
+comes from logical clocks alone, so a run prints the same each time, on every machine. What calls got
+from outside, from host files and over TCP, stands in a log, and a run is replayed by its log with no
+host file and no network.";
 
 const AFTER_HELP: &str = "Example:
   printf 'open /a rw create\\nwrite 0 x6869\\nlseek 0 0 set\\nread 0 9\\n' > hi.script
@@ -44,7 +46,7 @@ A script is ASCII text, one of these a line. Lines that are empty or start with 
   pwrite NUM BYTES NUM          descriptor, what to write and position
   lseek NUM NUM set|cur|end     descriptor and offset
   ftruncate NUM NUM             descriptor and length
-  fstat NUM                     its reply: kind, length, number of names
+  fstat NUM                     its reply: kind, length or port, number of names
   dup NUM
   dup_from NUM NUM              descriptor and least number for the new one
   dup2 NUM NUM                  descriptor and number for the new one
@@ -57,6 +59,10 @@ A script is ASCII text, one of these a line. Lines that are empty or start with 
   pipe                          its reply: the end to read from and the end to write to
   socketpair                    its reply: both sockets
   shutdown NUM HOW              HOW is read, write or both
+  host_open PATH r|w|rw [create] [trunc] [append]
+  tcp_listen NUM                port, 0 for any
+  tcp_connect NUM               port
+  tcp_accept NUM                descriptor of a listener
   work N                        adds 0 to 1000000 to the clock
   set rA NUM                    puts a number in a register
   add rA NUM                    adds to it, modulo 2^64
@@ -70,9 +76,16 @@ A script is ASCII text, one of these a line. Lines that are empty or start with 
 NUM is a decimal number of 64 bits, as -1, or a register r0 to r15. BYTES are x and hexadecimal digits,
 as x6869, or a register b0 to b3. PATH has no spaces. NAME has 1 to 14 lower-case letters or digits.
 Registers start at 0, and b0 to b3 empty. A reply sets r0: the count, the length of the data, the
-number, the first number of a pair, the length of fstat, 0 for done, or minus the code of the error.
-The second number of a pair, which pipe and socketpair give, goes to r1, and so does the number of names
-of fstat; data go to b0. A thread also ends once it has executed 10000 lines.
+number, the first number of a pair, the length of a file or the port of a listener by fstat, 0 for
+done, or minus the code of the error. The second number of a pair, which pipe and socketpair give, goes
+to r1, and so does the number of names of fstat; data go to b0. A thread also ends once it has executed
+10000 lines.
+
+The last line is end. host_open, the tcp calls and the calls on what they open go outside the run, where
+nothing comes from under plain: the run stops once the thread that has the turn is at such a call, and
+the last line is
+  stop end of log THREAD
+By a log of what came, detio replay runs the scripts further.
 
 The path /dev/stdin reads a script from standard input.";
 
@@ -84,6 +97,45 @@ const PLAIN_AFTER_HELP: &str = "Example:
 prints
   0 0 4 open number 1
   1 0 1 open number 0
+  end";
+
+const REPLAY_ABOUT: &str =
+    "Runs scripts by the log of what came from outside and prints their transcripts";
+
+const REPLAY_LONG_ABOUT: &str =
+    "Runs scripts by the log of what came from outside and prints their transcripts.
+
+The scripts run as under plain, with the patience and the door cost of the log's header. No host file is
+opened and nothing is sent: each call that goes outside takes the next record of its thread from the log.
+There is one script for each thread of the log, in the same order. Of a log that is torn behind its header
+the records before the tear count, as detio show prints them.
+
+The last line is end where all threads came to their end and every record was used, or one of
+  stop end of log THREAD
+  stop diverged THREAD NUMBER
+  stop clock full
+
+At the end of the log, the thread that has the turn wants a record that is not there; all others went on
+as far as they could. The replay diverged where the record of this thread and number is of another kind
+than the call asks, or does not fit what it asks, or where no call asked for it. Then a script is not the
+one that was run, or the log is not of that run. The lines before are what each thread saw until then.
+
+What is no log, and a log of another number of threads, has one line on standard error:
+  log: bad magic
+  log: bad version
+  log: bad record at PLACE
+  log: torn at 0 after 0 records
+  log has COUNT threads, COUNT scripts given";
+
+const REPLAY_AFTER_HELP: &str = "Example:
+  printf 'host_open nofile r\\nopen /b rw create\\n' > missing.script
+  printf 'DIOL\\0\\1\\0\\1\\0\\0\\3\\350\\0\\0\\0\\144' > missing.log
+  printf 'R\\0\\0\\0\\0\\0\\0\\1\\12\\0\\0\\0\\0\\0\\0\\0\\0\\0\\0' >> missing.log
+  detio replay --log missing.log --turns missing.script
+
+prints
+  0 0 1 host_open fail ENOENT
+  0 1 105 open number 0
   end";
 
 const SHOW_ABOUT: &str = "Prints a log";
@@ -125,6 +177,7 @@ pub fn command<'a>(alloc: Global) -> Result<Command<'a>, AllocError> {
             .arg_required_else_help(true)
             .disable_help_subcommand(true)
             .subcommand(plain(alloc)?)?
+            .subcommand(replay(alloc)?)?
             .subcommand(show(alloc)?)?,
     )
 }
@@ -142,23 +195,44 @@ fn plain<'a>(alloc: Global) -> Result<Command<'a>, AllocError> {
         .value_parser(value_parser!(u32).range(1..=1_000_000))
         .default_value("100")
         .help("What a call that goes outside adds to the clock of its thread");
-    let scripts = Arg::new(alloc, "script")
-        .value_name("SCRIPT")
-        .action(ArgAction::Append)
-        .num_args(0..)
-        .help("The scripts to run, 1 to 8");
-    let turns = Arg::new(alloc, "turns")
-        .long("turns")
-        .action(ArgAction::SetTrue)
-        .help("Prints the clock of each turn");
     Command::new(alloc, "plain")
         .about(PLAIN_ABOUT)
         .long_about(PLAIN_LONG_ABOUT)
         .after_help(PLAIN_AFTER_HELP)
         .arg(patience)?
         .arg(door_cost)?
-        .arg(turns)?
-        .arg(scripts)
+        .arg(turns(alloc))?
+        .arg(scripts(alloc))
+}
+
+fn scripts<'a>(alloc: Global) -> Arg<'a> {
+    Arg::new(alloc, "script")
+        .value_name("SCRIPT")
+        .action(ArgAction::Append)
+        .num_args(0..)
+        .help("The scripts to run, 1 to 8")
+}
+
+fn turns<'a>(alloc: Global) -> Arg<'a> {
+    Arg::new(alloc, "turns")
+        .long("turns")
+        .action(ArgAction::SetTrue)
+        .help("Prints the clock of each turn")
+}
+
+fn replay<'a>(alloc: Global) -> Result<Command<'a>, AllocError> {
+    let log = Arg::new(alloc, "log")
+        .long("log")
+        .value_name("FILE")
+        .required(true)
+        .help("The log to replay; /dev/stdin is standard input");
+    Command::new(alloc, "replay")
+        .about(REPLAY_ABOUT)
+        .long_about(REPLAY_LONG_ABOUT)
+        .after_help(REPLAY_AFTER_HELP)
+        .arg(log)?
+        .arg(turns(alloc))?
+        .arg(scripts(alloc))
 }
 
 fn show<'a>(alloc: Global) -> Result<Command<'a>, AllocError> {

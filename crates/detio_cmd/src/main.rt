@@ -4,9 +4,11 @@
 mod command;
 mod first_fault;
 mod input;
+mod log_fault;
 mod log_text;
 mod plain;
 mod printed;
+mod replay;
 mod show;
 mod source;
 #[cfg(test)]
@@ -20,6 +22,7 @@ use input::{open_scripts, open_source};
 use plain::plain_over;
 use posix_terms::Settings;
 use printed::{cannot_write, no_memory};
+use replay::replay_over;
 use show::show_over;
 use std::alloc::AllocError;
 use std::io;
@@ -44,6 +47,7 @@ fn run(rt: &HostRuntime) -> Result<u8, AllocError> {
     match command(alloc)?.try_get_matches_from(words.as_slice()) {
         Ok(matches) => match matches.subcommand() {
             Some(("plain", matches)) => run_plain(rt, matches),
+            Some(("replay", matches)) => run_replay(rt, matches),
             Some(("show", matches)) => Ok(run_show(rt, matches)),
             _ => Ok(2),
         },
@@ -85,6 +89,25 @@ fn run_plain(rt: &HostRuntime, matches: &ArgMatches<'_>) -> Result<u8, AllocErro
         rt.alloc(),
         settings,
         turns,
+        sources,
+        &mut rt.stdout(),
+        &mut rt.stderr(),
+    );
+    Ok(status.unwrap_or(4))
+}
+
+// `detio replay`, as the command line has it.
+fn run_replay(rt: &HostRuntime, matches: &ArgMatches<'_>) -> Result<u8, AllocError> {
+    let Some(path) = matches.get_str("log") else {
+        return Ok(2);
+    };
+    let turns = matches.get_flag("turns");
+    let log = open_source(rt, path);
+    let sources = open_scripts(rt, matches.get_strs("script").unwrap_or(&[]))?;
+    let status = replay_over(
+        rt.alloc(),
+        turns,
+        log,
         sources,
         &mut rt.stdout(),
         &mut rt.stderr(),

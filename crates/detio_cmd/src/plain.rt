@@ -2,14 +2,14 @@ ghost use Rattle.std.specs.Prelude.{◌≡◌, MatchResult, ◌∷◌, [], lengt
 ghost use Rattle.thread_scripts.specs.Faults.{bad_line, too_long};
 ghost use Rattle.thread_scripts.specs.Grammar.{script_of};
 ghost use Rattle.call_machine.specs.Plain.{are_settings, counts_fit};
-ghost use Rattle.detio_cmd.specs.Commands.{PlainPrints, Prints, RunPrints, ScriptsPrint, inputs_of, run_printed, script_fault, scripts_from};
+ghost use Rattle.detio_cmd.specs.Commands.{PlainPrints, Prints, RunPrints, ScriptsPrint, inputs_of, script_fault, scripts_from};
 ghost use Rattle.detio_cmd.specs.FirstFaults.{IsFirst, IsScript};
 
 use crate::first_fault::FirstFault;
 use crate::printed::{Printed, cannot_read, fault, no_memory, print};
 use crate::source::{Source, Unread, read_all};
-use crate::transcripts::{end_status, end_text, transcripts_text};
-use call_machine::{Plain, PlainFault, plain_run};
+use crate::transcripts::run_printed;
+use call_machine::{PlainFault, plain_run};
 use posix_terms::{Bytes, Limits, Outcomes, Settings};
 use std::alloc::{AllocError, Global};
 use std::io;
@@ -56,7 +56,7 @@ fn plain_printed<R: Read + Drop>(
 }
 
 // Whether so many scripts can run together.
-fn fits(scripts: usize) -> bool
+pub fn fits(scripts: usize) -> bool
     ensures { result ≡ counts_fit scripts scripts }
 {
     1 <= scripts && scripts <= Limits::THREADS
@@ -81,7 +81,7 @@ fn texts_printed(
 }
 
 // The scripts of texts, or the first fault.
-fn scripts(alloc: Global, texts: &[Bytes]) -> Result<Vec<Script>, FirstFault>
+pub fn scripts(alloc: Global, texts: &[Bytes]) -> Result<Vec<Script>, FirstFault>
     ensures { MatchResult result (λ scripts. scripts_from 0 texts.now ≡ Ok scripts.items) (λ fault. IsFirst fault (scripts_from 0 texts.now)) }
 {
     let mut scripts = Vec::new(alloc);
@@ -115,7 +115,7 @@ fn scripts_run(
 {
     let outcomes = no_outcomes(alloc, scripts.len())?;
     match plain_run(alloc, scripts, outcomes, settings) {
-        Ok(plain) => run_printed(alloc, turns, &plain),
+        Ok(plain) => run_printed(alloc, turns, &plain.transcripts, plain.stop),
         Err(PlainFault::Memory) => Err(AllocError),
         Err(PlainFault::Threads) => unreachable!(),
         Err(PlainFault::Settings) => {
@@ -135,28 +135,14 @@ fn no_outcomes(alloc: Global, scripts: usize) -> Result<Vec<Outcomes>, AllocErro
     Ok(outcomes)
 }
 
-// The transcripts of a run, and how it ended.
-fn run_printed(alloc: Global, turns: bool, plain: &Plain) -> Result<Printed, AllocError>
-    ensures { IfOk result (λ printed. printed ≡ run_printed turns plain.now) }
-{
-    let mut output = transcripts_text(alloc, turns, plain.transcripts.threads())?;
-    let end = end_text(alloc, plain.stop)?;
-    output.push_str(end.as_str())?;
-    Ok(Printed {
-        status: end_status(plain.stop),
-        output: Bytes::from_vec(output.into_bytes()),
-        errors: Bytes::from_vec(Vec::new(alloc)),
-    })
-}
-
-fn bad_line(alloc: Global, script: usize, line: usize) -> Result<Printed, AllocError>
+pub fn bad_line(alloc: Global, script: usize, line: usize) -> Result<Printed, AllocError>
     ensures { IfOk result (λ printed. printed ≡ script_fault script (bad_line line)) }
 {
     let text = format!(in alloc; "script {script}: bad line {line}\n")?;
     fault(alloc, 3, text.as_str())
 }
 
-fn too_long(alloc: Global, script: usize) -> Result<Printed, AllocError>
+pub fn too_long(alloc: Global, script: usize) -> Result<Printed, AllocError>
     ensures { IfOk result (λ printed. printed ≡ script_fault script too_long) }
 {
     let text = format!(in alloc; "script {script}: too long\n")?;

@@ -1,5 +1,6 @@
 mod limits;
 mod refusals;
+mod replays;
 mod streams;
 
 use crate::plain::plain_over;
@@ -474,6 +475,21 @@ fn told(alloc: Global, devices: &[Device]) -> io::Result<(u8, Vec<u8>)> {
     let status = plain_over(alloc, DEFAULTS, false, sources, &mut output, &mut errors)?;
     errors.append(&mut output)?;
     Ok((status, errors))
+}
+
+// A plain run has no outcomes: it stops at its first call that goes outside, and the others go on.
+#[test]
+fn outside_of_a_plain_run(rt: HostRuntime) -> Result<(), Fail> {
+    let alloc = rt.alloc();
+    let first = b"open /a rw create\nhost_open out w create\nclose 0\n".as_slice();
+    let second = b"open /a r\n".as_slice();
+    let (status, output, errors) = run(alloc, DEFAULTS, true, &[first, second])?;
+    if errors.is_empty() {
+        assert_eq!(rt; status, 1);
+        let wanted = b"0 0 1 open number 0\n1 0 4 open number 1\nstop end of log 0\n".as_slice();
+        assert!(rt; output.as_slice() == wanted);
+    }
+    Ok(())
 }
 
 // The number of scripts is looked at before anything is read.

@@ -1,12 +1,33 @@
 ghost use Rattle.std.specs.Prelude.{◌≡◌, ◌++◌, IfOk, string_bytes};
+ghost use Rattle.detio_cmd.specs.Commands.{run_printed};
 ghost use Rattle.detio_cmd.specs.Transcripts.{data_text, end_status, end_text, reply_text, row_text, rows_text, transcripts_text};
 
+use crate::printed::Printed;
 use call_machine::Stop;
-use posix_terms::{Reply, Row, Transcript, errno_name};
+use posix_terms::{Bytes, Reply, Row, Transcript, Transcripts, errno_name};
 use std::alloc::{AllocError, Global};
 
+// What is to be printed for a run that ended so: the transcripts, and the line of its end.
+pub fn run_printed(
+    alloc: Global,
+    turns: bool,
+    transcripts: &Transcripts,
+    stop: Option<Stop>,
+) -> Result<Printed, AllocError>
+    ensures { IfOk result (λ printed. printed ≡ run_printed turns transcripts.now stop) }
+{
+    let mut output = transcripts_text(alloc, turns, transcripts.threads())?;
+    let end = end_text(alloc, stop)?;
+    output.push_str(end.as_str())?;
+    Ok(Printed {
+        status: end_status(stop),
+        output: Bytes::from_vec(output.into_bytes()),
+        errors: Bytes::from_vec(Vec::new(alloc)),
+    })
+}
+
 // The text of all transcripts, by thread, with the clocks of the turns if that is asked.
-pub fn transcripts_text(
+fn transcripts_text(
     alloc: Global,
     turns: bool,
     transcripts: &[Transcript],
@@ -92,7 +113,7 @@ pub fn data_text(alloc: Global, bytes: &[u8]) -> Result<String, AllocError>
 
 // The line that tells how a run ended.
 #[tactic(auto, unfolding(crate::specs::Transcripts::end_text))]
-pub fn end_text(alloc: Global, stop: Option<Stop>) -> Result<String, AllocError>
+fn end_text(alloc: Global, stop: Option<Stop>) -> Result<String, AllocError>
     ensures { IfOk result (λ text. string_bytes text ≡ end_text stop) }
 {
     match stop {
@@ -109,7 +130,7 @@ pub fn end_text(alloc: Global, stop: Option<Stop>) -> Result<String, AllocError>
 }
 
 // The exit status of a run that ended so.
-pub fn end_status(stop: Option<Stop>) -> u8
+fn end_status(stop: Option<Stop>) -> u8
     ensures { result ≡ end_status stop }
 {
     match stop {

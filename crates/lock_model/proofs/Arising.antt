@@ -15,7 +15,7 @@ use Rattle.lock_model.specs.Schedule.{EndsIn}
 use Rattle.lock_model.specs.State.{Job, Phase, Thread, State, thread_of, start}
 use Rattle.lock_model.specs.State.Phase.{Working, Outside}
 use Rattle.lock_model.specs.Terms.{World}
-use Rattle.posix_terms.specs.declared.outcome.Outcome.{Outcome}
+use Rattle.posix_terms.specs.declared.outcome.Given.{Given}
 use Rattle.posix_terms.specs.declared.reply.Reply.{Reply}
 use Rattle.lock_model.specs.Legal.{IsLegalHistory}
 use Rattle.lock_model.proofs.Commute.{advance_move}
@@ -46,7 +46,7 @@ slice_get-prefix xs ys n x (rest, e) h = ap (λ (l : List _). slice_get l n) (sy
 -- what an event takes from its supply, another supply has too
 pub record Gives_as (given more : Supply) (i : ℕ) (t u : Thread) : Type 0 where
   pub next : (x : Step) → t.phase ≡ Working → given.next i t.asked t.replies ≡ Some x → u.asked ≡ t.asked ++ x ∷ [] → more.next i t.asked t.replies ≡ Some x
-  pub outcome : (o : Outcome) → slice_get (given.outcomes i) (length t.came) ≡ Some o → u.came ≡ t.came ++ o ∷ [] → slice_get (more.outcomes i) (length t.came) ≡ Some o
+  pub outcome : (o : Given) → slice_get (given.outcomes i) (length t.came) ≡ Some o → u.came ≡ t.came ++ o ∷ [] → slice_get (more.outcomes i) (length t.came) ≡ Some o
 
 step_asked : (calls : CallTable) (t : Thread) (x : Step) → (after_step calls t x).asked ≡ t.asked ++ x ∷ []
 step_asked calls t (step.Work n) = refl
@@ -59,7 +59,7 @@ ask_more calls t (Some x) p m f h =
     let is : quietly (after_step calls t x) ≡ m = same_Some (quietly (after_step calls t x)) m h in
     ap (ask calls t) (f x refl (sym (ap (λ (k : Moved). k.thread.asked) is) ∙ step_asked calls t x)) ∙ h
 
-record_more : (calls : CallTable) (t : Thread) (job : Job) (o p : Option Outcome) (m : Moved) → ((x : Outcome) → o ≡ Some x → m.thread.came ≡ t.came ++ x ∷ [] → p ≡ Some x) → record_outcome calls t job o ≡ Some m → record_outcome calls t job p ≡ Some m
+record_more : (calls : CallTable) (t : Thread) (job : Job) (o p : Option Given) (m : Moved) → ((x : Given) → o ≡ Some x → m.thread.came ≡ t.came ++ x ∷ [] → p ≡ Some x) → record_outcome calls t job o ≡ Some m → record_outcome calls t job p ≡ Some m
 record_more calls t job None p m f h = absurd (none-some m h)
 record_more calls t job (Some x) p m f h =
     ap (record_outcome calls t job) (f x refl (sym (ap (λ (k : Moved). k.thread.came) (fit (fits_job calls job x) h)))) ∙ h
@@ -116,7 +116,7 @@ same_event setup given more (Advances i) s can g =
 
 pub record Extends (given more : Supply) : Type 0 where
   pub next : (i : ℕ) (asked : List Step) (replies : List Reply) (x : Step) → given.next i asked replies ≡ Some x → more.next i asked replies ≡ Some x
-  pub outcomes : (i n : ℕ) (o : Outcome) → slice_get (given.outcomes i) n ≡ Some o → slice_get (more.outcomes i) n ≡ Some o
+  pub outcomes : (i n : ℕ) (o : Given) → slice_get (given.outcomes i) n ≡ Some o → slice_get (more.outcomes i) n ≡ Some o
 
 takes_extended : (given more : Supply) (e : Event) (s z : State) → Extends given more → TakesFrom given more e s z
 takes_extended given more (Advances i) s z g = record { next = λ x p q a. g.next i (thread_of s i).asked (thread_of s i).replies x q; outcome = λ o q a. g.outcomes i (length (thread_of s i).came) o q }
@@ -163,7 +163,7 @@ takes_own : (given : Supply) (e : Event) (s z : State) → TakesFrom given (own 
 takes_own given (Advances i) s z =
     record {
       next = λ x p q a. ap (λ (l : List Step). slice_get l (length (thread_of s i).asked)) a ∙ slice_get-push (thread_of s i).asked x;
-      outcome = λ o q a. ap (λ (l : List Outcome). slice_get l (length (thread_of s i).came)) a ∙ slice_get-push (thread_of s i).came o;
+      outcome = λ o q a. ap (λ (l : List Given). slice_get l (length (thread_of s i).came)) a ∙ slice_get-push (thread_of s i).came o;
     }
 takes_own given (Attempts i) s z = tt
 

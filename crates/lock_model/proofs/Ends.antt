@@ -247,7 +247,7 @@ pub ends_before : (setup : Setup) (s last : State) (e : Event) → next_event se
 unfolding plain_run
 ends_before setup s last e h ends = record { count = suc ends.count; reached = ap (plain_run setup ends.count) (plain_event setup s e h) ∙ ends.reached; over = ends.over }
 
-plain_run-suc : (setup : Setup) (n : ℕ) (s : State) → plain_run setup (suc n) s ≡ plain setup (plain_run setup n s)
+pub plain_run-suc : (setup : Setup) (n : ℕ) (s : State) → plain_run setup (suc n) s ≡ plain setup (plain_run setup n s)
 unfolding plain_run
 plain_run-suc setup zero s = refl
 plain_run-suc setup (suc n) s = plain_run-suc setup n (plain setup s)
@@ -255,7 +255,7 @@ plain_run-suc setup (suc n) s = plain_run-suc setup n (plain setup s)
 pub one_more : (setup : Setup) (first s : State) (n : ℕ) (e : Event) → plain_run setup n first ≡ s → next_event setup s ≡ Some e → plain_run setup (suc n) first ≡ happens setup e s
 one_more setup first s n e h q = plain_run-suc setup n first ∙ (ap (plain setup) h ∙ plain_event setup s e q)
 
-leads_on : (setup : Setup) (n : ℕ) (s last : State) → Leads setup n s last → LeadsTo setup s last
+pub leads_on : (setup : Setup) (n : ℕ) (s last : State) → Leads setup n s last → LeadsTo setup s last
 leads_on setup zero s last h = record { events = []; allowed = tt; ends = h }
 leads_on setup (suc n) s last (e, can, rest) =
     let r = leads_on setup n (happens setup e s) last rest in

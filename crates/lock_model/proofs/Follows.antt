@@ -20,7 +20,7 @@ use Rattle.lock_model.specs.State.{Job, Phase, Thread, State, nobody, thread_of,
 use Rattle.lock_model.specs.State.Phase.{Working, WantsObject, Ended}
 use Rattle.lock_model.specs.Terms.{World}
 use Rattle.posix_terms.specs.declared.call.Call.{Call}
-use Rattle.posix_terms.specs.declared.outcome.Outcome.{Outcome}
+use Rattle.posix_terms.specs.declared.outcome.Given.{Given}
 use Rattle.posix_terms.specs.declared.reply.Reply.{Reply}
 use Rattle.posix_terms.specs.Step.{Carried}
 use Rattle.posix_terms.specs.declared.transcript.Turn.{Turn}
@@ -137,7 +137,7 @@ tried_reached calls s i t c b turn n Inside w l h = tried_now s i t (granted t (
 tried_reached calls s i t c b turn n Door w l h = tried_now s i t (granted t (t.clock + 2) (new_job c b turn (Object n Door) w) true) l (tried_granted t (t.clock + 2) (new_job c b turn (Object n Door) w) true h)
 tried_reached calls s i t c b turn n Keeps_table w l h = tried_now s i t (granted t (t.clock + 1) (new_job c b turn (Object n Keeps_table) w) true) l (tried_granted t (t.clock + 1) (new_job c b turn (Object n Keeps_table) w) true h)
 
-attempt_tried : (setup : Setup) (s : State) (i : ℕ) → can_attempt setup s i ≡ true → Tried (thread_of s i) (thread_of (attempt setup i s) i)
+pub attempt_tried : (setup : Setup) (s : State) (i : ℕ) → can_attempt setup s i ≡ true → Tried (thread_of s i) (thread_of (attempt setup i s) i)
 attempt_tried setup s i can =
     let t = thread_of s i in
     let l = wanting_within setup s i can in
@@ -251,7 +251,7 @@ prefix_followed setup threads objects w s last given h g e =
 pub record FollowsOne (given : Supply) (i : ℕ) (t : Thread) : Type 0 where
   pub even : IsEven t.phase t.asked t.replies
   pub steps : (n : ℕ) (x : Step) → slice_get t.asked n ≡ Some x → given.next i (take n t.asked) (take (calls_in (take n t.asked)) t.replies) ≡ Some x
-  pub outcomes : (n : ℕ) (o : Outcome) → slice_get t.came n ≡ Some o → slice_get (given.outcomes i) n ≡ Some o
+  pub outcomes : (n : ℕ) (o : Given) → slice_get t.came n ≡ Some o → slice_get (given.outcomes i) n ≡ Some o
 
 take-append : {A : Type 0} (n : ℕ) (xs ys : List A) → n ≤ length xs → take n (xs ++ ys) ≡ take n xs
 take-append n xs ys l = take-append-le n xs ys l
@@ -292,8 +292,8 @@ steps_replied given i asked before c replies r is even h n y q =
     let few2 : calls_in (take n asked) ≤ length replies = subst (λ (a : List Step). calls_in a ≤ length replies) (sym same) (omega arith) in
     ap (given.next i (take n asked)) (take-append (calls_in (take n asked)) replies (r ∷ []) few2) ∙ h n y q
 
-outcomes_came : (given : List Outcome) (came : List Outcome) (o : Outcome) → slice_get given (length came) ≡ Some o → ((n : ℕ) (u : Outcome) → slice_get came n ≡ Some u → slice_get given n ≡ Some u)
-    → (n : ℕ) (u : Outcome) → slice_get (came ++ o ∷ []) n ≡ Some u → slice_get given n ≡ Some u
+outcomes_came : (given : List Given) (came : List Given) (o : Given) → slice_get given (length came) ≡ Some o → ((n : ℕ) (u : Given) → slice_get came n ≡ Some u → slice_get given n ≡ Some u)
+    → (n : ℕ) (u : Given) → slice_get (came ++ o ∷ []) n ≡ Some u → slice_get given n ≡ Some u
 outcomes_came given came o next h n u q =
     ⊎_elim
     (λ (l : n < length came). h n u (slice_get_before came (o ∷ []) n l u q))
@@ -338,7 +338,7 @@ follows_tried given i t u h g =
       even = even_tried t u h g.even;
       steps = subst (λ (a : List Step). (n : ℕ) (x : Step) → slice_get a n ≡ Some x → given.next i (take n a) (take (calls_in (take n a)) u.replies) ≡ Some x) (sym h.asked)
           (subst (λ (r : List Reply). (n : ℕ) (x : Step) → slice_get t.asked n ≡ Some x → given.next i (take n t.asked) (take (calls_in (take n t.asked)) r) ≡ Some x) (sym h.replies) g.steps);
-      outcomes = subst (λ (c : List Outcome). (n : ℕ) (o : Outcome) → slice_get c n ≡ Some o → slice_get (given.outcomes i) n ≡ Some o) (sym h.came) g.outcomes;
+      outcomes = subst (λ (c : List Given). (n : ℕ) (o : Given) → slice_get c n ≡ Some o → slice_get (given.outcomes i) n ≡ Some o) (sym h.came) g.outcomes;
     }
 
 follows_none : (given : Supply) (i : ℕ) (t : Thread) → t.asked ≡ [] → t.came ≡ [] → IsEven t.phase t.asked t.replies → FollowsOne given i t
@@ -346,7 +346,7 @@ follows_none given i t a c even =
     record {
       even = even;
       steps = λ n x q. absurd (none-some x (ap (λ (l : List Step). slice_get l n) (sym a) ∙ q));
-      outcomes = λ n o q. absurd (none-some o (ap (λ (l : List Outcome). slice_get l n) (sym c) ∙ q));
+      outcomes = λ n o q. absurd (none-some o (ap (λ (l : List Given). slice_get l n) (sym c) ∙ q));
     }
 
 follows_start : (given : Supply) (threads objects : ℕ) (w : World) (k : ℕ) → FollowsOne given k (thread_of (start threads objects w) k)

@@ -17,7 +17,7 @@ use Rattle.lock_model.specs.State.{Job, Phase, Thread, Row, State, nobody, threa
 use Rattle.lock_model.specs.State.Phase.{Working, WantsTable, WantsObject, Granted, ToOutside, Outside, Recorded, Blocked, Ended}
 use Rattle.lock_model.specs.Terms.{World}
 use Rattle.posix_terms.specs.declared.call.Call.{Call}
-use Rattle.posix_terms.specs.declared.outcome.Outcome.{Outcome}
+use Rattle.posix_terms.specs.declared.outcome.Given.{Given}
 use Rattle.posix_terms.specs.Step.{Carried}
 use Rattle.posix_terms.specs.declared.transcript.Turn.{Turn}
 use Rattle.lock_model.proofs.Commute.{row_open, row_closed, thread_move, advance_move}
@@ -62,7 +62,7 @@ begins_push : (xs ys : List Row) → IsBeginning xs (xs ++ ys)
 begins_push [] ys = tt
 begins_push (x ∷ xs) ys = (row_refl x, begins_push xs ys)
 
-first_agrees : (o p : Option Outcome) → Agrees o (first_of o p)
+first_agrees : (o p : Option Given) → Agrees o (first_of o p)
 first_agrees None p = tt
 first_agrees (Some x) p = refl
 
@@ -145,7 +145,7 @@ grows_answered t c n (Again b) = grows_same t (answered t c n (Again b)) refl re
 pub record AtMoves (setup : Setup) (i : ℕ) (t : Thread) (P : Phase → Moved → Type 0) : Type 0 where
   pub steps : (x : Step) → setup.supply.next i t.asked t.replies ≡ Some x → P Working (quietly (after_step setup.calls t x))
   pub begins : (job : Job) → P (ToOutside job) (quietly (record t { phase = Outside job; clock = t.clock + setup.limits.door_cost }))
-  pub records : (job : Job) (o : Outcome) → slice_get (setup.supply.outcomes i) (length t.came) ≡ Some o → fits_job setup.calls job o ≡ true → P (Outside job) (with_outcome t job o)
+  pub records : (job : Job) (o : Given) → slice_get (setup.supply.outcomes i) (length t.came) ≡ Some o → fits_job setup.calls job o ≡ true → P (Outside job) (with_outcome t job o)
   pub grants : (job : Job) → P (Granted job) (answer setup.calls t job)
   pub answers : (job : Job) → P (Recorded job) (answer setup.calls t job)
   pub agains : (c : Call) (b : Carried) → P (Blocked c b) (again t c b)
@@ -154,7 +154,7 @@ at_steps : (setup : Setup) (i : ℕ) (t : Thread) (P : Phase → Moved → Type 
 at_steps setup i t P None m a q h = absurd (none-some m h)
 at_steps setup i t P (Some x) m a q h = subst (P Working) (same_Some (quietly (after_step setup.calls t x)) m h) (a.steps x q)
 
-at_records : (setup : Setup) (i : ℕ) (t : Thread) (P : Phase → Moved → Type 0) (job : Job) (o : Option Outcome) (m : Moved) → AtMoves setup i t P
+at_records : (setup : Setup) (i : ℕ) (t : Thread) (P : Phase → Moved → Type 0) (job : Job) (o : Option Given) (m : Moved) → AtMoves setup i t P
     → slice_get (setup.supply.outcomes i) (length t.came) ≡ o → record_outcome setup.calls t job o ≡ Some m → P (Outside job) m
 at_records setup i t P job None m a q h = absurd (none-some m h)
 at_records setup i t P job (Some o) m a q h = at_fit (fits_job setup.calls job o) refl h

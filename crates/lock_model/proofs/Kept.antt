@@ -19,7 +19,7 @@ use Rattle.lock_model.specs.State.{Job, Phase, Thread, Row, State, nobody, threa
 use Rattle.lock_model.specs.State.Phase.{Working, WantsTable, WantsObject, Granted, ToOutside, Outside, Recorded, Blocked, Ended}
 use Rattle.lock_model.specs.Terms.{World}
 use Rattle.posix_terms.specs.declared.call.Call.{Call}
-use Rattle.posix_terms.specs.declared.outcome.Outcome.{Outcome}
+use Rattle.posix_terms.specs.declared.outcome.Given.{Given}
 use Rattle.posix_terms.specs.Step.{Carried}
 use Rattle.posix_terms.specs.declared.transcript.Turn.{Turn}
 use Rattle.lock_model.proofs.Commute.{row_open, row_closed, thread_move, world_mine, one_holder, advance_move}
@@ -162,7 +162,7 @@ handed_at calls c r i a mine e =
 
 -- ## `record`
 
-open_record : (setup : Setup) (s : State) (i : ℕ) (job : Job) (o : Outcome) → moves setup i (thread_of s i) ≡ Some (with_outcome (thread_of s i) job o) → (thread_of s i).phase ≡ Outside job
+open_record : (setup : Setup) (s : State) (i : ℕ) (job : Job) (o : Given) → moves setup i (thread_of s i) ≡ Some (with_outcome (thread_of s i) job o) → (thread_of s i).phase ≡ Outside job
     → fits_job setup.calls job o ≡ true → AtOpen setup.calls s (move i (Some (with_outcome (thread_of s i) job o)) s) i (with_outcome (thread_of s i) job o).effect
 open_record setup s i job o e phase fits v c busy r us mine none free p h =
     let calls = setup.calls in
@@ -185,7 +185,7 @@ open_record setup s i job o e phase fits v c busy r us mine none free p h =
         found = p.found;
         carried = p.carried;
         plan = p.plan;
-        outcome = ap (λ (x : Option Outcome). first_of x (Some o)) (sym held.2 ∙ p.outcome);
+        outcome = ap (λ (x : Option Given). first_of x (Some o)) (sym held.2 ∙ p.outcome);
         keeps = λ q. let g = p.keeps q in (ap (map (row_after i m.effect)) g.0, subst (λ (t : DetLock). is_number t.holder r.turn.thread ≡ true) (sym (lock_quiet i s.table)) g.1);
       },
       walk_tail calls s z i m.effect (next_world calls v (c r.turn.thread) r None) (handed_on calls c r) (handed_on calls c n) (opened busy r) (opened busy n) (c i) true us
@@ -200,14 +200,14 @@ open_record setup s i job o e phase fits v c busy r us mine none free p h =
 -- a job that can be answered: it has an outcome exactly where it goes outside, and one that fits
 pub record Complete (calls : CallTable) (job : Job) : Type 0 where
   pub whole : is_some job.outcome ≡ goes_outside job.plan
-  pub fits : (o : Outcome) → job.outcome ≡ Some o → fits_job calls job o ≡ true
+  pub fits : (o : Given) → job.outcome ≡ Some o → fits_job calls job o ≡ true
 
 complete_granted : (calls : CallTable) (job : Job) → goes_outside job.plan ≡ false → job.outcome ≡ None → Complete calls job
 complete_granted calls job inside none = record { whole = ap is_some none ∙ sym inside; fits = λ o q. absurd (none-some o (sym none ∙ q)) }
 
-complete_recorded : (calls : CallTable) (job : Job) (o : Outcome) → goes_outside job.plan ≡ true → job.outcome ≡ Some o → fits_job calls job o ≡ true → Complete calls job
+complete_recorded : (calls : CallTable) (job : Job) (o : Given) → goes_outside job.plan ≡ true → job.outcome ≡ Some o → fits_job calls job o ≡ true → Complete calls job
 complete_recorded calls job o outside some fits =
-    record { whole = ap is_some some ∙ sym outside; fits = λ u q. subst (λ (x : Outcome). fits_job calls job x ≡ true) (same_Some o u (sym some ∙ q)) fits }
+    record { whole = ap is_some some ∙ sym outside; fits = λ u q. subst (λ (x : Given). fits_job calls job x ≡ true) (same_Some o u (sym some ∙ q)) fits }
 
 right_row : (calls : CallTable) (v : World) (b : Carried) (s : State) (r : Row) (us : List Row) (p : Pending calls s v b r us) → Complete calls p.job
     → IsRight calls v b (record r { outcome = first_of r.outcome None; answer = Some (calls.answer p.job.found p.job.call p.job.outcome p.job.carried) })
@@ -216,7 +216,7 @@ right_row calls v b s r us p full =
     record {
       answer = λ a q.
           sym (same_Some (calls.answer p.job.found p.job.call p.job.outcome p.job.carried) a q)
-          ∙ ((λ k. calls.answer (p.found k) (p.call k) (p.job.outcome) (p.carried k)) ∙ ap (λ (o : Option Outcome). calls.answer v r.call o b) (sym out));
+          ∙ ((λ k. calls.answer (p.found k) (p.call k) (p.job.outcome) (p.carried k)) ∙ ap (λ (o : Option Given). calls.answer v r.call o b) (sym out));
       outcome = λ o q.
           let came : p.job.outcome ≡ Some o = sym out ∙ q in (
             sym (ap goes_outside p.plan) ∙ (sym full.whole ∙ ap is_some came),
@@ -225,21 +225,21 @@ right_row calls v b s r us p full =
       whole = λ q. ap is_some out ∙ (full.whole ∙ ap goes_outside p.plan);
     }
 
-changed_early : (calls : CallTable) (w : World) (c : Call) (b : Carried) (o : Option Outcome) (k : Bool) → k ≡ false → changed calls w c b o k ≡ calls.change w c b
+changed_early : (calls : CallTable) (w : World) (c : Call) (b : Carried) (o : Option Given) (k : Bool) → k ≡ false → changed calls w c b o k ≡ calls.change w c b
 changed_early calls w c b o true h = absurd (false≢true (sym h))
 changed_early calls w c b None false h = refl
 changed_early calls w c b (Some x) false h = refl
 
-changed_late : (calls : CallTable) (w : World) (c : Call) (b : Carried) (o : Outcome) (k : Bool) → k ≡ true → changed calls w c b (Some o) k ≡ calls.kept_change w c b o
+changed_late : (calls : CallTable) (w : World) (c : Call) (b : Carried) (o : Given) (k : Bool) → k ≡ true → changed calls w c b (Some o) k ≡ calls.kept_change w c b o
 changed_late calls w c b o true h = refl
 changed_late calls w c b o false h = absurd (false≢true h)
 
-late_none : (calls : CallTable) (job : Job) (o : Option Outcome) (k : Bool) → k ≡ false → late_change calls job o k ≡ None
+late_none : (calls : CallTable) (job : Job) (o : Option Given) (k : Bool) → k ≡ false → late_change calls job o k ≡ None
 late_none calls job o true h = absurd (false≢true (sym h))
 late_none calls job None false h = refl
 late_none calls job (Some x) false h = refl
 
-late_some : (calls : CallTable) (job : Job) (o : Outcome) (k : Bool) → k ≡ true → late_change calls job (Some o) k ≡ Some (calls.kept_change job.found job.call job.carried o)
+late_some : (calls : CallTable) (job : Job) (o : Given) (k : Bool) → k ≡ true → late_change calls job (Some o) k ≡ Some (calls.kept_change job.found job.call job.carried o)
 late_some calls job o true h = refl
 late_some calls job o false h = absurd (false≢true h)
 
@@ -305,9 +305,9 @@ open_late calls s i job v c busy r l mine none keeps p same full h =
     record {
       world =
           world_mine i s.table m.effect.world s.world holder
-          ∙ (ap (λ (o : Option World). or_else o s.world) (ap (λ (o : Option Outcome). late_change calls job o (keeps_table job.plan)) out.1 ∙ late_some calls job out.0 (keeps_table job.plan) keeps)
+          ∙ (ap (λ (o : Option World). or_else o s.world) (ap (λ (o : Option Given). late_change calls job o (keeps_table job.plan)) out.1 ∙ late_some calls job out.0 (keeps_table job.plan) keeps)
           ∙ (worlds
-          ∙ sym (ap (λ (o : Option Outcome). changed calls v r.call b o (keeps_table (calls.plan v r.call b))) came ∙ changed_late calls v r.call b out.0 (keeps_table (calls.plan v r.call b)) late)));
+          ∙ sym (ap (λ (o : Option Given). changed calls v r.call b o (keeps_table (calls.plan v r.call b))) came ∙ changed_late calls v r.call b out.0 (keeps_table (calls.plan v r.call b)) late)));
       ready = λ k.
           let w = next_world calls v b now (Some a) in
           ⊎_elim

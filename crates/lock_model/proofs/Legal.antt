@@ -10,18 +10,18 @@ use Rattle.lock_model.specs.State.{Job, Phase, Row, State, thread_of, start}
 use Rattle.lock_model.specs.State.Phase.{Working, WantsTable, WantsObject, Granted, ToOutside, Outside, Recorded, Blocked, Ended}
 use Rattle.lock_model.specs.Terms.{World}
 use Rattle.posix_terms.specs.declared.call.Call.{Call}
-use Rattle.posix_terms.specs.declared.outcome.Outcome.{Outcome}
+use Rattle.posix_terms.specs.declared.outcome.Given.{Given}
 use Rattle.posix_terms.specs.Step.{Carried}
 use Rattle.lock_model.specs.Legal.{IsLegalHistory}
 use Rattle.lock_model.proofs.Walk.{Holding, Pending, Part, next_world, opened, Walk}
 use Rattle.lock_model.proofs.Kept.{right_run}
 
-completed_whole : (g : Bool) (o x : Option Outcome) → is_some o ≡ g → completed g o x ≡ o
+completed_whole : (g : Bool) (o x : Option Given) → is_some o ≡ g → completed g o x ≡ o
 completed_whole true None x h = absurd (false≢true h)
 completed_whole true (Some u) x h = refl
 completed_whole false o x h = refl
 
-changed_either : (calls : CallTable) (w : World) (c : Call) (b : Carried) (o u : Option Outcome) (k : Bool) → k ≡ false → changed calls w c b o k ≡ changed calls w c b u k
+changed_either : (calls : CallTable) (w : World) (c : Call) (b : Carried) (o u : Option Given) (k : Bool) → k ≡ false → changed calls w c b o k ≡ changed calls w c b u k
 changed_either calls w c b o u true h = absurd (false≢true (sym h))
 changed_either calls w c b None None false h = refl
 changed_either calls w c b None (Some y) false h = refl
@@ -29,11 +29,11 @@ changed_either calls w c b (Some x) None false h = refl
 changed_either calls w c b (Some x) (Some y) false h = refl
 
 -- an open row with an outcome has one that fits
-pending_outcome : (calls : CallTable) (p : Phase) (job : Job) (o : Outcome) → Holding calls p job → job.outcome ≡ Some o → (goes_outside job.plan ≡ true) × (fits_job calls job o ≡ true)
+pending_outcome : (calls : CallTable) (p : Phase) (job : Job) (o : Given) → Holding calls p job → job.outcome ≡ Some o → (goes_outside job.plan ≡ true) × (fits_job calls job o ≡ true)
 pending_outcome calls (Granted j) job o h q = absurd (none-some o (sym h.2 ∙ q))
 pending_outcome calls (ToOutside j) job o h q = absurd (none-some o (sym h.2 ∙ q))
 pending_outcome calls (Outside j) job o h q = absurd (none-some o (sym h.2 ∙ q))
-pending_outcome calls (Recorded j) job o h q = (h.1, subst (λ (x : Outcome). fits_job calls job x ≡ true) (same_Some h.2.0 o (sym h.2.1 ∙ q)) h.2.2)
+pending_outcome calls (Recorded j) job o h q = (h.1, subst (λ (x : Given). fits_job calls job x ≡ true) (same_Some h.2.0 o (sym h.2.1 ∙ q)) h.2.2)
 pending_outcome calls Working job o h q = absurd h
 pending_outcome calls (WantsTable d e) job o h q = absurd h
 pending_outcome calls (WantsObject d e k n way) job o h q = absurd h
@@ -50,12 +50,12 @@ right_open calls s v b r us none p =
       whole = λ q. absurd (true≢false (sym (ap is_none none) ∙ q));
     }
 
-legal_from : (calls : CallTable) (s : State) (chosen : ℕ → Option Outcome) (k : ℕ) (w : World) (carried : ℕ → Carried) (busy : ℕ → Bool) (rs : List Row) → Walk calls s w carried busy rs → IsLegal calls chosen k w carried rs
+legal_from : (calls : CallTable) (s : State) (chosen : ℕ → Option Given) (k : ℕ) (w : World) (carried : ℕ → Carried) (busy : ℕ → Bool) (rs : List Row) → Walk calls s w carried busy rs → IsLegal calls chosen k w carried rs
 legal_from calls s chosen k w carried busy [] h = tt
 legal_from calls s chosen k w carried busy (r ∷ rs) h =
     legal_row calls s chosen k w carried r rs r.answer refl h.1 (λ n v. legal_from calls s chosen n (next_world calls w (carried r.turn.thread) r r.answer) (handed_on calls carried r) (opened busy r) rs h.2)
   where
-    legal_row : (calls : CallTable) (s : State) (chosen : ℕ → Option Outcome) (k : ℕ) (w : World) (carried : ℕ → Carried) (r : Row) (rs : List Row) (o : Option Answer) → r.answer ≡ o
+    legal_row : (calls : CallTable) (s : State) (chosen : ℕ → Option Given) (k : ℕ) (w : World) (carried : ℕ → Carried) (r : Row) (rs : List Row) (o : Option Answer) → r.answer ≡ o
         → Part calls s w (carried r.turn.thread) r rs o
         → ((n : ℕ) (u : Unit {0}) → IsLegal calls chosen n (next_world calls w (carried r.turn.thread) r r.answer) (handed_on calls carried r) rs)
         → IsLegal calls chosen k w carried (r ∷ rs)
@@ -64,7 +64,7 @@ legal_from calls s chosen k w carried busy (r ∷ rs) h =
         let plan = calls.plan w r.call b in (
           part,
           subst (λ (v : World). IsLegal calls chosen (suc k) v (handed_on calls carried r) rs)
-              (ap (next_world calls w b r) e ∙ ap (λ (o : Option Outcome). changed calls w r.call b o (keeps_table plan)) (sym (completed_whole (goes_outside plan) r.outcome (chosen k) (part.whole (ap is_none e)))))
+              (ap (next_world calls w b r) e ∙ ap (λ (o : Option Given). changed calls w r.call b o (keeps_table plan)) (sym (completed_whole (goes_outside plan) r.outcome (chosen k) (part.whole (ap is_none e)))))
               (rest (suc k) tt),
         )
     legal_row calls s chosen k w carried r rs None e part rest =

@@ -18,3 +18,6 @@ pub mod Holder
 pub mod ScriptProgress
 pub mod RealLegal
 pub mod RealLaws
+pub mod OwnPlans
+pub mod CameRows
+pub mod PlainCame

@@ -16,7 +16,7 @@ use Rattle.lock_model.proofs.Walk.{Holding, Pending, Part, next_world, opened, o
 use Rattle.lock_model.proofs.Kept.{busy_phase, busy_found, right_run}
 use Rattle.lock_model.proofs.Held.{held_run}
 
-holding_job : (calls : CallTable) (p : Phase) (job j : Job) → job_in p ≡ Some job → Holding calls p j → j ≡ job
+pub holding_job : (calls : CallTable) (p : Phase) (job j : Job) → job_in p ≡ Some job → Holding calls p j → j ≡ job
 holding_job calls (Granted k) job j e h = sym h.0 ∙ same_Some k job e
 holding_job calls (ToOutside k) job j e h = sym h.0 ∙ same_Some k job e
 holding_job calls (Outside k) job j e h = sym h.0 ∙ same_Some k job e
@@ -27,7 +27,7 @@ holding_job calls (WantsObject c b clock n way) job j e h = absurd h
 holding_job calls (Blocked c b) job j e h = absurd h
 holding_job calls Ended job j e h = absurd h
 
-job_busy : (p : Phase) (job : Job) → job_in p ≡ Some job → busy_phase p ≡ true
+pub job_busy : (p : Phase) (job : Job) → job_in p ≡ Some job → busy_phase p ≡ true
 job_busy (Granted k) job e = refl
 job_busy (ToOutside k) job e = refl
 job_busy (Outside k) job e = refl

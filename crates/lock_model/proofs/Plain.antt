@@ -96,12 +96,12 @@ pub plain_event : (setup : Setup) (s : State) (e : Event) → next_event setup s
 unfolding plain
 plain_event setup s e h = ap (after_event setup s) h
 
-plain_over : (setup : Setup) (s : State) → next_event setup s ≡ None → plain setup s ≡ s
+pub plain_over : (setup : Setup) (s : State) → next_event setup s ≡ None → plain setup s ≡ s
 unfolding plain
 plain_over setup s h = ap (after_event setup s) h
 
 -- what a plain event makes of a state is the state, or what an allowed event makes of it
-plain_elim : (setup : Setup) (s : State) (P : State → Type 0) (o : Option Event) → next_event setup s ≡ o → P s → ((e : Event) → next_event setup s ≡ Some e → P (happens setup e s)) → P (plain setup s)
+pub plain_elim : (setup : Setup) (s : State) (P : State → Type 0) (o : Option Event) → next_event setup s ≡ o → P s → ((e : Event) → next_event setup s ≡ Some e → P (happens setup e s)) → P (plain setup s)
 plain_elim setup s P None h same event = subst P (sym (plain_over setup s h)) same
 plain_elim setup s P (Some e) h same event = subst P (sym (plain_event setup s e h)) (event e h)
 

@@ -1,5 +1,5 @@
 -- The laws for the real calls, as instances.
-use Rattle.std.proofs.Common.{None, refl}
+use Rattle.std.proofs.Common.{refl}
 use Rattle.posix_terms.specs.Step.{nothing_carried}
 use Rattle.posix_terms.specs.declared.limits.TheConstants.Limits as limit
 use Rattle.lock_model.specs.Numbers.{first_world}
@@ -10,8 +10,8 @@ use Rattle.lock_model.proofs.RealLegal.{legal_shown}
 
 pub real_legal_arisen : RealLegalOfArisen
 real_legal_arisen settings supply threads s arises =
-    legal_shown settings (λ k. None) 0 first_world (λ i. nothing_carried) (λ i. nothing_carried) s.rows (λ i. refl)
-    (legal_arisen (real_setup settings supply) threads limit.OBJECTS first_world s arises (λ k. None))
+    legal_shown settings 0 first_world (λ i. nothing_carried) (λ i. nothing_carried) s.rows (λ i. refl)
+    (legal_arisen (real_setup settings supply) threads limit.OBJECTS first_world s arises)
 
 pub real_legal : RealLegal
 real_legal settings supply threads events =

@@ -11,7 +11,7 @@ use Rattle.thread_scripts.specs.declared.actor.Step.TheVariants as step
 use Rattle.lock_model.specs.State.{Job, Phase, Thread, State, nobody, thread_of, live_clock_in, live_clock, live_clocks}
 use Rattle.lock_model.specs.State.Phase.{Working, Granted, ToOutside, Outside, Recorded, Blocked, Ended}
 use Rattle.posix_terms.specs.declared.call.Call.{Call}
-use Rattle.posix_terms.specs.declared.outcome.Outcome.{Outcome}
+use Rattle.posix_terms.specs.declared.outcome.Given.{Given}
 use Rattle.logical_clocks.specs.TurnOrder.{is_before, all_below, yields_at, yields, has_turn_at, has_turn}
 use Rattle.posix_terms.specs.declared.transcript.Turn.{Turn}
 use Rattle.lock_model.proofs.Commute.{thread_move}
@@ -173,7 +173,7 @@ later_if : (b : Bool) (t : Thread) (n m : Moved) → IsLater t.clock n → cond 
 later_if true t n m l h = subst (IsLater t.clock) (same_Some n m h) l
 later_if false t n m l h = absurd (none-some m h)
 
-later_record : (calls : CallTable) (t : Thread) (job : Job) (o : Option Outcome) (m : Moved) → record_outcome calls t job o ≡ Some m → IsLater t.clock m
+later_record : (calls : CallTable) (t : Thread) (job : Job) (o : Option Given) (m : Moved) → record_outcome calls t job o ≡ Some m → IsLater t.clock m
 later_record calls t job None m h = absurd (none-some m h)
 later_record calls t job (Some o) m h = later_if (fits_job calls job o) t (with_outcome t job o) m (record { clock = omega arith; object_late = tt; table_late = tt }) h
 

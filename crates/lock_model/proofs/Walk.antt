@@ -9,7 +9,7 @@ use Rattle.lock_model.specs.Machine.{Effect, fits_job, is_number, world_after, i
 use Rattle.lock_model.specs.State.{Job, Phase, Thread, Row, State, thread_of}
 use Rattle.lock_model.specs.State.Phase.{Working, WantsTable, WantsObject, Granted, ToOutside, Outside, Recorded, Blocked, Ended}
 use Rattle.lock_model.specs.Terms.{World}
-use Rattle.posix_terms.specs.declared.outcome.Outcome.{Outcome}
+use Rattle.posix_terms.specs.declared.outcome.Given.{Given}
 use Rattle.posix_terms.specs.Step.{Carried}
 use Rattle.lock_model.proofs.Commute.{row_open, row_closed, row_other}
 
@@ -20,7 +20,7 @@ abbrev pub Holding : CallTable → Phase → Job → Type 0
 Holding calls (Granted j) job = (j ≡ job) × (goes_outside job.plan ≡ false) × (job.outcome ≡ None)
 Holding calls (ToOutside j) job = (j ≡ job) × (goes_outside job.plan ≡ true) × (job.outcome ≡ None)
 Holding calls (Outside j) job = (j ≡ job) × (goes_outside job.plan ≡ true) × (job.outcome ≡ None)
-Holding calls (Recorded j) job = (j ≡ job) × (goes_outside job.plan ≡ true) × ((o : Outcome) × (job.outcome ≡ Some o) × (fits_job calls job o ≡ true))
+Holding calls (Recorded j) job = (j ≡ job) × (goes_outside job.plan ≡ true) × ((o : Given) × (job.outcome ≡ Some o) × (fits_job calls job o ≡ true))
 Holding calls p job = ⊥
 
 -- an open row, where its call found this world and carried this: its thread has its job and, if the call keeps the table, holds that and has the last row
@@ -71,7 +71,7 @@ Walk calls s w carried busy (r ∷ rs) =
 
 -- ## Small facts
 
-pub first_none : (o : Option Outcome) → first_of o None ≡ o
+pub first_none : (o : Option Given) → first_of o None ≡ o
 first_none None = refl
 first_none (Some x) = refl
 

@@ -2,7 +2,7 @@
 use Rattle.std.specs.Prelude.{ℕ, Option, Bool, true, false}
 use Rattle.lock_model.specs.Terms.{World, Request}
 use Rattle.posix_terms.specs.declared.call.Call.{Call}
-use Rattle.posix_terms.specs.declared.outcome.Outcome.{Outcome}
+use Rattle.posix_terms.specs.declared.outcome.Given.{Given}
 use Rattle.posix_terms.specs.declared.reply.Reply.{Reply}
 use Rattle.posix_terms.specs.Step.{Carried}
 use Rattle.posix_terms.specs.declared.transcript.Turn.{Turn}
@@ -54,9 +54,9 @@ pub record CallTable : Type 0 where
   -- the world after a call that does not keep the table
   pub change : World → Call → Carried → World
   -- the world after a call that keeps the table
-  pub kept_change : World → Call → Carried → Outcome → World
+  pub kept_change : World → Call → Carried → Given → World
   -- what a call that goes outside asks there
   pub asks : World → Call → Carried → Turn → Request
   -- an outcome that this request can have, at the turn of its call
-  pub fits : Request → Turn → Outcome → Bool
-  pub answer : World → Call → Option Outcome → Carried → Answer
+  pub fits : Request → Turn → Given → Bool
+  pub answer : World → Call → Option Given → Carried → Answer

@@ -11,7 +11,7 @@ use Rattle.thread_scripts.specs.declared.actor.Step.TheVariants as step
 use Rattle.lock_model.specs.State.{State, Row, start}
 use Rattle.lock_model.specs.Terms.{World, Request}
 use Rattle.posix_terms.specs.declared.call.Call.{Call}
-use Rattle.posix_terms.specs.declared.outcome.Outcome.{Outcome}
+use Rattle.posix_terms.specs.declared.outcome.Given.{Given}
 use Rattle.posix_terms.specs.declared.reply.Reply.{Reply}
 use Rattle.posix_terms.specs.Step.{Carried}
 use Rattle.posix_terms.specs.declared.transcript.Row.{Row as TranscriptRow}
@@ -21,7 +21,7 @@ use Rattle.posix_terms.specs.declared.transcript.Turn.{Turn}
 pub record Words : Type 0 where
   pub world : World
   pub call : Call
-  pub outcome : Outcome
+  pub outcome : Given
   pub reply : Reply
   pub carried : Carried
   pub request : Request

@@ -1,9 +1,12 @@
 -- Which locks and which row a thread has, by its phase.
 use Rattle.std.specs.Prelude.{◌≡◌, ℕ, ◌<◌, length, Option, Some, None, Bool, true, false, not, ◌||◌, slice_get}
-use Rattle.lock_model.specs.CallTable.{Plan, has_object, keeps_table}
+use Rattle.lock_model.specs.CallTable.{CallTable, Plan, Way, has_object, keeps_table}
 use Rattle.lock_model.specs.CallTable.Plan.{No_object, Object}
-use Rattle.lock_model.specs.Machine.{is_number, is_open}
+use Rattle.lock_model.specs.Machine.{fits_job, is_number, is_open}
 use Rattle.lock_model.specs.State.{Job, Phase, Row, State, thread_of, object_of}
+use Rattle.posix_terms.specs.Step.{Carried}
+use Rattle.posix_terms.specs.declared.call.Call.{Call}
+use Rattle.posix_terms.specs.declared.outcome.Given.{Given}
 use Rattle.lock_model.specs.State.Phase.{WantsObject, Granted, ToOutside, Outside, Recorded}
 
 -- the call that was granted and is not answered
@@ -48,3 +51,13 @@ row_of job = record { turn = job.turn; call = job.call; outcome = job.outcome; a
 pub record HaveRows (s : State) : Type 0 where
   pub own : (i : ℕ) (job : Job) → job_in (thread_of s i).phase ≡ Some job → (k : ℕ) × (slice_get s.rows k ≡ Some (row_of job)) × (job.turn.thread ≡ i)
   pub one : (i j k : ℕ) (r q : Row) → slice_get s.rows j ≡ Some r → slice_get s.rows k ≡ Some q → is_open i r ≡ true → is_open i q ≡ true → j ≡ k
+
+-- ## Plans
+
+-- each call was planned in the world that it found, which is this one still while it keeps the table; and it has an outcome once that came, which answers what it asks
+pub record HavePlans (calls : CallTable) (s : State) : Type 0 where
+  pub wants : (i : ℕ) (c : Call) (b : Carried) (clock n : ℕ) (way : Way) → (thread_of s i).phase ≡ WantsObject c b clock n way → calls.plan s.world c b ≡ Object n way
+  pub found : (i : ℕ) (job : Job) → job_in (thread_of s i).phase ≡ Some job → job.plan ≡ calls.plan job.found job.call job.carried
+  pub kept : (i : ℕ) (job : Job) → job_in (thread_of s i).phase ≡ Some job → keeps_table job.plan ≡ true → job.found ≡ s.world
+  pub waits : (i : ℕ) (job : Job) → (thread_of s i).phase ≡ Outside job → job.outcome ≡ None
+  pub came : (i : ℕ) (job : Job) → (thread_of s i).phase ≡ Recorded job → (o : Given) × (job.outcome ≡ Some o) × (fits_job calls job o ≡ true)

@@ -6,7 +6,7 @@ use Rattle.lock_model.specs.Machine.{first_of}
 use Rattle.lock_model.specs.State.{Row}
 use Rattle.lock_model.specs.Terms.{World}
 use Rattle.posix_terms.specs.declared.call.Call.{Call}
-use Rattle.posix_terms.specs.declared.outcome.Outcome.{Outcome}
+use Rattle.posix_terms.specs.declared.outcome.Given.{Given}
 use Rattle.posix_terms.specs.Step.{Carried}
 
 -- what a thread carries after an answer
@@ -20,7 +20,7 @@ abbrev pub handed_on : CallTable → (ℕ → Carried) → Row → ℕ → Carri
 handed_on calls carried r i = if r.turn.thread == i then carried_after calls (carried i) r.answer else carried i
 
 -- the world after a call with this outcome
-abbrev pub changed : CallTable → World → Call → Carried → Option Outcome → Bool → World
+abbrev pub changed : CallTable → World → Call → Carried → Option Given → Bool → World
 changed calls w c b o false = calls.change w c b
 changed calls w c b None true = w
 changed calls w c b (Some o) true = calls.kept_change w c b o
@@ -28,16 +28,16 @@ changed calls w c b (Some o) true = calls.kept_change w c b o
 -- a row is right where its call found this world and carried this: its answer is the call's; it has an outcome only where the call goes outside, and one that fits; and once answered it has one wherever the call goes outside
 pub record IsRight (calls : CallTable) (w : World) (b : Carried) (r : Row) : Type 0 where
   pub answer : (a : Answer) → r.answer ≡ Some a → a ≡ calls.answer w r.call r.outcome b
-  pub outcome : (o : Outcome) → r.outcome ≡ Some o → (goes_outside (calls.plan w r.call b) ≡ true) × (calls.fits (calls.asks w r.call b r.turn) r.turn o ≡ true)
+  pub outcome : (o : Given) → r.outcome ≡ Some o → (goes_outside (calls.plan w r.call b) ≡ true) × (calls.fits (calls.asks w r.call b r.turn) r.turn o ≡ true)
   pub whole : is_none r.answer ≡ false → is_some r.outcome ≡ goes_outside (calls.plan w r.call b)
 
 -- the outcome of a call, chosen where it needs one and has none
-abbrev pub completed : Bool → Option Outcome → Option Outcome → Option Outcome
+abbrev pub completed : Bool → Option Given → Option Given → Option Given
 completed true o chosen = first_of o chosen
 completed false o chosen = o
 
 -- each row in turn, from this world, with these outcomes chosen by place for the rows that need one and have none
-abbrev pub IsLegal : CallTable → (ℕ → Option Outcome) → ℕ → World → (ℕ → Carried) → List Row → Type 0
+abbrev pub IsLegal : CallTable → (ℕ → Option Given) → ℕ → World → (ℕ → Carried) → List Row → Type 0
 IsLegal calls chosen k w carried [] = Unit {0}
 IsLegal calls chosen k w carried (r ∷ rs) =
     let b = carried r.turn.thread in
@@ -47,4 +47,4 @@ IsLegal calls chosen k w carried (r ∷ rs) =
 
 -- whatever outcomes the rows that need one and have none will get
 abbrev pub IsLegalHistory : CallTable → World → List Row → Type 0
-IsLegalHistory calls w rows = (chosen : ℕ → Option Outcome) → IsLegal calls chosen 0 w (λ i. calls.nothing_carried) rows
+IsLegalHistory calls w rows = (chosen : ℕ → Option Given) → IsLegal calls chosen 0 w (λ i. calls.nothing_carried) rows

@@ -11,6 +11,7 @@ pub mod Legal
 pub mod Rising
 pub mod Held
 pub mod Laws
+pub mod Came
 pub mod Numbers
 pub mod RealCalls
 pub mod Rows

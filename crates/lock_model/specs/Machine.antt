@@ -13,7 +13,7 @@ use Rattle.lock_model.specs.State.{Job, Phase, Thread, Row, State, thread_of, ob
 use Rattle.lock_model.specs.State.Phase.{Working, WantsTable, WantsObject, Granted, ToOutside, Outside, Recorded, Blocked, Ended}
 use Rattle.lock_model.specs.Terms.{World}
 use Rattle.posix_terms.specs.declared.call.Call.{Call}
-use Rattle.posix_terms.specs.declared.outcome.Outcome.{Outcome}
+use Rattle.posix_terms.specs.declared.outcome.Given.{Given}
 use Rattle.posix_terms.specs.Step.{Carried}
 use Rattle.logical_clocks.specs.TurnOrder.{has_turn}
 use Rattle.posix_terms.specs.declared.transcript.Turn.{Turn}
@@ -35,7 +35,7 @@ pub record Setup : Type 0 where
 
 -- what such an event does beside its thread: to the row of the thread that has no answer, to the locks that the thread holds (freed at these times), and to the world, where the thread holds the table
 pub record Effect : Type 0 where
-  pub outcome : Option Outcome
+  pub outcome : Option Given
   pub answer : Option Answer
   pub object_freed : Option ℕ
   pub table_freed : Option ℕ
@@ -70,10 +70,10 @@ begin_outside limits t job =
     else None
 
 -- an outcome that the request of a granted call can have
-abbrev pub fits_job : CallTable → Job → Outcome → Bool
+abbrev pub fits_job : CallTable → Job → Given → Bool
 fits_job calls job o = calls.fits (calls.asks job.found job.call job.carried job.turn) job.turn o
 
-abbrev pub with_outcome : Thread → Job → Outcome → Moved
+abbrev pub with_outcome : Thread → Job → Given → Moved
 with_outcome t job o =
     record {
       thread = record t { phase = Recorded (record job { outcome = Some o }); came = t.came ++ o ∷ [] };
@@ -81,7 +81,7 @@ with_outcome t job o =
     }
 
 -- `record`: an outcome that does not fit is as good as none
-abbrev pub record_outcome : CallTable → Thread → Job → Option Outcome → Option Moved
+abbrev pub record_outcome : CallTable → Thread → Job → Option Given → Option Moved
 record_outcome calls t job None = None
 record_outcome calls t job (Some o) = if fits_job calls job o then Some (with_outcome t job o) else None
 
@@ -90,7 +90,7 @@ one_if true = 1
 one_if false = 0
 
 -- the world as a call that kept the table leaves it
-abbrev pub late_change : CallTable → Job → Option Outcome → Bool → Option World
+abbrev pub late_change : CallTable → Job → Option Given → Bool → Option World
 late_change calls job (Some o) true = Some (calls.kept_change job.found job.call job.carried o)
 late_change calls job None true = None
 late_change calls job outcome false = None
@@ -161,7 +161,7 @@ world_after i table o w = if is_number table.holder i then or_else o w else w
 abbrev pub is_open : ℕ → Row → Bool
 is_open i r = (r.turn.thread == i) && is_none r.answer
 
-abbrev pub first_of : Option Outcome → Option Outcome → Option Outcome
+abbrev pub first_of : Option Given → Option Given → Option Given
 first_of (Some o) p = Some o
 first_of None p = p
 

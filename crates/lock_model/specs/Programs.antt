@@ -1,6 +1,6 @@
 -- Where the steps of the threads and their outcomes come from.
 use Rattle.std.specs.Prelude.{◌≡◌, ℕ, ◌<◌, ◌⊎◌, List, length, Option, Some, slice_get}
-use Rattle.posix_terms.specs.declared.outcome.Outcome.{Outcome}
+use Rattle.posix_terms.specs.declared.outcome.Given.{Given}
 use Rattle.posix_terms.specs.declared.reply.Reply.{Reply}
 use Rattle.thread_scripts.specs.declared.actor.Step.{Step}
 use Rattle.thread_scripts.specs.declared.actor.Step.TheVariants as step
@@ -16,7 +16,7 @@ listed steps asked replies = slice_get steps (length asked)
 -- for each thread its program, and the outcomes that come for it
 pub record Supply : Type 0 where
   pub next : ℕ → Program
-  pub outcomes : ℕ → List Outcome
+  pub outcomes : ℕ → List Given
 
 -- each program comes to its end: past the bound it asks for nothing but that
 pub record Finite (given : Supply) : Type 0 where

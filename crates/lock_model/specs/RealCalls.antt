@@ -1,17 +1,21 @@
--- The call table of the sequential object. So far no call goes outside.
-use Rattle.std.specs.Prelude.{ℕ, ◌^◌, Option, Some, None, false}
+-- The call table of the sequential object.
+use Rattle.std.specs.Prelude.{ℕ, ◌^◌, Bool, true, false, Option, Some, None, is_some}
+use Rattle.posix_terms.specs.Locked as locked
 use Rattle.posix_terms.specs.Locked.{locked_object}
-use Rattle.posix_terms.specs.Step.{Carried, Stepped, nothing_carried, step}
+use Rattle.posix_terms.specs.Outcomes.{answers}
+use Rattle.posix_terms.specs.Step.{Carried, Stepped, asks, nothing_carried, step}
+use Rattle.posix_terms.specs.declared.outcome.Given.{Given}
+use Rattle.posix_terms.specs.declared.outcome.Outcome.{Outcome}
 use Rattle.posix_terms.specs.declared.reply.Answer as posix
 use Rattle.posix_terms.specs.declared.reply.Answer.TheVariants as answer
 use Rattle.posix_terms.specs.declared.transcript.Settings.{Settings}
-use Rattle.lock_model.specs.CallTable.{CallTable, Answer, Plan}
+use Rattle.lock_model.specs.CallTable.{CallTable, Answer, Plan, Way}
 use Rattle.lock_model.specs.CallTable.Answer.{Gives, Again}
 use Rattle.lock_model.specs.CallTable.Plan.{No_object, Object}
-use Rattle.lock_model.specs.CallTable.Way.{Inside}
+use Rattle.lock_model.specs.CallTable.Way.{Door, Inside, Keeps_table}
 use Rattle.lock_model.specs.Machine.{Limits}
 use Rattle.lock_model.specs.Numbers.{number_of, world_with}
-use Rattle.lock_model.specs.Terms.{World}
+use Rattle.lock_model.specs.Terms.{Request, World}
 
 abbrev pub answered_with : posix.Answer → Carried → Answer
 answered_with (answer.Reply r) b = Gives r
@@ -21,25 +25,41 @@ answered_with answer.Again b = Again b
 abbrev pub answer_in : Stepped → Answer
 answer_in stepped = answered_with stepped.answer stepped.carried
 
+-- by whether it goes outside, and whether it keeps the table then
+abbrev pub way_of : Bool → Bool → Way
+way_of true true = Keeps_table
+way_of true false = Door
+way_of false keeps = Inside
+
 -- with the lock of the object that has this number, or with no object's
-abbrev pub plan_of : Option ℕ → Plan
-plan_of None = No_object
-plan_of (Some number) = Object number Inside
+abbrev pub plan_of : Way → Option ℕ → Plan
+plan_of way None = No_object
+plan_of way (Some number) = Object number way
 
 abbrev pub numbered : World → Option ℕ → Option ℕ
 numbered w None = None
 numbered w (Some object) = Some (number_of w object)
 
+-- what can come for a request
+abbrev pub answers_request : Request → Given → Bool
+answers_request (Some r) g = answers r g
+answers_request None g = false
+
+abbrev pub outcome_in : Option Given → Option Outcome
+outcome_in None = None
+outcome_in (Some g) = Some g.outcome
+
 abbrev pub real_calls : Settings → CallTable
 real_calls settings =
     record {
       nothing_carried = nothing_carried;
-      plan = λ w c b. plan_of (numbered w (locked_object w.object c b));
+      plan = λ w c b. plan_of (way_of (is_some (asks w.object c b)) (locked.keeps_table c)) (numbered w (locked_object w.object c b));
+      -- whatever the outcome: it frees the table before it goes outside
       change = λ w c b. world_with w (step settings w.object c None b).after;
-      kept_change = λ w c b o. world_with w (step settings w.object c (Some o) b).after;
-      asks = λ w c b turn. c;
-      fits = λ r turn o. false;
-      answer = λ w c o b. answer_in (step settings w.object c o b);
+      kept_change = λ w c b o. world_with w (step settings w.object c (Some o.outcome) b).after;
+      asks = λ w c b turn. asks w.object c b;
+      fits = λ r turn o. answers_request r o;
+      answer = λ w c o b. answer_in (step settings w.object c (outcome_in o) b);
     }
 
 abbrev pub real_limits : Settings → Limits

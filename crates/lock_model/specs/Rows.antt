@@ -5,6 +5,7 @@ use Rattle.posix_terms.specs.declared.reply.Answer.TheVariants as answer
 use Rattle.posix_terms.specs.declared.transcript.HistoryRow.{HistoryRow}
 use Rattle.lock_model.specs.CallTable.{Answer}
 use Rattle.lock_model.specs.CallTable.Answer.{Gives, Again}
+use Rattle.lock_model.specs.RealCalls.{outcome_in}
 use Rattle.lock_model.specs.State.{Row}
 
 abbrev pub shown_answer : Option Answer → Option posix.Answer
@@ -14,4 +15,4 @@ shown_answer (Some (Again carried)) = Some answer.Again
 
 -- what a run tells of a row: not what the thread carries from a blocked turn
 abbrev pub shown : Row → HistoryRow
-shown r = record { call = r.call; turn = r.turn; outcome = r.outcome; answer = shown_answer r.answer }
+shown r = record { call = r.call; turn = r.turn; outcome = outcome_in r.outcome; answer = shown_answer r.answer }

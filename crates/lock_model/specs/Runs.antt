@@ -5,7 +5,7 @@ use Rattle.lock_model.specs.Programs.{Supply, listed}
 use Rattle.thread_scripts.specs.declared.actor.Step.{Step}
 use Rattle.thread_scripts.specs.declared.actor.Step.TheVariants as step
 use Rattle.lock_model.specs.State.{State, thread_of}
-use Rattle.posix_terms.specs.declared.outcome.Outcome.{Outcome}
+use Rattle.posix_terms.specs.declared.outcome.Given.{Given}
 
 -- the state after these events. One that is not allowed where it stands changes nothing
 abbrev pub run : Setup → List Event → State → State
@@ -49,4 +49,4 @@ calls_in (step.End ∷ xs) = calls_in xs
 pub record Follows (given : Supply) (s : State) : Type 0 where
   pub steps : (i n : ℕ) (x : Step) → slice_get (thread_of s i).asked n ≡ Some x
       → let asked = take n (thread_of s i).asked in given.next i asked (take (calls_in asked) (thread_of s i).replies) ≡ Some x
-  pub outcomes : (i n : ℕ) (o : Outcome) → slice_get (thread_of s i).came n ≡ Some o → slice_get (given.outcomes i) n ≡ Some o
+  pub outcomes : (i n : ℕ) (o : Given) → slice_get (thread_of s i).came n ≡ Some o → slice_get (given.outcomes i) n ≡ Some o

@@ -6,7 +6,7 @@ use Rattle.lock_model.specs.CallTable.{Answer, Plan, Way}
 use Rattle.thread_scripts.specs.declared.actor.Step.{Step}
 use Rattle.lock_model.specs.Terms.{World}
 use Rattle.posix_terms.specs.declared.call.Call.{Call}
-use Rattle.posix_terms.specs.declared.outcome.Outcome.{Outcome}
+use Rattle.posix_terms.specs.declared.outcome.Given.{Given}
 use Rattle.posix_terms.specs.declared.reply.Reply.{Reply}
 use Rattle.posix_terms.specs.Step.{Carried}
 use Rattle.posix_terms.specs.declared.transcript.Turn.{Turn}
@@ -18,7 +18,7 @@ pub record Job : Type 0 where
   pub plan : Plan
   pub found : World
   pub carried : Carried
-  pub outcome : Option Outcome
+  pub outcome : Option Given
 
 pub data Phase : Type 0 where
   Working : Phase
@@ -38,13 +38,13 @@ pub record Thread : Type 0 where
   pub clock : ℕ
   pub asked : List Step
   pub replies : List Reply
-  pub came : List Outcome
+  pub came : List Given
 
 -- a granted turn: its call, the outcome if it came, and the answer if it was given
 pub record Row : Type 0 where
   pub turn : Turn
   pub call : Call
-  pub outcome : Option Outcome
+  pub outcome : Option Given
   pub answer : Option Answer
 
 -- the locks of the table and of each object number, the rows in the order of the grants, and what the granted calls have made

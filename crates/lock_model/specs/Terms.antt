@@ -1,13 +1,13 @@
 -- The words of the lock machine for what the calls are about. It looks into neither.
 use Rattle.std.specs.Prelude.{ℕ, List, Option}
 use Rattle.posix_terms.specs.Object.{State}
-use Rattle.posix_terms.specs.declared.call.Call.{Call}
+use Rattle.posix_terms.specs.declared.request.Request as posix
 
 -- what the calls that were granted so far have made: the state of the sequential object and, by object number, which of its objects has that number
 pub record World : Type 0 where
   pub object : State
   pub numbers : List (Option ℕ)
 
--- what a call asks outside: a request names the call
+-- what a call asks outside, if it goes there
 abbrev pub Request : Type 0
-Request = Call
+Request = Option posix.Request

@@ -4,7 +4,7 @@ use Rattle.lock_model.specs.CallTable.{Answer}
 use Rattle.lock_model.specs.CallTable.Answer.{Gives, Again}
 use Rattle.lock_model.specs.History.{rows_of}
 use Rattle.lock_model.specs.State.{Row}
-use Rattle.posix_terms.specs.declared.outcome.Outcome.{Outcome}
+use Rattle.posix_terms.specs.declared.outcome.Given.{Given}
 use Rattle.posix_terms.specs.declared.transcript.Row.{Row as TranscriptRow}
 
 abbrev pub replied : Row → Option Answer → Option TranscriptRow
@@ -13,7 +13,7 @@ replied r (Some (Again b)) = None
 replied r None = None
 
 -- of the rows of thread i, the outcomes that came
-abbrev pub outcomes_of : ℕ → List Row → List Outcome
+abbrev pub outcomes_of : ℕ → List Row → List Given
 outcomes_of i rows = filter_map (λ (r : Row). r.outcome) (rows_of i rows)
 
 -- the answers that were given

@@ -5,10 +5,11 @@
 #![tactic(auto)]
 
 ghost use Rattle.std.specs.Prelude.{◌≡◌, ◌∷◌, []};
+ghost use Rattle.lock_model.specs.Came.{CameGrows, CameIsRows, OutsideStays, OverUnderCame, PlainLeads, RoomOutside, SameUnderCame};
 ghost use Rattle.lock_model.specs.CallTable.Plan.{No_object, Object};
 ghost use Rattle.lock_model.specs.CallTable.Way.{Door, Inside, Keeps_table};
 ghost use Rattle.lock_model.specs.Example.{Words, alone, blocked_call, one_call, replied_at, three_calls, turn, turns, two};
-ghost use Rattle.lock_model.specs.Laws.{ArisesAtStart, ArisesByEvent, ArisesByRun, EachEventLowers, EndedOrTurn, EndsHere, EndsNext, HolderHasTurn, LegalLaw, LegalOfArisen, LocksOfArisen, OneEventMore, OneTurn, OverLaw, OwnFinite, PlainIsRun, PrefixLaw, PrefixLawOfCame, PrefixLawOfFollowed, PrefixLawOfOwn, RisingLaw, RisingOfArisen, RowsOfArisen, RunFollows, SomeEnd, SomeTurn, StuckLaw, UniqueEnd};
+ghost use Rattle.lock_model.specs.Laws.{ArisesAtStart, ArisesByEvent, ArisesByRun, EachEventLowers, EndedOrTurn, EndsHere, EndsNext, HolderHasTurn, LegalLaw, LegalOfArisen, LocksOfArisen, OneEventMore, OneTurn, OverLaw, OwnFinite, PlainIsRun, PlansOfArisen, PrefixLaw, PrefixLawOfCame, PrefixLawOfFollowed, PrefixLawOfOwn, RisingLaw, RisingOfArisen, RowsOfArisen, RunFollows, SomeEnd, SomeTurn, StuckLaw, UniqueEnd};
 ghost use Rattle.lock_model.specs.RealLaws.{RealEnd, RealLegal, RealLegalOfArisen, RealPrefix, RealRising};
 ghost use Rattle.lock_model.specs.Schedule.{IsOver, plain_run};
 ghost use Rattle.lock_model.specs.ScriptPrograms.{NeverLacks};
@@ -71,7 +72,8 @@ pub fn legal_history()
 /// has itself. The start arises; each event leads from a state that arises to one that arises, whatever the setup
 /// supplies; so each run's state arises, and its threads follow their programs. The history of a state that arises
 /// is legal, and its turns rise. In it each lock is held by just the thread whose phase says so, and a thread in a
-/// call has one row without an answer, that of its call.
+/// call has one row without an answer, that of its call. It was planned in the world that it found, which stays as it
+/// is while the call keeps the table, and an outcome that came answers what it asks (`plans`).
 pub fn arising_states()
     ensures at_start { ArisesAtStart }
     ensures by_event { ArisesByEvent }
@@ -81,6 +83,7 @@ pub fn arising_states()
     ensures rising { RisingOfArisen }
     ensures locks { LocksOfArisen }
     ensures rows { RowsOfArisen }
+    ensures plans { PlansOfArisen }
 {}
 
 /// The same for the real calls, in the words of files and descriptors. Whatever the order of events, the object of
@@ -118,4 +121,19 @@ pub fn worked_runs()
 /// A program that is a script never lacks its next step: behind its last line a script goes on ending.
 pub fn scripts_never_lack()
     ensures { NeverLacks }
+{}
+
+/// The plain run and the outcomes that came in it. With just those that came in so many events it is the same run so
+/// far (`same`), and over where it was over (`over`): so it can be made again from its own outcomes. What so many
+/// events make is a run (`leads`), which only adds to what came (`grows`). A thread that went outside is there still, or the
+/// next outcome that came for it answers what it asked (`stays`); outside it has room for one (`room`). In a state that
+/// arises, what came for a thread are the outcomes of its rows, in order (`rows`).
+pub fn outcomes_that_came()
+    ensures same { SameUnderCame }
+    ensures over { OverUnderCame }
+    ensures leads { PlainLeads }
+    ensures grows { CameGrows }
+    ensures stays { OutsideStays }
+    ensures room { RoomOutside }
+    ensures rows { CameIsRows }
 {}

@@ -1,5 +1,5 @@
 -- What the store does for a call is what the sequential object does.
-use Rattle.std.proofs.Common.{◌≡◌, ◌≢◌, ℕ, ◌+◌, ◌<◌, List, [], length, Option, Some, None, Result, Ok, Err, Bool, true, false, if◌then◌else◌, nat_lt, ap₂, refl, sym, ap, ◌∙◌, subst, ⊎_elim}
+use Rattle.std.proofs.Common.{◌≡◌, ◌≢◌, ℕ, ◌+◌, ◌<◌, List, [], length, Option, Some, None, Result, Ok, Err, Bool, true, false, if◌then◌else◌, ◌&&◌, nat_lt, ap₂, refl, sym, ap, ◌∙◌, subst, ⊎_elim}
 use Rattle.std.proofs.lemmas.Bool.{false≢true}
 use Rattle.std.proofs.lemmas.List.{get_or-set_same, get_or-set_other}
 use Rattle.std.specs.FinMap as fin
@@ -7,16 +7,17 @@ use Rattle.std.specs.Option.{option_map}
 use Rattle.std.specs.Prelude.{IsTrue, is_some, slice_set, unwrap_or}
 use Rattle.posix_terms.specs.Locked.{locked_object}
 use Rattle.posix_terms.specs.Object as posix
-use Rattle.posix_terms.specs.Effects.{Effect, Blocks, Completes}
-use Rattle.posix_terms.specs.Object.{State, Content, File, Pair, Pipe}
-use Rattle.posix_terms.specs.Step.{Carried, Stepped, concluded, effect_of, nothing_carried, step, waited}
-use Rattle.posix_terms.specs.Transfers.{content_of}
+use Rattle.posix_terms.specs.Effects.{Effect, Asks, Blocks, Completes}
+use Rattle.posix_terms.specs.Object.{State, Content, DoorTo, File, Pair, Pipe, content_of}
+use Rattle.posix_terms.specs.Step.{Carried, Stepped, asks, concluded, effect_of, failed, is_again, nothing_carried, step, waited}
 use Rattle.posix_terms.specs.declared.call.Call.{Call}
 use Rattle.posix_terms.specs.declared.errno.Errno.{Errno}
 use Rattle.posix_terms.specs.declared.errno.Errno.TheVariants.{EINTR}
+use Rattle.posix_terms.specs.declared.object.Door.{Door}
 use Rattle.posix_terms.specs.declared.object.End.{End}
 use Rattle.posix_terms.specs.declared.object.End.TheVariants as part
 use Rattle.posix_terms.specs.declared.outcome.Outcome.{Outcome}
+use Rattle.posix_terms.specs.declared.outcome.Outcome.TheVariants as result
 use Rattle.posix_terms.specs.declared.reply.Answer.{Answer}
 use Rattle.posix_terms.specs.declared.reply.Answer.TheVariants as answer
 use Rattle.posix_terms.specs.declared.reply.Reply.{Reply}
@@ -37,6 +38,7 @@ use Rattle.descriptor_table.specs.declared.plan.Opened.{Opened}
 use Rattle.descriptor_table.specs.declared.plan.Plan.{Plan}
 use Rattle.descriptor_table.specs.declared.plan.Plan.TheVariants as plan
 use Rattle.descriptor_table.proofs.ActLemmas.{acts-as_step}
+use Rattle.descriptor_table.proofs.EndLemmas.{one_door}
 use Rattle.descriptor_table.proofs.FollowLemmas.{changes-as_step}
 use Rattle.descriptor_table.proofs.KnownLemmas.{known-planned}
 use Rattle.descriptor_table.proofs.NumberLemmas.{numbers-unchanged}
@@ -57,24 +59,24 @@ use Rattle.object_store.proofs.Shapes.{IsMaking, planned_fits, suits}
 use Rattle.object_store.proofs.Stepping.{Leaves, Rewrites, moved_stands, reply_stands, rested_stands, still_stands}
 
 -- what the table promises of a call that it made
-made_leaves : (h : Stored) (w : World) (c : Call) (u : TableState) (settings : Settings) (carried : Carried) → Stands h w → TableMade h c u → Leaves h.table u (planned h.table c) w.object (step settings w.object c None carried).after
-made_leaves h w c u settings carried st made =
+pub made_leaves : (h : Stored) (w : World) (c : Call) (o : Option Outcome) (u : TableState) (settings : Settings) (carried : Carried) → Stands h w → TableMade h c o u → Leaves h.table u (planned h.table c) w.object (step settings w.object c o carried).after
+made_leaves h w c o u settings carried st made =
     record {
       sound = made.sound;
       described = made.described;
-      shows = made.follows settings w.object None carried st.shows;
-      others = stays-as_step h.table c st.sound st.described settings w.object None carried st.shows;
+      shows = made.follows settings w.object o carried (λ keeps. refl) st.shows;
+      others = stays-as_step h.table c st.sound st.described settings w.object o carried st.shows;
       numbers = made.numbers;
       offsets = made.offsets;
     }
 
 -- the table stays as it was
-stays_leaves : (h : Stored) (w : World) (c : Call) (settings : Settings) (carried : Carried) → Stands h w → Changes h.table c h.table → Leaves h.table h.table (planned h.table c) w.object (step settings w.object c None carried).after
+stays_leaves : (h : Stored) (w : World) (c : Call) (settings : Settings) (carried : Carried) → Stands h w → Changes h.table c None h.table → Leaves h.table h.table (planned h.table c) w.object (step settings w.object c None carried).after
 stays_leaves h w c settings carried st same =
     record {
       sound = st.sound;
       described = st.described;
-      shows = changes-as_step h.table c h.table st.sound st.described (λ refused. refl) (λ made. same) settings w.object None carried st.shows;
+      shows = changes-as_step h.table c None h.table st.sound st.described (λ refused. refl) (λ made. same) settings w.object None carried (λ keeps. refl) st.shows;
       others = stays-as_step h.table c st.sound st.described settings w.object None carried st.shows;
       numbers = numbers-unchanged h.table;
       offsets = offsets-unchanged h.table;
@@ -90,7 +92,7 @@ offset_in h _ = 0
 offset_stands : (h : Stored) (w : World) (key : ℕ) → Stands h w → IsTrue (fin.contains_key h.table.descriptions.by_key key) → offset_at w.object (birth_of h.table key) ≡ Some (offset_of_key h key)
 offset_stands h w key st known = ap (option_map (λ (d : posix.Description). d.offset)) (st.offsets key (description_at h.table.descriptions key) (known_at h.table.descriptions key known))
 
-stands_at : (h : Stored) (w : World) (act : Op) → Stands h w → MovesKnown h.table act → StandsAt h.table w.object act (offset_in h act)
+pub stands_at : (h : Stored) (w : World) (act : Op) → Stands h w → MovesKnown h.table act → StandsAt h.table w.object act (offset_in h act)
 stands_at h w (op.Read from n) st known = offset_stands h w from.key st known
 stands_at h w (op.Write to) st known = offset_stands h w to.key st known
 stands_at h w (op.Lseek from) st known = offset_stands h w from.key st known
@@ -103,6 +105,7 @@ stands_at h w (op.Fstat links) st known = tt
 stands_at h w op.Pipe st known = tt
 stands_at h w op.Socketpair st known = tt
 stands_at h w (op.Shutdown side how) st known = tt
+stands_at h w (op.Ask errand) st known = tt
 
 -- ## What the act finds
 
@@ -116,6 +119,7 @@ held_for act k = File k.file
 -- an act whose object has one kind
 abbrev pub IsKind : Op → Type 0
 IsKind op.Release = ⊥
+IsKind (op.Ask errand) = ⊥
 IsKind act = Unit {0}
 
 held_is : (e : End) (content : Content) (k : Kept) → is_of e content ≡ true → content ≡ kept_as content k → content ≡ held_by e k
@@ -123,6 +127,7 @@ held_is part.Only (File file) k has is = is
 held_is part.Read (Pipe bytes) k has is = is
 held_is part.Write (Pipe bytes) k has is = is
 held_is (part.Socket side) (Pair p) k has is = is
+held_is (part.Door one) (DoorTo other) k has is = ap (λ (d : Door). DoorTo d) (one_door one other has)
 held_is part.Only (Pipe bytes) k has is = absurd (false≢true has)
 held_is part.Only (Pair p) k has is = absurd (false≢true has)
 held_is part.Read (File file) k has is = absurd (false≢true has)
@@ -131,36 +136,45 @@ held_is part.Write (File file) k has is = absurd (false≢true has)
 held_is part.Write (Pair p) k has is = absurd (false≢true has)
 held_is (part.Socket side) (File file) k has is = absurd (false≢true has)
 held_is (part.Socket side) (Pipe bytes) k has is = absurd (false≢true has)
+held_is part.Only (DoorTo door) k has is = absurd (false≢true has)
+held_is part.Read (DoorTo door) k has is = absurd (false≢true has)
+held_is part.Write (DoorTo door) k has is = absurd (false≢true has)
+held_is (part.Socket side) (DoorTo door) k has is = absurd (false≢true has)
+held_is (part.Door door) (File file) k has is = absurd (false≢true has)
+held_is (part.Door door) (Pipe bytes) k has is = absurd (false≢true has)
+held_is (part.Door door) (Pair p) k has is = absurd (false≢true has)
 
 -- so it does what it does with what it finds there
-same_done : (t : TableState) (node : ℕ) (act : Op) (c : Call) (given : NewNumbers) (content : Content) (k : Kept) (offset : ℕ) → IsKind act → suits act content ≡ true → content ≡ kept_as content k → acted t node act c given content offset ≡ acted t node act c given (held_for act k) offset
-same_done t node (op.Open cut) c given content k offset kind has is = ap (λ (x : Content). acted t node (op.Open cut) c given x offset) (held_is part.Only content k has is)
+same_done : (t : TableState) (node : ℕ) (act : Op) (c : Call) (given : NewNumbers) (content : Content) (k : Kept) (offset : ℕ) → IsKind act → suits act content ≡ true → content ≡ kept_as content k → acted t node act c None given content offset ≡ acted t node act c None given (held_for act k) offset
+same_done t node (op.Open cut) c given content k offset kind has is = ap (λ (x : Content). acted t node (op.Open cut) c None given x offset) (held_is part.Only content k has is)
 same_done t node op.Release c given content k offset kind has is = absurd kind
-same_done t node (op.Read from n) c given content k offset kind has is = ap (λ (x : Content). acted t node (op.Read from n) c given x offset) (held_is from.«end» content k has is)
-same_done t node (op.Write to) c given content k offset kind has is = ap (λ (x : Content). acted t node (op.Write to) c given x offset) (held_is to.«end» content k has is)
-same_done t node (op.Pread n start) c given content k offset kind has is = ap (λ (x : Content). acted t node (op.Pread n start) c given x offset) (held_is part.Only content k has is)
-same_done t node (op.Pwrite start) c given content k offset kind has is = ap (λ (x : Content). acted t node (op.Pwrite start) c given x offset) (held_is part.Only content k has is)
-same_done t node (op.Lseek at) c given content k offset kind has is = ap (λ (x : Content). acted t node (op.Lseek at) c given x offset) (held_is part.Only content k has is)
-same_done t node (op.Ftruncate size) c given content k offset kind has is = ap (λ (x : Content). acted t node (op.Ftruncate size) c given x offset) (held_is part.Only content k has is)
-same_done t node (op.Fstat links) c given content k offset kind has is = ap (λ (x : Content). acted t node (op.Fstat links) c given x offset) (held_is part.Only content k has is)
+same_done t node (op.Read from n) c given content k offset kind has is = ap (λ (x : Content). acted t node (op.Read from n) c None given x offset) (held_is from.«end» content k has is)
+same_done t node (op.Write to) c given content k offset kind has is = ap (λ (x : Content). acted t node (op.Write to) c None given x offset) (held_is to.«end» content k has is)
+same_done t node (op.Pread n start) c given content k offset kind has is = ap (λ (x : Content). acted t node (op.Pread n start) c None given x offset) (held_is part.Only content k has is)
+same_done t node (op.Pwrite start) c given content k offset kind has is = ap (λ (x : Content). acted t node (op.Pwrite start) c None given x offset) (held_is part.Only content k has is)
+same_done t node (op.Lseek at) c given content k offset kind has is = ap (λ (x : Content). acted t node (op.Lseek at) c None given x offset) (held_is part.Only content k has is)
+same_done t node (op.Ftruncate size) c given content k offset kind has is = ap (λ (x : Content). acted t node (op.Ftruncate size) c None given x offset) (held_is part.Only content k has is)
+same_done t node (op.Fstat links) c given content k offset kind has is = ap (λ (x : Content). acted t node (op.Fstat links) c None given x offset) (held_is part.Only content k has is)
 same_done t node op.Pipe c given content k offset kind has is = refl
 same_done t node op.Socketpair c given content k offset kind has is = refl
-same_done t node (op.Shutdown side how) c given content k offset kind has is = ap (λ (x : Content). acted t node (op.Shutdown side how) c given x offset) (held_is (part.Socket side) content k has is)
+same_done t node (op.Ask errand) c given content k offset kind has is = absurd kind
+same_done t node (op.Shutdown side how) c given content k offset kind has is = ap (λ (x : Content). acted t node (op.Shutdown side how) c None given x offset) (held_is (part.Socket side) content k has is)
 
 -- an act that makes its object finds nothing
-making_done : (t : TableState) (node : ℕ) (act : Op) (c : Call) (given : NewNumbers) (x y : Content) (offset : ℕ) → IsMaking act → acted t node act c given x offset ≡ acted t node act c given y offset
-making_done t node (op.Open cut) c given x y offset making = ap (λ (b : Bool). acted t node (op.Open b) c given x offset) making ∙ sym (ap (λ (b : Bool). acted t node (op.Open b) c given y offset) making)
-making_done t node op.Pipe c given x y offset making = refl
-making_done t node op.Socketpair c given x y offset making = refl
-making_done t node op.Release c given x y offset making = absurd making
-making_done t node (op.Read from n) c given x y offset making = absurd making
-making_done t node (op.Write to) c given x y offset making = absurd making
-making_done t node (op.Pread n start) c given x y offset making = absurd making
-making_done t node (op.Pwrite start) c given x y offset making = absurd making
-making_done t node (op.Lseek at) c given x y offset making = absurd making
-making_done t node (op.Ftruncate size) c given x y offset making = absurd making
-making_done t node (op.Fstat links) c given x y offset making = absurd making
-making_done t node (op.Shutdown side how) c given x y offset making = absurd making
+making_done : (t : TableState) (node : ℕ) (act : Op) (keep : Bool) (c : Call) (given : NewNumbers) (x y : Content) (offset : ℕ) → IsKind act → IsMaking keep act → acted t node act c None given x offset ≡ acted t node act c None given y offset
+making_done t node (op.Open cut) keep c given x y offset kind making = ap (λ (b : Bool). acted t node (op.Open b) c None given x offset) making ∙ sym (ap (λ (b : Bool). acted t node (op.Open b) c None given y offset) making)
+making_done t node op.Pipe keep c given x y offset kind making = refl
+making_done t node op.Socketpair keep c given x y offset kind making = refl
+making_done t node op.Release keep c given x y offset kind making = absurd making
+making_done t node (op.Read from n) keep c given x y offset kind making = absurd making
+making_done t node (op.Write to) keep c given x y offset kind making = absurd making
+making_done t node (op.Pread n start) keep c given x y offset kind making = absurd making
+making_done t node (op.Pwrite start) keep c given x y offset kind making = absurd making
+making_done t node (op.Lseek at) keep c given x y offset kind making = absurd making
+making_done t node (op.Ftruncate size) keep c given x y offset kind making = absurd making
+making_done t node (op.Fstat links) keep c given x y offset kind making = absurd making
+making_done t node (op.Shutdown side how) keep c given x y offset kind making = absurd making
+making_done t node (op.Ask errand) keep c given x y offset kind making = absurd kind
 
 -- ## What the act leaves
 
@@ -175,7 +189,7 @@ module _ (h : Stored) (w : World) (c : Call) (node : ℕ) (act : Op) (settings :
   act_does = subst (ActsAsStep h.table c) planned_is.1 (acts-as_step h.table c st.sound st.described)
 
   abbrev done_with : Content → Acted
-  done_with content = acted h.table node act c (numbers_told c stepped.answer) content (offset_in h act)
+  done_with content = acted h.table node act c None (numbers_told c stepped.answer) content (offset_in h act)
 
   -- the step does what the act does with what is there
   abbrev IsDone : Acted → Type 0
@@ -189,7 +203,7 @@ module _ (h : Stored) (w : World) (c : Call) (node : ℕ) (act : Op) (settings :
   some_of b (Some x) is there = (x, is)
 
   -- what is there is what is kept under the number
-  there_is : is_used h.table node ≡ true → content_of w.object (birth_at h.table node) ≡ kept_as (content_of w.object (birth_at h.table node)) (kept_at h node)
+  pub there_is : is_used h.table node ≡ true → content_of w.object (birth_at h.table node) ≡ kept_as (content_of w.object (birth_at h.table node)) (kept_at h node)
   there_is used =
       let birth = birth_at h.table node in
       let slot = birth_is h.table node used in
@@ -209,15 +223,15 @@ module _ (h : Stored) (w : World) (c : Call) (node : ℕ) (act : Op) (settings :
       on_new : free_object h.table ≡ Some node → IsDone (done_with (held_for act (kept_at h node)))
       on_new free =
           let slot = lowest_is_free h.table.objects 48 0 node free in
-          let making : IsMaking act = (planned_fits h.table c node act planned_is.0 planned_is.1).1 st.sound (ap (λ (o : Option ℕ). is_some o) slot) in
+          let making : IsMaking planned_is.0 act = (planned_fits h.table c node act planned_is.0 planned_is.1).1 st.sound (ap (λ (o : Option ℕ). is_some o) slot) in
           let content = content_of w.object (birth_at h.table node) in
-          subst IsDone (making_done h.table node act c (numbers_told c stepped.answer) content (held_for act (kept_at h node)) (offset_in h act) making) (on content refl)
+          subst IsDone (making_done h.table node act planned_is.0 c (numbers_told c stepped.answer) content (held_for act (kept_at h node)) (offset_in h act) kind making) (on content refl)
 
 -- a release leaves what is there
 released_is : (h : Stored) (w : World) (c : Call) (node : ℕ) (settings : Settings) (carried : Carried) (st : Stands h w) (planned_is : IsPlanned h c node op.Release)
     → let content = content_of w.object (birth_at h.table node) in
     let stepped = step settings w.object c None carried in
-    let done = acted h.table node op.Release c (numbers_told c stepped.answer) content 0 in
+    let done = acted h.table node op.Release c None (numbers_told c stepped.answer) content 0 in
     (content ≡ kept_as content (kept_at h node)) × IsActed h.table node op.Release done (ended settings w.object carried done.ending) stepped
 released_is h w c node settings carried st planned_is =
     let known = known h w c node op.Release settings carried st planned_is in (
@@ -247,6 +261,13 @@ waited_carries settings s carried r is = by_test (nat_lt (carried + 1) settings.
 carries_nothing : (settings : Settings) (s : State) (outcome : Option Outcome) (carried : Carried) (does : Result Effect Errno) (r : Reply) → (concluded settings s outcome carried does).answer ≡ answer.Reply r → (concluded settings s outcome carried does).carried ≡ nothing_carried
 carries_nothing settings s outcome carried (Ok (Completes after x)) r is = refl
 carries_nothing settings s outcome carried (Ok Blocks) r is = waited_carries settings s carried r is
+carries_nothing settings s (Some (result.Ok value bytes)) carried (Ok (Asks a)) r is = refl
+carries_nothing settings s (Some (result.Fail e)) carried (Ok (Asks a)) r is = by_test (a.waits && is_again e) is
+  where
+    by_test : (b : Bool) → (if b then waited settings s carried else failed a.otherwise e).answer ≡ answer.Reply r → (if b then waited settings s carried else failed a.otherwise e).carried ≡ nothing_carried
+    by_test true is = waited_carries settings s carried r is
+    by_test false is = refl
+carries_nothing settings s None carried (Ok (Asks a)) r is = refl
 carries_nothing settings s outcome carried (Err e) r is = refl
 
 pub replies_end : (old : Stored) (c : Call) (r : Reply) (new : Stored) → Replies old c r new → EndsTurn old c (ending.Reply r) new
@@ -259,12 +280,12 @@ ends_reply old c r new ends settings w carried st = let now = ends settings w ca
 
 -- ## Calls that the table answers
 
-pub reply_makes : (h : Stored) (c : Call) (r : Reply) (u : TableState) → planned h.table c ≡ plan.Reply r → TableMade h c u → Replies h c r (record h { table = u })
+pub reply_makes : (h : Stored) (c : Call) (r : Reply) (u : TableState) → planned h.table c ≡ plan.Reply r → TableMade h c None u → Replies h c r (record h { table = u })
 reply_makes h c r u is made settings w carried st =
     let after = (step settings w.object c None carried).after in
-    let agrees : AgreesOn h.table (plan.Reply r) (locked_object w.object c carried) (step settings w.object c None carried).answer =
-    subst (λ (p : Plan). AgreesOn h.table p (locked_object w.object c carried) (step settings w.object c None carried).answer) is (plans-as_step h.table c st.sound st.described settings w.object None carried st.shows) in
-    (agrees.1, reply_stands h w u r after st (subst (λ (p : Plan). Leaves h.table u p w.object after) is (made_leaves h w c u settings carried st made)))
+    let agrees : AgreesOn h.table c (plan.Reply r) (locked_object w.object c carried) (asks w.object c carried) (step settings w.object c None carried).answer =
+    subst (λ (p : Plan). AgreesOn h.table c p (locked_object w.object c carried) (asks w.object c carried) (step settings w.object c None carried).answer) is (plans-as_step h.table c st.sound st.described settings w.object None carried st.shows) in
+    (agrees.1.1, reply_stands h w u r after st (subst (λ (p : Plan). Leaves h.table u p w.object after) is (made_leaves h w c None u settings carried st made)))
 
 -- ## Calls that act on an object
 
@@ -288,25 +309,26 @@ rests_still t node (op.Fstat links) keep rests birth = tt
 rests_still t node op.Pipe keep rests birth = tt
 rests_still t node op.Socketpair keep rests birth = tt
 rests_still t node (op.Shutdown side how) keep rests birth = tt
+rests_still t node (op.Ask errand) keep rests birth = tt
 
-known_of : (h : Stored) (w : World) (c : Call) (node : ℕ) (act : Op) (keep : Bool) → Stands h w → planned h.table c ≡ plan.Node node act keep → LocksKnown h.table (plan.Node node act keep)
+pub known_of : (h : Stored) (w : World) (c : Call) (node : ℕ) (act : Op) (keep : Bool) → Stands h w → planned h.table c ≡ plan.Node node act keep → LocksKnown h.table (plan.Node node act keep)
 known_of h w c node act keep st is = subst (LocksKnown h.table) is (known-planned h.table c st.sound)
 
 -- the table was changed, and the object
-pub made_ends : (h : Stored) (c : Call) (node : ℕ) (act : Op) (u : TableState) (given : NewNumbers) (bodies : List Kept) (e : Ending) → Rests act → IsKind act → IsPlanned h c node act → TableMade h c u → TellsAsStep h.table c given
-    → let done = acted h.table node act c given (held_for act (kept_at h node)) (offset_in h act) in
+pub made_ends : (h : Stored) (c : Call) (node : ℕ) (act : Op) (u : TableState) (given : NewNumbers) (bodies : List Kept) (e : Ending) → Rests act → IsKind act → IsPlanned h c node act → TableMade h c None u → TellsAsStep h.table c None given
+    → let done = acted h.table node act c None given (held_for act (kept_at h node)) (offset_in h act) in
     shown_ending e ≡ done.ending → Rewrites h node done.content bodies → EndsTurn h c e (record { table = u; bodies = bodies })
 made_ends h c node act u given bodies e rests kind (keep, is) made tells same rewrites settings w carried st =
     let stepped = step settings w.object c None carried in
-    let told : numbers_told c stepped.answer ≡ given = sym (tells settings w.object None carried st.shows) in
-    let P : NewNumbers → Type 0 = λ n. let done = acted h.table node act c n (held_for act (kept_at h node)) (offset_in h act) in IsActed h.table node act done (ended settings w.object carried done.ending) stepped in
+    let told : numbers_told c stepped.answer ≡ given = sym (tells settings w.object None carried (λ keeps. refl) st.shows) in
+    let P : NewNumbers → Type 0 = λ n. let done = acted h.table node act c None n (held_for act (kept_at h node)) (offset_in h act) in IsActed h.table node act done (ended settings w.object carried done.ending) stepped in
     let now : P given = subst P told (acted_kind h w c node act settings carried st (keep, is) kind) in
-    let done = acted h.table node act c given (held_for act (kept_at h node)) (offset_in h act) in
-    let leaves = subst (λ (p : Plan). Leaves h.table u p w.object stepped.after) is (made_leaves h w c u settings carried st made) in
+    let done = acted h.table node act c None given (held_for act (kept_at h node)) (offset_in h act) in
+    let leaves = subst (λ (p : Plan). Leaves h.table u p w.object stepped.after) is (made_leaves h w c None u settings carried st made) in
     (turn_ends h w node act settings carried done stepped (shown_ending e) now same, still_stands h w st u node act keep stepped.after leaves (known_of h w c node act keep st is).0 done.content now.content_is bodies rewrites (rests_still h.table node act keep rests))
 
 -- the object alone was changed
-pub stays_ends : (h : Stored) (c : Call) (node : ℕ) (act : Op) (bodies : List Kept) (done : Acted) (e : Ending) → Rests act → IsKind act → IsPlanned h c node act → Changes h.table c h.table → ((given : NewNumbers) → acted h.table node act c given (held_for act (kept_at h node)) (offset_in h act) ≡ done)
+pub stays_ends : (h : Stored) (c : Call) (node : ℕ) (act : Op) (bodies : List Kept) (done : Acted) (e : Ending) → Rests act → IsKind act → IsPlanned h c node act → Changes h.table c None h.table → ((given : NewNumbers) → acted h.table node act c None given (held_for act (kept_at h node)) (offset_in h act) ≡ done)
     → shown_ending e ≡ done.ending → Rewrites h node done.content bodies → EndsTurn h c e (record h { bodies = bodies })
 stays_ends h c node act bodies done e rests kind (keep, is) same done_is ends rewrites settings w carried st =
     let stepped = step settings w.object c None carried in
@@ -337,7 +359,7 @@ moves_still t node _ keep _ (ByWrite to) birth apart = apart
 moves_still t node _ keep _ (BySeek from) birth apart = apart
 
 -- the offset is moved
-pub moved_ends : (h : Stored) (c : Call) (node : ℕ) (act : Op) (key : ℕ) (bodies : List Kept) (done : Acted) (e : Ending) → Moves act key → IsKind act → IsPlanned h c node act → Changes h.table c h.table → ((given : NewNumbers) → acted h.table node act c given (held_for act (kept_at h node)) (offset_in h act) ≡ done)
+pub moved_ends : (h : Stored) (c : Call) (node : ℕ) (act : Op) (key : ℕ) (bodies : List Kept) (done : Acted) (e : Ending) → Moves act key → IsKind act → IsPlanned h c node act → Changes h.table c None h.table → ((given : NewNumbers) → acted h.table node act c None given (held_for act (kept_at h node)) (offset_in h act) ≡ done)
     → shown_ending e ≡ done.ending → Rewrites h node done.content bodies → EndsTurn h c e (record { table = record h.table { descriptions = with_offset h.table.descriptions key done.offset }; bodies = bodies })
 moved_ends h c node act key bodies done e moves kind (keep, is) same done_is ends rewrites settings w carried st =
     let stepped = step settings w.object c None carried in
@@ -350,7 +372,7 @@ moved_ends h c node act key bodies done e moves kind (keep, is) same done_is end
     )
 
 -- the offset is left where it was
-pub rested_ends : (h : Stored) (c : Call) (node : ℕ) (act : Op) (key : ℕ) (bodies : List Kept) (done : Acted) (e : Ending) → Moves act key → IsKind act → IsPlanned h c node act → Changes h.table c h.table → ((given : NewNumbers) → acted h.table node act c given (held_for act (kept_at h node)) (offset_in h act) ≡ done)
+pub rested_ends : (h : Stored) (c : Call) (node : ℕ) (act : Op) (key : ℕ) (bodies : List Kept) (done : Acted) (e : Ending) → Moves act key → IsKind act → IsPlanned h c node act → Changes h.table c None h.table → ((given : NewNumbers) → acted h.table node act c None given (held_for act (kept_at h node)) (offset_in h act) ≡ done)
     → done.offset ≡ offset_of_key h key → shown_ending e ≡ done.ending → Rewrites h node done.content bodies → EndsTurn h c e (record h { bodies = bodies })
 rested_ends h c node act key bodies done e moves kind (keep, is) same done_is rests ends rewrites settings w carried st =
     let stepped = step settings w.object c None carried in
@@ -363,15 +385,15 @@ rested_ends h c node act key bodies done e moves kind (keep, is) same done_is re
     )
 
 -- what referred to an object does so no more, and the object holds what it held
-pub released_ends : (h : Stored) (c : Call) (node : ℕ) (u : TableState) (r : Reply) → IsPlanned h c node op.Release → TableMade h c u
-    → ((given : NewNumbers) (content : Content) → let done = acted h.table node op.Release c given content 0 in (done.ending ≡ acts.Replies r) × (done.content ≡ content)) → Replies h c r (record h { table = u })
+pub released_ends : (h : Stored) (c : Call) (node : ℕ) (u : TableState) (r : Reply) → IsPlanned h c node op.Release → TableMade h c None u
+    → ((given : NewNumbers) (content : Content) → let done = acted h.table node op.Release c None given content 0 in (done.ending ≡ acts.Replies r) × (done.content ≡ content)) → Replies h c r (record h { table = u })
 released_ends h c node u r (keep, is) made done_is settings w carried st =
     let stepped = step settings w.object c None carried in
     let content = content_of w.object (birth_at h.table node) in
     let found = released_is h w c node settings carried st (keep, is) in
-    let done = acted h.table node op.Release c (numbers_told c stepped.answer) content 0 in
+    let done = acted h.table node op.Release c None (numbers_told c stepped.answer) content 0 in
     let both = done_is (numbers_told c stepped.answer) content in
-    let leaves = subst (λ (p : Plan). Leaves h.table u p w.object stepped.after) is (made_leaves h w c u settings carried st made) in
+    let leaves = subst (λ (p : Plan). Leaves h.table u p w.object stepped.after) is (made_leaves h w c None u settings carried st made) in
     let rewrites : Rewrites h node done.content h.bodies = record { here = subst (λ (x : Content). x ≡ kept_as x (kept_at h node)) (sym both.1) found.0; others = λ k apart. refl } in (
       ap (λ (p : Answer × Carried). p.0) (turn_ends h w node op.Release settings carried done stepped (acts.Replies r) found.1 (sym both.0)),
       still_stands h w st u node op.Release keep stepped.after leaves (known_of h w c node op.Release keep st is).0 done.content found.1.content_is h.bodies rewrites (rests_still h.table node op.Release keep tt),
@@ -383,6 +405,7 @@ same_kept : (content : Content) (k : Kept) → kept_as content (keeping content 
 same_kept (File file) k = refl
 same_kept (Pipe bytes) k = refl
 same_kept (Pair p) k = refl
+same_kept (DoorTo door) k = refl
 
 -- what an end finds is what is kept there
 pub held_kept : (e : End) (k : Kept) → held_by e k ≡ kept_as (held_by e k) k
@@ -390,6 +413,7 @@ held_kept part.Only k = refl
 held_kept part.Read k = refl
 held_kept part.Write k = refl
 held_kept (part.Socket side) k = refl
+held_kept (part.Door door) k = refl
 
 pub bodies_same : (h : Stored) (node : ℕ) (content : Content) → content ≡ kept_as content (kept_at h node) → Rewrites h node content h.bodies
 bodies_same h node content is = record { here = is; others = λ k apart. refl }

@@ -4,5 +4,6 @@ pub mod Shapes
 pub mod Stepping
 pub mod Doing
 pub mod Making
+pub mod Outside
 pub mod Standing
 pub mod Streaming

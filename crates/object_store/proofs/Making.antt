@@ -5,7 +5,7 @@ use Rattle.std.specs.Prelude.{ℤ, ◌+ℤ◌, pos, slice_index_or, slice_set, i
 use Rattle.std.specs.declared.alloc.AllocError.{AllocError}
 use Rattle.posix_terms.specs.Ends.{is_end, side_of}
 use Rattle.posix_terms.specs.Files.{bytes_at, resized, written}
-use Rattle.posix_terms.specs.Object.{Content, File, Pair, Pipe}
+use Rattle.posix_terms.specs.Object.{Content, DoorTo, File, Pair, Pipe}
 use Rattle.posix_terms.specs.Streams as stream
 use Rattle.posix_terms.specs.Streams.{Reading, Writing, new_pair, pair_read, pair_write, peer_of, shut, stream_read, stream_write, with_waiting}
 use Rattle.posix_terms.specs.Transfers.{base_of, offset_of}
@@ -19,36 +19,44 @@ use Rattle.posix_terms.specs.declared.object.End.TheVariants as part
 use Rattle.posix_terms.specs.declared.object.Side.{Side}
 use Rattle.posix_terms.specs.declared.object.Side.TheVariants.{Side0, Side1}
 use Rattle.posix_terms.specs.declared.reply.ObjectKind.TheVariants as kind
-use Rattle.posix_terms.specs.Step.{Carried, step}
+use Rattle.posix_terms.specs.Locked.{keeps_table, locked_object}
+use Rattle.posix_terms.specs.Step.{Carried, asks, step}
 use Rattle.posix_terms.specs.declared.reply.Answer.{Answer}
 use Rattle.posix_terms.specs.declared.reply.Reply.{Reply}
 use Rattle.posix_terms.specs.declared.reply.Reply.TheVariants as reply
 use Rattle.descriptor_table.specs.Acts as acts
 use Rattle.descriptor_table.specs.Acts.{Acted, acted, has_read, has_written, is_open, numbers_reply, read_acted, replied, write_acted}
-use Rattle.descriptor_table.specs.Agreement.{TellsAsStep}
+use Rattle.descriptor_table.specs.Agreement.{AgreesOn, TellsAsStep, request_of}
 use Rattle.descriptor_table.specs.Changes.{Changes}
+use Rattle.descriptor_table.specs.Plans.{planned}
 use Rattle.descriptor_table.specs.Table.{TableState}
 use Rattle.descriptor_table.specs.declared.plan.NewNumbers.{NewNumbers}
 use Rattle.descriptor_table.specs.declared.plan.NewNumbers.TheVariants as numbers
 use Rattle.descriptor_table.specs.declared.plan.Op.{Op}
 use Rattle.descriptor_table.specs.declared.plan.Op.TheVariants as op
 use Rattle.descriptor_table.specs.declared.plan.Opened.{Opened}
+use Rattle.descriptor_table.specs.declared.plan.Plan.{Plan}
+use Rattle.descriptor_table.specs.declared.plan.Plan.TheVariants as plan
+use Rattle.descriptor_table.proofs.PlanLemmas.{plans-as_step}
 use Rattle.lock_model.specs.RealCalls.{answered_with}
+use Rattle.lock_model.specs.Terms.{World}
+use Rattle.posix_terms.specs.declared.transcript.Settings.{Settings}
 use Rattle.object_store.specs.declared.patience.Ending.{Ending}
 use Rattle.object_store.specs.declared.patience.Ending.TheVariants as ending
 use Rattle.object_store.specs.declared.patience.TurnEnd.{TurnEnd}
 use Rattle.object_store.specs.declared.patience.TurnEnd.TheVariants as end
+use Rattle.object_store.specs.declared.patience.TurnStart.TheVariants as start
 use Rattle.object_store.specs.Bodies.{Kept, first_kept, keeping}
 use Rattle.object_store.specs.Patience.{Waits}
-use Rattle.object_store.specs.Acting.{ActsOn, HasRead, HasWritten, Seeks, Writes, WritesFile, cut_bodies, held_by, holding, moved, offset_of_key, release_reply, rewritten, start_at}
-use Rattle.object_store.specs.Store.{EndsTurn, IsPlanned, Makes, Replies, Stored, TableMade, body_at, kept_at}
+use Rattle.object_store.specs.Acting.{acts_inside, ActsOn, HasRead, HasWritten, Seeks, Writes, WritesFile, cut_bodies, held_by, holding, moved, offset_of_key, release_reply, rewritten, start_at}
+use Rattle.object_store.specs.Store.{EndsTurn, IsPlanned, Makes, Replies, Stands, Stored, TableMade, body_at, kept_at}
 use Rattle.object_store.proofs.Doing.{bodies_same, bodies_set, ends_reply, made_ends, moved_ends, released_ends, rested_ends, stays_ends}
 use Rattle.object_store.proofs.Doing.Moves.{ByRead, ByWrite, BySeek}
 use Rattle.object_store.proofs.Shapes.{HasAct, planned_fits}
-use Rattle.object_store.proofs.Shapes.HasAct.{Closes, Cuts, MakesPair, MakesPipe, Opens, Preads, Pwrites, Reads, Replaces, SeeksFrom, Shuts, Stats, Unnames, WritesTo}
+use Rattle.object_store.proofs.Shapes.HasAct.{Accepts, Closes, ClosesOut, Connects, Cuts, Listens, MakesPair, MakesPipe, Opens, OpensOut, Preads, Pwrites, Reads, ReadsOut, Replaces, SeeksFrom, SeeksOut, Shuts, ShutsOut, Stats, Unnames, WritesOut, WritesTo}
 use Rattle.object_store.proofs.Stepping.{Rewrites}
 
-act_of : (h : Stored) (c : Call) (node : ℕ) (act : Op) → IsPlanned h c node act → HasAct c act
+pub act_of : (h : Stored) (c : Call) (node : ℕ) (act : Op) → IsPlanned h c node act → HasAct c act
 act_of h c node act (keep, is) = (planned_fits h.table c node act keep is).0
 
 -- ## Acts that leave the table as it was
@@ -58,9 +66,10 @@ OfContent (op.Open cut) = ⊥
 OfContent op.Release = ⊥
 OfContent op.Pipe = ⊥
 OfContent op.Socketpair = ⊥
+OfContent (op.Ask errand) = ⊥
 OfContent act = Unit {0}
 
-unchanged : (t : TableState) (c : Call) (act : Op) → HasAct c act → OfContent act → Changes t c t
+unchanged : (t : TableState) (c : Call) (act : Op) → HasAct c act → OfContent act → Changes t c None t
 unchanged t _ _ (Opens path access flags cut) of = absurd of
 unchanged t _ _ (Closes descriptor) of = absurd of
 unchanged t _ _ (Replaces descriptor target) of = absurd of
@@ -75,8 +84,17 @@ unchanged t _ _ (SeeksFrom descriptor offset whence from) of = refl
 unchanged t _ _ (Cuts descriptor to size) of = refl
 unchanged t _ _ (Stats descriptor links) of = refl
 unchanged t _ _ (Shuts descriptor how side) of = refl
+unchanged t _ _ (ClosesOut descriptor asked waits d) of = absurd of
+unchanged t _ _ (ReadsOut descriptor count asked waits d) of = absurd of
+unchanged t _ _ (WritesOut descriptor bytes asked waits d) of = absurd of
+unchanged t _ _ (SeeksOut descriptor offset whence asked waits d) of = absurd of
+unchanged t _ _ (ShutsOut descriptor how asked waits d) of = absurd of
+unchanged t _ _ (OpensOut path access flags asked waits d) of = absurd of
+unchanged t _ _ (Listens port asked waits d) of = absurd of
+unchanged t _ _ (Connects port asked waits d) of = absurd of
+unchanged t _ _ (Accepts descriptor asked waits d) of = absurd of
 
-still : (h : Stored) (c : Call) (node : ℕ) (act : Op) → IsPlanned h c node act → OfContent act → Changes h.table c h.table
+still : (h : Stored) (c : Call) (node : ℕ) (act : Op) → IsPlanned h c node act → OfContent act → Changes h.table c None h.table
 still h c node act planned of = unchanged h.table c act (act_of h c node act planned) of
 
 as_is : (h new : Stored) (c : Call) (x e : Ending) (z : Stored) → e ≡ x → new ≡ z → EndsTurn h c x z → EndsTurn h c e new
@@ -99,6 +117,7 @@ stream_offset t node n from part.Read k offset its = read_offset from Pipe (Pipe
 stream_offset t node n from part.Write k offset its = read_offset from Pipe (Pipe k.pipe) offset (stream_read k.pipe n (is_open t node part.Write))
 stream_offset t node n from (part.Socket side) k offset its =
     let own = side_of from.«end» in read_offset from (λ left. Pair (with_waiting k.pair own left)) (Pair k.pair) offset (pair_read k.pair own n (is_open t node (part.Socket (peer_of own))))
+stream_offset t node n from (part.Door door) k offset its = refl
 
 read_stream_ends : (h new : Stored) (c : Call) (node n : ℕ) (from : Opened) (which : End) (e : Ending) → IsPlanned h c node (op.Read from n) → node < length h.bodies → from.«end» ≡ which → is_end which part.Only ≡ false
     → ActsOn (read_acted h.table node from n (held_by which (kept_at h node)) (offset_of_key h from.key)) h node e new → EndsTurn h c e new
@@ -119,6 +138,11 @@ read_by h new c node n from part.Read e planned inside through acts_on = read_st
 read_by h new c node n from part.Write e planned inside through acts_on = read_stream_ends h new c node n from part.Write e planned inside through refl acts_on
 read_by h new c node n from (part.Socket Side0) e planned inside through acts_on = read_stream_ends h new c node n from (part.Socket Side0) e planned inside through refl acts_on
 read_by h new c node n from (part.Socket Side1) e planned inside through acts_on = read_stream_ends h new c node n from (part.Socket Side1) e planned inside through refl acts_on
+read_by h new c node n from (part.Door door) e planned inside through (answers, leaves) =
+    let done = read_acted h.table node from n (DoorTo door) (offset_of_key h from.key) in
+    as_is h new c _ e _ answers leaves
+    (rested_ends h c node (op.Read from n) from.key h.bodies done (ending.Reply reply.Done) (ByRead from n) tt planned (still h c node (op.Read from n) planned tt)
+    (λ given. ap (λ (x : End). read_acted h.table node from n (held_by x (kept_at h node)) (offset_of_key h from.key)) through) refl refl (bodies_same h node done.content refl))
 
 pub read_ends : (res : Result Ending AllocError) (h new : Stored) (c : Call) (node n : ℕ) (from : Opened) → IsPlanned h c node (op.Read from n) → node < length h.bodies → IfOk res (λ e. HasRead from.«end» h node from n e new) → IfOk res (λ e. EndsTurn h c e new)
 read_ends (Err x) h new c node n from planned inside has = tt
@@ -126,25 +150,25 @@ read_ends (Ok e) h new c node n from planned inside has = read_by h new c node n
 
 pub pread_ends : (h : Stored) (c : Call) (node n start : ℕ) (r : Reply) → IsPlanned h c node (op.Pread n start) → r ≡ reply.Data (bytes_at (body_at h node) start n) → EndsTurn h c (ending.Reply r) h
 pread_ends h c node n start r planned answers =
-    let done = acted h.table node (op.Pread n start) c numbers.None (File (body_at h node)) 0 in
+    let done = acted h.table node (op.Pread n start) c None numbers.None (File (body_at h node)) 0 in
     let x = reply.Data (bytes_at (body_at h node) start n) in
     as_is h h c (ending.Reply x) (ending.Reply r) h (ap ending.Reply answers) refl (stays_ends h c node (op.Pread n start) h.bodies done (ending.Reply x) tt tt planned (still h c node (op.Pread n start) planned tt) (λ given. refl) refl (bodies_same h node done.content refl))
 
 pub fstat_makes : (h : Stored) (c : Call) (node links : ℕ) (r : Reply) → IsPlanned h c node (op.Fstat links) → r ≡ reply.Stat kind.File (length (body_at h node)) links → Replies h c r h
 fstat_makes h c node links r planned answers =
-    let done = acted h.table node (op.Fstat links) c numbers.None (File (body_at h node)) 0 in
+    let done = acted h.table node (op.Fstat links) c None numbers.None (File (body_at h node)) 0 in
     let x = reply.Stat kind.File (length (body_at h node)) links in
     replied_as h h c x r h answers refl (stays_ends h c node (op.Fstat links) h.bodies done (ending.Reply x) tt tt planned (still h c node (op.Fstat links) planned tt) (λ given. refl) refl (bodies_same h node done.content refl))
 
 pub ftruncate_makes : (h new : Stored) (c : Call) (node size : ℕ) (r : Reply) → IsPlanned h c node (op.Ftruncate size) → node < length h.bodies → r ≡ reply.Done → new ≡ rewritten h node (resized (body_at h node) size) → Replies h c r new
 ftruncate_makes h new c node size r planned inside answers leaves =
-    let done = acted h.table node (op.Ftruncate size) c numbers.None (File (body_at h node)) 0 in
+    let done = acted h.table node (op.Ftruncate size) c None numbers.None (File (body_at h node)) 0 in
     replied_as h new c reply.Done r _ answers leaves
     (stays_ends h c node (op.Ftruncate size) (slice_set h.bodies node (keeping done.content (kept_at h node))) done (ending.Reply reply.Done) tt tt planned (still h c node (op.Ftruncate size) planned tt) (λ given. refl) refl (bodies_set h node done.content inside))
 
 pub shutdown_makes : (h new : Stored) (c : Call) (node : ℕ) (side : Side) (how : ShutdownHow) (r : Reply) → IsPlanned h c node (op.Shutdown side how) → node < length h.bodies → r ≡ reply.Done → new ≡ holding h node (Pair (shut (kept_at h node).pair side how)) → Replies h c r new
 shutdown_makes h new c node side how r planned inside answers leaves =
-    let done = acted h.table node (op.Shutdown side how) c numbers.None (Pair (kept_at h node).pair) 0 in
+    let done = acted h.table node (op.Shutdown side how) c None numbers.None (Pair (kept_at h node).pair) 0 in
     replied_as h new c reply.Done r _ answers leaves
     (stays_ends h c node (op.Shutdown side how) (slice_set h.bodies node (keeping done.content (kept_at h node))) done (ending.Reply reply.Done) tt tt planned (still h c node (op.Shutdown side how) planned tt) (λ given. refl) refl (bodies_set h node done.content inside))
 
@@ -161,11 +185,12 @@ stream_written_offset t node to bytes part.Read k offset its = written_offset to
 stream_written_offset t node to bytes part.Write k offset its = written_offset to Pipe (Pipe k.pipe) offset (length bytes) (stream_write k.pipe bytes (is_open t node part.Read))
 stream_written_offset t node to bytes (part.Socket side) k offset its =
     let own = side_of to.«end» in written_offset to (λ left. Pair (with_waiting k.pair (peer_of own) left)) (Pair k.pair) offset (length bytes) (pair_write k.pair own bytes (is_open t node (part.Socket (peer_of own))))
+stream_written_offset t node to bytes (part.Door door) k offset its = refl
 
 write_acts : (h : Stored) (c : Call) (descriptor : ℤ) (bytes : List ℕ) (node : ℕ) (to : Opened) (which : End) (given : NewNumbers) → c ≡ call.Write descriptor bytes → to.«end» ≡ which
-    → acted h.table node (op.Write to) c given (held_by to.«end» (kept_at h node)) (offset_of_key h to.key) ≡ write_acted h.table node to bytes (held_by which (kept_at h node)) (offset_of_key h to.key)
+    → acted h.table node (op.Write to) c None given (held_by to.«end» (kept_at h node)) (offset_of_key h to.key) ≡ write_acted h.table node to bytes (held_by which (kept_at h node)) (offset_of_key h to.key)
 write_acts h c descriptor bytes node to which given call_is through =
-    ap (λ (x : Call). acted h.table node (op.Write to) x given (held_by to.«end» (kept_at h node)) (offset_of_key h to.key)) call_is
+    ap (λ (x : Call). acted h.table node (op.Write to) x None given (held_by to.«end» (kept_at h node)) (offset_of_key h to.key)) call_is
     ∙ ap (λ (x : End). write_acted h.table node to bytes (held_by x (kept_at h node)) (offset_of_key h to.key)) through
 
 write_stream_ends : (h new : Stored) (c : Call) (descriptor : ℤ) (bytes : List ℕ) (node : ℕ) (to : Opened) (which : End) (e : Ending) → IsPlanned h c node (op.Write to) → c ≡ call.Write descriptor bytes → node < length h.bodies → to.«end» ≡ which → is_end which part.Only ≡ false
@@ -205,6 +230,10 @@ write_by h new c descriptor bytes node to part.Read e planned call_is inside thr
 write_by h new c descriptor bytes node to part.Write e planned call_is inside through acts_on = write_stream_ends h new c descriptor bytes node to part.Write e planned call_is inside through refl acts_on
 write_by h new c descriptor bytes node to (part.Socket Side0) e planned call_is inside through acts_on = write_stream_ends h new c descriptor bytes node to (part.Socket Side0) e planned call_is inside through refl acts_on
 write_by h new c descriptor bytes node to (part.Socket Side1) e planned call_is inside through acts_on = write_stream_ends h new c descriptor bytes node to (part.Socket Side1) e planned call_is inside through refl acts_on
+write_by h new c descriptor bytes node to (part.Door door) e planned call_is inside through (answers, leaves) =
+    let done = write_acted h.table node to bytes (DoorTo door) (offset_of_key h to.key) in
+    as_is h new c _ e _ answers leaves
+    (rested_ends h c node (op.Write to) to.key h.bodies done (ending.Reply reply.Done) (ByWrite to) tt planned (still h c node (op.Write to) planned tt) (λ given. write_acts h c descriptor bytes node to (part.Door door) given call_is through) refl refl (bodies_same h node done.content refl))
 
 pub write_ends : (h new : Stored) (c : Call) (descriptor : ℤ) (bytes : List ℕ) (node : ℕ) (to : Opened) (e : Ending) → IsPlanned h c node (op.Write to) → c ≡ call.Write descriptor bytes → node < length h.bodies → HasWritten to.«end» h node to bytes e new → EndsTurn h c e new
 write_ends h new c descriptor bytes node to e planned call_is inside has = write_by h new c descriptor bytes node to to.«end» e planned call_is inside refl has
@@ -249,29 +278,29 @@ lseek_makes h new c descriptor offset whence node from r planned call_is seeks =
 
 -- ## Opening and releasing
 
-released_done : (t : TableState) (node : ℕ) (c : Call) (given : NewNumbers) (content : Content) → HasAct c op.Release → let done : Acted = acted t node op.Release c given content 0 in (done.ending ≡ acts.Replies (release_reply c)) × (done.content ≡ content)
+released_done : (t : TableState) (node : ℕ) (c : Call) (given : NewNumbers) (content : Content) → HasAct c op.Release → let done : Acted = acted t node op.Release c None given content 0 in (done.ending ≡ acts.Replies (release_reply c)) × (done.content ≡ content)
 released_done t node _ given content (Closes descriptor) = (refl, refl)
 released_done t node _ given content (Replaces descriptor target) = (refl, refl)
 released_done t node _ given content (Unnames path) = (refl, refl)
 
-pub release_makes : (h : Stored) (c : Call) (node : ℕ) (u : TableState) → IsPlanned h c node op.Release → TableMade h c u → Replies h c (release_reply c) (record h { table = u })
+pub release_makes : (h : Stored) (c : Call) (node : ℕ) (u : TableState) → IsPlanned h c node op.Release → TableMade h c None u → Replies h c (release_reply c) (record h { table = u })
 release_makes h c node u planned made = released_ends h c node u (release_reply c) planned made (λ given content. released_done h.table node c given content (act_of h c node op.Release planned))
 
 cut_rewrites : (h : Stored) (node : ℕ) (cut : Bool) → node < length h.bodies → Rewrites h node (if cut then File [] else File (body_at h node)) (cut_bodies h node cut)
 cut_rewrites h node true inside = bodies_set h node (File []) inside
 cut_rewrites h node false inside = bodies_same h node (File (body_at h node)) refl
 
-pub open_makes : (h : Stored) (c : Call) (node : ℕ) (cut : Bool) (u : TableState) (given : NewNumbers) → IsPlanned h c node (op.Open cut) → TableMade h c u → TellsAsStep h.table c given → node < length h.bodies
+pub open_makes : (h : Stored) (c : Call) (node : ℕ) (cut : Bool) (u : TableState) (given : NewNumbers) → IsPlanned h c node (op.Open cut) → TableMade h c None u → TellsAsStep h.table c None given → node < length h.bodies
     → Replies h c (numbers_reply given) (record { table = u; bodies = cut_bodies h node cut })
 open_makes h c node cut u given planned made tells inside =
     ends_reply h c (numbers_reply given) _ (made_ends h c node (op.Open cut) u given (cut_bodies h node cut) (ending.Reply (numbers_reply given)) tt tt planned made tells refl (cut_rewrites h node cut inside))
 
-pub pipe_makes : (h : Stored) (c : Call) (node : ℕ) (u : TableState) (given : NewNumbers) → IsPlanned h c node op.Pipe → TableMade h c u → TellsAsStep h.table c given → node < length h.bodies
+pub pipe_makes : (h : Stored) (c : Call) (node : ℕ) (u : TableState) (given : NewNumbers) → IsPlanned h c node op.Pipe → TableMade h c None u → TellsAsStep h.table c None given → node < length h.bodies
     → Replies h c (numbers_reply given) (record { table = u; bodies = slice_set h.bodies node (keeping (Pipe []) (kept_at h node)) })
 pipe_makes h c node u given planned made tells inside =
     ends_reply h c (numbers_reply given) _ (made_ends h c node op.Pipe u given (slice_set h.bodies node (keeping (Pipe []) (kept_at h node))) (ending.Reply (numbers_reply given)) tt tt planned made tells refl (bodies_set h node (Pipe []) inside))
 
-pub pair_makes : (h : Stored) (c : Call) (node : ℕ) (u : TableState) (given : NewNumbers) → IsPlanned h c node op.Socketpair → TableMade h c u → TellsAsStep h.table c given → node < length h.bodies
+pub pair_makes : (h : Stored) (c : Call) (node : ℕ) (u : TableState) (given : NewNumbers) → IsPlanned h c node op.Socketpair → TableMade h c None u → TellsAsStep h.table c None given → node < length h.bodies
     → Replies h c (numbers_reply given) (record { table = u; bodies = slice_set h.bodies node (keeping (Pair new_pair) (kept_at h node)) })
 pair_makes h c node u given planned made tells inside =
     ends_reply h c (numbers_reply given) _ (made_ends h c node op.Socketpair u given (slice_set h.bodies node (keeping (Pair new_pair) (kept_at h node))) (ending.Reply (numbers_reply given)) tt tt planned made tells refl (bodies_set h node (Pair new_pair) inside))
@@ -308,17 +337,75 @@ only_lseek h c node from planned other = by_act c (act_of h c node (op.Lseek fro
     by_act : (c : Call) → HasAct c (op.Lseek from) → ((descriptor offset : ℤ) (whence : Whence) → c ≡ call.Lseek descriptor offset whence → ⊥) → ⊥
     by_act _ (SeeksFrom descriptor offset whence _) other = other descriptor offset whence refl
 
--- ## A turn of a call
+-- ## A turn of a call that asks nothing outside
+
+-- what the plan says that the step asks
+pub plan_asks : (h : Stored) (c : Call) (node : ℕ) (act : Op) (keep : Bool) (w : World) (carried : Carried) → planned h.table c ≡ plan.Node node act keep → Stands h w → asks w.object c carried ≡ request_of c act
+plan_asks h c node act keep w carried is st =
+    let settings : Settings = record { patience = 1; door_cost = 1 } in
+    let agrees : AgreesOn h.table c (plan.Node node act keep) (locked_object w.object c carried) (asks w.object c carried) (step settings w.object c None carried).answer =
+    subst (λ (p : Plan). AgreesOn h.table c p (locked_object w.object c carried) (asks w.object c carried) (step settings w.object c None carried).answer) is (plans-as_step h.table c st.sound st.described settings w.object None carried st.shows) in
+    agrees.1.0
+
+-- and whether the call keeps the table
+pub plan_keeps : (h : Stored) (c : Call) (node : ℕ) (act : Op) (keep : Bool) (w : World) → planned h.table c ≡ plan.Node node act keep → Stands h w → keep ≡ keeps_table c
+plan_keeps h c node act keep w is st =
+    let settings : Settings = record { patience = 1; door_cost = 1 } in
+    let agrees : AgreesOn h.table c (plan.Node node act keep) (locked_object w.object c 0) (asks w.object c 0) (step settings w.object c None 0).answer =
+    subst (λ (p : Plan). AgreesOn h.table c p (locked_object w.object c 0) (asks w.object c 0) (step settings w.object c None 0).answer) is (plans-as_step h.table c st.sound st.described settings w.object None 0 st.shows) in
+    agrees.1.1
+
+pub reply_asks : (h : Stored) (c : Call) (r : Reply) (w : World) (carried : Carried) → planned h.table c ≡ plan.Reply r → Stands h w → asks w.object c carried ≡ None
+reply_asks h c r w carried is st =
+    let settings : Settings = record { patience = 1; door_cost = 1 } in
+    let agrees : AgreesOn h.table c (plan.Reply r) (locked_object w.object c carried) (asks w.object c carried) (step settings w.object c None carried).answer =
+    subst (λ (p : Plan). AgreesOn h.table c p (locked_object w.object c carried) (asks w.object c carried) (step settings w.object c None carried).answer) is (plans-as_step h.table c st.sound st.described settings w.object None carried st.shows) in
+    agrees.1.0
+
+pub inside_asks : (c : Call) (act : Op) → acts_inside act ≡ true → request_of c act ≡ None
+inside_asks c (op.Ask errand) inside = absurd (true≢false (sym inside))
+inside_asks c (op.Open cut) inside = refl
+inside_asks c op.Release inside = refl
+inside_asks c (op.Read from n) inside = refl
+inside_asks c (op.Write to) inside = refl
+inside_asks c (op.Pread n start) inside = refl
+inside_asks c (op.Pwrite start) inside = refl
+inside_asks c (op.Lseek at) inside = refl
+inside_asks c (op.Ftruncate size) inside = refl
+inside_asks c (op.Fstat links) inside = refl
+inside_asks c op.Pipe inside = refl
+inside_asks c op.Socketpair inside = refl
+inside_asks c (op.Shutdown side how) inside = refl
+
+-- it asks nothing outside, in whatever world
+abbrev pub AsksNothing : Stored → Call → Type 0
+AsksNothing h c = (w : World) (carried : Carried) → Stands h w → asks w.object c carried ≡ None
+
+pub reply_alone : (h : Stored) (c : Call) (r : Reply) → planned h.table c ≡ plan.Reply r → AsksNothing h c
+reply_alone h c r is w carried st = reply_asks h c r w carried is st
+
+pub act_alone : (h : Stored) (c : Call) (node : ℕ) (act : Op) → IsPlanned h c node act → acts_inside act ≡ true → AsksNothing h c
+act_alone h c node act (keep, is) inside w carried st = plan_asks h c node act keep w carried is st ∙ inside_asks c act inside
 
 -- it ends with a reply, whatever the call carries
-pub turn_replied : (h new : Stored) (c : Call) (r : Reply) (patience turns : ℕ) → Replies h c r new → Makes patience turns h c (end.Reply r) new
-turn_replied h new c r patience turns replies settings w same st =
-    let done = replies settings w turns st in (ap (λ (a : Answer). answered_with a (step settings w.object c None turns).carried) done.0, done.1)
+pub turn_replied : (h new : Stored) (c : Call) (r : Reply) (patience turns : ℕ) → AsksNothing h c → Replies h c r new → Makes patience turns h c (start.Ended (end.Reply r)) new
+turn_replied h new c r patience turns alone replies settings w same st =
+    let done = replies settings w turns st in
+    record {
+      request = alone w turns st;
+      answer_is = ap (λ (a : Answer). answered_with a (step settings w.object c None turns).carried) done.0;
+      change = done.1;
+    }
 
-pub act_replied : (h new : Stored) (c : Call) (r : Reply) (patience turns : ℕ) → EndsTurn h c (ending.Reply r) new → Makes patience turns h c (end.Reply r) new
-act_replied h new c r patience turns ends = turn_replied h new c r patience turns (ends_reply h c r new ends)
+pub act_replied : (h new : Stored) (c : Call) (r : Reply) (patience turns : ℕ) → AsksNothing h c → EndsTurn h c (ending.Reply r) new → Makes patience turns h c (start.Ended (end.Reply r)) new
+act_replied h new c r patience turns alone ends = turn_replied h new c r patience turns alone (ends_reply h c r new ends)
 
 -- it has to wait
-pub act_waits : (h new : Stored) (c : Call) (patience turns : ℕ) (e : TurnEnd) → EndsTurn h c ending.Waits new → Waits patience turns e → Makes patience turns h c e new
-act_waits h new c patience turns e ends waits settings w same st =
-    let done = ends settings w turns st in (ap (λ (p : Answer × Carried). answered_with p.0 p.1) done.0 ∙ waits settings w.object same, done.1)
+pub act_waits : (h new : Stored) (c : Call) (patience turns : ℕ) (e : TurnEnd) → AsksNothing h c → EndsTurn h c ending.Waits new → Waits patience turns e → Makes patience turns h c (start.Ended e) new
+act_waits h new c patience turns e alone ends waits settings w same st =
+    let done = ends settings w turns st in
+    record {
+      request = alone w turns st;
+      answer_is = ap (λ (p : Answer × Carried). answered_with p.0 p.1) done.0 ∙ waits settings w.object same;
+      change = done.1;
+    }

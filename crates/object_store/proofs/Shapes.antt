@@ -5,32 +5,36 @@ use Rattle.std.specs.FinMap as fin
 use Rattle.std.specs.Ordering.{int_eq}
 use Rattle.std.specs.Prelude.{ℤ, nat_le, nat_lt, if◌then◌else◌}
 use Rattle.posix_terms.specs.Calls.{can_read, can_write}
+use Rattle.posix_terms.specs.Doors.{host_path, port_of}
 use Rattle.posix_terms.specs.Duplicates.{descriptor_number}
 use Rattle.posix_terms.specs.Names.{file_named, links_of, removed_dir}
 use Rattle.posix_terms.specs.Ends.{is_end}
-use Rattle.posix_terms.specs.Object.{State, Content, Node, FileNode, Directory}
+use Rattle.posix_terms.specs.Object.{State, Content, Node, FileNode, Directory, content_of}
 use Rattle.posix_terms.specs.Paths.{node_at, resolved}
 use Rattle.posix_terms.specs.Refusals.{◌>>=◌, count_of, position_of, refuse_if, some_or}
-use Rattle.posix_terms.specs.Transfers.{content_of, size_of}
+use Rattle.posix_terms.specs.Transfers.{size_of}
 use Rattle.posix_terms.specs.declared.call.Access.{Access}
 use Rattle.posix_terms.specs.declared.call.Call.{Call}
 use Rattle.posix_terms.specs.declared.call.Call.TheVariants as call
 use Rattle.posix_terms.specs.declared.call.OpenFlags.{OpenFlags}
 use Rattle.posix_terms.specs.declared.call.Whence.{Whence}
 use Rattle.posix_terms.specs.declared.errno.Errno.{Errno}
-use Rattle.posix_terms.specs.declared.errno.Errno.TheVariants.{EBADF, EEXIST, EINVAL, EMFILE, ENFILE, ENOENT, ENOSPC, ESPIPE}
+use Rattle.posix_terms.specs.declared.errno.Errno.TheVariants.{EBADF, EBUSY, EEXIST, EINVAL, EMFILE, ENFILE, ENOENT, ENOSPC, ESPIPE}
 use Rattle.posix_terms.specs.declared.limits.TheConstants.Limits as limit
 use Rattle.posix_terms.specs.declared.call.ShutdownHow.{ShutdownHow}
+use Rattle.posix_terms.specs.declared.object.Door.TheVariants as door
 use Rattle.posix_terms.specs.declared.object.End.{End}
 use Rattle.posix_terms.specs.declared.object.End.TheVariants as part
 use Rattle.posix_terms.specs.declared.object.Side.{Side}
 use Rattle.posix_terms.specs.declared.object.Side.TheVariants.{Side0, Side1}
+use Rattle.posix_terms.specs.declared.outcome.OutKind.{OutKind}
+use Rattle.posix_terms.specs.declared.outcome.OutKind.TheVariants as out
 use Rattle.posix_terms.specs.declared.reply.ObjectKind.{ObjectKind}
 use Rattle.posix_terms.specs.declared.reply.ObjectKind.TheVariants as kind
 use Rattle.posix_terms.specs.declared.reply.Reply.{Reply}
 use Rattle.posix_terms.specs.declared.reply.Reply.TheVariants as reply
 use Rattle.file_descriptions.specs.declared.description.Description.{Description}
-use Rattle.descriptor_table.specs.Plans.{addable, answered, close_plan, dup2_plan, dup_from_plan, dup_plan, fstat_plan, ftruncate_plan, getfl_plan, link_plan, lseek_plan, mkdir_plan, open_node, open_plan, open_there, plan_of, planned, pread_plan, pwrite_plan, read_plan, release, replaced, rmdir_plan, setfl_plan, unlink_plan, write_plan, locks, of_file, seen, shutdown_plan, socket_side, stat_plan, stream_kind, two_ends_plan}
+use Rattle.descriptor_table.specs.Plans.{act_or_ask, addable, answered, close_plan, dup2_plan, dup_from_plan, dup_plan, ends_a_door, errand, fstat_plan, ftruncate_plan, getfl_plan, host_open_plan, leads_outside, link_plan, lseek_plan, mkdir_plan, not_listener, of_listener, open_node, open_plan, open_there, opens_plan, plan_of, planned, pread_plan, pwrite_plan, read_plan, release, replaced, rmdir_plan, seekable, setfl_plan, shut_act, unlink_plan, write_plan, locks, of_file, seen, shutdown_plan, stat_by, stat_plan, tcp_accept_plan, tcp_connect_plan, tcp_listen_plan, two_ends_plan}
 use Rattle.file_descriptions.specs.Descriptions.{description_at}
 use Rattle.descriptor_table.specs.Shows.{Shows, birth_at, is_of}
 use Rattle.descriptor_table.specs.Table.{IsSound, TableState, described, free_object, is_last_name, is_used, key_at, lowest_free, two_numbers}
@@ -42,6 +46,10 @@ use Rattle.descriptor_table.specs.declared.plan.Op.TheVariants as op
 use Rattle.descriptor_table.specs.declared.plan.Opened.{Opened}
 use Rattle.descriptor_table.specs.declared.plan.Plan.{Plan}
 use Rattle.descriptor_table.specs.declared.plan.Plan.TheVariants as plan
+
+-- what a call asks of the outside
+abbrev pub asking : OutKind → ℕ → Bool → Option ℕ → Op
+asking k asked waits d = op.Ask (record { kind = k; asked = asked; waits = waits; door = d })
 
 pub data HasAct : Call → Op → Type 0 where
   Opens : (path : List ℕ) (access : Access) (flags : OpenFlags) (cut : Bool) → HasAct (call.Open path access flags) (op.Open cut)
@@ -58,13 +66,24 @@ pub data HasAct : Call → Op → Type 0 where
   MakesPipe : HasAct call.Pipe op.Pipe
   MakesPair : HasAct call.Socketpair op.Socketpair
   Shuts : (descriptor : ℤ) (how : ShutdownHow) (side : Side) → HasAct (call.Shutdown descriptor how) (op.Shutdown side how)
+  -- outside
+  ClosesOut : (descriptor : ℤ) (asked : ℕ) (waits : Bool) (d : Option ℕ) → HasAct (call.Close descriptor) (asking out.Close asked waits d)
+  ReadsOut : (descriptor count : ℤ) (asked : ℕ) (waits : Bool) (d : Option ℕ) → HasAct (call.Read descriptor count) (asking out.Read asked waits d)
+  WritesOut : (descriptor : ℤ) (bytes : List ℕ) (asked : ℕ) (waits : Bool) (d : Option ℕ) → HasAct (call.Write descriptor bytes) (asking out.Write asked waits d)
+  SeeksOut : (descriptor offset : ℤ) (whence : Whence) (asked : ℕ) (waits : Bool) (d : Option ℕ) → HasAct (call.Lseek descriptor offset whence) (asking out.Seek asked waits d)
+  ShutsOut : (descriptor : ℤ) (how : ShutdownHow) (asked : ℕ) (waits : Bool) (d : Option ℕ) → HasAct (call.Shutdown descriptor how) (asking out.Shutdown asked waits d)
+  OpensOut : (path : List ℕ) (access : Access) (flags : OpenFlags) (asked : ℕ) (waits : Bool) (d : Option ℕ) → HasAct (call.HostOpen path access flags) (asking out.Open asked waits d)
+  Listens : (port : ℤ) (asked : ℕ) (waits : Bool) (d : Option ℕ) → HasAct (call.TcpListen port) (asking out.Listen asked waits d)
+  Connects : (port : ℤ) (asked : ℕ) (waits : Bool) (d : Option ℕ) → HasAct (call.TcpConnect port) (asking out.Connect asked waits d)
+  Accepts : (descriptor : ℤ) (asked : ℕ) (waits : Bool) (d : Option ℕ) → HasAct (call.TcpAccept descriptor) (asking out.Accept asked waits d)
 
--- an act that makes its object, whatever is under its number
-abbrev pub IsMaking : Op → Type 0
-IsMaking (op.Open cut) = cut ≡ true
-IsMaking op.Pipe = Unit {0}
-IsMaking op.Socketpair = Unit {0}
-IsMaking act = ⊥
+-- an act that makes its object, whatever is under its number; a call that opens a door keeps the table
+abbrev pub IsMaking : Bool → Op → Type 0
+IsMaking keep (op.Open cut) = cut ≡ true
+IsMaking keep op.Pipe = Unit {0}
+IsMaking keep op.Socketpair = Unit {0}
+IsMaking keep (op.Ask errand) = keep ≡ true
+IsMaking keep act = ⊥
 
 -- an object that an act can find
 abbrev pub suits : Op → Content → Bool
@@ -84,7 +103,7 @@ Suits t node act = (s : State) → Shows t s → suits act (content_of s (birth_
 
 -- the act is the call's; an object that is not there yet is made by it; and what is there suits it
 abbrev pub FitsPlan : TableState → Call → Plan → Type 0
-FitsPlan t c (plan.Node node act keep) = HasAct c act × (IsSound t → is_used t node ≡ false → IsMaking act) × (IsSound t → is_used t node ≡ true → Suits t node act)
+FitsPlan t c (plan.Node node act keep) = HasAct c act × (IsSound t → is_used t node ≡ false → IsMaking keep act) × (IsSound t → is_used t node ≡ true → Suits t node act)
 FitsPlan t c (plan.Reply r) = Unit {0}
 
 along : {A : Type 0} (t : TableState) (c : Call) (r : Result A Errno) (f : A → Result Plan Errno) → ((x : A) → r ≡ Ok x → IfOk (f x) (FitsPlan t c)) → IfOk (r >>= f) (FitsPlan t c)
@@ -98,31 +117,35 @@ only_end part.Read is = absurd (false≢true is)
 only_end part.Write is = absurd (false≢true is)
 only_end (part.Socket Side0) is = absurd (false≢true is)
 only_end (part.Socket Side1) is = absurd (false≢true is)
+only_end (part.Door d) is = absurd (false≢true is)
 
 not_refused : (b : Bool) (e : Errno) (x : Unit {0}) → refuse_if (not b) e ≡ Ok x → b ≡ true
 not_refused true e x is = refl
 not_refused false e x is = cc
 
-no_stream : (e : End) → stream_kind e ≡ None → e ≡ part.Only
-no_stream part.Only is = refl
-no_stream part.Read is = absurd (some-none is)
-  where
-    some-none : Some kind.Pipe ≡ None → ⊥
-    some-none h = cc
-no_stream part.Write is = absurd (some-none is)
-  where
-    some-none : Some kind.Pipe ≡ None → ⊥
-    some-none h = cc
-no_stream (part.Socket side) is = absurd (some-none is)
-  where
-    some-none : Some kind.SocketPair ≡ None → ⊥
-    some-none h = cc
+let_through : (b : Bool) (e : Errno) (x : Unit {0}) → refuse_if b e ≡ Ok x → b ≡ false
+let_through true e x is = cc
+let_through false e x is = refl
 
-side_is : (e : End) (side : Side) → socket_side e ≡ Ok side → e ≡ part.Socket side
-side_is part.Only side is = cc
-side_is part.Read side is = cc
-side_is part.Write side is = cc
-side_is (part.Socket other) side is = let same : other ≡ side = cc in ap (λ (x : Side). part.Socket x) same
+some-none : (x : ObjectKind × ℕ) → Some x ≡ None → ⊥
+some-none x h = cc
+
+no_stream : (e : End) → stat_by e ≡ None → e ≡ part.Only
+no_stream part.Only is = refl
+no_stream part.Read is = absurd (some-none (kind.Pipe, 0) is)
+no_stream part.Write is = absurd (some-none (kind.Pipe, 0) is)
+no_stream (part.Socket side) is = absurd (some-none (kind.SocketPair, 0) is)
+no_stream (part.Door door.HostFile) is = absurd (some-none (kind.HostFile, 0) is)
+no_stream (part.Door (door.Listener port)) is = absurd (some-none (kind.Listener, port) is)
+no_stream (part.Door door.Stream) is = absurd (some-none (kind.Stream, 0) is)
+
+-- inside, a file alone has an offset
+seeks_file : (e : End) (offset : ℤ) (whence : Whence) (x : Unit {0}) → seekable e offset whence ≡ Ok x → leads_outside e ≡ false → e ≡ part.Only
+seeks_file part.Only offset whence x is inside = refl
+seeks_file part.Read offset whence x is inside = cc
+seeks_file part.Write offset whence x is inside = cc
+seeks_file (part.Socket side) offset whence x is inside = cc
+seeks_file (part.Door d) offset whence x is inside = absurd (false≢true (sym inside))
 
 module _ (t : TableState) where
   -- the object of a description is there
@@ -149,6 +172,17 @@ module _ (t : TableState) where
   fits_file : (c : Call) (descriptor : ℤ) (found : ℕ × Description) (act : Op) → described t descriptor ≡ Ok found → found.1.«end» ≡ part.Only → HasAct c act → ((content : Content) → is_of part.Only content ≡ true → suits act content ≡ true) → FitsPlan t c (locks found.1.node act)
   fits_file c descriptor found act is its has each = (has, old descriptor found is, by_file descriptor found act is its each)
 
+  fits_found : (c : Call) (descriptor : ℤ) (found : ℕ × Description) (act : Op) → described t descriptor ≡ Ok found → HasAct c act → ((content : Content) → is_of found.1.«end» content ≡ true → suits act content ≡ true) → FitsPlan t c (locks found.1.node act)
+  fits_found c descriptor found act is has each = (has, old descriptor found is, by_end descriptor found act is each)
+
+  -- what a call does where there is no door, or asks of one
+  fits_either : (c : Call) (found : ℕ × Description) (act ask : Op) → (leads_outside found.1.«end» ≡ false → FitsPlan t c (locks found.1.node act)) → FitsPlan t c (locks found.1.node ask) → FitsPlan t c (locks found.1.node (act_or_ask found.1 act ask))
+  fits_either c found act ask inside outside = by_outside (leads_outside found.1.«end») refl
+    where
+      by_outside : (b : Bool) → leads_outside found.1.«end» ≡ b → FitsPlan t c (locks found.1.node (if b then ask else act))
+      by_outside true is = outside
+      by_outside false is = inside is
+
   -- a call that only a file takes
   for_file : (c : Call) (descriptor : ℤ) (found : ℕ × Description) (e : Errno) (f : Unit {0} → Result Plan Errno) → described t descriptor ≡ Ok found → (found.1.«end» ≡ part.Only → (x : Unit {0}) → IfOk (f x) (FitsPlan t c)) → IfOk (of_file found.1 e >>= f) (FitsPlan t c)
   for_file c descriptor found e f is each = along t c (of_file found.1 e) f (λ x y. each (only_end found.1.«end» (not_refused (is_end found.1.«end» part.Only) e x y)) x)
@@ -158,12 +192,16 @@ module _ (t : TableState) where
   fits_moves c _ node act true fits = tt
   fits_moves c _ node act false fits = fits
 
-  released : (c : Call) (descriptor : ℤ) (found : ℕ × Description) (r : Reply) → described t descriptor ≡ Ok found → HasAct c op.Release → FitsPlan t c (release found.1 r)
-  released c descriptor found r is has = by_last (found.1.holders == 1)
+  released : (c : Call) (descriptor : ℤ) (found : ℕ × Description) (r : Reply) → described t descriptor ≡ Ok found → HasAct c op.Release → ((found.1.holders == 1) ≡ true → leads_outside found.1.«end» ≡ true → HasAct c (errand found.1 out.Close 0 false)) → FitsPlan t c (release found.1 r)
+  released c descriptor found r is has closes = by_last (found.1.holders == 1) refl
     where
-      by_last : (b : Bool) → FitsPlan t c (if b then plan.Node found.1.node op.Release false else plan.Reply r)
-      by_last true = (has, old descriptor found is, λ sound used s shows. refl)
-      by_last false = tt
+      by_outside : (b : Bool) → leads_outside found.1.«end» ≡ b → (found.1.holders == 1) ≡ true → FitsPlan t c (locks found.1.node (if b then errand found.1 out.Close 0 false else op.Release))
+      by_outside true outside last = fits_found c descriptor found (errand found.1 out.Close 0 false) is (closes last outside) (λ content x. refl)
+      by_outside false inside last = fits_found c descriptor found op.Release is has (λ content x. refl)
+
+      by_last : (b : Bool) → (found.1.holders == 1) ≡ b → FitsPlan t c (if b then locks found.1.node (act_or_ask found.1 op.Release (errand found.1 out.Close 0 false)) else plan.Reply r)
+      by_last true last = by_outside (leads_outside found.1.«end») refl last
+      by_last false last = tt
 
   there_fits : (path : List ℕ) (access : Access) (flags : OpenFlags) (node : Node) → ((n : ℕ) → node ≡ FileNode n → IsSound t → is_used t n ≡ true) → ((n : ℕ) → node ≡ FileNode n → Suits t n (op.Open flags.truncate)) → IfOk (open_there t node flags) (FitsPlan t (call.Open path access flags))
   there_fits path access flags Directory used is_file = tt
@@ -186,22 +224,56 @@ module _ (t : TableState) where
       by_components (x ∷ xs) is = shows.files (x ∷ xs) n is
 
   -- the ends of a new object
-  makes_fits : (c : Call) (act : Op) → HasAct c act → IsMaking act → ((content : Content) → suits act content ≡ true) → IfOk (two_ends_plan t act) (FitsPlan t c)
+  makes_fits : (c : Call) (act : Op) → HasAct c act → IsMaking false act → ((content : Content) → suits act content ≡ true) → IfOk (two_ends_plan t act) (FitsPlan t c)
   makes_fits c act has making each = along t c (two_numbers t) _ (λ two x. along t c (some_or (free_object t) ENFILE) _ (λ node y. (has, λ sound new. making, λ sound used s shows. each (content_of s (birth_at t node)))))
 
+  -- a new door
+  opens_fits : (c : Call) (k : OutKind) (asked : ℕ) (waits : Bool) (d : Option ℕ) → HasAct c (asking k asked waits d) → IfOk (opens_plan t k asked waits d) (FitsPlan t c)
+  opens_fits c k asked waits d has = along t c (some_or (lowest_free t 0) EMFILE) _ (λ n x. along t c (some_or (free_object t) ENFILE) _ (λ node y. (has, λ sound new. refl, λ sound used s shows. refl)))
+
+  -- what shuts an object
+  shut_fits : (descriptor : ℤ) (how : ShutdownHow) (found : ℕ × Description) (which : End) (act : Op) → described t descriptor ≡ Ok found → found.1.«end» ≡ which → shut_act found.1 how which ≡ Ok act → FitsPlan t (call.Shutdown descriptor how) (locks found.1.node act)
+  shut_fits descriptor how found part.Only act is its shuts = cc
+  shut_fits descriptor how found part.Read act is its shuts = cc
+  shut_fits descriptor how found part.Write act is its shuts = cc
+  shut_fits descriptor how found (part.Socket side) act is its shuts =
+      let same : op.Shutdown side how ≡ act = cc in
+      subst (λ (a : Op). FitsPlan t (call.Shutdown descriptor how) (locks found.1.node a)) same
+      (fits_found (call.Shutdown descriptor how) descriptor found (op.Shutdown side how) is (Shuts descriptor how side) (λ content has. ap (λ (e : End). is_of e content) (sym its) ∙ has))
+  shut_fits descriptor how found (part.Door door.HostFile) act is its shuts = cc
+  shut_fits descriptor how found (part.Door (door.Listener port)) act is its shuts = cc
+  shut_fits descriptor how found (part.Door door.Stream) act is its shuts =
+      let same : errand found.1 out.Shutdown 0 false ≡ act = cc in
+      subst (λ (a : Op). FitsPlan t (call.Shutdown descriptor how) (locks found.1.node a)) same
+      (fits_found (call.Shutdown descriptor how) descriptor found (errand found.1 out.Shutdown 0 false) is (ShutsOut descriptor how 0 false (Some found.1.node)) (λ content has. refl))
+
+  -- the last descriptor of a door is not replaced
+  no_door : (found : ℕ × Description) → (leads_outside found.1.«end» && (found.1.holders == 1)) ≡ false → (found.1.holders == 1) ≡ true → leads_outside found.1.«end» ≡ false
+  no_door found none last = by_outside (leads_outside found.1.«end») refl
+    where
+      by_outside : (b : Bool) → leads_outside found.1.«end» ≡ b → b ≡ false
+      by_outside true is = absurd (false≢true (sym none ∙ rw (is, last) refl))
+      by_outside false is = refl
+
   plan_fits : (c : Call) → IfOk (plan_of t c) (FitsPlan t c)
-  unfolding open_plan close_plan read_plan write_plan pread_plan pwrite_plan lseek_plan ftruncate_plan fstat_plan dup_plan dup_from_plan dup2_plan getfl_plan setfl_plan link_plan unlink_plan mkdir_plan rmdir_plan shutdown_plan
+  unfolding open_plan close_plan read_plan write_plan pread_plan pwrite_plan lseek_plan ftruncate_plan fstat_plan dup_plan dup_from_plan dup2_plan getfl_plan setfl_plan link_plan unlink_plan mkdir_plan rmdir_plan shutdown_plan host_open_plan tcp_listen_plan tcp_connect_plan tcp_accept_plan
   plan_fits (call.Open path access flags) =
       along t _ (refuse_if (flags.truncate && not (can_write access)) EINVAL) _ (λ a x. along t _ (resolved t.paths path) _ (λ components y. node_fits path access flags (node_at t.paths components) (λ n is sound. named_at t components n sound is) (λ n is. named_suits components flags.truncate n is)))
-  plan_fits (call.Close descriptor) = along t _ (described t descriptor) _ (λ found is. released _ descriptor found reply.Done is (Closes descriptor))
+  plan_fits (call.Close descriptor) = along t _ (described t descriptor) _ (λ found is. released _ descriptor found reply.Done is (Closes descriptor) (λ last outside. ClosesOut descriptor 0 false (Some found.1.node)))
   plan_fits (call.Read descriptor count) =
-      along t _ (described t descriptor) _ (λ found is. along t _ (refuse_if (not (can_read found.1.access)) EBADF) _ (λ a x. along t _ (count_of count) _ (λ n y.
+      along t _ (described t descriptor) _ (λ found is. along t _ (not_listener found.1.«end») _ (λ l u. along t _ (refuse_if (not (can_read found.1.access)) EBADF) _ (λ a x. along t _ (count_of count) _ (λ n y.
+      let c = call.Read descriptor count in
       let act = op.Read (seen found.0 found.1) n in
-      fits_moves (call.Read descriptor count) (reply.Data []) found.1.node act ((n == 0) && not (is_end found.1.«end» part.Only)) (Reads descriptor count (seen found.0 found.1) n, old descriptor found is, by_end descriptor found act is (λ content has. has)))))
+      let ask = errand found.1 out.Read n (not found.1.flags.nonblock) in
+      fits_moves c (reply.Data []) found.1.node (act_or_ask found.1 act ask) ((n == 0) && not (is_end found.1.«end» part.Only))
+      (fits_either c found act ask (λ inside. fits_found c descriptor found act is (Reads descriptor count (seen found.0 found.1) n) (λ content has. has)) (fits_found c descriptor found ask is (ReadsOut descriptor count n (not found.1.flags.nonblock) (Some found.1.node)) (λ content has. refl)))))))
   plan_fits (call.Write descriptor bytes) =
-      along t _ (described t descriptor) _ (λ found is. along t _ (refuse_if (not (can_write found.1.access)) EBADF) _ (λ a x. along t _ (refuse_if (nat_lt limit.COUNT (length bytes)) EINVAL) _ (λ b y.
+      along t _ (described t descriptor) _ (λ found is. along t _ (not_listener found.1.«end») _ (λ l u. along t _ (refuse_if (not (can_write found.1.access)) EBADF) _ (λ a x. along t _ (refuse_if (nat_lt limit.COUNT (length bytes)) EINVAL) _ (λ b y.
+      let c = call.Write descriptor bytes in
       let act = op.Write (seen found.0 found.1) in
-      fits_moves (call.Write descriptor bytes) (reply.Count 0) found.1.node act ((length bytes == 0) && not (is_end found.1.«end» part.Only)) (WritesTo descriptor bytes (seen found.0 found.1), old descriptor found is, by_end descriptor found act is (λ content has. has)))))
+      let ask = errand found.1 out.Write (length bytes) (not found.1.flags.nonblock) in
+      fits_moves c (reply.Count 0) found.1.node (act_or_ask found.1 act ask) ((length bytes == 0) && not (is_end found.1.«end» part.Only))
+      (fits_either c found act ask (λ inside. fits_found c descriptor found act is (WritesTo descriptor bytes (seen found.0 found.1)) (λ content has. has)) (fits_found c descriptor found ask is (WritesOut descriptor bytes (length bytes) (not found.1.flags.nonblock) (Some found.1.node)) (λ content has. refl)))))))
   plan_fits (call.Pread descriptor count position) =
       along t _ (described t descriptor) _ (λ found is. for_file _ descriptor found ESPIPE _ is (λ its u. along t _ (refuse_if (not (can_read found.1.access)) EBADF) _ (λ a x. along t _ (count_of count) _ (λ n y. along t _ (position_of position) _ (λ start z.
       fits_file (call.Pread descriptor count position) descriptor found (op.Pread n start) is its (Preads descriptor count position n start) (λ content has. has))))))
@@ -209,27 +281,32 @@ module _ (t : TableState) where
       along t _ (described t descriptor) _ (λ found is. for_file _ descriptor found ESPIPE _ is (λ its u. along t _ (refuse_if (not (can_write found.1.access)) EBADF) _ (λ a x. along t _ (refuse_if (nat_lt limit.COUNT (length bytes)) EINVAL) _ (λ b y. along t _ (position_of position) _ (λ start z.
       fits_file (call.Pwrite descriptor bytes position) descriptor found (op.Pwrite start) is its (Pwrites descriptor bytes position start) (λ content has. has))))))
   plan_fits (call.Lseek descriptor offset whence) =
-      along t _ (described t descriptor) _ (λ found is. for_file _ descriptor found ESPIPE _ is (λ its u.
-      fits_file (call.Lseek descriptor offset whence) descriptor found (op.Lseek (seen found.0 found.1)) is its (SeeksFrom descriptor offset whence (seen found.0 found.1)) (λ content has. has)))
+      along t _ (described t descriptor) _ (λ found is. along t _ (seekable found.1.«end» offset whence) _ (λ u x.
+      let c = call.Lseek descriptor offset whence in
+      let act = op.Lseek (seen found.0 found.1) in
+      let ask = errand found.1 out.Seek 0 false in
+      fits_either c found act ask
+      (λ inside. fits_file c descriptor found act is (seeks_file found.1.«end» offset whence u x inside) (SeeksFrom descriptor offset whence (seen found.0 found.1)) (λ content has. has))
+      (fits_found c descriptor found ask is (SeeksOut descriptor offset whence 0 false (Some found.1.node)) (λ content has. refl))))
   plan_fits (call.Ftruncate descriptor to) =
       along t _ (described t descriptor) _ (λ found is. along t _ (refuse_if (not (can_write found.1.access)) EINVAL) _ (λ a x. for_file _ descriptor found EINVAL _ is (λ its u. along t _ (size_of to) _ (λ n y.
       fits_file (call.Ftruncate descriptor to) descriptor found (op.Ftruncate n) is its (Cuts descriptor to n) (λ content has. has)))))
-  plan_fits (call.Fstat descriptor) = along t _ (described t descriptor) _ (λ found is. by_kind found is (stream_kind found.1.«end») refl)
+  plan_fits (call.Fstat descriptor) = along t _ (described t descriptor) _ (λ found is. by_kind found is (stat_by found.1.«end») refl)
     where
-      by_kind : (found : ℕ × Description) → described t descriptor ≡ Ok found → (o : Option ObjectKind) → stream_kind found.1.«end» ≡ o → FitsPlan t (call.Fstat descriptor) (stat_plan found.1 (links_of t.paths found.1.node) o)
+      by_kind : (found : ℕ × Description) → described t descriptor ≡ Ok found → (o : Option (ObjectKind × ℕ)) → stat_by found.1.«end» ≡ o → FitsPlan t (call.Fstat descriptor) (stat_plan found.1 (links_of t.paths found.1.node) o)
       by_kind found is None none = fits_file (call.Fstat descriptor) descriptor found (op.Fstat (links_of t.paths found.1.node)) is (no_stream found.1.«end» none) (Stats descriptor (links_of t.paths found.1.node)) (λ content has. has)
       by_kind found is (Some k) some = tt
   plan_fits (call.Dup descriptor) = along t _ (described t descriptor) _ (λ found is. along t _ (some_or (lowest_free t 0) EMFILE) _ (λ n x. tt))
   plan_fits (call.DupFrom descriptor least) = along t _ (described t descriptor) _ (λ found is. along t _ (descriptor_number least EINVAL) _ (λ first x. along t _ (some_or (lowest_free t first) EMFILE) _ (λ n y. tt)))
-  plan_fits (call.Dup2 descriptor target) = along t _ (described t descriptor) _ (λ found is. along t _ (descriptor_number target EBADF) _ (λ n x. by_same (int_eq descriptor target)))
+  plan_fits (call.Dup2 descriptor target) = along t _ (described t descriptor) _ (λ found is. along t _ (descriptor_number target EBADF) _ (λ n x. along t _ (refuse_if (not (int_eq descriptor target) && ends_a_door (described t target)) EBUSY) _ (λ u y. by_same (int_eq descriptor target) u y)))
     where
-      by_found : (r : Result (ℕ × Description) Errno) → described t target ≡ r → FitsPlan t (call.Dup2 descriptor target) (replaced r (reply.Number target))
-      by_found (Ok found) is = released _ target found (reply.Number target) is (Replaces descriptor target)
-      by_found (Err e) is = tt
+      by_found : (r : Result (ℕ × Description) Errno) → described t target ≡ r → ends_a_door r ≡ false → FitsPlan t (call.Dup2 descriptor target) (replaced r (reply.Number target))
+      by_found (Ok found) is none = released _ target found (reply.Number target) is (Replaces descriptor target) (λ last outside. absurd (false≢true (sym (no_door found none last) ∙ outside)))
+      by_found (Err e) is none = tt
 
-      by_same : (b : Bool) → FitsPlan t (call.Dup2 descriptor target) (if b then plan.Reply (reply.Number target) else replaced (described t target) (reply.Number target))
-      by_same true = tt
-      by_same false = by_found (described t target) refl
+      by_same : (b : Bool) (u : Unit {0}) → refuse_if (not b && ends_a_door (described t target)) EBUSY ≡ Ok u → FitsPlan t (call.Dup2 descriptor target) (if b then plan.Reply (reply.Number target) else replaced (described t target) (reply.Number target))
+      by_same true u y = tt
+      by_same false u y = by_found (described t target) refl (let_through (ends_a_door (described t target)) EBUSY u y)
   plan_fits (call.Getfl descriptor) = along t _ (described t descriptor) _ (λ found is. tt)
   plan_fits (call.Setfl descriptor append nonblock) = along t _ (described t descriptor) _ (λ found is. tt)
   plan_fits (call.Link old_path new_path) = along t _ (file_named t.paths old_path) _ (λ node is. along t _ (addable t.paths new_path) _ (λ a x. tt))
@@ -243,12 +320,18 @@ module _ (t : TableState) where
   plan_fits call.Pipe = makes_fits call.Pipe op.Pipe MakesPipe tt (λ content. refl)
   plan_fits call.Socketpair = makes_fits call.Socketpair op.Socketpair MakesPair tt (λ content. refl)
   plan_fits (call.Shutdown descriptor how) =
-      along t _ (described t descriptor) _ (λ found is. along t _ (socket_side found.1.«end») _ (λ side x.
-      (Shuts descriptor how side, old descriptor found is, by_end descriptor found (op.Shutdown side how) is (λ content has. ap (λ (e : End). is_of e content) (sym (side_is found.1.«end» side x)) ∙ has))))
+      along t _ (described t descriptor) _ (λ found is. along t _ (shut_act found.1 how found.1.«end») _ (λ act x. shut_fits descriptor how found found.1.«end» act is refl x))
+  plan_fits (call.HostOpen path access flags) =
+      along t _ (refuse_if (flags.truncate && not (can_write access)) EINVAL) _ (λ a x. along t _ (host_path path) _ (λ b y. opens_fits (call.HostOpen path access flags) out.Open 0 false None (OpensOut path access flags 0 false None)))
+  plan_fits (call.TcpListen port) = along t _ (port_of 0 port) _ (λ asked x. opens_fits (call.TcpListen port) out.Listen asked false None (Listens port asked false None))
+  plan_fits (call.TcpConnect port) = along t _ (port_of 1 port) _ (λ asked x. opens_fits (call.TcpConnect port) out.Connect asked false None (Connects port asked false None))
+  plan_fits (call.TcpAccept descriptor) =
+      along t _ (described t descriptor) _ (λ found is. along t _ (of_listener found.1.«end») _ (λ u x.
+      opens_fits (call.TcpAccept descriptor) out.Accept 0 (not found.1.flags.nonblock) (Some found.1.node) (Accepts descriptor 0 (not found.1.flags.nonblock) (Some found.1.node))))
 
 fits_answered : (t : TableState) (c : Call) (r : Result Plan Errno) → IfOk r (FitsPlan t c) → FitsPlan t c (answered r)
 fits_answered t c (Ok p) fits = fits
 fits_answered t c (Err e) fits = tt
 
-pub planned_fits : (t : TableState) (c : Call) (node : ℕ) (act : Op) (keep : Bool) → planned t c ≡ plan.Node node act keep → HasAct c act × (IsSound t → is_used t node ≡ false → IsMaking act) × (IsSound t → is_used t node ≡ true → Suits t node act)
+pub planned_fits : (t : TableState) (c : Call) (node : ℕ) (act : Op) (keep : Bool) → planned t c ≡ plan.Node node act keep → HasAct c act × (IsSound t → is_used t node ≡ false → IsMaking keep act) × (IsSound t → is_used t node ≡ true → Suits t node act)
 planned_fits t c node act keep is = subst (FitsPlan t c) is (fits_answered t c (plan_of t c) (plan_fits t c))

@@ -7,8 +7,10 @@ use Rattle.posix_terms.specs.declared.reply.Reply.{Reply}
 use Rattle.posix_terms.specs.declared.reply.Reply.TheVariants as reply
 use Rattle.file_descriptions.specs.Descriptions.{description_at, with_offset}
 use Rattle.file_descriptions.specs.declared.description.Description.{Description}
+use Rattle.descriptor_table.specs.declared.plan.Op.{Op}
+use Rattle.descriptor_table.specs.declared.plan.Op.TheVariants as op
 use Rattle.descriptor_table.specs.declared.plan.Opened.{Opened}
-use Rattle.posix_terms.specs.Object.{Content, File, Pair, Pipe}
+use Rattle.posix_terms.specs.Object.{Content, DoorTo, File, Pair, Pipe}
 use Rattle.posix_terms.specs.Files.{bytes_at, written}
 use Rattle.posix_terms.specs.declared.object.End.{End}
 use Rattle.posix_terms.specs.declared.object.End.TheVariants as part
@@ -22,6 +24,11 @@ use Rattle.object_store.specs.Patience.{shown_ending, stopped_ending}
 use Rattle.object_store.specs.declared.patience.Ending.{Ending}
 use Rattle.object_store.specs.declared.patience.Ending.TheVariants as ending
 use Rattle.object_store.specs.Store.{Stored, body_at, kept_at}
+
+-- an act that does not go outside
+abbrev pub acts_inside : Op → Bool
+acts_inside (op.Ask errand) = false
+acts_inside act = true
 
 -- a description has this offset
 abbrev pub moved : Stored → ℕ → ℕ → Stored
@@ -70,6 +77,7 @@ held_by part.Only k = File k.file
 held_by part.Read k = Pipe k.pipe
 held_by part.Write k = Pipe k.pipe
 held_by (part.Socket side) k = Pair k.pair
+held_by (part.Door door) k = DoorTo door
 
 -- an act on a stream ended so, and left this in its object
 abbrev pub ActsOn : Acted → Stored → ℕ → Ending → Stored → Type 0
@@ -79,6 +87,8 @@ abbrev pub HasRead : End → Stored → ℕ → Opened → ℕ → Ending → St
 HasRead part.Only old node from count e new =
     let bytes = bytes_at (body_at old node) (offset_of_key old from.key) count in
     (e ≡ ending.Reply (reply.Data bytes)) × (new ≡ moved old from.key (offset_of_key old from.key + length bytes))
+-- a door is read outside, and none here
+HasRead (part.Door door) old node from count e new = (e ≡ ending.Reply reply.Done) × (new ≡ old)
 HasRead which old node from count e new = ActsOn (read_acted old.table node from count (held_by which (kept_at old node)) (offset_of_key old from.key)) old node e new
 
 -- to a file; of no bytes it does nothing
@@ -88,6 +98,8 @@ WritesFile false old node to bytes r new = Writes (written (body_at old node) (s
 
 abbrev pub HasWritten : End → Stored → ℕ → Opened → List ℕ → Ending → Stored → Type 0
 HasWritten part.Only old node to bytes e new = (r : Reply) × (e ≡ ending.Reply r) × WritesFile (length bytes == 0) old node to bytes r new
+-- nor written here
+HasWritten (part.Door door) old node to bytes e new = (e ≡ ending.Reply reply.Done) × (new ≡ old)
 HasWritten which old node to bytes e new = ActsOn (write_acted old.table node to bytes (held_by which (kept_at old node)) (offset_of_key old to.key)) old node e new
 
 -- ## Streams, by what their bodies answer

@@ -1,6 +1,6 @@
 -- What object numbers have room for: each for a file, a pipe and a pair of sockets, of which its object is one.
 use Rattle.std.specs.Prelude.{ℕ, List, []}
-use Rattle.posix_terms.specs.Object.{Content, File, Pipe, Pair}
+use Rattle.posix_terms.specs.Object.{Content, File, Pipe, Pair, DoorTo}
 use Rattle.posix_terms.specs.Streams.{PairState, new_pair}
 
 pub record Kept : Type 0 where
@@ -17,9 +17,12 @@ abbrev pub kept_as : Content → Kept → Content
 kept_as (File bytes) k = File k.file
 kept_as (Pipe bytes) k = Pipe k.pipe
 kept_as (Pair sockets) k = Pair k.pair
+-- a door holds nothing
+kept_as (DoorTo door) k = DoorTo door
 
 -- with this content
 abbrev pub keeping : Content → Kept → Kept
 keeping (File bytes) k = record k { file = bytes }
 keeping (Pipe bytes) k = record k { pipe = bytes }
 keeping (Pair sockets) k = record k { pair = sockets }
+keeping (DoorTo door) k = k

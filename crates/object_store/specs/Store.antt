@@ -1,20 +1,31 @@
 -- The shared table with the bodies of its objects, and the world that they stand for.
-use Rattle.std.specs.Prelude.{◌≡◌, ℕ, Bool, List, replicate, slice_index_or, Option, Some, None}
+use Rattle.std.specs.Prelude.{◌≡◌, ℕ, Bool, true, false, List, nat_le, replicate, slice_index_or, Option, Some, None}
 use Rattle.std.specs.FinMap as map
 use Rattle.posix_terms.specs.Object.{Content}
-use Rattle.posix_terms.specs.Step.{Carried, step}
+use Rattle.posix_terms.specs.Locked.{keeps_table}
+use Rattle.posix_terms.specs.Outcomes.{fits}
+use Rattle.posix_terms.specs.Step.{Carried, asks, step}
 use Rattle.posix_terms.specs.declared.call.Call.{Call}
+use Rattle.posix_terms.specs.declared.call.Call.TheVariants as call
 use Rattle.posix_terms.specs.declared.limits.TheConstants.Limits as limit
+use Rattle.posix_terms.specs.declared.outcome.OutKind.{OutKind}
+use Rattle.posix_terms.specs.declared.outcome.OutKind.TheVariants as out
+use Rattle.posix_terms.specs.declared.outcome.Outcome.{Outcome}
+use Rattle.posix_terms.specs.declared.outcome.Outcome.TheVariants as outcome
 use Rattle.posix_terms.specs.declared.reply.Answer.TheVariants as answer
 use Rattle.posix_terms.specs.declared.reply.Reply.{Reply}
+use Rattle.posix_terms.specs.declared.request.Request.{Request}
 use Rattle.posix_terms.specs.declared.transcript.Settings.{Settings}
 use Rattle.file_descriptions.specs.Descriptions.{AreSound}
 use Rattle.file_descriptions.specs.declared.description.Description.{Description}
-use Rattle.descriptor_table.specs.Agreement.{ChangesAsStep, NumbersStay, OffsetsStay, object_of}
+use Rattle.descriptor_table.specs.Agreement.{ChangesAsStep, NumbersStay, OffsetsStay, object_of, request_of}
 use Rattle.descriptor_table.specs.Plans.{planned}
 use Rattle.descriptor_table.specs.Shows as shown
 use Rattle.descriptor_table.specs.Table.{IsSound, TableState, empty_table}
+use Rattle.descriptor_table.specs.declared.plan.Errand.{Errand}
+use Rattle.descriptor_table.specs.declared.plan.NewNumbers.TheVariants as numbers
 use Rattle.descriptor_table.specs.declared.plan.Op.{Op}
+use Rattle.descriptor_table.specs.declared.plan.Op.TheVariants as op
 use Rattle.descriptor_table.specs.declared.plan.Plan.TheVariants as plan
 use Rattle.lock_model.specs.Numbers.{world_with}
 use Rattle.lock_model.specs.RealCalls.{answer_in}
@@ -24,6 +35,8 @@ use Rattle.object_store.specs.Bodies.{Kept, first_kept, kept_as}
 use Rattle.object_store.specs.Patience.{ended, shown_ending}
 use Rattle.object_store.specs.declared.patience.Ending.{Ending}
 use Rattle.object_store.specs.declared.patience.TurnEnd.{TurnEnd}
+use Rattle.object_store.specs.declared.patience.TurnStart.{TurnStart}
+use Rattle.object_store.specs.declared.patience.TurnStart.TheVariants as start
 
 -- the table, and by object number what the objects hold
 pub record Stored : Type 0 where
@@ -51,11 +64,34 @@ pub record Stands (h : Stored) (w : World) : Type 0 where
 abbrev pub number_locked : Stored → Call → Option ℕ
 number_locked h c = object_of (planned h.table c)
 
--- a turn of a call that was blocked for so many turns was made, with this patience and in whatever world they stood for: so it ended, and now they stand for the world behind it
-abbrev pub Makes : ℕ → ℕ → Stored → Call → TurnEnd → Stored → Type 0
-Makes patience turns old c e new =
-    (settings : Settings) (w : World) → settings.patience ≡ patience → Stands old w →
-    (answer_in (step settings w.object c None turns) ≡ ended e) × Stands new (world_with w (step settings w.object c None turns).after)
+-- a turn that goes outside with this errand, in this world: it asks what the call asks. Unless it keeps the table, its change is made, whatever will
+-- come of it, and it will end as the errand has it
+pub record GoesOut (settings : Settings) (w : World) (turns : ℕ) (old : Stored) (c : Call) (errand : Errand) (new : Stored) : Type 0 where
+  pub request : asks w.object c turns ≡ request_of c (op.Ask errand)
+  pub change : keeps_table c ≡ false → Stands new (world_with w (step settings w.object c None turns).after)
+  pub ends : keeps_table c ≡ false → (o : Outcome) → let stepped = step settings w.object c (Some o) turns in (stepped.answer, stepped.carried) ≡ acts.ended settings w.object turns (acts.outside_ending errand numbers.None (Some o))
+  pub kept : keeps_table c ≡ true → new ≡ old
+
+-- a turn that asks nothing outside: so it ended, and now they stand for the world behind it
+pub record EndsAt (settings : Settings) (w : World) (turns : ℕ) (c : Call) (e : TurnEnd) (new : Stored) : Type 0 where
+  pub request : asks w.object c turns ≡ None
+  pub answer_is : answer_in (step settings w.object c None turns) ≡ ended e
+  pub change : Stands new (world_with w (step settings w.object c None turns).after)
+
+-- how a turn of a call starts that was blocked for so many turns
+abbrev pub StartsIn : Settings → World → ℕ → Stored → Call → TurnStart → Stored → Type 0
+StartsIn settings w turns old c (start.Ended e) new = EndsAt settings w turns c e new
+StartsIn settings w turns old c (start.GoesOut errand) new = GoesOut settings w turns old c errand new
+
+-- with this patience, and in whatever world they stood for
+abbrev pub Makes : ℕ → ℕ → Stored → Call → TurnStart → Stored → Type 0
+Makes patience turns old c x new = (settings : Settings) (w : World) → settings.patience ≡ patience → Stands old w → StartsIn settings w turns old c x new
+
+-- a turn of a call that kept the table while it was outside ended so, by an outcome that fits what it asked
+abbrev pub Opens : ℕ → ℕ → Stored → Call → Outcome → TurnEnd → Stored → Type 0
+Opens patience turns old c o e new =
+    (settings : Settings) (w : World) (r : Request) → settings.patience ≡ patience → Stands old w → keeps_table c ≡ true → asks w.object c turns ≡ Some r → fits r.kind r.asked o ≡ true →
+    (answer_in (step settings w.object c (Some o) turns) ≡ ended e) × Stands new (world_with w (step settings w.object c (Some o) turns).after)
 
 -- the act of a turn was made, in whatever world they stood for and whatever the call carried: so it ended
 abbrev pub EndsTurn : Stored → Call → Ending → Stored → Type 0
@@ -78,10 +114,28 @@ first_stored = record { table = empty_table; bodies = replicate limit.OBJECTS fi
 abbrev pub IsPlanned : Stored → Call → ℕ → Op → Type 0
 IsPlanned h c node act = (keep : Bool) × (planned h.table c ≡ plan.Node node act keep)
 
--- what the table has made of a call
-pub record TableMade (h : Stored) (c : Call) (u : TableState) : Type 0 where
+-- the kinds of requests that open doors
+abbrev pub opens_door : OutKind → Bool
+opens_door out.Open = true
+opens_door out.Listen = true
+opens_door out.Connect = true
+opens_door out.Accept = true
+opens_door k = false
+
+-- a listener is opened at a port
+abbrev pub at_port : Call → Outcome → Bool
+at_port (call.TcpListen port) (outcome.Ok value bytes) = nat_le value 65535
+at_port c o = true
+
+-- what the table has made of a call, with this outcome
+pub record TableMade (h : Stored) (c : Call) (outcome : Option Outcome) (u : TableState) : Type 0 where
   pub sound : IsSound u
   pub described : AreSound u.descriptions
-  pub follows : ChangesAsStep h.table c u
+  pub follows : ChangesAsStep h.table c outcome u
   pub numbers : NumbersStay h.table u
   pub offsets : OffsetsStay h.table u
+
+-- the table as a call leaves it that goes outside
+abbrev pub LeavesTable : Bool → Stored → Call → Stored → Type 0
+LeavesTable true old c new = new ≡ old
+LeavesTable false old c new = TableMade old c None new.table × (new ≡ record old { table = new.table })

@@ -191,7 +191,7 @@ impl Store {
         ensures births { (self.new.table.descriptions.made ≤ self.old.table.descriptions.made + 2) × (self.new.table.made_objects ≤ self.old.table.made_objects + 1) }
     {
         let plan = self.table.plan(call);
-        let given = self.change(call, &plan);
+        let given = self.change(call, &plan, None);
         self.cut_body(node, cut);
         numbers_reply(given)
     }
@@ -215,7 +215,7 @@ impl Store {
         ensures births { (self.new.table.descriptions.made ≤ self.old.table.descriptions.made + 2) × (self.new.table.made_objects ≤ self.old.table.made_objects + 1) }
     {
         let plan = self.table.plan(call);
-        let _ = self.change(call, &plan);
+        let _ = self.change(call, &plan, None);
         release_reply(call)
     }
 }

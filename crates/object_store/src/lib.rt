@@ -3,11 +3,12 @@
 
 mod acts;
 mod body;
+mod doors;
 mod patience;
 mod store;
 mod streams;
 #[cfg(test)]
 mod tests;
 
-pub use patience::TurnEnd;
+pub use patience::{TurnEnd, TurnStart, end_outside};
 pub use store::Store;

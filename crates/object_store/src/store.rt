@@ -1,14 +1,16 @@
-ghost use Rattle.std.specs.Prelude.{◌≡◌, ◌+◌, ◌<◌, ◌≤◌, ◌^◌, length, IfOk, IfSome, OnErr};
+ghost use Rattle.std.specs.Prelude.{◌≡◌, ◌+◌, ◌<◌, ◌≤◌, ◌^◌, true, length, IfOk, IfSome, OnErr, option_copied};
 ghost use Rattle.posix_terms.specs.declared.limits.TheConstants.Limits as limit;
 ghost use Rattle.descriptor_table.specs.Plans.{MovesKnown, planned};
 ghost use Rattle.descriptor_table.specs.declared.plan.Plan.TheVariants as plan;
 ghost use Rattle.descriptor_table.specs.Agreement.{TellsAsStep};
+ghost use Rattle.descriptor_table.specs.Changes.{IsAtPort};
+ghost use Rattle.object_store.specs.Acting.{acts_inside};
 ghost use Rattle.object_store.specs.Store.{EndsTurn, IsPlanned, Makes, Replies, TableMade, first_stored, number_locked};
 
 use crate::body::Body;
-use crate::patience::{Ending, TurnEnd, blocked};
+use crate::patience::{Ending, TurnEnd, TurnStart, blocked};
 use descriptor_table::{NewNumbers, Op, Plan, Table};
-use posix_terms::{Call, Limits, Reply};
+use posix_terms::{Call, Limits, Outcome, Reply};
 use std::alloc::{AllocError, Global};
 use std::marker::Model;
 
@@ -61,27 +63,38 @@ impl Store {
 
     /// Makes one turn of a call that was blocked for so many turns before. A call that cannot go on is blocked
     /// until it was for as many turns as its patience, and then fails with EINTR; where its description has
-    /// O_NONBLOCK it fails at once with EAGAIN. `Err` is want of memory for a read's bytes, and then nothing
-    /// changes.
+    /// O_NONBLOCK it fails at once with EAGAIN. A call that goes outside gets its errand; unless it keeps the
+    /// table, its change is made, and `end_outside` ends its turn, and else `open_door`. `Err` is want of memory
+    /// for a read's bytes, and then nothing changes.
     pub fn make(
         &mut self,
         alloc: Global,
         call: &Call,
         patience: u32,
         turns: u32,
-    ) -> Result<TurnEnd, AllocError>
+    ) -> Result<TurnStart, AllocError>
         requires descriptions { self.old.table.descriptions.made < 2 ^ 127 }
         requires objects { self.old.table.made_objects < 2 ^ 127 }
-        ensures makes { IfOk result (λ ends. Makes patience turns self.old call.now ends self.new) }
+        ensures makes { IfOk result (λ start. Makes patience turns self.old call.now start self.new) }
         ensures err { OnErr result (self.new ≡ self.old) }
         ensures births { (self.new.table.descriptions.made ≤ self.old.table.descriptions.made + 2) × (self.new.table.made_objects ≤ self.old.table.made_objects + 1) }
     {
         match self.table.plan(call) {
-            Plan::Reply(reply) => Ok(TurnEnd::Reply(self.settle(call, reply))),
-            Plan::Node { node, op, .. } => Ok(match self.act(alloc, call, node, op)? {
-                Ending::Reply(reply) => TurnEnd::Reply(reply),
-                Ending::Waits => blocked(patience, turns),
-            }),
+            Plan::Reply(reply) => Ok(TurnStart::Ended(TurnEnd::Reply(self.settle(call, reply)))),
+            Plan::Node {
+                node,
+                op: Op::Ask(errand),
+                keep_table,
+            } => {
+                self.go_out(call, node, errand, keep_table);
+                Ok(TurnStart::GoesOut(errand))
+            }
+            Plan::Node { node, op, .. } => {
+                Ok(TurnStart::Ended(match self.act(alloc, call, node, op)? {
+                    Ending::Reply(reply) => TurnEnd::Reply(reply),
+                    Ending::Waits => blocked(patience, turns),
+                }))
+            }
         }
     }
 
@@ -94,7 +107,7 @@ impl Store {
         ensures births { (self.new.table.descriptions.made ≤ self.old.table.descriptions.made + 2) × (self.new.table.made_objects ≤ self.old.table.made_objects + 1) }
     {
         let plan = Plan::Reply(reply);
-        let _ = self.change(call, &plan);
+        let _ = self.change(call, &plan, None);
         match plan {
             Plan::Reply(reply) => reply,
             Plan::Node { .. } => unreachable!(),
@@ -103,16 +116,22 @@ impl Store {
 
     // Makes the table's change of a call that it planned so. It gives the number of a new descriptor where the
     // plan has not told it.
-    pub(crate) fn change(&mut self, call: &Call, plan: &Plan) -> NewNumbers
+    pub(crate) fn change(
+        &mut self,
+        call: &Call,
+        plan: &Plan,
+        outcome: Option<&Outcome>,
+    ) -> NewNumbers
         requires descriptions { self.old.table.descriptions.made < 2 ^ 127 }
         requires objects { self.old.table.made_objects < 2 ^ 127 }
         requires planned { plan.now ≡ planned self.old.table call.now }
-        ensures made { TableMade self.old call.now self.new.table }
+        requires port { IsAtPort call.now (option_copied outcome) }
+        ensures made { TableMade self.old call.now (option_copied outcome.entry) self.new.table }
         ensures bodies { self.new.bodies ≡ self.old.bodies }
-        ensures tells { TellsAsStep self.old.table call.now result }
+        ensures tells { TellsAsStep self.old.table call.now (option_copied outcome.entry) result }
         ensures births { (self.new.table.descriptions.made ≤ self.old.table.descriptions.made + 2) × (self.new.table.made_objects ≤ self.old.table.made_objects + 1) }
     {
-        let given = self.table.apply(call, plan, None);
+        let given = self.table.apply(call, plan, outcome);
         // What holds of every table holds of this one.
         let _ = self.table.made();
         given
@@ -126,6 +145,7 @@ impl Store {
         requires inside { node < limit.OBJECTS }
         requires bodies { length self.old.bodies ≡ limit.OBJECTS }
         requires known { MovesKnown self.old.table op }
+        requires here { acts_inside op ≡ true }
         ensures ends { IfOk result (λ e. EndsTurn self.old call.now e self.new) }
         ensures err { OnErr result (self.new ≡ self.old) }
         ensures births { (self.new.table.descriptions.made ≤ self.old.table.descriptions.made + 2) × (self.new.table.made_objects ≤ self.old.table.made_objects + 1) }
@@ -145,6 +165,7 @@ impl Store {
             Op::Pipe => Ok(Ending::Reply(self.open_pipe(call, node))),
             Op::Socketpair => Ok(Ending::Reply(self.open_pair(call, node))),
             Op::Shutdown { side, how } => Ok(Ending::Reply(self.shutdown(node, side, how))),
+            Op::Ask(_) => unreachable!(),
         }
     }
 }

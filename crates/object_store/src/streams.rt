@@ -41,6 +41,8 @@ impl Store {
             End::Only => Ok(Ending::Reply(self.read_file(alloc, node, from, count)?)),
             End::Read | End::Write => self.read_pipe(alloc, node, from, count),
             End::Socket(side) => self.read_pair(alloc, node, from, side, count),
+            // A door is read outside.
+            End::Door(_) => Ok(Ending::Reply(Reply::Done)),
         }
     }
 
@@ -93,6 +95,8 @@ impl Store {
             End::Only => Ending::Reply(self.write_file(node, to, bytes)),
             End::Read | End::Write => self.write_pipe(node, to, bytes),
             End::Socket(side) => self.write_pair(node, to, side, bytes),
+            // A door is written outside.
+            End::Door(_) => Ending::Reply(Reply::Done),
         }
     }
 
@@ -158,7 +162,7 @@ impl Store {
         ensures births { (self.new.table.descriptions.made ≤ self.old.table.descriptions.made + 2) × (self.new.table.made_objects ≤ self.old.table.made_objects + 1) }
     {
         let plan = self.table.plan(call);
-        let given = self.change(call, &plan);
+        let given = self.change(call, &plan, None);
         self.clear_pipe(node);
         numbers_reply(given)
     }
@@ -183,7 +187,7 @@ impl Store {
         ensures births { (self.new.table.descriptions.made ≤ self.old.table.descriptions.made + 2) × (self.new.table.made_objects ≤ self.old.table.made_objects + 1) }
     {
         let plan = self.table.plan(call);
-        let given = self.change(call, &plan);
+        let given = self.change(call, &plan, None);
         self.clear_pair(node);
         numbers_reply(given)
     }

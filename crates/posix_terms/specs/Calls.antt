@@ -39,6 +39,10 @@ kind_of (call.Rmdir path) = kind.Rmdir
 kind_of call.Pipe = kind.Pipe
 kind_of call.Socketpair = kind.Socketpair
 kind_of (call.Shutdown descriptor how) = kind.Shutdown
+kind_of (call.HostOpen path access flags) = kind.HostOpen
+kind_of (call.TcpListen port) = kind.TcpListen
+kind_of (call.TcpConnect port) = kind.TcpConnect
+kind_of (call.TcpAccept descriptor) = kind.TcpAccept
 
 -- the name of a call in scripts and in printed transcripts
 abbrev pub word_of : CallKind → List ℕ
@@ -63,3 +67,7 @@ word_of kind.Rmdir = codes "rmdir"
 word_of kind.Pipe = codes "pipe"
 word_of kind.Socketpair = codes "socketpair"
 word_of kind.Shutdown = codes "shutdown"
+word_of kind.HostOpen = codes "host_open"
+word_of kind.TcpListen = codes "tcp_listen"
+word_of kind.TcpConnect = codes "tcp_connect"
+word_of kind.TcpAccept = codes "tcp_accept"

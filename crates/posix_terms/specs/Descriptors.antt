@@ -4,9 +4,9 @@ use Rattle.std.specs.Prelude.{ℕ, zero, suc, ◌+◌, ℤ, pos, negsuc, List, [
 use Rattle.std.specs.List.{list_any}
 use Rattle.std.specs.FinMap as map
 use Rattle.posix_terms.specs.Calls.{can_write}
-use Rattle.posix_terms.specs.Effects.{Effect, Completes}
+use Rattle.posix_terms.specs.Effects.{Effect, Completes, asks_of}
 use Rattle.posix_terms.specs.Ends.{is_end}
-use Rattle.posix_terms.specs.Object.{State, Description, File, Node, FileNode, Directory, any_below, with_content}
+use Rattle.posix_terms.specs.Object.{State, Description, File, Node, FileNode, Directory, any_below, content_of, is_door, with_content}
 use Rattle.posix_terms.specs.Paths.{node_at, resolved}
 use Rattle.posix_terms.specs.Refusals.{◌>>=◌, refuse_if, some_or}
 use Rattle.posix_terms.specs.declared.call.Access.{Access}
@@ -16,6 +16,7 @@ use Rattle.posix_terms.specs.declared.errno.Errno.TheVariants.{EBADF, EINVAL, EN
 use Rattle.posix_terms.specs.declared.limits.TheConstants.Limits as limit
 use Rattle.posix_terms.specs.declared.object.End.{End}
 use Rattle.posix_terms.specs.declared.object.End.TheVariants as part
+use Rattle.posix_terms.specs.declared.outcome.OutKind.TheVariants as kind
 use Rattle.posix_terms.specs.declared.reply.Reply.TheVariants as reply
 
 -- the key of the description that a descriptor refers to
@@ -136,8 +137,17 @@ abbrev pub freed : State → ℤ → State
 freed s (pos n) = record s { descriptors = map.remove s.descriptors n }
 freed s (negsuc n) = s
 
--- `close`
+-- whether the description of a descriptor ends with it
+abbrev pub is_last : State → ℤ → ℕ → Bool
+is_last s descriptor key = not (has_descriptor (freed s descriptor) key)
+
+-- the last descriptor of a door
+abbrev pub ends_door : State → ℤ → ℕ × Description → Bool
+ends_door s descriptor (key, d) = is_door (content_of s d.object) && is_last s descriptor key
+
+-- `close`. A door is closed outside with its last descriptor, which is free whatever comes of that
 unfoldable pub close_result : State → ℤ → Result Effect Errno
 close_result s descriptor = do
   found ← described s descriptor
-  Ok (Completes (released (freed s descriptor) found.0 found.1) reply.Done)
+  let after = released (freed s descriptor) found.0 found.1 in
+      Ok (if ends_door s descriptor found then asks_of after kind.Close 0 false (λ value bytes. reply.Done) else Completes after reply.Done)

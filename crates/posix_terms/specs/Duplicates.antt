@@ -1,14 +1,14 @@
 -- Descriptors that share a description.
 -- POSIX.1-2017, System Interfaces: `dup`, `dup2`, `fcntl` with F_DUPFD.
-use Rattle.std.specs.Prelude.{ℕ, ◌-◌, ℤ, pos, negsuc, Result, Ok, Err, if◌then◌else◌, nat_lt}
+use Rattle.std.specs.Prelude.{ℕ, ◌-◌, ℤ, pos, negsuc, Bool, false, not, ◌&&◌, Result, Ok, Err, if◌then◌else◌, nat_lt}
 use Rattle.std.specs.FinMap as map
 use Rattle.std.specs.Ordering.{int_eq}
-use Rattle.posix_terms.specs.Descriptors.{described, freed, lowest_free, lowest_from, released}
+use Rattle.posix_terms.specs.Descriptors.{described, ends_door, freed, lowest_free, lowest_from, released}
 use Rattle.posix_terms.specs.Effects.{Effect, Completes}
 use Rattle.posix_terms.specs.Object.{State, Description}
-use Rattle.posix_terms.specs.Refusals.{◌>>=◌, some_or}
+use Rattle.posix_terms.specs.Refusals.{◌>>=◌, refuse_if, some_or}
 use Rattle.posix_terms.specs.declared.errno.Errno.{Errno}
-use Rattle.posix_terms.specs.declared.errno.Errno.TheVariants.{EBADF, EINVAL, EMFILE}
+use Rattle.posix_terms.specs.declared.errno.Errno.TheVariants.{EBADF, EBUSY, EINVAL, EMFILE}
 use Rattle.posix_terms.specs.declared.limits.TheConstants.Limits as limit
 use Rattle.posix_terms.specs.declared.reply.Reply.TheVariants as reply
 
@@ -41,9 +41,15 @@ abbrev pub closed : State → ℤ → Result (ℕ × Description) Errno → Stat
 closed s descriptor (Ok found) = released (freed s descriptor) found.0 found.1
 closed s descriptor (Err e) = s
 
--- `dup2`: a target that is open is closed first, and one that is the descriptor itself stays as it is
+-- whether a target is the last descriptor of a door, if it is open
+abbrev pub ends_a_door : State → ℤ → Result (ℕ × Description) Errno → Bool
+ends_a_door s descriptor (Ok found) = ends_door s descriptor found
+ends_a_door s descriptor (Err e) = false
+
+-- `dup2`: a target that is open is closed first, and one that is the descriptor itself stays as it is. No door is closed in this way
 unfoldable pub dup2_result : State → ℤ → ℤ → Result Effect Errno
 dup2_result s descriptor target = do
   found ← described s descriptor
   n ← descriptor_number target EBADF
+  _ ← refuse_if (not (int_eq descriptor target) && ends_a_door s target (described s target)) EBUSY
   Ok (Completes (if int_eq descriptor target then s else shared (closed s target (described s target)) n found.0) (reply.Number target))

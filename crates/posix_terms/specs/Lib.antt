@@ -15,8 +15,10 @@ pub mod Duplicates
 pub mod Transfers
 pub mod Names
 pub mod Status
+pub mod Doors
 pub mod Step
 pub mod Locked
 pub mod Outcomes
 pub mod Legal
 pub mod Examples
+pub mod DoorExamples

@@ -1,32 +1,36 @@
 -- Which object's lock a call takes. It takes none where the table alone refuses or answers it.
-use Rattle.std.specs.Prelude.{ℕ, ℤ, length, not, ◌||◌, ◌==◌, Option, Some, None, Result, Ok, Err, option_map, nat_lt, if◌then◌else◌}
+use Rattle.std.specs.Prelude.{◌≡◌, is_some, ℕ, ℤ, length, Bool, true, false, not, ◌&&◌, ◌||◌, ◌==◌, Option, Some, None, Result, Ok, Err, option_map, nat_lt, if◌then◌else◌}
 use Rattle.std.specs.FinMap as map
 use Rattle.std.specs.Ordering.{int_eq}
 use Rattle.posix_terms.specs.Calls.{can_read, can_write}
 use Rattle.posix_terms.specs.Descriptors.{described, freed, has_description, has_descriptor, has_path, open_result}
-use Rattle.posix_terms.specs.Duplicates.{descriptor_number}
-use Rattle.posix_terms.specs.Effects.{Effect, Blocks, Completes}
+use Rattle.posix_terms.specs.Duplicates.{descriptor_number, ends_a_door}
+use Rattle.posix_terms.specs.Doors.{host_open_result, tcp_accept_result, tcp_connect_result, tcp_listen_result}
+use Rattle.posix_terms.specs.Effects.{Effect, Blocks, Completes, Asks}
 use Rattle.posix_terms.specs.Names.{removed, with_paths}
-use Rattle.posix_terms.specs.Object.{State, Description, Content, File}
+use Rattle.posix_terms.specs.Object.{State, Description, Content, File, content_of, is_door}
 use Rattle.posix_terms.specs.Refusals.{◌>>=◌, count_of, position_of, refuse_if}
-use Rattle.posix_terms.specs.Sockets.{pair_in, pipe_result, socketpair_result}
-use Rattle.posix_terms.specs.Step.{Carried}
-use Rattle.posix_terms.specs.Transfers.{content_of, file_in, readable, size_of, writable}
+use Rattle.posix_terms.specs.Sockets.{pipe_result, shuttable, socketpair_result}
+use Rattle.posix_terms.specs.Step.{Carried, asks, step}
+use Rattle.posix_terms.specs.Transfers.{file_in, readable, seekable, size_of, writable}
 use Rattle.posix_terms.specs.declared.call.Call.{Call}
 use Rattle.posix_terms.specs.declared.call.Call.TheVariants as call
 use Rattle.posix_terms.specs.declared.errno.Errno.{Errno}
-use Rattle.posix_terms.specs.declared.errno.Errno.TheVariants.{EBADF, EINVAL, ENOTSOCK, ESPIPE}
+use Rattle.posix_terms.specs.declared.errno.Errno.TheVariants.{EBADF, EBUSY, EINVAL, ESPIPE}
 use Rattle.posix_terms.specs.declared.limits.TheConstants.Limits as limit
+use Rattle.posix_terms.specs.declared.outcome.Outcome.{Outcome}
+use Rattle.posix_terms.specs.declared.transcript.Settings.{Settings}
 
 -- of a call that may be refused by the table
 abbrev pub unless_refused : Result (Option ℕ) Errno → Option ℕ
 unless_refused (Ok object) = object
 unless_refused (Err e) = None
 
--- the object of the description that a call made, which had the next key
+-- the object of the description that a call made, which had the next key; of a call that opens a door, the object that it would make
 abbrev pub made_object : State → Effect → Option ℕ
 made_object s Blocks = None
 made_object s (Completes after reply) = option_map (λ (d : Description). d.object) (map.get after.descriptions s.next_description)
+made_object s (Asks asking) = Some s.next_object
 
 -- that of a description that ends with this descriptor
 abbrev pub ended_object : State → ℤ → ℕ × Description → Option ℕ
@@ -83,7 +87,7 @@ locked s (call.Pwrite descriptor bytes position) carried = do
   Ok (Some found.1.object)
 locked s (call.Lseek descriptor offset whence) carried = do
   found ← described s descriptor
-  _ ← file_in (content_of s found.1.object) ESPIPE
+  _ ← seekable (content_of s found.1.object) offset whence
   Ok (Some found.1.object)
 locked s (call.Ftruncate descriptor size) carried = do
   found ← described s descriptor
@@ -99,6 +103,7 @@ locked s (call.DupFrom descriptor least) carried = Ok None
 locked s (call.Dup2 descriptor target) carried = do
   _ ← described s descriptor
   _ ← descriptor_number target EBADF
+  _ ← refuse_if (not (int_eq descriptor target) && ends_a_door s target (described s target)) EBUSY
   Ok (if int_eq descriptor target then None else closed_object s target (described s target))
 locked s (call.Getfl descriptor) carried = Ok None
 locked s (call.Setfl descriptor append nonblock) carried = Ok None
@@ -112,9 +117,40 @@ locked s call.Pipe carried = locked_by_new s (pipe_result s)
 locked s call.Socketpair carried = locked_by_new s (socketpair_result s)
 locked s (call.Shutdown descriptor how) carried = do
   found ← described s descriptor
-  _ ← pair_in (content_of s found.1.object) ENOTSOCK
+  _ ← shuttable (content_of s found.1.object)
   Ok (Some found.1.object)
+locked s (call.HostOpen path access flags) carried = locked_by_new s (host_open_result s path access flags)
+locked s (call.TcpListen port) carried = locked_by_new s (tcp_listen_result s port)
+locked s (call.TcpConnect port) carried = locked_by_new s (tcp_connect_result s port)
+locked s (call.TcpAccept descriptor) carried = locked_by_new s (tcp_accept_result s descriptor)
 
 -- the object whose lock a call takes
 unfoldable pub locked_object : State → Call → Carried → Option ℕ
 locked_object s c carried = unless_refused (locked s c carried)
+
+-- a call that opens a door keeps the table to its answer
+abbrev pub keeps_table : Call → Bool
+keeps_table (call.HostOpen path access flags) = true
+keeps_table (call.TcpListen port) = true
+keeps_table (call.TcpConnect port) = true
+keeps_table (call.TcpAccept descriptor) = true
+keeps_table c = false
+
+-- a call that goes outside takes the lock of a door, or of the one that it would open
+abbrev pub locks_door : State → Bool → Option ℕ → Bool
+locks_door s keeps None = false
+locks_door s true (Some object) = object == s.next_object
+locks_door s false (Some object) = is_door (content_of s object)
+
+abbrev pub OutsideLocks : Type 0
+OutsideLocks = (s : State) (c : Call) (carried : Carried) → is_some (asks s c carried) ≡ true → locks_door s (keeps_table c) (locked_object s c carried) ≡ true
+
+-- and only such a call keeps the table
+abbrev pub KeepsOutside : Type 0
+KeepsOutside = (s : State) (c : Call) (carried : Carried) → keeps_table c ≡ true → is_some (locked_object s c carried) ≡ is_some (asks s c carried)
+
+-- a call that frees the table before it goes outside leaves the same state whatever its outcome
+abbrev pub LeavesAlike : Type 0
+LeavesAlike =
+    (settings : Settings) (s : State) (c : Call) (o : Option Outcome) (carried : Carried) → keeps_table c ≡ false
+    → (step settings s c o carried).after ≡ (step settings s c None carried).after

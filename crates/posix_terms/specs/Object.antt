@@ -1,6 +1,6 @@
 -- The sequential object: one table of descriptors, as one thread after another uses it.
 -- POSIX.1-2017, Base Definitions, 3.258 (open file description): a descriptor refers to an open file description, and this to an object.
-use Rattle.std.specs.Prelude.{ℕ, zero, suc, List, Bool, false, ◌||◌}
+use Rattle.std.specs.Prelude.{ℕ, ◌+◌, zero, suc, List, [], Bool, true, false, ◌||◌, unwrap_or}
 use Rattle.std.specs.Ordering.{nat_cmp}
 use Rattle.std.specs.declared.cmp.Ordering.{Ordering}
 use Rattle.std.specs.Cmp.Lexicographic.{slice_cmp}
@@ -8,6 +8,7 @@ use Rattle.std.specs.FinMap as map
 use Rattle.std.specs.FinMap.{FinMap}
 use Rattle.posix_terms.specs.Streams.{PairState}
 use Rattle.posix_terms.specs.declared.call.Access.{Access}
+use Rattle.posix_terms.specs.declared.object.Door.{Door}
 use Rattle.posix_terms.specs.declared.object.End.{End}
 
 -- an open file description: what it refers to and which end of that, how it may be used, its offset and its flags
@@ -24,6 +25,8 @@ pub data Content : Type 0 where
   File : (bytes : List ℕ) → Content
   Pipe : (bytes : List ℕ) → Content
   Pair : (sockets : PairState) → Content
+  -- what leads outside, of which no bytes are here
+  DoorTo : (door : Door) → Content
 
 -- what a path names
 pub data Node : Type 0 where
@@ -55,6 +58,14 @@ empty_state =
       next_object = 0;
     }
 
+-- what an object holds; the object of a description is in the map
+abbrev pub content_of : State → ℕ → Content
+content_of s object = unwrap_or (map.get s.objects object) (File [])
+
+abbrev pub is_door : Content → Bool
+is_door (DoorTo door) = true
+is_door c = false
+
 -- a new content for an object
 abbrev pub with_content : State → ℕ → Content → State
 with_content s object content = record s { objects = map.insert s.objects object content }
@@ -63,3 +74,7 @@ with_content s object content = record s { objects = map.insert s.objects object
 abbrev pub any_below : ℕ → (ℕ → Bool) → Bool
 any_below zero test = false
 any_below (suc n) test = any_below n test || test n
+
+-- a new object that no path names
+abbrev pub with_object : State → Content → State
+with_object s content = record s { objects = map.insert s.objects s.next_object content; next_object = s.next_object + 1 }

@@ -1,9 +1,12 @@
 -- Which outcomes answer a request.
-use Rattle.std.specs.Prelude.{ℕ, ◌-◌, ◌^◌, Bool, true, ◌&&◌, ◌||◌, ◌==◌, nat_le, length}
+use Rattle.std.specs.Prelude.{ℕ, ◌-◌, ◌^◌, Bool, true, false, ◌&&◌, ◌||◌, ◌==◌, nat_le, length}
+use Rattle.posix_terms.specs.declared.limits.TheConstants.Limits as limit
+use Rattle.posix_terms.specs.declared.outcome.Given.{Given}
 use Rattle.posix_terms.specs.declared.outcome.OutKind.{OutKind}
 use Rattle.posix_terms.specs.declared.outcome.OutKind.TheVariants as kind
 use Rattle.posix_terms.specs.declared.outcome.Outcome.{Outcome}
 use Rattle.posix_terms.specs.declared.outcome.Outcome.TheVariants as outcome
+use Rattle.posix_terms.specs.declared.request.Request.{Request}
 
 -- the value that a success of this kind may have: what was asked, the value and the number of bytes
 abbrev pub value_fits : OutKind → ℕ → ℕ → ℕ → Bool
@@ -11,7 +14,7 @@ value_fits kind.Open asked value count = value == 0
 value_fits kind.Read asked value count = value == count && nat_le value asked
 value_fits kind.Write asked value count = nat_le value asked
 value_fits kind.Seek asked value count = nat_le value (2 ^ 63 - 1)
-value_fits kind.Listen asked value count = nat_le 1 value && nat_le value 65535 && (asked == 0 || value == asked)
+value_fits kind.Listen asked value count = nat_le 1 value && nat_le value limit.PORT && (asked == 0 || value == asked)
 value_fits kind.Connect asked value count = value == 0
 value_fits kind.Accept asked value count = value == 0
 value_fits kind.Shutdown asked value count = value == 0
@@ -26,3 +29,19 @@ bytes_fit _ count = count == 0
 unfoldable pub fits : OutKind → ℕ → Outcome → Bool
 fits k asked (outcome.Ok value bytes) = value_fits k asked value (length bytes) && bytes_fit k (length bytes)
 fits k asked (outcome.Fail error) = true
+
+abbrev pub is_kind : OutKind → OutKind → Bool
+is_kind kind.Open kind.Open = true
+is_kind kind.Read kind.Read = true
+is_kind kind.Write kind.Write = true
+is_kind kind.Seek kind.Seek = true
+is_kind kind.Listen kind.Listen = true
+is_kind kind.Connect kind.Connect = true
+is_kind kind.Accept kind.Accept = true
+is_kind kind.Shutdown kind.Shutdown = true
+is_kind kind.Close kind.Close = true
+is_kind k other = false
+
+-- what was given answers a request of its own kind, where its outcome fits
+abbrev pub answers : Request → Given → Bool
+answers request given = is_kind given.kind request.kind && fits request.kind request.asked given.outcome

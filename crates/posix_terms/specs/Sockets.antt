@@ -3,22 +3,23 @@
 use Rattle.std.specs.Prelude.{ℕ, ◌+◌, ◌-◌, ℤ, pos, [], false, nat_le, Result, Ok, Err}
 use Rattle.std.specs.FinMap as map
 use Rattle.posix_terms.specs.Descriptors.{described, lowest_free, lowest_from, opened}
-use Rattle.posix_terms.specs.Effects.{Effect, Completes}
+use Rattle.posix_terms.specs.Effects.{Effect, Completes, asks_of}
 use Rattle.posix_terms.specs.Ends.{side_of}
-use Rattle.posix_terms.specs.Object.{State, Content, Pipe, Pair, with_content}
+use Rattle.posix_terms.specs.Object.{State, Description, Content, Pipe, Pair, DoorTo, content_of, with_content, with_object}
 use Rattle.posix_terms.specs.Refusals.{◌>>=◌, refuse_if, some_or}
-use Rattle.posix_terms.specs.Streams.{PairState, new_pair, shut}
-use Rattle.posix_terms.specs.Transfers.{content_of}
+use Rattle.posix_terms.specs.Streams.{new_pair, shut}
 use Rattle.posix_terms.specs.declared.call.Access.{Access}
 use Rattle.posix_terms.specs.declared.call.Access.TheVariants.{ReadOnly, WriteOnly, ReadWrite}
 use Rattle.posix_terms.specs.declared.call.ShutdownHow.{ShutdownHow}
 use Rattle.posix_terms.specs.declared.errno.Errno.{Errno}
-use Rattle.posix_terms.specs.declared.errno.Errno.TheVariants.{EMFILE, ENFILE, ENOTSOCK}
+use Rattle.posix_terms.specs.declared.errno.Errno.TheVariants.{EINVAL, EMFILE, ENFILE, ENOTSOCK}
 use Rattle.posix_terms.specs.declared.limits.TheConstants.Limits as limit
 use Rattle.posix_terms.specs.declared.object.End.{End}
 use Rattle.posix_terms.specs.declared.object.End.TheVariants as part
 use Rattle.posix_terms.specs.declared.object.Side.TheVariants.{Side0, Side1}
+use Rattle.posix_terms.specs.declared.outcome.OutKind.TheVariants as kind
 use Rattle.posix_terms.specs.declared.reply.Reply.TheVariants as reply
+use Rattle.posix_terms.specs.declared.object.Door.TheVariants as door
 
 -- the two least numbers that are not open
 abbrev pub two_numbers : State → Result (ℕ × ℕ) Errno
@@ -26,10 +27,6 @@ two_numbers s = do
   first ← some_or (lowest_free s) EMFILE
   second ← some_or (lowest_from s (limit.DESCRIPTORS - (first + 1)) (first + 1)) EMFILE
   Ok (first, second)
-
--- a new object that no path names
-abbrev pub with_object : State → Content → State
-with_object s content = record s { objects = map.insert s.objects s.next_object content; next_object = s.next_object + 1 }
 
 -- one end of a new object, and what it is open for
 pub record NewEnd : Type 0 where
@@ -51,14 +48,20 @@ pipe_result s = two_ends s (Pipe []) (record { which = part.Read; access = ReadO
 unfoldable pub socketpair_result : State → Result Effect Errno
 socketpair_result s = two_ends s (Pair new_pair) (record { which = part.Socket Side0; access = ReadWrite }) (record { which = part.Socket Side1; access = ReadWrite })
 
--- the pair that an object is; another object is refused
-abbrev pub pair_in : Content → Errno → Result PairState Errno
-pair_in (Pair p) e = Ok p
-pair_in c e = Err e
+-- an object that can be shut
+abbrev pub shuttable : Content → Result (Unit {0}) Errno
+shuttable (Pair p) = Ok tt
+shuttable (DoorTo door.Stream) = Ok tt
+shuttable (DoorTo (door.Listener port)) = Err EINVAL
+shuttable c = Err ENOTSOCK
 
--- `shutdown`; again, or when the peer is closed, it is done too
+abbrev pub shut_content : State → Description → ShutdownHow → Content → Effect
+shut_content s d how (Pair p) = Completes (with_content s d.object (Pair (shut p (side_of d.«end») how))) reply.Done
+shut_content s d how c = asks_of s kind.Shutdown 0 false (λ value bytes. reply.Done)
+
+-- `shutdown`; of a pair it is done again, or when the peer is closed, too
 unfoldable pub shutdown_result : State → ℤ → ShutdownHow → Result Effect Errno
 shutdown_result s descriptor how = do
   found ← described s descriptor
-  p ← pair_in (content_of s found.1.object) ENOTSOCK
-  Ok (Completes (with_content s found.1.object (Pair (shut p (side_of found.1.«end») how))) reply.Done)
+  _ ← shuttable (content_of s found.1.object)
+  Ok (shut_content s found.1 how (content_of s found.1.object))

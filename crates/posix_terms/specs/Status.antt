@@ -5,21 +5,24 @@ use Rattle.std.specs.FinMap as map
 use Rattle.posix_terms.specs.Descriptors.{described}
 use Rattle.posix_terms.specs.Effects.{Effect, Completes}
 use Rattle.posix_terms.specs.Names.{links_of}
-use Rattle.posix_terms.specs.Object.{State, Description, Content, File, Pipe, Pair}
+use Rattle.posix_terms.specs.Object.{State, Description, Content, File, Pipe, Pair, DoorTo, content_of}
 use Rattle.posix_terms.specs.Refusals.{◌>>=◌}
-use Rattle.posix_terms.specs.Transfers.{content_of}
 use Rattle.posix_terms.specs.declared.call.Access.{Access}
 use Rattle.posix_terms.specs.declared.call.Access.TheVariants.{ReadOnly, WriteOnly, ReadWrite}
 use Rattle.posix_terms.specs.declared.errno.Errno.{Errno}
 use Rattle.posix_terms.specs.declared.reply.ObjectKind.TheVariants as kind
 use Rattle.posix_terms.specs.declared.reply.Reply.{Reply}
 use Rattle.posix_terms.specs.declared.reply.Reply.TheVariants as reply
+use Rattle.posix_terms.specs.declared.object.Door.TheVariants as door
 
--- of a file its length and the number of its names; of other objects neither
+-- of a file its length and the number of its names, of a listener its port; of other objects neither
 abbrev pub stat_of : State → ℕ → Content → Reply
 stat_of s object (File file) = reply.Stat kind.File (length file) (links_of s.paths object)
 stat_of s object (Pipe bytes) = reply.Stat kind.Pipe 0 0
 stat_of s object (Pair sockets) = reply.Stat kind.SocketPair 0 0
+stat_of s object (DoorTo door.HostFile) = reply.Stat kind.HostFile 0 0
+stat_of s object (DoorTo (door.Listener port)) = reply.Stat kind.Listener port 0
+stat_of s object (DoorTo door.Stream) = reply.Stat kind.Stream 0 0
 
 -- `fstat`
 unfoldable pub fstat_result : State → ℤ → Result Effect Errno

@@ -1,8 +1,9 @@
 -- What one call, taken alone, answers and leaves.
-use Rattle.std.specs.Prelude.{◌≡◌, ℕ, ◌+◌, Result, Ok, Err, Option, if◌then◌else◌, nat_lt}
+use Rattle.std.specs.Prelude.{◌≡◌, ℕ, ◌+◌, Bool, true, false, ◌&&◌, Result, Ok, Err, Option, Some, None, is_some, if◌then◌else◌, nat_lt}
 use Rattle.posix_terms.specs.Descriptors.{open_result, close_result}
 use Rattle.posix_terms.specs.Duplicates.{dup_result, dup_from_result, dup2_result}
-use Rattle.posix_terms.specs.Effects.{Effect, Blocks, Completes}
+use Rattle.posix_terms.specs.Doors.{host_open_result, tcp_accept_result, tcp_connect_result, tcp_listen_result}
+use Rattle.posix_terms.specs.Effects.{Effect, Asking, Asks, Blocks, Completes}
 use Rattle.posix_terms.specs.Names.{link_result, unlink_result, mkdir_result, rmdir_result}
 use Rattle.posix_terms.specs.Object.{State}
 use Rattle.posix_terms.specs.Sockets.{pipe_result, socketpair_result, shutdown_result}
@@ -11,8 +12,10 @@ use Rattle.posix_terms.specs.Transfers.{read_result, write_result, pread_result,
 use Rattle.posix_terms.specs.declared.call.Call.{Call}
 use Rattle.posix_terms.specs.declared.call.Call.TheVariants as call
 use Rattle.posix_terms.specs.declared.errno.Errno.{Errno}
-use Rattle.posix_terms.specs.declared.errno.Errno.TheVariants.{EINTR}
+use Rattle.posix_terms.specs.declared.errno.Errno.TheVariants.{EAGAIN, EINTR, EIO}
 use Rattle.posix_terms.specs.declared.outcome.Outcome.{Outcome}
+use Rattle.posix_terms.specs.declared.outcome.Outcome.TheVariants as outcome
+use Rattle.posix_terms.specs.declared.request.Request.{Request}
 use Rattle.posix_terms.specs.declared.reply.Answer.{Answer}
 use Rattle.posix_terms.specs.declared.reply.Answer.TheVariants as answer
 use Rattle.posix_terms.specs.declared.reply.Reply.TheVariants as reply
@@ -49,6 +52,18 @@ effect_of s (call.Rmdir path) carried = rmdir_result s path
 effect_of s call.Pipe carried = pipe_result s
 effect_of s call.Socketpair carried = socketpair_result s
 effect_of s (call.Shutdown descriptor how) carried = shutdown_result s descriptor how
+effect_of s (call.HostOpen path access flags) carried = host_open_result s path access flags
+effect_of s (call.TcpListen port) carried = tcp_listen_result s port
+effect_of s (call.TcpConnect port) carried = tcp_connect_result s port
+effect_of s (call.TcpAccept descriptor) carried = tcp_accept_result s descriptor
+
+-- what a call asks of the outside, if it goes there
+abbrev pub request_of : Call → Result Effect Errno → Option Request
+request_of c (Ok (Asks a)) = Some (record { kind = a.kind; asked = a.asked; call = c })
+request_of c effect = None
+
+abbrev pub asks : State → Call → Carried → Option Request
+asks s c carried = request_of c (effect_of s c carried)
 
 -- the state after a turn of a call, how it was answered, and what the thread's next call turn carries
 pub record Stepped : Type 0 where
@@ -63,11 +78,28 @@ waited settings s carried =
     then record { after = s; answer = answer.Again; carried = carried + 1 }
     else record { after = s; answer = answer.Reply (reply.Fail EINTR); carried = nothing_carried }
 
--- The outcome is that of the request which the call makes of the outside: there is none yet
+abbrev pub is_again : Errno → Bool
+is_again EAGAIN = true
+is_again e = false
+
+-- a call that failed, and leaves this state
+abbrev pub failed : State → Errno → Stepped
+failed after e = record { after = after; answer = answer.Reply (reply.Fail e); carried = nothing_carried }
+
+-- how a call went on outside. EAGAIN may make it wait, and every other failure is its reply. An outcome that is still missing leaves what a
+-- failure leaves; until it comes, the answer says nothing
+abbrev pub outside : Settings → State → Asking → Option Outcome → Carried → Stepped
+outside settings s a (Some (outcome.Ok value bytes)) carried =
+    record { after = (a.succeeds value bytes).0; answer = answer.Reply (a.succeeds value bytes).1; carried = nothing_carried }
+outside settings s a (Some (outcome.Fail e)) carried = if a.waits && is_again e then waited settings s carried else failed a.otherwise e
+outside settings s a None carried = failed a.otherwise EIO
+
+-- The outcome is that of the request which the call makes of the outside
 abbrev pub concluded : Settings → State → Option Outcome → Carried → Result Effect Errno → Stepped
 concluded settings s outcome carried (Ok (Completes after r)) = record { after = after; answer = answer.Reply r; carried = nothing_carried }
 concluded settings s outcome carried (Ok Blocks) = waited settings s carried
-concluded settings s outcome carried (Err e) = record { after = s; answer = answer.Reply (reply.Fail e); carried = nothing_carried }
+concluded settings s outcome carried (Ok (Asks a)) = outside settings s a outcome carried
+concluded settings s outcome carried (Err e) = failed s e
 
 abbrev pub step : Settings → State → Call → Option Outcome → Carried → Stepped
 step settings s c outcome carried = concluded settings s outcome carried (effect_of s c carried)
@@ -79,9 +111,15 @@ AgainChangesNothing =
     → (step settings s c outcome carried).answer ≡ answer.Again
     → (step settings s c outcome carried).after ≡ s
 
--- a call that fails leaves the state as it was
+-- a `close` that goes outside: its descriptor was the last of a door
+abbrev pub closes_door : State → Call → Carried → Bool
+closes_door s (call.Close descriptor) carried = is_some (asks s (call.Close descriptor) carried)
+closes_door s c carried = false
+
+-- any other call that fails leaves the state as it was
 abbrev pub FailChangesNothing : Type 0
 FailChangesNothing =
     (settings : Settings) (s : State) (c : Call) (outcome : Option Outcome) (carried : Carried) (e : Errno)
+    → closes_door s c carried ≡ false
     → (step settings s c outcome carried).answer ≡ answer.Reply (reply.Fail e)
     → (step settings s c outcome carried).after ≡ s

@@ -1,13 +1,13 @@
 -- Reading, writing, moving the offset and cutting.
 -- POSIX.1-2017, System Interfaces: `read`, `pread`, `write`, `pwrite`, `lseek`, `ftruncate`.
-use Rattle.std.specs.Prelude.{ℕ, ◌+◌, ◌^◌, ℤ, pos, negsuc, ◌+ℤ◌, Bool, List, [], length, not, ◌==◌, nat_lt, Result, Ok, Err, unwrap_or, if◌then◌else◌}
+use Rattle.std.specs.Prelude.{ℕ, ◌+◌, ◌^◌, ℤ, pos, negsuc, ◌+ℤ◌, Bool, false, List, [], length, not, ◌==◌, nat_lt, Result, Ok, Err, if◌then◌else◌}
 use Rattle.std.specs.FinMap as map
 use Rattle.posix_terms.specs.Calls.{can_read, can_write}
 use Rattle.posix_terms.specs.Descriptors.{described, has_end}
-use Rattle.posix_terms.specs.Effects.{Effect, Completes, Blocks}
+use Rattle.posix_terms.specs.Effects.{Effect, Completes, Blocks, asks_of}
 use Rattle.posix_terms.specs.Ends.{side_of}
 use Rattle.posix_terms.specs.Files.{bytes_at, resized, written}
-use Rattle.posix_terms.specs.Object.{State, Description, Content, File, Pipe, Pair, with_content}
+use Rattle.posix_terms.specs.Object.{State, Description, Content, File, Pipe, Pair, DoorTo, content_of, with_content}
 use Rattle.posix_terms.specs.Refusals.{◌>>=◌, refuse_if, count_of, position_of}
 use Rattle.posix_terms.specs.Streams.{Reading, Reads, Ends, NothingYet, Writing, Writes, Breaks, NoRoom, pair_read, pair_write, peer_of, stream_read, stream_write, with_waiting}
 use Rattle.posix_terms.specs.declared.call.Whence.{Whence}
@@ -16,12 +16,10 @@ use Rattle.posix_terms.specs.declared.errno.Errno.{Errno}
 use Rattle.posix_terms.specs.declared.errno.Errno.TheVariants.{EAGAIN, EBADF, EINVAL, EOVERFLOW, EPIPE, ESPIPE, EFBIG}
 use Rattle.posix_terms.specs.declared.limits.TheConstants.Limits as limit
 use Rattle.posix_terms.specs.declared.object.End.TheVariants as part
+use Rattle.posix_terms.specs.declared.outcome.OutKind.TheVariants as kind
 use Rattle.posix_terms.specs.declared.object.Side.{Side}
 use Rattle.posix_terms.specs.declared.reply.Reply.TheVariants as reply
-
--- what an object holds; the object of a description is in the map
-abbrev pub content_of : State → ℕ → Content
-content_of s object = unwrap_or (map.get s.objects object) (File [])
+use Rattle.posix_terms.specs.declared.object.Door.TheVariants as door
 
 abbrev pub with_offset : State → ℕ → Description → ℕ → State
 with_offset s key d offset = record s { descriptions = map.insert s.descriptions key (record d { offset = offset }) }
@@ -52,11 +50,19 @@ read_content s key d count (Pipe bytes) = read_stream s d count Pipe (stream_rea
 read_content s key d count (Pair p) =
     let side = side_of d.«end» in
     read_stream s d count (λ left. Pair (with_waiting p side left)) (pair_read p side count (has_peer s d.object side))
+read_content s key d count door =
+    Ok (if count == 0 then Completes s (reply.Data []) else asks_of s kind.Read count (not d.nonblock) (λ value bytes. reply.Data bytes))
+
+-- a listener takes part in no transfer
+abbrev pub not_listener : Content → Result (Unit {0}) Errno
+not_listener (DoorTo (door.Listener port)) = Err EINVAL
+not_listener c = Ok tt
 
 -- the description of a descriptor that is open for reading
 abbrev pub readable : State → ℤ → Result (ℕ × Description) Errno
 readable s descriptor = do
   found ← described s descriptor
+  _ ← not_listener (content_of s found.1.object)
   _ ← refuse_if (not (can_read found.1.access)) EBADF
   Ok found
 
@@ -85,11 +91,13 @@ write_content s key d bytes (Pipe waiting) = write_done s d (length bytes) Pipe 
 write_content s key d bytes (Pair p) =
     let side = side_of d.«end» in
     write_done s d (length bytes) (λ left. Pair (with_waiting p (peer_of side) left)) (pair_write p side bytes (has_peer s d.object side))
+write_content s key d bytes door = Ok (asks_of s kind.Write (length bytes) (not d.nonblock) (λ value sent. reply.Count value))
 
 -- the description of a descriptor that is open for writing, where a call can write these bytes
 abbrev pub writable : State → ℤ → List ℕ → Result (ℕ × Description) Errno
 writable s descriptor bytes = do
   found ← described s descriptor
+  _ ← not_listener (content_of s found.1.object)
   _ ← refuse_if (not (can_write found.1.access)) EBADF
   _ ← refuse_if (nat_lt limit.COUNT (length bytes)) EINVAL
   Ok found
@@ -110,10 +118,24 @@ base_of whence.Set offset size = 0
 base_of whence.Current offset size = offset
 base_of whence.End offset size = size
 
+-- from the start, an offset in a file of the host is not negative
+abbrev pub host_offset : ℤ → Whence → Result (Unit {0}) Errno
+host_offset (negsuc n) whence.Set = Err EINVAL
+host_offset offset from = Ok tt
+
+-- an object with an offset
+abbrev pub seekable : Content → ℤ → Whence → Result (Unit {0}) Errno
+seekable (File file) offset from = Ok tt
+seekable (DoorTo door.HostFile) offset from = host_offset offset from
+seekable c offset from = Err ESPIPE
+
 abbrev pub seek_content : State → ℕ → Description → ℤ → Whence → Content → Result Effect Errno
 seek_content s key d offset from (File file) = do
   to ← offset_of (pos (base_of from d.offset (length file)) +ℤ offset)
   Ok (Completes (with_offset s key d to) (reply.Number (pos to)))
+seek_content s key d offset from (DoorTo door.HostFile) = do
+  _ ← host_offset offset from
+  Ok (asks_of s kind.Seek 0 false (λ value bytes. reply.Number (pos value)))
 seek_content s key d offset from c = Err ESPIPE
 
 -- `lseek`

@@ -140,6 +140,25 @@ pub enum Call {
         descriptor: i64,
         how: ShutdownHow,
     },
+    /// Opens a file of the host. `exclusive` and `nonblock` of the flags are ignored.
+    HostOpen {
+        path: Bytes,
+        access: Access,
+        flags: OpenFlags,
+    },
+    /// Listens at a port of 127.0.0.1, or where it is 0 at any that is free: `socket`, `bind` and `listen`.
+    TcpListen {
+        port: i64,
+    },
+    /// Connects to a port of 127.0.0.1: `socket` and `connect`.
+    TcpConnect {
+        port: i64,
+    },
+    /// `accept` at a listener. Outside it never waits: where nobody is there the outcome is EAGAIN, which blocks
+    /// the call, or with O_NONBLOCK is its reply.
+    TcpAccept {
+        descriptor: i64,
+    },
 }
 
 /// Which call it is.
@@ -166,6 +185,10 @@ pub enum CallKind {
     Pipe,
     Socketpair,
     Shutdown,
+    HostOpen,
+    TcpListen,
+    TcpConnect,
+    TcpAccept,
 }
 
 impl Call {
@@ -195,6 +218,10 @@ impl Call {
             Call::Pipe => CallKind::Pipe,
             Call::Socketpair => CallKind::Socketpair,
             Call::Shutdown { .. } => CallKind::Shutdown,
+            Call::HostOpen { .. } => CallKind::HostOpen,
+            Call::TcpListen { .. } => CallKind::TcpListen,
+            Call::TcpConnect { .. } => CallKind::TcpConnect,
+            Call::TcpAccept { .. } => CallKind::TcpAccept,
         }
     }
 
@@ -208,7 +235,7 @@ impl Call {
 
 impl CallKind {
     /// All calls.
-    pub const ALL: [CallKind; 21] = [
+    pub const ALL: [CallKind; 25] = [
         CallKind::Open,
         CallKind::Close,
         CallKind::Read,
@@ -230,6 +257,10 @@ impl CallKind {
         CallKind::Pipe,
         CallKind::Socketpair,
         CallKind::Shutdown,
+        CallKind::HostOpen,
+        CallKind::TcpListen,
+        CallKind::TcpConnect,
+        CallKind::TcpAccept,
     ];
 
     /// The name of the call in scripts and in printed transcripts, for example `lseek`.
@@ -258,6 +289,10 @@ impl CallKind {
             CallKind::Pipe => "pipe",
             CallKind::Socketpair => "socketpair",
             CallKind::Shutdown => "shutdown",
+            CallKind::HostOpen => "host_open",
+            CallKind::TcpListen => "tcp_listen",
+            CallKind::TcpConnect => "tcp_connect",
+            CallKind::TcpAccept => "tcp_accept",
         }
     }
 }

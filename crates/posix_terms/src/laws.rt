@@ -1,6 +1,8 @@
+ghost use Rattle.posix_terms.specs.Locked.{KeepsOutside, LeavesAlike, OutsideLocks};
 ghost use Rattle.posix_terms.specs.Step.{AgainChangesNothing, FailChangesNothing};
 
-/// A law of the sequential object: a call that fails leaves the state as it was.
+/// A law of the sequential object: a call that fails leaves the state as it was, but for a `close` of a door's
+/// last descriptor.
 pub fn failed_calls_change_nothing()
     ensures { FailChangesNothing }
 {}
@@ -8,4 +10,13 @@ pub fn failed_calls_change_nothing()
 /// And so does a turn of a call that is blocked.
 pub fn blocked_calls_change_nothing()
     ensures { AgainChangesNothing }
+{}
+
+/// A call that goes outside takes the lock of a door, or of the one that it would open (`locks`). The calls that
+/// open one keep the table where they go outside, and no others (`keeps`); so what a call leaves that frees the
+/// table before it goes is the same whatever its outcome (`leaves`).
+pub fn calls_outside()
+    ensures locks { OutsideLocks }
+    ensures keeps { KeepsOutside }
+    ensures leaves { LeavesAlike }
 {}

@@ -20,6 +20,8 @@ impl Limits {
     pub const COUNT: usize = 32_767;
     /// Bytes of a pipe, and of one direction of a socket pair; also `PIPE_BUF`.
     pub const PIPE_BYTES: usize = 32_768;
+    /// The greatest port of a listener or a connection.
+    pub const PORT: u64 = 65_535;
     /// No logical clock passes this.
     pub const CLOCK: u64 = 4_611_686_018_427_387_904;
     /// Outcomes from outside that one thread can have.

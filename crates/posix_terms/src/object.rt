@@ -5,7 +5,7 @@ ghost use Rattle.posix_terms.specs.Streams.{peer_of};
 /// Which end of its object an open file description is of.
 #[derive(Clone, Copy, Debug, PartialEq, Eq)]
 pub enum End {
-    /// A file or a door has one end alone.
+    /// A file has one end alone.
     Only,
     /// The end of a pipe that is read from.
     Read,
@@ -13,6 +13,19 @@ pub enum End {
     Write,
     /// A socket of a pair.
     Socket(Side),
+    /// A door to the outside, which has one end too.
+    Door(Door),
+}
+
+/// What leads outside.
+#[derive(Clone, Copy, Debug, PartialEq, Eq)]
+pub enum Door {
+    /// A file of the host.
+    HostFile,
+    /// A listener at this port of 127.0.0.1.
+    Listener(u16),
+    /// A stream to a peer.
+    Stream,
 }
 
 /// One of the two sockets of a pair.
@@ -29,7 +42,7 @@ impl End {
         ensures { result ≡ is_first self }
     {
         match self {
-            End::Only | End::Read | End::Socket(Side::Side0) => true,
+            End::Only | End::Read | End::Socket(Side::Side0) | End::Door(_) => true,
             End::Write | End::Socket(Side::Side1) => false,
         }
     }

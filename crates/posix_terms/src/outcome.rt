@@ -1,9 +1,11 @@
 ghost use Rattle.std.specs.Prelude.{◌≡◌, List, IfOk};
-ghost use Rattle.posix_terms.specs.Outcomes.{fits};
+ghost use Rattle.posix_terms.specs.Outcomes.{answers, fits};
 ghost use Rattle.posix_terms.specs.declared.outcome.Given.{Given};
 
 use crate::bytes::Bytes;
 use crate::errno::Errno;
+use crate::limits::Limits;
+use crate::request::Request;
 use std::alloc::AllocError;
 use std::marker::Model;
 
@@ -45,7 +47,9 @@ impl Outcome {
             OutKind::Write => value <= asked && bytes.is_empty(),
             OutKind::Seek => value <= i64::MAX as u64 && bytes.is_empty(),
             OutKind::Listen => {
-                (1..=65_535).contains(&value) && (asked == 0 || value == asked) && bytes.is_empty()
+                (1..=Limits::PORT).contains(&value)
+                    && (asked == 0 || value == asked)
+                    && bytes.is_empty()
             }
             OutKind::Open
             | OutKind::Connect
@@ -74,6 +78,15 @@ impl Outcome {
 pub struct Given {
     pub kind: OutKind,
     pub outcome: Outcome,
+}
+
+impl Given {
+    /// Whether this answers the request: it is of the request's kind, and its outcome fits what was asked.
+    pub fn answers(&self, request: &Request) -> bool
+        ensures { result ≡ answers request.now self.now }
+    {
+        self.kind == request.kind && self.outcome.fits(request.kind, request.asked)
+    }
 }
 
 /// The outcomes of one thread, in order. Contracts see the list of them.

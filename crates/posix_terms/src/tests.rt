@@ -1,7 +1,7 @@
 use crate::{
     Access, Answer, Bytes, Call, CallKind, Errno, Given, HistoryRow, ObjectKind, OpenFlags,
-    OutKind, Outcome, Outcomes, Reply, Row, ShutdownHow, Transcript, Transcripts, Turn, Whence,
-    errno_name, pieces, split,
+    OutKind, Outcome, Outcomes, Reply, Request, Row, ShutdownHow, Transcript, Transcripts, Turn,
+    Whence, errno_name, pieces, split,
 };
 use std::alloc::{AllocError, Global};
 use std::test::Fail;
@@ -144,6 +144,25 @@ fn stream_calls() -> [Call; 3] {
     ]
 }
 
+fn door_calls(alloc: Global) -> Result<[Call; 4], AllocError> {
+    Ok([
+        Call::HostOpen {
+            path: Bytes::from_slice(alloc, b"out")?,
+            access: Access::WriteOnly,
+            flags: OpenFlags {
+                create: false,
+                exclusive: false,
+                truncate: false,
+                append: true,
+                nonblock: false,
+            },
+        },
+        Call::TcpListen { port: 0 },
+        Call::TcpConnect { port: -1 },
+        Call::TcpAccept { descriptor: 15 },
+    ])
+}
+
 /// One call of each kind.
 fn calls(alloc: Global) -> Result<Vec<Call>, AllocError> {
     let mut calls = Vec::new(alloc);
@@ -157,6 +176,9 @@ fn calls(alloc: Global) -> Result<Vec<Call>, AllocError> {
         calls.push(call)?;
     }
     for call in stream_calls() {
+        calls.push(call)?;
+    }
+    for call in door_calls(alloc)? {
         calls.push(call)?;
     }
     Ok(calls)
@@ -193,6 +215,15 @@ fn copies_equal_their_sources(rt: HostRuntime) -> Result<(), Fail> {
         Outcome::Fail(Errno::EIO).try_clone()?,
         Outcome::Fail(Errno::EIO)
     );
+    let request = Request {
+        kind: OutKind::Read,
+        asked: 2,
+        call: Call::Read {
+            descriptor: 0,
+            count: 2,
+        },
+    };
+    assert_eq!(rt; request.try_clone()?, request);
     Ok(())
 }
 
@@ -221,6 +252,10 @@ fn words_of_calls(rt: HostRuntime) -> Result<(), Fail> {
         (CallKind::Pipe, "pipe"),
         (CallKind::Socketpair, "socketpair"),
         (CallKind::Shutdown, "shutdown"),
+        (CallKind::HostOpen, "host_open"),
+        (CallKind::TcpListen, "tcp_listen"),
+        (CallKind::TcpConnect, "tcp_connect"),
+        (CallKind::TcpAccept, "tcp_accept"),
     ];
     assert_eq!(rt; calls.len(), kinds.len());
     assert_eq!(rt; CallKind::ALL.len(), kinds.len());
@@ -284,33 +319,88 @@ fn texts_in_pieces(rt: HostRuntime) -> Result<(), Fail> {
     Ok(())
 }
 
-#[test]
-fn outcomes_fit_their_requests(rt: HostRuntime) -> Result<(), Fail> {
-    let alloc = rt.alloc();
-    let three = Outcome::Ok {
-        value: 3,
+/// A success with this value and no bytes.
+fn success(alloc: Global, value: u64) -> Result<Outcome, AllocError> {
+    Ok(Outcome::Ok {
+        value,
         bytes: Bytes::from_slice(alloc, b"")?,
-    };
-    for (kind, asked, wanted) in [
-        (OutKind::Write, 8, true),
-        (OutKind::Write, 3, true),
-        (OutKind::Write, 2, false),
-        (OutKind::Read, 8, false),
-        (OutKind::Seek, 0, true),
-        (OutKind::Listen, 0, true),
-        (OutKind::Listen, 3, true),
-        (OutKind::Listen, 4, false),
-        (OutKind::Open, 0, false),
-    ] {
-        assert_eq!(rt; three.fits(kind, asked), wanted, "{asked}");
+    })
+}
+
+/// Kinds of requests with what they ask, and the least and the greatest value that answers.
+const VALUES: [(OutKind, u64, u64, u64); 12] = [
+    (OutKind::Open, 0, 0, 0),
+    (OutKind::Read, 8, 0, 0),
+    (OutKind::Write, 8, 0, 8),
+    (OutKind::Write, 32_767, 0, 32_767),
+    (OutKind::Seek, 0, 0, 9_223_372_036_854_775_807),
+    (OutKind::Listen, 0, 1, 65_535),
+    (OutKind::Listen, 80, 80, 80),
+    (OutKind::Listen, 65_535, 65_535, 65_535),
+    (OutKind::Connect, 80, 0, 0),
+    (OutKind::Accept, 0, 0, 0),
+    (OutKind::Shutdown, 0, 0, 0),
+    (OutKind::Close, 0, 0, 0),
+];
+
+#[test]
+fn values_fit_their_requests(rt: HostRuntime) -> Result<(), Fail> {
+    let alloc = rt.alloc();
+    for (kind, asked, least, greatest) in VALUES {
+        assert!(rt;
+            success(alloc, least)?.fits(kind, asked),
+            "{kind:?} {asked}"
+        );
+        assert!(rt;
+            success(alloc, greatest)?.fits(kind, asked),
+            "{kind:?} {asked}"
+        );
+        let above = success(alloc, greatest.saturating_add(1))?;
+        assert!(rt; !above.fits(kind, asked), "{kind:?} {asked}");
+        if let Some(below) = least.checked_sub(1) {
+            assert!(rt;
+                !success(alloc, below)?.fits(kind, asked),
+                "{kind:?} {asked}"
+            );
+        }
+        assert!(rt; Outcome::Fail(Errno::EAGAIN).fits(kind, asked));
     }
-    let data = Outcome::Ok {
-        value: 2,
-        bytes: Bytes::from_slice(alloc, b"hi")?,
+    Ok(())
+}
+
+#[test]
+fn bytes_fit_reads_alone(rt: HostRuntime) -> Result<(), Fail> {
+    let alloc = rt.alloc();
+    let data = |value, bytes: &[u8]| -> Result<Outcome, AllocError> {
+        Ok(Outcome::Ok {
+            value,
+            bytes: Bytes::from_slice(alloc, bytes)?,
+        })
     };
-    assert!(rt; data.fits(OutKind::Read, 2));
-    assert!(rt; !data.fits(OutKind::Read, 1));
-    assert!(rt; !data.fits(OutKind::Write, 2));
-    assert!(rt; Outcome::Fail(Errno::EIO).fits(OutKind::Open, 0));
+    let most = vec![in alloc; 7; 32_767]?;
+    assert!(rt; data(2, b"hi")?.fits(OutKind::Read, 2));
+    assert!(rt; !data(2, b"hi")?.fits(OutKind::Read, 1));
+    assert!(rt; !data(1, b"hi")?.fits(OutKind::Read, 2));
+    assert!(rt; data(32_767, most.as_slice())?.fits(OutKind::Read, 32_767));
+    assert!(rt; !data(32_767, most.as_slice())?.fits(OutKind::Read, 32_766));
+    for (kind, asked, least, _) in VALUES {
+        let with_bytes = data(least, b"x")?;
+        assert!(rt; !with_bytes.fits(kind, asked), "{kind:?} {asked}");
+    }
+    let request = Request {
+        kind: OutKind::Read,
+        asked: 2,
+        call: Call::Read {
+            descriptor: 0,
+            count: 2,
+        },
+    };
+    for (kind, answers) in [(OutKind::Read, true), (OutKind::Write, false)] {
+        let given = Given {
+            kind,
+            outcome: data(2, b"hi")?,
+        };
+        assert_eq!(rt; given.answers(&request), answers);
+    }
     Ok(())
 }

@@ -59,13 +59,14 @@ impl SlowTable {
         Ok(self.refer(number, place))
     }
 
-    pub(crate) fn close(&mut self, descriptor: i64) -> Result<Reply, Errno> {
+    // An open number leads nowhere any more.
+    pub(crate) fn free(&mut self, descriptor: i64) -> Result<(), Errno> {
         self.place(descriptor)?;
         let number = in_table(descriptor).ok_or(Errno::EBADF)?;
         if let Some(open) = self.descriptors.get_mut(number) {
             *open = None;
         }
-        Ok(Reply::Done)
+        Ok(())
     }
 
     pub(crate) fn dup(&mut self, descriptor: i64) -> Result<Reply, Errno> {
@@ -82,6 +83,9 @@ impl SlowTable {
     pub(crate) fn dup2(&mut self, descriptor: i64, target: i64) -> Result<Reply, Errno> {
         let place = self.place(descriptor)?;
         let number = in_table(target).ok_or(Errno::EBADF)?;
+        if descriptor != target && self.ends_a_door(target) {
+            return Err(Errno::EBUSY);
+        }
         Ok(Reply::Number(self.refer(number, place)))
     }
 

@@ -3,6 +3,7 @@
 #![tactic(auto)]
 
 mod descriptors;
+mod doors;
 mod names;
 mod objects;
 mod paths;

@@ -10,6 +10,8 @@ pub(crate) enum Object {
     Pipe(Vec<u8>),
     // side 0 and side 1
     Pair([Socket; 2]),
+    // what leads outside
+    Door,
 }
 
 // A socket of a pair.

@@ -1,11 +1,13 @@
 use posix_terms::Errno;
 use std::alloc::{AllocError, AllocFailed};
 
-// Why a call does not go on: it is refused, it has to wait, or there is no memory for it.
+// Why a call does not go on: it is refused, it has to wait, it lacks the outcome from outside that it asks for, or
+// there is no memory for it.
 #[derive(Clone, Copy, Debug)]
 pub enum Refusal {
     Errno(Errno),
     Blocked,
+    NoOutcome,
     Memory,
 }
 

@@ -155,12 +155,13 @@ impl SlowTable {
         put(&mut peer.waiting, description, bytes)
     }
 
-    pub(crate) fn shutdown(&mut self, descriptor: i64, how: ShutdownHow) -> Result<Reply, Errno> {
-        let description = self.description(descriptor)?;
-        let End::Socket(side) = description.end else {
-            return Err(Errno::ENOTSOCK);
-        };
-        let socket = self.socket_mut(description.object, side)?;
+    pub(crate) fn shutdown_socket(
+        &mut self,
+        object: usize,
+        side: Side,
+        how: ShutdownHow,
+    ) -> Result<Reply, Errno> {
+        let socket = self.socket_mut(object, side)?;
         if how != ShutdownHow::Write {
             socket.reading_shut = true;
             socket.waiting.clear();

@@ -1,6 +1,6 @@
 use crate::objects::Object;
 use crate::refusal::Refusal;
-use posix_terms::{Access, Answer, Bytes, Call, End, Errno, Limits, Reply};
+use posix_terms::{Access, Answer, Bytes, Call, End, Errno, Limits, Outcome, Reply};
 use std::alloc::{AllocError, Global};
 
 // An open file description. An object is known by its place in the list of all objects.
@@ -36,6 +36,8 @@ pub struct SlowTable {
     pub(crate) descriptions: Vec<Description>,
     pub(crate) names: Vec<Name>,
     pub(crate) objects: Vec<Object>,
+    // what came from outside for the call that is made, until it is used
+    pub(crate) came: Option<Outcome>,
 }
 
 impl SlowTable {
@@ -50,25 +52,37 @@ impl SlowTable {
             descriptions: Vec::new(alloc),
             names: Vec::new(alloc),
             objects: Vec::new(alloc),
+            came: None,
         })
     }
 
-    /// Makes a turn of a call that was blocked for so many turns before. At the turn that is the last of its
-    /// patience it does not wait any more.
+    /// Makes a turn of a call that was blocked for so many turns before, with what came from outside for it. At the
+    /// turn that is the last of its patience it does not wait any more. There is no answer where it goes outside and no
+    /// outcome came that fits, and where one came but it does not go outside.
     pub fn make(
         &mut self,
         alloc: Global,
         call: &Call,
+        outcome: Option<&Outcome>,
         patience: u32,
         turns: u32,
-    ) -> Result<Answer, AllocError> {
-        match self.attempt(alloc, call) {
-            Ok(reply) => Ok(Answer::Reply(reply)),
-            Err(Refusal::Errno(error)) => Ok(Answer::Reply(Reply::Fail(error))),
+    ) -> Result<Option<Answer>, AllocError> {
+        self.came = match outcome {
+            Some(outcome) => Some(outcome.try_clone()?),
+            None => None,
+        };
+        let ended = self.attempt(alloc, call);
+        if self.came.is_some() {
+            return Ok(None);
+        }
+        match ended {
+            Ok(reply) => Ok(Some(Answer::Reply(reply))),
+            Err(Refusal::Errno(error)) => Ok(Some(Answer::Reply(Reply::Fail(error)))),
             Err(Refusal::Blocked) if turns.saturating_add(1) >= patience => {
-                Ok(Answer::Reply(Reply::Fail(Errno::EINTR)))
+                Ok(Some(Answer::Reply(Reply::Fail(Errno::EINTR))))
             }
-            Err(Refusal::Blocked) => Ok(Answer::Again),
+            Err(Refusal::Blocked) => Ok(Some(Answer::Again)),
+            Err(Refusal::NoOutcome) => Ok(None),
             Err(Refusal::Memory) => Err(AllocError),
         }
     }
@@ -101,19 +115,35 @@ impl SlowTable {
             Call::Ftruncate { descriptor, size } => self.ftruncate(*descriptor, *size),
             Call::Pipe => self.pipe(alloc),
             Call::Socketpair => self.socketpair(alloc),
-            call => Ok(self.descriptor_call(call)?),
+            call => self.door_call(call),
         }
     }
 
-    // The calls that take no memory and no path.
-    fn descriptor_call(&mut self, call: &Call) -> Result<Reply, Errno> {
+    // The other calls that may go outside.
+    fn door_call(&mut self, call: &Call) -> Result<Reply, Refusal> {
         match call {
-            Call::Close { descriptor } => self.close(*descriptor),
+            Call::HostOpen {
+                path,
+                access,
+                flags,
+            } => self.host_open(path.as_slice(), *access, *flags),
+            Call::TcpListen { port } => self.tcp_listen(*port),
+            Call::TcpConnect { port } => self.tcp_connect(*port),
+            Call::TcpAccept { descriptor } => self.tcp_accept(*descriptor),
             Call::Lseek {
                 descriptor,
                 offset,
                 whence,
             } => self.lseek(*descriptor, *offset, *whence),
+            Call::Shutdown { descriptor, how } => self.shutdown(*descriptor, *how),
+            Call::Close { descriptor } => self.close(*descriptor),
+            call => Ok(self.descriptor_call(call)?),
+        }
+    }
+
+    // The calls that take no memory and no path and stay inside.
+    fn descriptor_call(&mut self, call: &Call) -> Result<Reply, Errno> {
+        match call {
             Call::Fstat { descriptor } => self.fstat(*descriptor),
             Call::Dup { descriptor } => self.dup(*descriptor),
             Call::DupFrom { descriptor, least } => self.dup_from(*descriptor, *least),
@@ -124,7 +154,6 @@ impl SlowTable {
                 append,
                 nonblock,
             } => self.setfl(*descriptor, *append, *nonblock),
-            Call::Shutdown { descriptor, how } => self.shutdown(*descriptor, *how),
             _ => Err(Errno::EIO),
         }
     }

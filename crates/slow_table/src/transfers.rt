@@ -1,6 +1,6 @@
 use crate::refusal::Refusal;
 use crate::table::{Description, SlowTable};
-use posix_terms::{Access, Bytes, End, Errno, Limits, ObjectKind, Reply, Whence};
+use posix_terms::{Access, Bytes, Door, End, Errno, Limits, ObjectKind, Reply, Whence};
 use std::alloc::{AllocError, Global};
 
 // How many bytes a read asks for.
@@ -58,6 +58,15 @@ fn lay(file: &mut Vec<u8>, position: u64, bytes: &[u8]) -> Result<u64, Refusal> 
 }
 
 impl SlowTable {
+    // The description of an open number, where it is of no listener.
+    fn description_to_transfer(&self, descriptor: i64) -> Result<Description, Errno> {
+        let description = self.description(descriptor)?;
+        match description.end {
+            End::Door(Door::Listener(_)) => Err(Errno::EINVAL),
+            _ => Ok(description),
+        }
+    }
+
     // The description of an open number, where it is of a file.
     fn description_of_file(&self, descriptor: i64) -> Result<Description, Errno> {
         let description = self.description(descriptor)?;
@@ -73,7 +82,7 @@ impl SlowTable {
         descriptor: i64,
         count: i64,
     ) -> Result<Reply, Refusal> {
-        let description = self.description(descriptor)?;
+        let description = self.description_to_transfer(descriptor)?;
         if description.access == Access::WriteOnly {
             return Err(Refusal::Errno(Errno::EBADF));
         }
@@ -83,6 +92,7 @@ impl SlowTable {
             _ if count == 0 => Ok(Reply::Data(Bytes::from_vec(Vec::new(alloc)))),
             End::Read | End::Write => self.read_pipe(alloc, description, count),
             End::Socket(side) => self.read_socket(alloc, description, side, count),
+            End::Door(_) => self.read_door(description, count),
         }
     }
 
@@ -118,7 +128,7 @@ impl SlowTable {
     }
 
     pub(crate) fn write(&mut self, descriptor: i64, bytes: &[u8]) -> Result<Reply, Refusal> {
-        let description = self.description(descriptor)?;
+        let description = self.description_to_transfer(descriptor)?;
         if description.access == Access::ReadOnly {
             return Err(Refusal::Errno(Errno::EBADF));
         }
@@ -130,6 +140,7 @@ impl SlowTable {
             _ if bytes.is_empty() => Ok(Reply::Count(0)),
             End::Read | End::Write => self.write_pipe(description, bytes),
             End::Socket(side) => self.write_socket(description, side, bytes),
+            End::Door(_) => self.write_door(description, bytes),
         }
     }
 
@@ -171,7 +182,10 @@ impl SlowTable {
         descriptor: i64,
         offset: i64,
         whence: Whence,
-    ) -> Result<Reply, Errno> {
+    ) -> Result<Reply, Refusal> {
+        if self.description(descriptor)?.end == End::Door(Door::HostFile) {
+            return self.lseek_host(offset, whence);
+        }
         let description = self.description_of_file(descriptor)?;
         let base = match whence {
             Whence::Set => 0,
@@ -180,10 +194,10 @@ impl SlowTable {
         };
         let to = i128::from(base) + i128::from(offset);
         if to < 0 {
-            return Err(Errno::EINVAL);
+            return Err(Refusal::Errno(Errno::EINVAL));
         }
         let Ok(number) = i64::try_from(to) else {
-            return Err(Errno::EOVERFLOW);
+            return Err(Refusal::Errno(Errno::EOVERFLOW));
         };
         self.description_mut(descriptor)?.offset = number.unsigned_abs();
         Ok(Reply::Number(number))
@@ -206,14 +220,17 @@ impl SlowTable {
 
     pub(crate) fn fstat(&self, descriptor: i64) -> Result<Reply, Errno> {
         let description = self.description(descriptor)?;
-        let kind = match description.end {
+        let (kind, number) = match description.end {
             End::Only => return self.fstat_file(description.object),
-            End::Read | End::Write => ObjectKind::Pipe,
-            End::Socket(_) => ObjectKind::SocketPair,
+            End::Read | End::Write => (ObjectKind::Pipe, 0),
+            End::Socket(_) => (ObjectKind::SocketPair, 0),
+            End::Door(Door::HostFile) => (ObjectKind::HostFile, 0),
+            End::Door(Door::Listener(port)) => (ObjectKind::Listener, u64::from(port)),
+            End::Door(Door::Stream) => (ObjectKind::Stream, 0),
         };
         Ok(Reply::Stat {
             kind,
-            number: 0,
+            number,
             links: 0,
         })
     }

@@ -5,7 +5,7 @@ use Rattle.posix_terms.specs.declared.call.CallKind.{CallKind}
 use Rattle.posix_terms.specs.declared.call.CallKind.TheVariants as kind
 use Rattle.posix_terms.specs.declared.call.OpenFlags.{OpenFlags}
 use Rattle.thread_scripts.specs.Numbers.{byte_register_of, number_of, register_of}
-use Rattle.thread_scripts.specs.Texts.{access_of, bytes_of, no_flags, path_of, shutdown_how_of, whence_of, with_flags}
+use Rattle.thread_scripts.specs.Texts.{access_of, bytes_of, host_flags_of, no_flags, path_of, shutdown_how_of, whence_of, with_flags}
 use Rattle.thread_scripts.specs.declared.line.Number.{Number}
 use Rattle.thread_scripts.specs.declared.line.Number.TheVariants as number
 use Rattle.thread_scripts.specs.declared.line.Data.{Data}
@@ -13,6 +13,7 @@ use Rattle.thread_scripts.specs.declared.line.Data.TheVariants as bytes
 use Rattle.thread_scripts.specs.declared.line.CallLine.{CallLine}
 use Rattle.thread_scripts.specs.declared.line.CallLine.TheVariants as line
 use Rattle.thread_scripts.specs.declared.line.DescriptorLine.TheVariants as descriptor_line
+use Rattle.thread_scripts.specs.declared.line.DoorLine.TheVariants as door_line
 use Rattle.thread_scripts.specs.declared.line.PathLine.TheVariants as path_line
 use Rattle.thread_scripts.specs.declared.line.StatusLine.TheVariants as status_line
 use Rattle.thread_scripts.specs.declared.line.StreamLine.TheVariants as stream_line
@@ -42,7 +43,7 @@ data_operand word = register_or_bytes (byte_register_of word) (bytes_of word)
 -- all calls
 abbrev pub kinds : List CallKind
 kinds =
-    kind.Open ∷ kind.Close ∷ kind.Read ∷ kind.Write ∷ kind.Pread ∷ kind.Pwrite ∷ kind.Lseek ∷ kind.Ftruncate ∷ kind.Fstat ∷ kind.Dup ∷ kind.DupFrom ∷ kind.Dup2 ∷ kind.Getfl ∷ kind.Setfl ∷ kind.Link ∷ kind.Unlink ∷ kind.Mkdir ∷ kind.Rmdir ∷ kind.Pipe ∷ kind.Socketpair ∷ kind.Shutdown ∷ []
+    kind.Open ∷ kind.Close ∷ kind.Read ∷ kind.Write ∷ kind.Pread ∷ kind.Pwrite ∷ kind.Lseek ∷ kind.Ftruncate ∷ kind.Fstat ∷ kind.Dup ∷ kind.DupFrom ∷ kind.Dup2 ∷ kind.Getfl ∷ kind.Setfl ∷ kind.Link ∷ kind.Unlink ∷ kind.Mkdir ∷ kind.Rmdir ∷ kind.Pipe ∷ kind.Socketpair ∷ kind.Shutdown ∷ kind.HostOpen ∷ kind.TcpListen ∷ kind.TcpConnect ∷ kind.TcpAccept ∷ []
 
 -- the first call of these that a word names
 abbrev pub kind_among : List CallKind → List ℕ → Option CallKind
@@ -216,6 +217,36 @@ shutdown_line (descriptor ∷ how ∷ []) = do
   Some (line.Stream (stream_line.Shutdown d h))
 shutdown_line _ = None
 
+-- host_open PATH ACCESS FLAG..
+abbrev pub host_open_line : List (List ℕ) → Option CallLine
+host_open_line (path ∷ access ∷ flags) = do
+  p ← path_of path
+  a ← access_of access
+  f ← host_flags_of flags
+  Some (line.Door (door_line.HostOpen p a f))
+host_open_line _ = None
+
+-- tcp_listen PORT
+abbrev pub listen_line : List (List ℕ) → Option CallLine
+listen_line (port ∷ []) = do
+  p ← number_operand port
+  Some (line.Door (door_line.Listen p))
+listen_line _ = None
+
+-- tcp_connect PORT
+abbrev pub connect_line : List (List ℕ) → Option CallLine
+connect_line (port ∷ []) = do
+  p ← number_operand port
+  Some (line.Door (door_line.Connect p))
+connect_line _ = None
+
+-- tcp_accept DESCRIPTOR
+abbrev pub accept_line : List (List ℕ) → Option CallLine
+accept_line (descriptor ∷ []) = do
+  d ← number_operand descriptor
+  Some (line.Door (door_line.Accept d))
+accept_line _ = None
+
 -- the line of a call with these operands
 unfoldable pub call_line : CallKind → List (List ℕ) → Option CallLine
 call_line kind.Open operands = open_line operands
@@ -239,3 +270,7 @@ call_line kind.Rmdir operands = rmdir_line operands
 call_line kind.Pipe operands = pipe_line operands
 call_line kind.Socketpair operands = socketpair_line operands
 call_line kind.Shutdown operands = shutdown_line operands
+call_line kind.HostOpen operands = host_open_line operands
+call_line kind.TcpListen operands = listen_line operands
+call_line kind.TcpConnect operands = connect_line operands
+call_line kind.TcpAccept operands = accept_line operands

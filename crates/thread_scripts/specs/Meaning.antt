@@ -16,6 +16,8 @@ use Rattle.thread_scripts.specs.declared.line.CallLine.{CallLine}
 use Rattle.thread_scripts.specs.declared.line.CallLine.TheVariants as call_line
 use Rattle.thread_scripts.specs.declared.line.DescriptorLine.{DescriptorLine}
 use Rattle.thread_scripts.specs.declared.line.DescriptorLine.TheVariants as descriptor_line
+use Rattle.thread_scripts.specs.declared.line.DoorLine.{DoorLine}
+use Rattle.thread_scripts.specs.declared.line.DoorLine.TheVariants as door_line
 use Rattle.thread_scripts.specs.declared.line.PathLine.{PathLine}
 use Rattle.thread_scripts.specs.declared.line.PathLine.TheVariants as path_line
 use Rattle.thread_scripts.specs.declared.line.StatusLine.{StatusLine}
@@ -96,6 +98,12 @@ stream_call_of s stream_line.Pipe = call.Pipe
 stream_call_of s stream_line.Socketpair = call.Socketpair
 stream_call_of s (stream_line.Shutdown d how) = call.Shutdown (number_value s d) how
 
+abbrev pub door_call_of : ScriptState → DoorLine → Call
+door_call_of s (door_line.HostOpen path access flags) = call.HostOpen path access flags
+door_call_of s (door_line.Listen port) = call.TcpListen (number_value s port)
+door_call_of s (door_line.Connect port) = call.TcpConnect (number_value s port)
+door_call_of s (door_line.Accept d) = call.TcpAccept (number_value s d)
+
 abbrev pub path_call_of : PathLine → Call
 path_call_of (path_line.Open path access flags) = call.Open path access flags
 path_call_of (path_line.Link old_path new_path) = call.Link old_path new_path
@@ -110,6 +118,7 @@ call_of s (call_line.Descriptor l) = descriptor_call_of s l
 call_of s (call_line.Status l) = status_call_of s l
 call_of s (call_line.Stream l) = stream_call_of s l
 call_of s (call_line.Path l) = path_call_of l
+call_of s (call_line.Door l) = door_call_of s l
 
 -- what a line does; `end` goes behind the last line
 unfoldable pub action_of : Bool → ScriptState → Line → Action

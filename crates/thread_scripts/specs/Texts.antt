@@ -1,5 +1,5 @@
 -- Byte texts, paths and the other words of a call's line.
-use Rattle.std.specs.Prelude.{ℕ, Bool, false, true, ◌&&◌, List, [], ◌∷◌, length, nat_le, ◌==◌, if◌then◌else◌, Option, Some, None, option_and_then, bytes_eq, codes}
+use Rattle.std.specs.Prelude.{ℕ, Bool, false, true, ◌&&◌, ◌||◌, List, [], ◌∷◌, length, nat_le, ◌==◌, if◌then◌else◌, Option, Some, None, option_and_then, bytes_eq, codes}
 use Rattle.std.specs.List.{list_all}
 use Rattle.std.specs.Result.{result_ok}
 use Rattle.hex.specs.Hex.{decode_of}
@@ -77,3 +77,10 @@ with_flag flags word =
 abbrev pub with_flags : OpenFlags → List (List ℕ) → Option OpenFlags
 with_flags flags [] = Some flags
 with_flags flags (word ∷ words) = option_and_then (λ more. with_flags more words) (with_flag flags word)
+
+-- the flags of `host_open`: not those that only `open` has
+abbrev pub known_to_host : OpenFlags → Option OpenFlags
+known_to_host flags = if flags.exclusive || flags.nonblock then None else Some flags
+
+abbrev pub host_flags_of : List (List ℕ) → Option OpenFlags
+host_flags_of words = option_and_then known_to_host (with_flags no_flags words)

@@ -1,13 +1,14 @@
 ghost use Rattle.std.specs.Prelude.{◌≡◌, map};
-ghost use Rattle.thread_scripts.specs.Calls.{call_line, close_line, data_operand, dup_from_line, dup_line, dup2_line, fstat_line, ftruncate_line, getfl_line, kind_among, kind_named, link_line, lseek_line, mkdir_line, number_operand, open_line, pipe_line, pread_line, pwrite_line, read_line, rmdir_line, setfl_line, shutdown_line, socketpair_line, status_flags, unlink_line, write_line};
+ghost use Rattle.thread_scripts.specs.Calls.{accept_line, call_line, close_line, connect_line, data_operand, dup_from_line, dup_line, dup2_line, fstat_line, ftruncate_line, getfl_line, host_open_line, kind_among, kind_named, link_line, listen_line, lseek_line, mkdir_line, number_operand, open_line, pipe_line, pread_line, pwrite_line, read_line, rmdir_line, setfl_line, shutdown_line, socketpair_line, status_flags, unlink_line, write_line};
 ghost use Rattle.thread_scripts.specs.Faults.{Reads};
 
 use crate::fault::LineFault;
 use crate::line::{
-    CallLine, Data, DescriptorLine, Number, PathLine, StatusLine, StreamLine, TransferLine,
+    CallLine, Data, DescriptorLine, DoorLine, Number, PathLine, StatusLine, StreamLine,
+    TransferLine,
 };
 use crate::numbers::{byte_register, number, register};
-use crate::texts::{access, byte_text, flags, path, shutdown_how, whence};
+use crate::texts::{access, byte_text, flags, host_flags, path, shutdown_how, whence};
 use posix_terms::{CallKind, OpenFlags};
 use std::alloc::Global;
 
@@ -298,6 +299,52 @@ fn read_socketpair(operands: &[&[u8]]) -> Result<CallLine, LineFault>
     Ok(CallLine::Stream(StreamLine::Socketpair))
 }
 
+fn read_host_open(alloc: Global, operands: &[&[u8]]) -> Result<CallLine, LineFault>
+    ensures { Reads result (host_open_line (map (λ w. w.now) operands.now)) }
+{
+    let [path_word, access_word, flag_words @ ..] = operands else {
+        return Err(LineFault::Bad);
+    };
+    let path = path(alloc, path_word)?;
+    let access = access(access_word).ok_or(LineFault::Bad)?;
+    let flags = host_flags(flag_words).ok_or(LineFault::Bad)?;
+    Ok(CallLine::Door(DoorLine::HostOpen {
+        path,
+        access,
+        flags,
+    }))
+}
+
+fn read_tcp_listen(operands: &[&[u8]]) -> Result<CallLine, LineFault>
+    ensures { Reads result (listen_line (map (λ w. w.now) operands.now)) }
+{
+    let [port] = operands else {
+        return Err(LineFault::Bad);
+    };
+    let port = number_operand(port)?;
+    Ok(CallLine::Door(DoorLine::Listen { port }))
+}
+
+fn read_tcp_connect(operands: &[&[u8]]) -> Result<CallLine, LineFault>
+    ensures { Reads result (connect_line (map (λ w. w.now) operands.now)) }
+{
+    let [port] = operands else {
+        return Err(LineFault::Bad);
+    };
+    let port = number_operand(port)?;
+    Ok(CallLine::Door(DoorLine::Connect { port }))
+}
+
+fn read_tcp_accept(operands: &[&[u8]]) -> Result<CallLine, LineFault>
+    ensures { Reads result (accept_line (map (λ w. w.now) operands.now)) }
+{
+    let [descriptor] = operands else {
+        return Err(LineFault::Bad);
+    };
+    let descriptor = number_operand(descriptor)?;
+    Ok(CallLine::Door(DoorLine::Accept { descriptor }))
+}
+
 fn read_shutdown(operands: &[&[u8]]) -> Result<CallLine, LineFault>
     ensures { Reads result (shutdown_line (map (λ w. w.now) operands.now)) }
 {
@@ -340,5 +387,9 @@ pub(crate) fn read_call(
         CallKind::Pipe => read_pipe(operands),
         CallKind::Socketpair => read_socketpair(operands),
         CallKind::Shutdown => read_shutdown(operands),
+        CallKind::HostOpen => read_host_open(alloc, operands),
+        CallKind::TcpListen => read_tcp_listen(operands),
+        CallKind::TcpConnect => read_tcp_connect(operands),
+        CallKind::TcpAccept => read_tcp_accept(operands),
     }
 }

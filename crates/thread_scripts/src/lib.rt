@@ -26,7 +26,7 @@ pub use laws::{
     too_long_is_counted,
 };
 pub use line::{
-    ByteRegister, CallLine, Data, DescriptorLine, Line, Number, NumberRegister, PathLine, Register,
-    StatusLine, StreamLine, TransferLine,
+    ByteRegister, CallLine, Data, DescriptorLine, DoorLine, Line, Number, NumberRegister, PathLine,
+    Register, StatusLine, StreamLine, TransferLine,
 };
 pub use script::Script;

@@ -147,6 +147,25 @@ pub enum PathLine {
     },
 }
 
+/// A call that opens a door to the outside, as a line gives it.
+#[derive(Debug, PartialEq, Eq, Drop)]
+pub enum DoorLine {
+    HostOpen {
+        path: Bytes,
+        access: Access,
+        flags: OpenFlags,
+    },
+    Listen {
+        port: Number,
+    },
+    Connect {
+        port: Number,
+    },
+    Accept {
+        descriptor: Number,
+    },
+}
+
 /// A call as a line gives it: its numbers and bytes are found when the line is executed.
 #[derive(Debug, PartialEq, Eq, Drop)]
 pub enum CallLine {
@@ -155,6 +174,7 @@ pub enum CallLine {
     Status(StatusLine),
     Stream(StreamLine),
     Path(PathLine),
+    Door(DoorLine),
 }
 
 /// A line of a script that does something. A jump has the place of its label's line: how many lines

@@ -3,7 +3,7 @@ ghost use Rattle.thread_scripts.specs.Meaning.{path_call_of};
 
 use crate::actor::{ScriptState, Step};
 use crate::line::{
-    ByteRegister, CallLine, Data, DescriptorLine, Line, Number, NumberRegister, PathLine,
+    ByteRegister, CallLine, Data, DescriptorLine, DoorLine, Line, Number, NumberRegister, PathLine,
     StatusLine, StreamLine, TransferLine,
 };
 use crate::script::Script;
@@ -59,7 +59,7 @@ fn path_call(line: &PathLine) -> Result<Call, AllocError>
 }
 
 impl ScriptState {
-    ghost use Rattle.thread_scripts.specs.Meaning.{action_of, call_of, data_value, descriptor_call_of, is_failure, lines_left, next_of, next_within, number_value, performed, start_of, status_call_of, step_given, stored, stream_call_of, transfer_of};
+    ghost use Rattle.thread_scripts.specs.Meaning.{action_of, call_of, data_value, descriptor_call_of, door_call_of, is_failure, lines_left, next_of, next_within, number_value, performed, start_of, status_call_of, step_given, stored, stream_call_of, transfer_of};
     ghost use Rattle.thread_scripts.specs.Saving.{with_saved};
 
     /// The state before the script's first line. It takes no memory.
@@ -189,6 +189,31 @@ impl ScriptState {
         }
     }
 
+    fn door_call(&self, line: &DoorLine) -> Result<Call, AllocError>
+        ensures { IfOk result (λ call. call ≡ door_call_of self.now line.now) }
+    {
+        Ok(match line {
+            DoorLine::HostOpen {
+                path,
+                access,
+                flags,
+            } => Call::HostOpen {
+                path: path.try_clone()?,
+                access: *access,
+                flags: *flags,
+            },
+            DoorLine::Listen { port } => Call::TcpListen {
+                port: self.number(*port),
+            },
+            DoorLine::Connect { port } => Call::TcpConnect {
+                port: self.number(*port),
+            },
+            DoorLine::Accept { descriptor } => Call::TcpAccept {
+                descriptor: self.number(*descriptor),
+            },
+        })
+    }
+
     fn stream_call(&self, line: StreamLine) -> Call
         ensures { result ≡ stream_call_of self.now line }
     {
@@ -212,6 +237,7 @@ impl ScriptState {
             CallLine::Status(line) => Ok(self.status_call(*line)),
             CallLine::Stream(line) => Ok(self.stream_call(*line)),
             CallLine::Path(line) => path_call(line),
+            CallLine::Door(line) => self.door_call(line),
         }
     }
 

@@ -260,6 +260,55 @@ fn reads_calls_on_pipes_and_pairs(rt: HostRuntime) -> Result<(), Fail> {
     Ok(())
 }
 
+/// Lines of the calls on ports, with the calls that they make.
+fn port_calls() -> [(&'static str, Call); 4] {
+    [
+        ("tcp_listen 0", Call::TcpListen { port: 0 }),
+        ("tcp_listen -1", Call::TcpListen { port: -1 }),
+        (
+            "set r4 8080\ntcp_connect r4",
+            Call::TcpConnect { port: 8_080 },
+        ),
+        ("tcp_accept 3", Call::TcpAccept { descriptor: 3 }),
+    ]
+}
+
+#[test]
+fn reads_calls_on_ports(rt: HostRuntime) -> Result<(), Fail> {
+    for (text, call) in port_calls() {
+        assert_eq!(rt; first_step(rt.alloc(), text)?, Step::Call(call), "{text}");
+    }
+    Ok(())
+}
+
+#[test]
+fn reads_host_open(rt: HostRuntime) -> Result<(), Fail> {
+    let call = Call::HostOpen {
+        path: Bytes::from_slice(rt.alloc(), b"out")?,
+        access: Access::WriteOnly,
+        flags: OpenFlags {
+            create: true,
+            exclusive: false,
+            truncate: false,
+            append: true,
+            nonblock: false,
+        },
+    };
+    let step = first_step(rt.alloc(), "host_open out w append create")?;
+    assert_eq!(rt; step, Step::Call(call));
+    let truncated = Call::HostOpen {
+        path: Bytes::from_slice(rt.alloc(), b"")?,
+        access: Access::ReadOnly,
+        flags: OpenFlags {
+            truncate: true,
+            ..NO_FLAGS
+        },
+    };
+    let step = first_step(rt.alloc(), "host_open \"\" r trunc")?;
+    assert_eq!(rt; step, Step::Call(truncated));
+    Ok(())
+}
+
 #[test]
 fn reads_calls_on_paths(rt: HostRuntime) -> Result<(), Fail> {
     let alloc = rt.alloc();
@@ -284,7 +333,7 @@ fn reads_calls_on_paths(rt: HostRuntime) -> Result<(), Fail> {
 }
 
 /// Lines with an operand too few, too many or of another form.
-const BAD_CALLS: [&str; 62] = [
+const BAD_CALLS: [&str; 76] = [
     "pread 0 1",
     "pread 0 1 2 3",
     "pread 0 x 2",
@@ -347,6 +396,20 @@ const BAD_CALLS: [&str; 62] = [
     "shutdown 0 read write",
     "shutdown x both",
     "shutdown 0 1",
+    "host_open",
+    "host_open x",
+    "host_open x r excl",
+    "host_open x r nonblock",
+    "host_open x rw append append",
+    "host_open x create",
+    "tcp_listen",
+    "tcp_listen 0 1",
+    "tcp_listen x",
+    "tcp_connect",
+    "tcp_connect 1 2",
+    "tcp_accept",
+    "tcp_accept 0 0",
+    "tcp_shutdown 0",
 ];
 
 #[test]

@@ -1,5 +1,6 @@
 use Rattle.lock_model.proofs.Arising.{arises_event, arises_run, arises_start, legal_arisen}
 use Rattle.lock_model.proofs.Follows.{run_follows}
+use Rattle.lock_model.proofs.OwnPlans.{plans_arisen}
 use Rattle.lock_model.proofs.OwnRows.{held_arisen, rows_arisen}
 use Rattle.lock_model.proofs.Rising.{rising_arisen}
 use Rattle.lock_model.proofs.arising_states.Goals as goal
@@ -27,3 +28,6 @@ returns-clause-locks c = held_arisen
 
 pub returns-clause-rows : goal.returns-clause-rows
 returns-clause-rows c = rows_arisen
+
+pub returns-clause-plans : goal.returns-clause-plans
+returns-clause-plans c = plans_arisen

@@ -46,6 +46,9 @@ impl Dice {
             b'P' => self.pick(&PATHS),
             b'F' => self.pick(&NUMBERS),
             b'E' => self.pick(&ENDS),
+            b'D' => self.pick(&DOOR_NUMBERS),
+            b'T' => self.pick(&PORTS),
+            b'G' => self.pick(&["", "", " trunc", " append"]),
             b'C' => self.pick(&COUNTS),
             b'B' => self.pick(&BYTES),
             b'O' => self.pick(&OFFSETS),
@@ -109,6 +112,11 @@ const COUNTS: [&str; 8] = ["-1", "0", "1", "3", "9", "32767", "32768", "r0"];
 
 // What a script knows of its own pipe, and then of its own pair.
 const ENDS: [&str; 4] = ["r3", "r4", "r5", "r6"];
+
+// And of its own doors: a file of the host, a listener and a stream.
+const DOOR_NUMBERS: [&str; 3] = ["r7", "r8", "r9"];
+
+const PORTS: [&str; 7] = ["-1", "0", "0", "1", "80", "65535", "65536"];
 
 const BYTES: [&str; 8] = ["x", "x61", "x6263", "x646566", "xffee", "b0", "b0", "b1"];
 
@@ -198,8 +206,56 @@ const ALMOST_FULL: &str = "\
     open /z rw create\nset r2 r0\npwrite r2 x7a 32766\npread r2 32767 0\n\
     write r4 b0\nwrite r5 b0\nsetb b0 x\nclose r2\nunlink /z\n";
 
+// Lines that are about doors.
+const DOOR_LINES: [&str; 25] = [
+    "host_open P AG",
+    "host_open P AG",
+    "host_open /h r",
+    "tcp_listen T",
+    "tcp_connect T",
+    "tcp_accept D",
+    "tcp_accept r8",
+    "tcp_accept r8",
+    "tcp_accept F",
+    "read D C",
+    "read r7 3",
+    "read r9 9",
+    "write D B",
+    "write r7 x61",
+    "write r9 x6263",
+    "lseek r7 O W",
+    "lseek r7 5 set",
+    "shutdown F H",
+    "shutdown r9 H",
+    "close D",
+    "close F",
+    "dup2 F D",
+    "setfl D nonblock",
+    "fstat D",
+    "pread D C O",
+];
+
+// A file of the host, a listener and a stream, as far as they can be opened.
+const DOORS: &str = "\
+    host_open /h rw create\nset r7 r0\ntcp_listen 0\nset r8 r0\ntcp_connect 80\nset r9 r0\n";
+
+// What there is no room for where the numbers or the objects are used up.
+const ONE_MORE: &str = "host_open /i r\ntcp_listen 0\ntcp_connect 80\ntcp_accept r8\n";
+
+// None of these waits for its peer.
+const NONBLOCKING: &str = "setfl r7 nonblock\nsetfl r8 nonblock\nsetfl r9 nonblock\n";
+
 // Opens what is left of the numbers.
 const MANY_NUMBERS: &str = "label more\nopen /a r create\njfail full\njump more\nlabel full\n";
+
+// Makes all files that there may be but three.
+fn add_many_files(alloc: Global, text: &mut Vec<u8>) -> Result<(), AllocError> {
+    for file in 0u32..45 {
+        let lines = format!(in alloc; "open /f{file} w create\nclose r0\n")?;
+        text.extend_from_slice(lines.as_bytes())?;
+    }
+    Ok(())
+}
 
 // What a script begins with: sometimes it has a pipe and a pair, before its files or behind them, and sometimes it
 // uses up the numbers, the files or the names.
@@ -210,12 +266,7 @@ fn beginning(alloc: Global, dice: &mut Dice) -> Result<Vec<u8>, AllocError> {
     }
     match dice.below(12) {
         0 => text.extend_from_slice(MANY_NUMBERS.as_bytes())?,
-        1 => {
-            for file in 0u32..45 {
-                let lines = format!(in alloc; "open /f{file} w create\nclose r0\n")?;
-                text.extend_from_slice(lines.as_bytes())?;
-            }
-        }
+        1 => add_many_files(alloc, &mut text)?,
         2 => {
             for directory in 0u32..60 {
                 let line = format!(in alloc; "mkdir /n{directory}\n")?;
@@ -227,9 +278,9 @@ fn beginning(alloc: Global, dice: &mut Dice) -> Result<Vec<u8>, AllocError> {
     Ok(text)
 }
 
-// Adds a line whose operands are found by chance.
-fn add_line(text: &mut Vec<u8>, dice: &mut Dice) -> Result<(), AllocError> {
-    for letter in dice.pick(&LINES).as_bytes() {
+// Adds one of some lines, with operands that are found by chance.
+fn add_line(text: &mut Vec<u8>, dice: &mut Dice, lines: &[&'static str]) -> Result<(), AllocError> {
+    for letter in dice.pick(lines).as_bytes() {
         if letter.is_ascii_uppercase() {
             let operand = dice.operand(*letter);
             text.extend_from_slice(operand.as_bytes())?;
@@ -241,11 +292,35 @@ fn add_line(text: &mut Vec<u8>, dice: &mut Dice) -> Result<(), AllocError> {
     Ok(())
 }
 
-// A script of some 30 lines behind its beginning.
+// A script of some 30 lines behind its beginning, none of them about doors.
 pub fn script_text(alloc: Global, dice: &mut Dice) -> Result<Vec<u8>, AllocError> {
     let mut text = beginning(alloc, dice)?;
     for _ in 0u32..30 {
-        add_line(&mut text, dice)?;
+        add_line(&mut text, dice, &LINES)?;
+    }
+    Ok(text)
+}
+
+// A script of 12 lines about doors behind its beginning: it opens three doors, sometimes sets them to nonblock, and
+// sometimes uses up the numbers or the objects.
+pub fn door_script_text(alloc: Global, dice: &mut Dice) -> Result<Vec<u8>, AllocError> {
+    let mut text = Vec::new(alloc);
+    let way = dice.below(12);
+    if way == 0 {
+        add_many_files(alloc, &mut text)?;
+    }
+    text.extend_from_slice(DOORS.as_bytes())?;
+    match way {
+        0 => text.extend_from_slice(ONE_MORE.as_bytes())?,
+        1 => {
+            text.extend_from_slice(MANY_NUMBERS.as_bytes())?;
+            text.extend_from_slice(ONE_MORE.as_bytes())?;
+        }
+        2..=6 => text.extend_from_slice(NONBLOCKING.as_bytes())?,
+        _ => {}
+    }
+    for _ in 0u32..12 {
+        add_line(&mut text, dice, &DOOR_LINES)?;
     }
     Ok(text)
 }

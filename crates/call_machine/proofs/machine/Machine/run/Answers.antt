@@ -1,18 +1,24 @@
-use Rattle.std.proofs.Common.{Bool, subst}
+use Rattle.std.proofs.Common.{subst}
 use Rattle.call_machine.specs.Driven.{Plainly}
 use Rattle.call_machine.specs.Shows.{whole_of}
-use Rattle.call_machine.proofs.Scheduling.{at_the_start, comes_on, comes_to_end}
+use Rattle.call_machine.specs.declared.drive.Went.{Went}
+use Rattle.call_machine.proofs.Scheduling.{at_the_start, comes_astray, comes_on, comes_to_end}
 use Rattle.call_machine.proofs.machine.Machine.run.Goals as goal
 
-pub loop-init : goal.loop-init
-loop-init c = λ input h. at_the_start input (whole_of c.args.self.now) h
+pub loop-i-init : goal.loop-i-init
+loop-i-init c input h = at_the_start input (whole_of c.args.self.now) h
 
-pub loop-preserved : goal.loop-preserved
-loop-preserved c = λ input h.
-    let P : Bool → Type 0 = λ b. Plainly b (whole_of c.loop.self) (whole_of c.step.new.self) in
-    comes_on input (whole_of c.loop.self) (whole_of c.step.new.self) (c.loop.invariant input h) (subst P c.if-branch.true c.in_ok-step.ensures.event)
+pub loop-i-preserved : goal.loop-i-preserved
+loop-i-preserved c input h =
+    let Q : Went → Type 0 = λ w. Plainly w (whole_of c.loop-i.self) (whole_of c.step.new.self) in
+    comes_on input (whole_of c.loop-i.self) (whole_of c.step.new.self) (c.loop-i.invariant input h) (subst Q c.in-On.is c.in_ok-step.ensures.event)
 
-pub returns : goal.returns
-returns c = λ input h.
-    let P : Bool → Type 0 = λ b. Plainly b (whole_of c.loop.self) (whole_of c.step.new.self) in
-    comes_to_end input (whole_of c.loop.self) (whole_of c.step.new.self) (c.loop.invariant input h) (subst P c.if-branch.false c.in_ok-step.ensures.event)
+pub returns-in-Over : goal.returns-in-Over
+returns-in-Over c input h =
+    let Q : Went → Type 0 = λ w. Plainly w (whole_of c.loop-i.self) (whole_of c.step.new.self) in
+    comes_to_end input (whole_of c.loop-i.self) (whole_of c.step.new.self) (c.loop-i.invariant input h) (subst Q c.in-Over.is c.in_ok-step.ensures.event)
+
+pub returns-in-Strays : goal.returns-in-Strays
+returns-in-Strays c input h =
+    let Q : Went → Type 0 = λ w. Plainly w (whole_of c.loop-i.self) (whole_of c.step.new.self) in
+    comes_astray input c.in-Strays.i (whole_of c.loop-i.self) (whole_of c.step.new.self) (c.loop-i.invariant input h) (subst Q c.in-Strays.is c.in_ok-step.ensures.event)

@@ -1,4 +1,4 @@
-use Rattle.std.proofs.Common.{◌≡◌, sym, subst}
+use Rattle.std.proofs.Common.{◌≡◌, option_copied, sym, subst}
 use Rattle.descriptor_table.specs.Agreement.{TellsAsStep}
 use Rattle.descriptor_table.specs.Plans.{planned}
 use Rattle.object_store.specs.Store.{Stored, TableMade}
@@ -10,7 +10,7 @@ returns-clause-made c =
     let call = c.args.call.now in
     let view : h ≡ c.args.self.now = c.self.view_is in
     let planned_is : c.args.plan.now ≡ planned h.table call = subst (λ (x : Stored). c.args.plan.now ≡ planned x.table call) (sym view) c.requires.planned in
-    let made : TableMade h call c.apply-given.new.self =
+    let made : TableMade h call (option_copied c.args.outcome) c.apply-given.new.self =
     record {
       sound = c.made.ensures.sound;
       described = c.made.ensures.births;
@@ -18,7 +18,7 @@ returns-clause-made c =
       numbers = c.apply-given.ensures.numbers;
       offsets = c.apply-given.ensures.offsets;
     } in
-    subst (λ (x : Stored). TableMade x call c.apply-given.new.self) view made
+    subst (λ (x : Stored). TableMade x call (option_copied c.args.outcome) c.apply-given.new.self) view made
 
 pub returns-clause-tells : goal.returns-clause-tells
 returns-clause-tells c =
@@ -26,4 +26,4 @@ returns-clause-tells c =
     let call = c.args.call.now in
     let view : h ≡ c.args.self.now = c.self.view_is in
     let planned_is : c.args.plan.now ≡ planned h.table call = subst (λ (x : Stored). c.args.plan.now ≡ planned x.table call) (sym view) c.requires.planned in
-    subst (λ (x : Stored). TellsAsStep x.table call c.apply-given.result) view (c.apply-given.ensures.tells planned_is)
+    subst (λ (x : Stored). TellsAsStep x.table call (option_copied c.args.outcome) c.apply-given.result) view (c.apply-given.ensures.tells planned_is)

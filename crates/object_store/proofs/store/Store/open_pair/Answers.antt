@@ -1,4 +1,4 @@
-use Rattle.std.proofs.Common.{◌≡◌, ◌<◌, ℕ, length, sym, ◌∙◌, subst, rules}
+use Rattle.std.proofs.Common.{◌≡◌, None, ◌<◌, ℕ, length, sym, ◌∙◌, subst, rules}
 use Rattle.posix_terms.specs.Object.{Pair}
 use Rattle.posix_terms.specs.Streams.{new_pair}
 use Rattle.posix_terms.specs.declared.reply.Reply.{Reply}
@@ -16,9 +16,9 @@ returns-clause-reply c =
     let call = c.args.call.now in
     let new = c.change-given.new.self in
     let inside : c.args.node < length h.bodies = subst (λ (n : ℕ). c.args.node < n) (sym c.requires.bodies) c.requires.inside in
-    let made : TableMade h call new.table = search rules in
+    let made : TableMade h call None new.table = search rules in
     let bodies : new.bodies ≡ h.bodies = search rules in
-    let tells : TellsAsStep h.table call c.change-given.result = search rules in
+    let tells : TellsAsStep h.table call None c.change-given.result = search rules in
     let cleared : c.clear_pair.new.self ≡ holding new c.args.node (Pair new_pair) = search rules in
     subst (λ (z : Stored). Replies h call c.numbers_reply.result z) (held_changed h new c.args.node (Pair new_pair) bodies ∙ sym cleared)
     (subst (λ (r : Reply). Replies h call r (record { table = new.table; bodies = slice_set h.bodies c.args.node (keeping (Pair new_pair) (kept_at h c.args.node)) })) (sym c.numbers_reply.ensures)

@@ -1,4 +1,4 @@
-use Rattle.std.proofs.Common.{◌≡◌, sym, subst, rules}
+use Rattle.std.proofs.Common.{◌≡◌, None, sym, subst, rules}
 use Rattle.posix_terms.specs.declared.reply.Reply.{Reply}
 use Rattle.object_store.specs.Store.{Replies, Stored, TableMade}
 use Rattle.object_store.proofs.Making.{changed_is, release_makes}
@@ -9,7 +9,7 @@ returns-clause-reply c =
     let h = c.args.self.now in
     let call = c.args.call.now in
     let new = c.change.new.self in
-    let made : TableMade h call new.table = search rules in
+    let made : TableMade h call None new.table = search rules in
     let bodies : new.bodies ≡ h.bodies = search rules in
     subst (λ (z : Stored). Replies h call c.release_reply.result z) (changed_is h new bodies)
     (subst (λ (r : Reply). Replies h call r (record h { table = new.table })) (sym c.release_reply.ensures) (release_makes h call c.requires.planned.0 new.table c.requires.planned.1 made))

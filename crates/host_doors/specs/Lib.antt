@@ -1,0 +1,5 @@
+pub mod Counting
+pub mod OutcomeList
+pub mod Host
+pub mod Opening
+pub mod Asked

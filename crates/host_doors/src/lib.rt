@@ -1,0 +1,24 @@
+//! Doors to the outside: host files, listeners and streams, as calls reach them. One trait, over the real
+//! host or over a list of outcomes.
+#![tactic(auto)]
+
+mod asked;
+mod counts;
+mod door;
+mod error;
+mod gate;
+mod host;
+mod opened;
+mod outside;
+mod script;
+mod stop;
+#[cfg(test)]
+mod tests;
+
+pub use door::HostDoor;
+pub use gate::{Gate, NoGate};
+pub use host::HostDoors;
+pub use opened::Opened;
+pub use outside::Outside;
+pub use script::{ScriptDoor, ScriptDoors};
+pub use stop::DoorStop;

@@ -1,0 +1,52 @@
+-- The plain run under the outcomes that came in it.
+use Rattle.std.specs.Prelude.{◌≡◌, ℕ, ◌+◌, ◌≤◌, ◌⊎◌, length, Some, true, nat_lt, slice_get}
+use Rattle.lock_model.specs.History.{IsPrefixOf}
+use Rattle.lock_model.specs.Machine.{Setup, fits_job}
+use Rattle.lock_model.specs.Runs.{Arises, LeadsTo, supplied, with_came}
+use Rattle.lock_model.specs.Schedule.{IsOver, plain_run}
+use Rattle.lock_model.specs.State.{Job, State, Thread, start, thread_of}
+use Rattle.lock_model.specs.State.Phase.{Outside}
+use Rattle.lock_model.specs.Terms.{World}
+use Rattle.lock_model.specs.Transcripts.{outcomes_of}
+use Rattle.posix_terms.specs.declared.outcome.Given.{Given}
+
+-- the same setup, with only the outcomes that came
+abbrev pub under_came : Setup → State → Setup
+under_came setup s = supplied setup (with_came setup.supply s)
+
+-- up to there it is the same run
+abbrev pub SameUnderCame : Type 0
+SameUnderCame =
+    (setup : Setup) (threads objects : ℕ) (w : World) (n k : ℕ) → k ≤ n
+    → plain_run (under_came setup (plain_run setup n (start threads objects w))) k (start threads objects w) ≡ plain_run setup k (start threads objects w)
+
+-- and where it is over, it is over
+abbrev pub OverUnderCame : Type 0
+OverUnderCame = (setup : Setup) (s : State) → IsOver setup s → IsOver (under_came setup s) s
+
+-- so many events of the plain run are a run
+abbrev pub PlainLeads : Type 0
+PlainLeads = (setup : Setup) (first : State) (n : ℕ) → LeadsTo setup first (plain_run setup n first)
+
+-- what came is only added to
+abbrev pub CameGrows : Type 0
+CameGrows = (setup : Setup) (first : State) (n m i : ℕ) → IsPrefixOf (thread_of (plain_run setup n first) i).came (thread_of (plain_run setup (n + m) first) i).came
+
+-- a thread that was outside is there still, or the outcome that came next for it answers what it asked
+abbrev pub StaysOrFits : Setup → Job → Thread → Thread → Type 0
+StaysOrFits setup job t u = (u ≡ t) ⊎ ((o : Given) × (slice_get u.came (length t.came) ≡ Some o) × (fits_job setup.calls job o ≡ true))
+
+abbrev pub OutsideStays : Type 0
+OutsideStays =
+    (setup : Setup) (first : State) (n m i : ℕ) (job : Job) → (thread_of (plain_run setup n first) i).phase ≡ Outside job
+    → StaysOrFits setup job (thread_of (plain_run setup n first) i) (thread_of (plain_run setup (n + m) first) i)
+
+-- what came for a thread are the outcomes of its rows
+abbrev pub CameIsRows : Type 0
+CameIsRows = (setup : Setup) (threads objects : ℕ) (w : World) (s : State) → Arises setup (start threads objects w) s → (i : ℕ) → (thread_of s i).came ≡ outcomes_of i s.rows
+
+-- a thread that is outside has room for an outcome
+abbrev pub RoomOutside : Type 0
+RoomOutside =
+    (setup : Setup) (threads objects : ℕ) (w : World) (s : State) → Arises setup (start threads objects w) s
+    → (i : ℕ) (job : Job) → (thread_of s i).phase ≡ Outside job → nat_lt (length (thread_of s i).came) setup.limits.outcome_limit ≡ true

@@ -1,0 +1,34 @@
+-- What a replay gives of the log that a plain run itself wrote.
+use Rattle.std.specs.Prelude.{◌≡◌, ℕ, List, [], length, slice_index_or, Option, Some, None, Result, Ok, Err}
+use Rattle.call_machine.specs.Plain.{IsPlainRun}
+use Rattle.call_machine.specs.Setup.{Inputs}
+use Rattle.call_machine.specs.declared.fault.Stop.{Stop}
+use Rattle.call_machine.specs.declared.fault.Stop.TheVariants as stop
+use Rattle.call_machine.specs.declared.plain.Plain.{Plain}
+use Rattle.lock_model.specs.History.{IsPrefixOf}
+use Rattle.posix_terms.specs.declared.transcript.Row.{Row}
+use Rattle.replayer.specs.Replay.{Replays}
+use Rattle.replayer.specs.declared.fault.ReplayFault.{ReplayFault}
+use Rattle.replayer.specs.declared.fault.ReplayFault.TheVariants as replay_fault
+use Rattle.replayer.specs.declared.replayed.Replayed.{Replayed}
+
+-- as many threads, and each saw a beginning of what it sees there
+pub record AreBeginnings (a b : List (List Row)) : Type 0 where
+  pub count : length a ≡ length b
+  pub each : (i : ℕ) → IsPrefixOf (slice_index_or a i []) (slice_index_or b i [])
+
+-- What a replay tells of the log that this run wrote, which stopped so: what the run's threads saw, its history where it came to its end, and its stop. Where the run diverged, the replay, which has no outcome for the thread that strayed, goes on as far as the others come, and tells what its first stuck thread lacks. Want of memory says nothing
+abbrev pub Retells : Plain → Option Stop → Result Replayed ReplayFault → Type 0
+Retells plain stopped (Err replay_fault.Memory) = Unit {0}
+Retells plain None result = result ≡ Ok (record { transcripts = plain.transcripts; history = plain.history })
+Retells plain (Some (stop.EndOfLog i)) result = result ≡ Err (replay_fault.EndOfLog i plain.transcripts)
+Retells plain (Some stop.ClockFull) result = result ≡ Err (replay_fault.ClockFull plain.transcripts)
+Retells plain (Some (stop.Diverged i n)) (Err (replay_fault.EndOfLog j seen)) = AreBeginnings plain.transcripts seen
+Retells plain (Some (stop.Diverged i n)) (Err (replay_fault.ClockFull seen)) = AreBeginnings plain.transcripts seen
+Retells plain other result = ⊥
+
+-- whatever a replay may give of the log that this plain run wrote
+abbrev pub OwnLogLaw : Type 0
+OwnLogLaw =
+    (input : Inputs) (plain : Plain) (result : Result Replayed ReplayFault)
+    → IsPlainRun input plain → Replays plain.log input.scripts result → Retells plain plain.stop result

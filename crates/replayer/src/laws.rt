@@ -1,0 +1,10 @@
+ghost use Rattle.replayer.specs.OwnLog.{OwnLogLaw};
+
+/// A replay of the log that a plain run itself wrote, with the run's own scripts, gives that run again: the same
+/// transcripts, the same history where it came to its end, and the same stop. Where the run stopped because an
+/// outcome did not answer what was asked, that outcome is not in the log: the replay goes on as far as the outcomes
+/// that came lead, and ends where a thread that has the turn is stuck; what each thread saw in the run is a beginning
+/// of what it sees there. A replay may also want memory, which says nothing.
+pub fn own_log()
+    ensures { OwnLogLaw }
+{}

@@ -1,0 +1,78 @@
+ghost use Rattle.std.specs.Prelude.{◌≡◌, length};
+ghost use Rattle.input_log.specs.Grammar.{IsLog};
+ghost use Rattle.replayer.specs.Outcomes.{settings_of};
+ghost use Rattle.replayer.specs.Replay.{IsRunOf, Replays, Tells};
+
+use crate::fault::ReplayFault;
+use crate::outcomes::outcomes_by;
+use crate::replayed::Replayed;
+use crate::unused::first_unused;
+use call_machine::{Plain, PlainFault, Stop, plain_run};
+use input_log::{Header, LogText, decode_front};
+use posix_terms::Settings;
+use std::alloc::Global;
+use thread_scripts::Script;
+
+/// Runs scripts on the plain schedule, where what comes from outside is what the log has: each call that goes
+/// outside takes the next record of its thread. It opens nothing and waits for nobody.
+///
+/// The settings are those of the log's header. Of a log that is torn behind its header the records before the tear
+/// count. What was decoded is looked at first, then the number of scripts, which is that of the log's threads. Where
+/// a thread that has the turn lacks its next outcome, or where an outcome does not answer what was asked, the replay
+/// ends there, with what each thread saw so far; so it does, `Diverged`, where all threads have ended and a record
+/// was not used: at the least such thread and its first such record.
+pub fn replay(alloc: Global, log: &[u8], scripts: Vec<Script>) -> Result<Replayed, ReplayFault>
+    ensures { Replays log.now scripts.items result }
+{
+    let log = decode_front(alloc, log)?;
+    if usize::from(log.header.threads) != scripts.len() {
+        return Err(ReplayFault::Threads);
+    }
+    let outcomes = outcomes_by(alloc, scripts.len(), log.records.as_slice())?;
+    match plain_run(alloc, scripts, outcomes, settings(log.header)) {
+        Ok(plain) => told(&log, plain),
+        Err(PlainFault::Memory) => Err(ReplayFault::Memory),
+        // A log has 1 to 8 threads, and settings of a run.
+        Err(PlainFault::Threads) => unreachable!(),
+        Err(PlainFault::Settings) => unreachable!(),
+    }
+}
+
+// The settings that a log was written under.
+fn settings(header: Header) -> Settings
+    ensures { result ≡ settings_of header }
+{
+    Settings {
+        patience: header.patience,
+        door_cost: header.door_cost,
+    }
+}
+
+// What is told of the plain run by a log.
+fn told(log: &LogText, plain: Plain) -> Result<Replayed, ReplayFault>
+    requires log { IsLog log.now }
+    requires run { IsRunOf log.now plain }
+    ensures { Tells log.now plain plain.stop result }
+{
+    let transcripts = plain.transcripts;
+    match plain.stop {
+        None => {}
+        Some(Stop::EndOfLog(thread)) => return Err(ReplayFault::EndOfLog(thread, transcripts)),
+        Some(Stop::Diverged(thread, number)) => {
+            return Err(ReplayFault::Diverged(thread, number, transcripts));
+        }
+        Some(Stop::ClockFull) => return Err(ReplayFault::ClockFull(transcripts)),
+        // No plain run stops so.
+        Some(Stop::Memory) => unreachable!(),
+        Some(Stop::Sink) => unreachable!(),
+        Some(Stop::Strayed) => unreachable!(),
+    }
+    let threads = usize::from(log.header.threads);
+    match first_unused(threads, log.records.as_slice(), plain.history.rows()) {
+        None => Ok(Replayed {
+            transcripts,
+            history: plain.history,
+        }),
+        Some((thread, number)) => Err(ReplayFault::Diverged(thread, number as u32, transcripts)),
+    }
+}

@@ -1,0 +1,59 @@
+ghost use Rattle.std.specs.Prelude.{◌≡◌};
+ghost use Rattle.input_log.specs.Grammar.{number_of};
+ghost use Rattle.replayer.specs.Outcomes.{came_for, first_unused, is_there};
+
+use input_log::Record;
+use posix_terms::{HistoryRow, Outcome};
+
+// Of the first threads, so many, the least that has more records than outcomes came for it, with the number of the
+// first of its records that was not used.
+pub fn first_unused(
+    threads: usize,
+    records: &[Record],
+    rows: &[HistoryRow],
+) -> Option<(usize, usize)>
+    ensures { result ≡ first_unused threads records.now rows.now }
+{
+    for thread in 0..threads {
+        let came = came_for(thread, rows);
+        if came < number_of(thread, records) {
+            return Some((thread, came));
+        }
+    }
+    None
+}
+
+// How many outcomes came for a thread: so many of its rows have one.
+fn came_for(thread: usize, rows: &[HistoryRow]) -> usize
+    ensures { result ≡ came_for thread rows.now }
+{
+    let mut count = 0;
+    for row in rows {
+        if row.turn.thread == thread && is_there(&row.outcome) {
+            count += 1;
+        }
+    }
+    count
+}
+
+fn is_there(outcome: &Option<Outcome>) -> bool
+    ensures { result ≡ is_there outcome.now }
+{
+    match outcome {
+        Some(_) => true,
+        None => false,
+    }
+}
+
+// How many records a thread has.
+fn number_of(thread: usize, records: &[Record]) -> usize
+    ensures { result ≡ number_of thread records.now }
+{
+    let mut count = 0;
+    for record in records {
+        if usize::from(record.thread) == thread {
+            count += 1;
+        }
+    }
+    count
+}
