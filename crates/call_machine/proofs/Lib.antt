@@ -19,3 +19,4 @@ pub mod Legality
 pub mod Concluding
 pub mod Parting
 pub mod Covering
+pub mod Agreeing

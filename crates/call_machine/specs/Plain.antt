@@ -96,3 +96,7 @@ Runs (Ok plain) input = IsPlainRun input plain
 Runs (Err plain_fault.Threads) input = are_threads input ≡ false
 Runs (Err plain_fault.Settings) input = (are_threads input ≡ true) × (are_settings input.settings ≡ false)
 Runs (Err plain_fault.Memory) input = (are_threads input ≡ true) × (are_settings input.settings ≡ true)
+
+-- a plain run shows one thing alone
+abbrev pub OnePlainRun : Type 0
+OnePlainRun = (input : Inputs) (plain other : Plain) → IsPlainRun input plain → IsPlainRun input other → plain ≡ other

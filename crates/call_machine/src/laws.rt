@@ -1,4 +1,5 @@
 ghost use Rattle.call_machine.specs.Covered.{HasSpelling, NoneStrays, RecordsCame};
+ghost use Rattle.call_machine.specs.Plain.{OnePlainRun};
 
 /// The log of a plain run, after any number of events. By thread the outcomes of its records are those that came, in order
 /// (`came`); it is a log, which has a spelling (`spelled`); and a plain run under just those outcomes never
@@ -7,4 +8,10 @@ pub fn logs_of_plain_runs()
     ensures came { RecordsCame }
     ensures spelled { HasSpelling }
     ensures straight { NoneStrays }
+{}
+
+/// There is one plain run of given scripts, outcomes and settings: whatever is one has the same transcripts, history,
+/// log and stop. The body is empty: the contract is the law.
+pub fn plain_runs_agree()
+    ensures { OnePlainRun }
 {}

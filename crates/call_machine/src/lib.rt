@@ -21,6 +21,6 @@ mod thread;
 
 pub use fault::{PlainFault, Stop};
 pub use history::{History, Steps};
-pub use laws::logs_of_plain_runs;
+pub use laws::{logs_of_plain_runs, plain_runs_agree};
 pub use plain::Plain;
 pub use run::plain_run;
