@@ -15,8 +15,6 @@ mod outside;
 mod plain;
 mod run;
 mod start;
-#[cfg(test)]
-mod tests;
 mod thread;
 
 pub use fault::{PlainFault, Stop};

@@ -8,8 +8,6 @@ mod plan;
 mod planning;
 mod slots;
 mod table;
-#[cfg(test)]
-mod tests;
 
 pub use laws::opens_as_planned;
 pub use plan::{Errand, NewNumbers, Op, Opened, Plan};

@@ -1,4 +1,4 @@
-use crate::source::Source;
+use commands::Source;
 use std::alloc::AllocError;
 use std::fs::File;
 use std::io::{Read, Stdin};

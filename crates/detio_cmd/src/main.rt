@@ -2,28 +2,14 @@
 #![tactic(auto)]
 
 mod command;
-mod first_fault;
 mod input;
-mod log_fault;
-mod log_text;
-mod plain;
-mod printed;
-mod replay;
-mod show;
-mod source;
-#[cfg(test)]
-mod tests;
-mod transcripts;
 
 use clap::ArgMatches;
 use clap::error::ErrorKind;
 use command::command;
+use commands::{cannot_write, no_memory, plain_over, replay_over, show_over};
 use input::{open_scripts, open_source};
-use plain::plain_over;
 use posix_terms::Settings;
-use printed::{cannot_write, no_memory};
-use replay::replay_over;
-use show::show_over;
 use std::alloc::AllocError;
 use std::io;
 use std::process::ExitCode;

@@ -4,8 +4,6 @@
 mod entry;
 mod names;
 mod path;
-#[cfg(test)]
-mod tests;
 
 pub use entry::Node;
 pub use names::Names;

@@ -3,8 +3,6 @@
 
 mod description;
 mod descriptions;
-#[cfg(test)]
-mod tests;
 
 pub use description::{Description, StatusFlags};
 pub use descriptions::Descriptions;

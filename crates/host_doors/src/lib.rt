@@ -12,8 +12,6 @@ mod opened;
 mod outside;
 mod script;
 mod stop;
-#[cfg(test)]
-mod tests;
 
 pub use door::HostDoor;
 pub use gate::{Gate, NoGate};

@@ -2,7 +2,5 @@
 #![tactic(auto)]
 
 mod body;
-#[cfg(test)]
-mod tests;
 
 pub use body::FileBody;

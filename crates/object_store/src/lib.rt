@@ -7,8 +7,6 @@ mod doors;
 mod patience;
 mod store;
 mod streams;
-#[cfg(test)]
-mod tests;
 
 pub use patience::{TurnEnd, TurnStart, end_outside};
 pub use store::Store;

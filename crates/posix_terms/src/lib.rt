@@ -12,8 +12,6 @@ mod object;
 mod outcome;
 mod reply;
 mod request;
-#[cfg(test)]
-mod tests;
 mod text;
 mod transcript;
 

@@ -6,8 +6,6 @@ mod laws;
 mod outcomes;
 mod replayed;
 mod run;
-#[cfg(test)]
-mod tests;
 mod unused;
 
 pub use fault::ReplayFault;

@@ -3,7 +3,5 @@
 
 mod half;
 mod pair;
-#[cfg(test)]
-mod tests;
 
 pub use pair::PairBody;

@@ -13,8 +13,6 @@ mod lines;
 mod numbers;
 mod script;
 mod state;
-#[cfg(test)]
-mod tests;
 mod texts;
 mod words;
 

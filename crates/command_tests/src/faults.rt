@@ -1,0 +1,139 @@
+use super::devices::{Device, run};
+use super::runs::{DEFAULTS, end_well, refuse};
+use commands::{Source, cannot_write, no_memory, plain_over};
+use posix_terms::Settings;
+use std::test::Fail;
+
+const BAD: &[(&[&str], &str)] = &[
+    (&["close 0\nclose 0 0\n"], "script 0: bad line 2\n"),
+    (&["work r1\n"], "script 0: bad line 1\n"),
+    (&["jump a\nlabel b\n"], "script 0: bad line 1\n"),
+    (&["# \n\nread 0 1 1"], "script 0: bad line 3\n"),
+    // Of several scripts the first that is none is told.
+    (&["close 0\n", "end\nx\n"], "script 1: bad line 2\n"),
+    (&["end\nend\nx\n", "x\n"], "script 0: bad line 3\n"),
+];
+
+// Faults: their text on standard error, nothing on standard output, and their status.
+#[test]
+fn faults(rt: HostRuntime) -> Result<(), Fail> {
+    for (scripts, wanted) in BAD {
+        assert!(rt;
+            refuse(rt.alloc(), DEFAULTS, scripts, 3, wanted)?,
+            "{wanted}"
+        );
+    }
+    Ok(())
+}
+
+#[test]
+fn faults_of_long_scripts(rt: HostRuntime) -> Result<(), Fail> {
+    // One line more than a script may have.
+    let text = "\n".repeat(rt.alloc(), 1001)?;
+    let long = text.as_str();
+    let cases: &[(&[&str], &str)] = &[
+        (&[long], "script 0: too long\n"),
+        (&["close 0\n", long], "script 1: too long\n"),
+        (&["x\n", long], "script 0: bad line 1\n"),
+        (&[long, "x\n"], "script 0: too long\n"),
+    ];
+    for (scripts, wanted) in cases {
+        assert!(rt;
+            refuse(rt.alloc(), DEFAULTS, scripts, 3, wanted)?,
+            "{wanted}"
+        );
+    }
+    Ok(())
+}
+
+const OUT_OF_RANGE: &[(u32, u32)] = &[(0, 100), (1_000_001, 100), (1000, 0), (1000, 1_000_001)];
+
+const REFUSED: &[(&[&str], u8, &str)] = &[
+    (&["end"], 2, "patience and door cost are 1 to 1000000\n"),
+    (&["x"], 3, "script 0: bad line 1\n"),
+    (&[], 2, "needs 1 to 8 scripts\n"),
+];
+
+// Settings out of range are told last.
+#[test]
+fn faults_of_settings(rt: HostRuntime) -> Result<(), Fail> {
+    for (patience, door_cost) in OUT_OF_RANGE {
+        let settings = Settings {
+            patience: *patience,
+            door_cost: *door_cost,
+        };
+        for (scripts, status, line) in REFUSED {
+            assert!(rt;
+                refuse(rt.alloc(), settings, scripts, *status, line)?,
+                "{patience} {door_cost}: {line}"
+            );
+        }
+    }
+    Ok(())
+}
+
+#[test]
+fn settings_at_their_limits(rt: HostRuntime) -> Result<(), Fail> {
+    for limit in &[1, 1_000_000] {
+        let settings = Settings {
+            patience: *limit,
+            door_cost: *limit,
+        };
+        assert!(rt;
+            end_well(rt.alloc(), settings, &["end"], "end\n")?,
+            "{limit}"
+        );
+    }
+    Ok(())
+}
+
+const BAD_SCRIPT: Device = Device::Text(b"x\n");
+
+const GOOD_SCRIPT: Device = Device::Text(b"end\n");
+
+const UNREADABLE: &[(&[Device], u8, &str)] = &[
+    // The number of scripts is looked at before anything is read.
+    (&[], 2, "needs 1 to 8 scripts\n"),
+    (&[Device::Broken; 9], 2, "needs 1 to 8 scripts\n"),
+    // A script that cannot be read is told before the bad lines of others, and the first of two.
+    (&[Device::Broken, GOOD_SCRIPT], 4, "cannot read 0\n"),
+    (&[Device::Endless, BAD_SCRIPT], 4, "cannot read 0\n"),
+    (&[BAD_SCRIPT, Device::Broken], 4, "cannot read 1\n"),
+    (&[GOOD_SCRIPT, Device::Endless], 4, "cannot read 1\n"),
+    (&[Device::Endless, Device::Broken], 4, "cannot read 0\n"),
+];
+
+#[test]
+fn failing_readers(rt: HostRuntime) -> Result<(), Fail> {
+    for (devices, status, wanted) in UNREADABLE {
+        assert!(rt;
+            run(rt.alloc(), devices)?.is(*status, "", wanted),
+            "{wanted}"
+        );
+    }
+    Ok(())
+}
+
+#[test]
+fn full_device(rt: HostRuntime) -> Result<(), Fail> {
+    let alloc = rt.alloc();
+    let mut sources = Vec::new(alloc);
+    sources.push(Source {
+        path: "a.script",
+        reader: b"close 0".as_slice(),
+    })?;
+    let mut errors: Vec<u8> = Vec::new(alloc);
+    let mut full = Device::Broken;
+    let status = plain_over(alloc, DEFAULTS, false, sources, &mut full, &mut errors)?;
+    assert!(rt; status == 4 && errors.as_slice() == b"cannot write -\n".as_slice());
+    Ok(())
+}
+
+#[test]
+fn messages(rt: HostRuntime) -> Result<(), Fail> {
+    let mut errors: Vec<u8> = Vec::new(rt.alloc());
+    let statuses = [no_memory(&mut errors)?, cannot_write(&mut errors)?];
+    let wanted = b"no memory\ncannot write -\n".as_slice();
+    assert!(rt; statuses == [4, 4] && errors.as_slice() == wanted);
+    Ok(())
+}

@@ -1,0 +1,106 @@
+-- Texts and scripts, one behind the others.
+use Rattle.std.proofs.Common.{◌≡◌, ℕ, zero, suc, ◌+◌, ◌<◌, List, [], ◌∷◌, ◌++◌, length, map, replicate, take, drop, get_or, Option, Result, Ok, Err, refl, ap, sym, ◌∙◌, subst, append_assoc}
+use Rattle.std.proofs.Math.Seq.{drop-cons}
+use Rattle.std.proofs.lemmas.List.{length-map, map-append, take-append-drop}
+use Rattle.std.specs.Prelude.{Bool, true, IfOk}
+use Rattle.posix_terms.specs.declared.transcript.Settings.{Settings}
+use Rattle.thread_scripts.specs.Faults.{Fault}
+use Rattle.thread_scripts.specs.Grammar.{script_of}
+use Rattle.thread_scripts.specs.declared.line.Line.{Line}
+use Rattle.call_machine.specs.Plain.{counts_fit}
+use Rattle.commands.specs.Commands.{AreRead, AreTexts, CountPrints, IsFirstUnread, IsText, PlainPrints, ReadPrints, script_before, scripts_from}
+use Rattle.commands.specs.declared.printed.Printed.{Printed}
+
+-- more scripts behind these
+abbrev pub with_front : List (List Line) → Result (List (List Line)) (ℕ × Fault) → Result (List (List Line)) (ℕ × Fault)
+with_front scripts (Ok more) = Ok (scripts ++ more)
+with_front scripts (Err fault) = Err fault
+
+pub front_push : (scripts : List (List Line)) (script : List Line) (i : ℕ) (more : Result (List (List Line)) (ℕ × Fault)) → with_front (scripts ++ script ∷ []) more ≡ with_front scripts (script_before i (Ok script) more)
+front_push scripts script i (Ok more) = ap Ok (append_assoc scripts (script ∷ []) more)
+front_push scripts script i (Err fault) = refl
+
+pub replicate_push : {A : Type 0} (n : ℕ) (x : A) → replicate n x ++ x ∷ [] ≡ replicate (suc n) x
+replicate_push zero x = refl
+replicate_push (suc n) x = ap (λ (l : List _). x ∷ l) (replicate_push n x)
+
+texts_push : (sources : List (List ℕ × Option (List ℕ))) (texts : List (List ℕ)) (source : List ℕ × Option (List ℕ)) (text : List ℕ)
+    → AreTexts sources texts → IsText source.1 text → AreTexts (sources ++ source ∷ []) (texts ++ text ∷ [])
+texts_push [] [] source text read is_text = (is_text, tt)
+texts_push [] (t ∷ texts) source text read is_text = absurd read
+texts_push (s ∷ sources) [] source text read is_text = absurd read
+texts_push (s ∷ sources) (t ∷ texts) source text (is_t, read) is_text = (is_t, texts_push sources texts source text read is_text)
+
+-- the text of a source, read behind the others
+pub more_read : {S : Type 0} (view : S → List ℕ × Option (List ℕ)) (sources : List S) (source : S) (texts : List (List ℕ)) (text : List ℕ)
+    → AreTexts (map view sources) texts → IsText (view source).1 text → AreTexts (map view (sources ++ source ∷ [])) (texts ++ text ∷ [])
+more_read view sources source texts text read is_text =
+    let P : List (List ℕ × Option (List ℕ)) → Type 0 = λ all. AreTexts all (texts ++ text ∷ []) in
+    subst P (sym (map-append view sources (source ∷ []))) (texts_push (map view sources) texts (view source) text read is_text)
+
+texts_length : (sources : List (List ℕ × Option (List ℕ))) (texts : List (List ℕ)) → AreTexts sources texts → length texts ≡ length sources
+texts_length [] [] read = refl
+texts_length [] (t ∷ texts) read = absurd read
+texts_length (s ∷ sources) [] read = absurd read
+texts_length (s ∷ sources) (t ∷ texts) (is_t, read) = ap suc (texts_length sources texts read)
+
+one_more : (i n : ℕ) (read : Result (List Line) Fault) (others : Result (List (List Line)) (ℕ × Fault)) → IfOk others (λ scripts. length scripts ≡ n)
+    → IfOk (script_before i read others) (λ scripts. length scripts ≡ suc n)
+one_more i n (Err fault) others others_are = tt
+one_more i n (Ok script) (Ok others) others_are = ap suc others_are
+one_more i n (Ok script) (Err fault) others_are = tt
+
+scripts_length : (i : ℕ) (texts : List (List ℕ)) → IfOk (scripts_from i texts) (λ scripts. length scripts ≡ length texts)
+scripts_length i [] = refl
+scripts_length i (text ∷ texts) = one_more i (length texts) (script_of text) (scripts_from (i + 1) texts) (scripts_length (i + 1) texts)
+
+-- so many can run together
+abbrev pub Fits : {X : Type 0} → List X → Type 0
+Fits xs = counts_fit (length xs) (length xs) ≡ true
+
+pub fits_as : {X Y : Type 0} (xs : List X) (ys : List Y) → length xs ≡ length ys → Fits ys → Fits xs
+fits_as xs ys same fits = ap (λ n. counts_fit n n) same ∙ fits
+
+pub texts_fit : (sources : List (List ℕ × Option (List ℕ))) (texts : List (List ℕ)) → AreTexts sources texts → Fits sources → Fits texts
+texts_fit sources texts read = fits_as texts sources (texts_length sources texts read)
+
+pub scripts_fit : (texts : List (List ℕ)) (scripts : List (List Line)) → scripts_from 0 texts ≡ Ok scripts → Fits texts → Fits scripts
+scripts_fit texts scripts is =
+    let AsLong : Result (List (List Line)) (ℕ × Fault) → Type 0 = λ r. IfOk r (λ scripts. length scripts ≡ length texts) in
+    fits_as scripts texts (subst AsLong is (scripts_length 0 texts))
+
+pub view_fits : {S X : Type 0} (view : S → X) (sources : List S) (n : ℕ) (fits : Bool) → n ≡ length sources → fits ≡ counts_fit n n → fits ≡ true → Fits (map view sources)
+view_fits view sources n fits count is true_is =
+    let same : length (map view sources) ≡ n = length-map sources view ∙ sym count in
+    ap (λ m. counts_fit m m) same ∙ sym is ∙ true_is
+
+-- what was read of sources that fit is printed
+pub read_prints : (settings : Settings) (turns : Bool) (sources : List (List ℕ × Option (List ℕ))) (outcome : Result (List (List ℕ)) (List ℕ)) (printed : Printed)
+    → Fits sources → AreRead sources outcome → ReadPrints settings turns outcome printed → PlainPrints settings turns sources printed
+read_prints settings turns sources outcome printed fits read prints =
+    subst (λ b. CountPrints b settings turns sources printed) (sym fits) (outcome, read, prints)
+
+map_same : {S : Type 0} (xs : List S) → map (λ y. y) xs ≡ xs
+map_same [] = refl
+map_same (x ∷ xs) = ap (λ l. x ∷ l) (map_same xs)
+
+-- a list is what a loop has gone over, and then the element of this turn
+pub split_where : {S : Type 0} (before : List S) (x : S) (all : List S) → map (λ y. y) before ≡ take (length before) all → length before < length all → x ≡ get_or all (length before) x
+    → all ≡ before ++ x ∷ drop (suc (length before)) all
+split_where {S} before x all far inside is =
+    let left : drop (length before) all ≡ x ∷ drop (suc (length before)) all = drop-cons all (length before) x inside ∙ ap (λ (y : S). y ∷ drop (suc (length before)) all) (sym is) in
+    let gone : take (length before) all ≡ before = sym far ∙ map_same before in
+    sym (take-append-drop (length before) all) ∙ ap (λ l. l ++ drop (length before) all) gone ∙ ap (λ l. before ++ l) left
+
+-- the source of this turn could not be read
+pub unread_after : {S : Type 0} (view : S → List ℕ × Option (List ℕ)) (before : List S) (source : S) (after all : List S) (texts : List (List ℕ))
+    → all ≡ before ++ source ∷ after → AreTexts (map view before) texts → IsFirstUnread (map view all) (view source).0
+unread_after view before source after all texts is read =
+    record {
+      before = map view before;
+      known = (view source).1;
+      after = map view after;
+      places = ap (map view) is ∙ map-append view before (source ∷ after);
+      texts = texts;
+      read = read;
+    }
