@@ -187,7 +187,7 @@ out_shows input w s turn call turns n cost new errand h in_call few room done th
     let x : Thread = turn_started (length w.rows) (Some n) call turns (start.GoesOut errand) (late_thread w i cost) in
     let y : lock.Thread = granted u (u.clock + cost) job true in
     let is_out : IsOut input i (rows_with s job) o job =
-    record { object = n; object_is = refl; in_range = few; plan = refl; thread = refl; carried = refl; asks_is = done.request; keeps = refl; ends = done.ends; row = placed input w s job h } in
+    record { object = n; object_is = refl; in_range = few; plan = refl; thread = refl; carried = refl; asks_is = done.request; door = done.door; waits = done.waits; keeps = refl; ends = done.ends; row = placed input w s job h } in
     let here : ThreadShows input i (rows_with s job) x y =
     record {
       clock = ap (λ (c : ℕ). c + cost) (h.threads i).clock;

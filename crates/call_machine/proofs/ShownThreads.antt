@@ -32,7 +32,7 @@ KeepsRows k rows more = (place : ℕ) (job : Job) → job.turn.thread ≡ k → 
 
 out_rows : (input : Inputs) (k : ℕ) (rows more : List Row) (o : Outing) (job : Job) → KeepsRows k rows more → IsOut input k rows o job → IsOut input k more o job
 out_rows input k rows more o job keeps g =
-    record { object = g.object; object_is = g.object_is; in_range = g.in_range; plan = g.plan; thread = g.thread; carried = g.carried; asks_is = g.asks_is; keeps = g.keeps; ends = g.ends; row = keeps o.row job g.thread g.row }
+    record { object = g.object; object_is = g.object_is; in_range = g.in_range; plan = g.plan; thread = g.thread; carried = g.carried; asks_is = g.asks_is; door = g.door; waits = g.waits; keeps = g.keeps; ends = g.ends; row = keeps o.row job g.thread g.row }
 
 phase_rows : (input : Inputs) (k : ℕ) (rows more : List Row) (t : Thread) (u : lock.Thread) (p : Phase) → KeepsRows k rows more → PhaseShows input k rows t u p → PhaseShows input k more t u p
 phase_rows input k rows more t u phase.Working keeps h = h

@@ -17,7 +17,7 @@ use Rattle.lock_model.specs.CallTable.Plan.{Object}
 use Rattle.lock_model.specs.CallTable.Way.{Inside}
 use Rattle.lock_model.specs.Held.{row_of}
 use Rattle.lock_model.specs.Machine.{advance, attempt, can_advance, can_attempt, moves}
-use Rattle.lock_model.specs.RealCalls.{answer_in, outcome_in, plan_of, way_of}
+use Rattle.lock_model.specs.RealCalls.{answer_in, numbered, outcome_in, plan_of, way_of}
 use Rattle.lock_model.specs.Runs.{Arises, calls_in}
 use Rattle.lock_model.specs.ScriptPrograms.{at_start, reached_after}
 use Rattle.lock_model.specs.State as lock
@@ -25,6 +25,7 @@ use Rattle.lock_model.specs.State.{Job, Row, State, thread_of}
 use Rattle.lock_model.specs.State.Phase.{Working, WantsTable, WantsObject, Granted, ToOutside, Outside, Recorded, Blocked, Ended}
 use Rattle.lock_model.specs.Rows.{shown}
 use Rattle.call_machine.specs.Setup.{Inputs, setup_of, first_state, script_of}
+use Rattle.object_store.specs.Errands.{door_taken, waits_outside}
 use Rattle.object_store.specs.Patience.{ended}
 use Rattle.call_machine.specs.Held.{end_held}
 use Rattle.object_store.specs.Store.{Stands, Stored}
@@ -65,7 +66,7 @@ pub record IsGranted (input : Inputs) (i : ℕ) (rows : List Row) (place : ℕ) 
   pub answers : answer_in (step input.settings job.found.object job.call (outcome_in job.outcome) job.carried) ≡ ended ends
   pub row : slice_get rows place ≡ Some (row_of job)
 
--- the call that a thread was granted and goes outside with
+-- the call that a thread was granted and goes outside with: what it asks, at whose door, and whether EAGAIN makes it wait
 pub record IsOut (input : Inputs) (i : ℕ) (rows : List Row) (o : Outing) (job : Job) : Type 0 where
   pub object : ℕ
   pub object_is : o.object ≡ Some object
@@ -74,6 +75,8 @@ pub record IsOut (input : Inputs) (i : ℕ) (rows : List Row) (o : Outing) (job 
   pub thread : job.turn.thread ≡ i
   pub carried : job.carried ≡ o.turns
   pub asks_is : asks job.found.object job.call job.carried ≡ request_of job.call (op.Ask o.errand)
+  pub door : o.errand.door ≡ numbered job.found (door_taken job.found.object job.call job.carried)
+  pub waits : o.errand.waits ≡ waits_outside job.found.object job.call job.carried
   pub keeps : o.keeps_table ≡ keeps_table job.call
   -- whatever comes, unless it keeps the table
   pub ends : o.keeps_table ≡ false → (x : Outcome) → let stepped = step input.settings job.found.object job.call (Some x) job.carried in

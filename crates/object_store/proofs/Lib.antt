@@ -6,4 +6,5 @@ pub mod Doing
 pub mod Making
 pub mod Outside
 pub mod Standing
+pub mod Errands
 pub mod Streaming

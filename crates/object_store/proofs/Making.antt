@@ -14,6 +14,7 @@ use Rattle.posix_terms.specs.declared.call.Call.TheVariants as call
 use Rattle.posix_terms.specs.declared.call.Whence.{Whence}
 use Rattle.posix_terms.specs.declared.call.ShutdownHow.{ShutdownHow}
 use Rattle.posix_terms.specs.declared.errno.Errno.{Errno}
+use Rattle.posix_terms.specs.declared.limits.TheConstants.Limits as limit
 use Rattle.posix_terms.specs.declared.object.End.{End}
 use Rattle.posix_terms.specs.declared.object.End.TheVariants as part
 use Rattle.posix_terms.specs.declared.object.Side.{Side}
@@ -55,6 +56,10 @@ use Rattle.object_store.proofs.Doing.Moves.{ByRead, ByWrite, BySeek}
 use Rattle.object_store.proofs.Shapes.{HasAct, planned_fits}
 use Rattle.object_store.proofs.Shapes.HasAct.{Accepts, Closes, ClosesOut, Connects, Cuts, Listens, MakesPair, MakesPipe, Opens, OpensOut, Preads, Pwrites, Reads, ReadsOut, Replaces, SeeksFrom, SeeksOut, Shuts, ShutsOut, Stats, Unnames, WritesOut, WritesTo}
 use Rattle.object_store.proofs.Stepping.{Rewrites}
+
+-- a number has its body where all of them have one
+pub has_body : (h : Stored) (node : ℕ) → length h.bodies ≡ limit.OBJECTS → node < limit.OBJECTS → node < length h.bodies
+has_body h node all inside = subst (λ (n : ℕ). node < n) (sym all) inside
 
 pub act_of : (h : Stored) (c : Call) (node : ℕ) (act : Op) → IsPlanned h c node act → HasAct c act
 act_of h c node act (keep, is) = (planned_fits h.table c node act keep is).0

@@ -1,5 +1,5 @@
 -- Calls that go outside: what they leave when they go, and what comes of their outcomes.
-use Rattle.std.proofs.Common.{◌≡◌, ℕ, ◌&&◌, ◌==◌, ◌||◌, List, length, Option, Some, None, Bool, true, false, if◌then◌else◌, nat_le, nat_lt, ◌⊎◌, inl, inr, refl, sym, ap, ap₂, ◌∙◌, subst, ⊎_elim}
+use Rattle.std.proofs.Common.{◌≡◌, ℕ, ◌&&◌, ◌==◌, ◌||◌, List, length, Option, Some, None, Result, Ok, Err, Bool, true, false, if◌then◌else◌, nat_le, nat_lt, ◌⊎◌, inl, inr, refl, sym, ap, ap₂, ◌∙◌, subst, ⊎_elim}
 use Rattle.std.proofs.lemmas.Bool.{false≢true}
 use Rattle.std.proofs.lemmas.Option.{none-some, same_Some}
 use Rattle.std.specs.FinMap as fin
@@ -7,10 +7,12 @@ use Rattle.std.specs.Prelude.{◌+◌, is_some, unwrap_or}
 use Rattle.posix_terms.specs.Locked.{keeps_table}
 use Rattle.posix_terms.specs.Object.{State, Content, File, content_of}
 use Rattle.posix_terms.specs.Outcomes.{bytes_fit, fits, value_fits}
-use Rattle.posix_terms.specs.Step.{Carried, Stepped, closes_door, is_again, nothing_carried, step}
+use Rattle.posix_terms.specs.Effects.{Effect, Asks, Blocks, Completes}
+use Rattle.posix_terms.specs.Step as posix
+use Rattle.posix_terms.specs.Step.{Carried, Stepped, closes_door, concluded, effect_of, failed, is_again, nothing_carried, step, waited}
 use Rattle.posix_terms.specs.declared.call.Call.{Call}
 use Rattle.posix_terms.specs.declared.errno.Errno.{Errno}
-use Rattle.posix_terms.specs.declared.errno.Errno.TheVariants.{EINTR}
+use Rattle.posix_terms.specs.declared.errno.Errno.TheVariants.{EAGAIN, EINTR}
 use Rattle.posix_terms.specs.declared.outcome.OutKind.{OutKind}
 use Rattle.posix_terms.specs.declared.outcome.OutKind.TheVariants as out
 use Rattle.posix_terms.specs.declared.outcome.Outcome.{Outcome}
@@ -39,11 +41,13 @@ use Rattle.lock_model.specs.CallTable.Answer.{Gives}
 use Rattle.lock_model.specs.Numbers.{world_with}
 use Rattle.lock_model.specs.Terms.{World}
 use Rattle.object_store.specs.Bodies.{Kept, kept_as}
+use Rattle.object_store.specs.Errands.{waits_by, waits_outside}
 use Rattle.object_store.specs.Patience.{EndsOutside, as_answer}
 use Rattle.object_store.specs.declared.patience.TurnEnd.{TurnEnd}
 use Rattle.object_store.specs.declared.patience.TurnEnd.TheVariants as end
 use Rattle.object_store.specs.declared.patience.TurnStart.TheVariants as start
 use Rattle.object_store.specs.Store.{LeavesTable, Makes, Opens, Stands, Stored, TableMade, at_port, kept_at, opens_door}
+use Rattle.object_store.proofs.Errands.{door_known}
 use Rattle.object_store.proofs.Doing.{bodies_same, known_of, made_leaves, there_is}
 use Rattle.object_store.proofs.Making.{AsksNothing, changed_is, plan_asks, plan_keeps}
 use Rattle.object_store.proofs.Numbering.{lowest_is_free, next_is_new}
@@ -132,6 +136,38 @@ asked_stands h w c node errand keep o u settings carried content st is made kept
     let leaves : Leaves h.table u (plan.Node node (op.Ask errand) keep) w.object after = subst (λ (p : Plan). Leaves h.table u p w.object after) is (made_leaves h w c o u settings carried st made) in
     still_stands h w st u node (op.Ask errand) keep after leaves (known_of h w c node (op.Ask errand) keep st is).0 content holds h.bodies (bodies_same h node content kept) (λ birth. tt)
 
+-- ## Waiting
+
+-- a call that waits does not fail with EAGAIN
+waited_apart : (settings : Settings) (s : State) (carried : Carried) → (let x : Stepped = waited settings s carried in x.answer) ≡ answer.Reply (reply.Fail EAGAIN) → ⊥
+waited_apart settings s carried same = by_test (nat_lt (carried + 1) settings.patience) same
+  where
+    by_test : (b : Bool) → (let x : Stepped = if b then record { after = s; answer = answer.Again; carried = carried + 1 } else record { after = s; answer = answer.Reply (reply.Fail EINTR); carried = nothing_carried } in x.answer) ≡ answer.Reply (reply.Fail EAGAIN) → ⊥
+    by_test true same = cc
+    by_test false same = cc
+
+-- so the answer to EAGAIN tells which of both it is
+told_waits : (settings : Settings) (s after : State) (carried : Carried) (a b : Bool) → (let x : Stepped = if a && true then waited settings s carried else failed after EAGAIN in x.answer) ≡ (ended settings s carried (if b && true then acts.Waits else acts.Replies (reply.Fail EAGAIN))).0 → b ≡ a
+told_waits settings s after carried true true same = refl
+told_waits settings s after carried true false same = absurd (waited_apart settings s carried same)
+told_waits settings s after carried false true same = absurd (waited_apart settings s carried (sym same))
+told_waits settings s after carried false false same = refl
+
+-- by what the call does
+effect_waits : (settings : Settings) (s : State) (c : Call) (carried : Carried) (r : Request) (b : Bool) (e : Result Effect Errno) → posix.request_of c e ≡ Some r
+    → (let x : Stepped = concluded settings s (Some (outcome.Fail EAGAIN)) carried e in x.answer) ≡ (ended settings s carried (if b && true then acts.Waits else acts.Replies (reply.Fail EAGAIN))).0 → b ≡ waits_by e
+effect_waits settings s c carried r b (Ok (Asks a)) asked same = told_waits settings s a.otherwise carried a.waits b same
+effect_waits settings s c carried r b (Ok Blocks) asked same = absurd (none-some r asked)
+effect_waits settings s c carried r b (Ok (Completes after reply)) asked same = absurd (none-some r asked)
+effect_waits settings s c carried r b (Err e) asked same = absurd (none-some r asked)
+
+-- an errand waits just where its call does
+waits_known : (h : Stored) (w : World) (c : Call) (node : ℕ) (errand : Errand) (keep : Bool) (turns : Carried) → Stands h w → planned h.table c ≡ plan.Node node (op.Ask errand) keep → errand.waits ≡ waits_outside w.object c turns
+waits_known h w c node errand keep turns st is =
+    let settings : Settings = record { patience = 1; door_cost = 1 } in
+    let now = asked_does h w c node errand keep (Some (outcome.Fail EAGAIN)) settings turns st is in
+    effect_waits settings w.object c turns (record { kind = errand.kind; asked = errand.asked; call = c }) errand.waits (effect_of w.object c turns) (plan_asks h c node (op.Ask errand) keep w turns is st) now.answer_is
+
 -- ## Going outside
 
 -- an errand that does not keep the table is of an object that is there
@@ -147,6 +183,8 @@ pub goes_out : (h new : Stored) (c : Call) (node : ℕ) (errand : Errand) (keep 
 goes_out h new c node errand keep patience turns is leaves settings w same st =
     record {
       request = plan_asks h c node (op.Ask errand) keep w turns is st;
+      door = door_known h w c node errand keep turns st is;
+      waits = waits_known h w c node errand keep turns st is;
       change = change;
       ends = ends;
       kept = λ keeps. subst (λ (b : Bool). LeavesTable b h c new) (by_call ∙ keeps) leaves;

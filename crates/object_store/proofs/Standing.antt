@@ -33,7 +33,7 @@ use Rattle.object_store.specs.Store.{Stands, Stored, first_stored, number_locked
 
 -- ## The number of an object
 
-used_number : (h : Stored) (w : World) (node : ℕ) → Stands h w → is_used h.table node ≡ true → number_of w (birth_at h.table node) ≡ node
+pub used_number : (h : Stored) (w : World) (node : ℕ) → Stands h w → is_used h.table node ≡ true → number_of w (birth_at h.table node) ≡ node
 used_number h w node stands used =
     let birth = birth_at h.table node in
     let slot = birth_is h.table node used in

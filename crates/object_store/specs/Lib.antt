@@ -3,3 +3,4 @@ pub mod Store
 pub mod StoreCode
 pub mod Acting
 pub mod Patience
+pub mod Errands

@@ -2,7 +2,7 @@
 use Rattle.std.specs.Prelude.{◌≡◌, ℕ, Bool, true, false, List, nat_le, replicate, slice_index_or, Option, Some, None}
 use Rattle.std.specs.FinMap as map
 use Rattle.posix_terms.specs.Object.{Content}
-use Rattle.posix_terms.specs.Locked.{keeps_table}
+use Rattle.posix_terms.specs.Locked.{keeps_table, locked_object}
 use Rattle.posix_terms.specs.Outcomes.{fits}
 use Rattle.posix_terms.specs.Step.{Carried, asks, step}
 use Rattle.posix_terms.specs.declared.call.Call.{Call}
@@ -28,10 +28,11 @@ use Rattle.descriptor_table.specs.declared.plan.Op.{Op}
 use Rattle.descriptor_table.specs.declared.plan.Op.TheVariants as op
 use Rattle.descriptor_table.specs.declared.plan.Plan.TheVariants as plan
 use Rattle.lock_model.specs.Numbers.{world_with}
-use Rattle.lock_model.specs.RealCalls.{answer_in}
+use Rattle.lock_model.specs.RealCalls.{answer_in, numbered}
 use Rattle.lock_model.specs.Terms.{World}
 use Rattle.descriptor_table.specs.Acts as acts
 use Rattle.object_store.specs.Bodies.{Kept, first_kept, kept_as}
+use Rattle.object_store.specs.Errands.{door_taken, waits_outside}
 use Rattle.object_store.specs.Patience.{ended, shown_ending}
 use Rattle.object_store.specs.declared.patience.Ending.{Ending}
 use Rattle.object_store.specs.declared.patience.TurnEnd.{TurnEnd}
@@ -64,10 +65,18 @@ pub record Stands (h : Stored) (w : World) : Type 0 where
 abbrev pub number_locked : Stored → Call → Option ℕ
 number_locked h c = object_of (planned h.table c)
 
--- a turn that goes outside with this errand, in this world: it asks what the call asks. Unless it keeps the table, its change is made, whatever will
--- come of it, and it will end as the errand has it
+-- in whatever world they stand for it is the number of the object whose lock the call takes
+abbrev pub LocksAsStep : Type 0
+LocksAsStep =
+    (h : Stored) (w : World) (c : Call) (carried : Carried) → Stands h w
+    → number_locked h c ≡ numbered w (locked_object w.object c carried)
+
+-- a turn that goes outside with this errand, in this world: it asks what the call asks, at the door that the call takes along, and EAGAIN makes it
+-- wait just where it makes the call wait. Unless it keeps the table, its change is made, whatever will come of it, and it will end as the errand has it
 pub record GoesOut (settings : Settings) (w : World) (turns : ℕ) (old : Stored) (c : Call) (errand : Errand) (new : Stored) : Type 0 where
   pub request : asks w.object c turns ≡ request_of c (op.Ask errand)
+  pub door : errand.door ≡ numbered w (door_taken w.object c turns)
+  pub waits : errand.waits ≡ waits_outside w.object c turns
   pub change : keeps_table c ≡ false → Stands new (world_with w (step settings w.object c None turns).after)
   pub ends : keeps_table c ≡ false → (o : Outcome) → let stepped = step settings w.object c (Some o) turns in (stepped.answer, stepped.carried) ≡ acts.ended settings w.object turns (acts.outside_ending errand numbers.None (Some o))
   pub kept : keeps_table c ≡ true → new ≡ old

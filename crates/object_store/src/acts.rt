@@ -136,12 +136,13 @@ impl Store {
     // A write, which of no bytes does nothing.
     pub(crate) fn write_call(&mut self, call: &Call, node: usize, to: Opened) -> Ending
         requires inside { node < limit.OBJECTS }
-        requires bodies { length self.old.bodies ≡ limit.OBJECTS }
         requires known { ContainsKey self.old.table.descriptions to.key }
         requires planned { IsPlanned self.old call.now node (op.Write to) }
         ensures ends { EndsTurn self.old call.now result self.new }
         ensures births { (self.new.table.descriptions.made ≡ self.old.table.descriptions.made) × (self.new.table.made_objects ≡ self.old.table.made_objects) }
     {
+        // What holds of every store holds of this one: each number has its body.
+        let _ = &self.bodies;
         match call {
             Call::Write { bytes, .. } => self.write(node, to, bytes.as_slice()),
             _ => unreachable!(),
@@ -150,11 +151,12 @@ impl Store {
 
     pub(crate) fn pwrite_call(&mut self, call: &Call, node: usize, position: u64) -> Reply
         requires inside { node < limit.OBJECTS }
-        requires bodies { length self.old.bodies ≡ limit.OBJECTS }
         requires planned { IsPlanned self.old call.now node (op.Pwrite position) }
         ensures reply { Replies self.old call.now result self.new }
         ensures births { (self.new.table.descriptions.made ≡ self.old.table.descriptions.made) × (self.new.table.made_objects ≡ self.old.table.made_objects) }
     {
+        // What holds of every store holds of this one: each number has its body.
+        let _ = &self.bodies;
         match call {
             Call::Pwrite { bytes, .. } => {
                 let bytes = bytes.as_slice();
@@ -185,7 +187,6 @@ impl Store {
         requires descriptions { self.old.table.descriptions.made < 2 ^ 127 }
         requires objects { self.old.table.made_objects < 2 ^ 127 }
         requires inside { node < limit.OBJECTS }
-        requires bodies { length self.old.bodies ≡ limit.OBJECTS }
         requires planned { IsPlanned self.old call.now node (op.Open cut) }
         ensures reply { Replies self.old call.now result self.new }
         ensures births { (self.new.table.descriptions.made ≤ self.old.table.descriptions.made + 2) × (self.new.table.made_objects ≤ self.old.table.made_objects + 1) }

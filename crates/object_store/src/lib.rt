@@ -4,9 +4,11 @@
 mod acts;
 mod body;
 mod doors;
+mod laws;
 mod patience;
 mod store;
 mod streams;
 
+pub use laws::locks_and_doors;
 pub use patience::{TurnEnd, TurnStart, end_outside};
 pub use store::Store;

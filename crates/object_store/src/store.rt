@@ -20,6 +20,8 @@ pub struct Store {
     /// What descriptors, descriptions and names there are.
     pub table: Table,
     pub(crate) bodies: Vec<Body>,
+
+    // each object number has its body
     ghost count: { length bodies.items ≡ limit.OBJECTS },
 }
 
@@ -63,9 +65,9 @@ impl Store {
 
     /// Makes one turn of a call that was blocked for so many turns before. A call that cannot go on is blocked
     /// until it was for as many turns as its patience, and then fails with EINTR; where its description has
-    /// O_NONBLOCK it fails at once with EAGAIN. A call that goes outside gets its errand; unless it keeps the
-    /// table, its change is made, and `end_outside` ends its turn, and else `open_door`. `Err` is want of memory
-    /// for a read's bytes, and then nothing changes.
+    /// O_NONBLOCK it fails at once with EAGAIN. A call that goes outside gets its errand, with the number of the
+    /// object whose door it takes along; unless it keeps the table, its change is made, and `end_outside` ends its
+    /// turn, and else `open_door`. `Err` is want of memory for a read's bytes, and then nothing changes.
     pub fn make(
         &mut self,
         alloc: Global,
@@ -143,13 +145,14 @@ impl Store {
         requires objects { self.old.table.made_objects < 2 ^ 127 }
         requires planned { IsPlanned self.old call.now node op }
         requires inside { node < limit.OBJECTS }
-        requires bodies { length self.old.bodies ≡ limit.OBJECTS }
         requires known { MovesKnown self.old.table op }
         requires here { acts_inside op ≡ true }
         ensures ends { IfOk result (λ e. EndsTurn self.old call.now e self.new) }
         ensures err { OnErr result (self.new ≡ self.old) }
         ensures births { (self.new.table.descriptions.made ≤ self.old.table.descriptions.made + 2) × (self.new.table.made_objects ≤ self.old.table.made_objects + 1) }
     {
+        // What holds of every store holds of this one: each number has its body.
+        let _ = &self.bodies;
         match op {
             Op::Read { from, count } => self.read(alloc, node, from, count),
             Op::Write { to } => Ok(self.write_call(call, node, to)),

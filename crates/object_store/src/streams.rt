@@ -32,7 +32,6 @@ impl Store {
         count: usize,
     ) -> Result<Ending, AllocError>
         requires inside { node < limit.OBJECTS }
-        requires bodies { length self.old.bodies ≡ limit.OBJECTS }
         requires known { ContainsKey self.old.table.descriptions from.key }
         ensures read { IfOk result (λ e. HasRead from.«end» self.old node from count e self.new) }
         ensures err { OnErr result (self.new ≡ self.old) }
@@ -54,7 +53,6 @@ impl Store {
         count: usize,
     ) -> Result<Ending, AllocError>
         requires inside { node < limit.OBJECTS }
-        requires bodies { length self.old.bodies ≡ limit.OBJECTS }
         ensures acts { IfOk result (λ e. ActsOn (read_acted self.old.table node from count (Pipe (kept_at self.old node).pipe) (offset_of_key self.old from.key)) self.old node e self.new) }
         ensures err { OnErr result (self.new ≡ self.old) }
     {
@@ -73,7 +71,6 @@ impl Store {
         count: usize,
     ) -> Result<Ending, AllocError>
         requires inside { node < limit.OBJECTS }
-        requires bodies { length self.old.bodies ≡ limit.OBJECTS }
         ensures acts { IfOk result (λ e. ActsOn (has_read from (λ left. Pair (with_waiting (kept_at self.old node).pair side left)) (Pair (kept_at self.old node).pair) (offset_of_key self.old from.key) (pair_read (kept_at self.old node).pair side count (is_open self.old.table node (part.Socket (peer_of side))))) self.old node e self.new) }
         ensures err { OnErr result (self.new ≡ self.old) }
     {
@@ -86,7 +83,6 @@ impl Store {
     // POSIX.1-2017, `write`; to a file, of no bytes it does nothing.
     pub(crate) fn write(&mut self, node: usize, to: Opened, bytes: &[u8]) -> Ending
         requires inside { node < limit.OBJECTS }
-        requires bodies { length self.old.bodies ≡ limit.OBJECTS }
         requires known { ContainsKey self.old.table.descriptions to.key }
         ensures written { HasWritten to.«end» self.old node to bytes.now result self.new }
     {
@@ -102,7 +98,6 @@ impl Store {
 
     fn write_pipe(&mut self, node: usize, to: Opened, bytes: &[u8]) -> Ending
         requires inside { node < limit.OBJECTS }
-        requires bodies { length self.old.bodies ≡ limit.OBJECTS }
         ensures { ActsOn (write_acted self.old.table node to bytes.now (Pipe (kept_at self.old node).pipe) (offset_of_key self.old to.key)) self.old node result self.new }
     {
         let readers = self.is_open(node, End::Read);
@@ -112,7 +107,6 @@ impl Store {
 
     fn write_pair(&mut self, node: usize, to: Opened, side: Side, bytes: &[u8]) -> Ending
         requires inside { node < limit.OBJECTS }
-        requires bodies { length self.old.bodies ≡ limit.OBJECTS }
         ensures { ActsOn (has_written to (λ left. Pair (with_waiting (kept_at self.old node).pair (peer_of side) left)) (Pair (kept_at self.old node).pair) (offset_of_key self.old to.key) (length bytes.now) (pair_write (kept_at self.old node).pair side bytes.now (is_open self.old.table node (part.Socket (peer_of side))))) self.old node result self.new }
     {
         let peer_open = self.is_open(node, End::Socket(side.peer()));
@@ -122,7 +116,6 @@ impl Store {
 
     fn take_pair(&mut self, node: usize, side: Side, into: &mut [u8], peer_open: bool) -> PipeAnswer
         requires inside { node < limit.OBJECTS }
-        requires bodies { length self.old.bodies ≡ limit.OBJECTS }
         ensures answer { result ≡ read_answer (pair_read (kept_at self.old node).pair side (length into.old) peer_open) }
         ensures left { self.new ≡ holding self.old node (Pair (left_by_read (kept_at self.old node).pair side (pair_read (kept_at self.old node).pair side (length into.old) peer_open))) }
         ensures bytes { into.new ≡ read_into (half_at (kept_at self.old node).pair side) into.old }
@@ -132,7 +125,6 @@ impl Store {
 
     fn put_pair(&mut self, node: usize, side: Side, bytes: &[u8], peer_open: bool) -> PipeAnswer
         requires inside { node < limit.OBJECTS }
-        requires bodies { length self.old.bodies ≡ limit.OBJECTS }
         ensures answer { result ≡ write_answer (length bytes.now) (pair_write (kept_at self.old node).pair side bytes.now peer_open) }
         ensures left { self.new ≡ holding self.old node (Pair (left_by_write (kept_at self.old node).pair side (pair_write (kept_at self.old node).pair side bytes.now peer_open))) }
     {
@@ -156,7 +148,6 @@ impl Store {
         requires descriptions { self.old.table.descriptions.made < 2 ^ 127 }
         requires objects { self.old.table.made_objects < 2 ^ 127 }
         requires inside { node < limit.OBJECTS }
-        requires bodies { length self.old.bodies ≡ limit.OBJECTS }
         requires planned { IsPlanned self.old call.now node op.Pipe }
         ensures reply { Replies self.old call.now result self.new }
         ensures births { (self.new.table.descriptions.made ≤ self.old.table.descriptions.made + 2) × (self.new.table.made_objects ≤ self.old.table.made_objects + 1) }
@@ -170,7 +161,6 @@ impl Store {
     // Leaves nothing in a pipe.
     fn clear_pipe(&mut self, node: usize)
         requires inside { node < limit.OBJECTS }
-        requires bodies { length self.old.bodies ≡ limit.OBJECTS }
         ensures { self.new ≡ holding self.old node (Pipe []) }
     {
         self.bodies[node].pipe.clear();
@@ -181,7 +171,6 @@ impl Store {
         requires descriptions { self.old.table.descriptions.made < 2 ^ 127 }
         requires objects { self.old.table.made_objects < 2 ^ 127 }
         requires inside { node < limit.OBJECTS }
-        requires bodies { length self.old.bodies ≡ limit.OBJECTS }
         requires planned { IsPlanned self.old call.now node op.Socketpair }
         ensures reply { Replies self.old call.now result self.new }
         ensures births { (self.new.table.descriptions.made ≤ self.old.table.descriptions.made + 2) × (self.new.table.made_objects ≤ self.old.table.made_objects + 1) }
@@ -195,7 +184,6 @@ impl Store {
     // Leaves a pair as a new one.
     fn clear_pair(&mut self, node: usize)
         requires inside { node < limit.OBJECTS }
-        requires bodies { length self.old.bodies ≡ limit.OBJECTS }
         ensures { self.new ≡ holding self.old node (Pair new_pair) }
     {
         self.bodies[node].pair.clear();
@@ -204,7 +192,6 @@ impl Store {
     // POSIX.1-2017, `shutdown`.
     pub(crate) fn shutdown(&mut self, node: usize, side: Side, how: ShutdownHow) -> Reply
         requires inside { node < limit.OBJECTS }
-        requires bodies { length self.old.bodies ≡ limit.OBJECTS }
         ensures reply { result ≡ Done }
         ensures shut { self.new ≡ holding self.old node (Pair (shut (kept_at self.old node).pair side how)) }
     {

@@ -1,9 +1,9 @@
-use Rattle.std.proofs.Common.{◌<◌, ℕ, length, sym, subst, rules}
+use Rattle.std.proofs.Common.{◌<◌, length, rules}
 use Rattle.object_store.specs.Store.{IsPlanned}
 use Rattle.descriptor_table.specs.Plans.{MovesKnown}
 use Rattle.descriptor_table.specs.declared.plan.Op.TheVariants as op
 use Rattle.object_store.proofs.Doing.{replies_end}
-use Rattle.object_store.proofs.Making.{fstat_makes, ftruncate_makes, pread_ends, read_ends, shutdown_makes}
+use Rattle.object_store.proofs.Making.{fstat_makes, ftruncate_makes, has_body, pread_ends, read_ends, shutdown_makes}
 use Rattle.object_store.proofs.store.Store.act.Goals as goal
 
 pub ftruncate-requires-clause-fits : goal.ftruncate-requires-clause-fits
@@ -15,7 +15,7 @@ pub returns-in-Read-clause-ends : goal.returns-in-Read-clause-ends
 returns-in-Read-clause-ends c =
     let h = c.args.self.now in
     let planned : IsPlanned h c.args.call.now c.args.node (op.Read c.in-Read.from c.in-Read.count) = search rules in
-    let inside : c.args.node < length h.bodies = subst (λ (n : ℕ). c.args.node < n) (sym c.requires.bodies) c.requires.inside in
+    let inside : c.args.node < length h.bodies = has_body h c.args.node (search rules) c.requires.inside in
     read_ends c.read.result h c.read.new.self c.args.call.now c.args.node c.in-Read.count c.in-Read.from planned inside c.read.ensures.read
 
 pub returns-in_ok-pread-in-Pread-clause-ends : goal.returns-in_ok-pread-in-Pread-clause-ends
@@ -28,7 +28,7 @@ pub returns-in-Ftruncate-clause-ends : goal.returns-in-Ftruncate-clause-ends
 returns-in-Ftruncate-clause-ends c =
     let h = c.args.self.now in
     let planned : IsPlanned h c.args.call.now c.args.node (op.Ftruncate c.in-Ftruncate.size) = search rules in
-    let inside : c.args.node < length h.bodies = subst (λ (n : ℕ). c.args.node < n) (sym c.requires.bodies) c.requires.inside in
+    let inside : c.args.node < length h.bodies = has_body h c.args.node (search rules) c.requires.inside in
     replies_end h c.args.call.now c.ftruncate.result c.ftruncate.new.self
     (ftruncate_makes h c.ftruncate.new.self c.args.call.now c.args.node c.in-Ftruncate.size c.ftruncate.result planned inside c.ftruncate.ensures.reply c.ftruncate.ensures.rewritten)
 
@@ -42,6 +42,6 @@ pub returns-in-Shutdown-clause-ends : goal.returns-in-Shutdown-clause-ends
 returns-in-Shutdown-clause-ends c =
     let h = c.args.self.now in
     let planned : IsPlanned h c.args.call.now c.args.node (op.Shutdown c.in-Shutdown.side c.in-Shutdown.how) = search rules in
-    let inside : c.args.node < length h.bodies = subst (λ (n : ℕ). c.args.node < n) (sym c.requires.bodies) c.requires.inside in
+    let inside : c.args.node < length h.bodies = has_body h c.args.node (search rules) c.requires.inside in
     replies_end h c.args.call.now c.shutdown.result c.shutdown.new.self
     (shutdown_makes h c.shutdown.new.self c.args.call.now c.args.node c.in-Shutdown.side c.in-Shutdown.how c.shutdown.result planned inside c.shutdown.ensures.reply c.shutdown.ensures.shut)

@@ -1,4 +1,4 @@
-use Rattle.std.proofs.Common.{◌≡◌, None, ◌<◌, ℕ, length, sym, ◌∙◌, subst, rules, []}
+use Rattle.std.proofs.Common.{◌≡◌, None, ◌<◌, length, sym, ◌∙◌, subst, rules, []}
 use Rattle.posix_terms.specs.Object.{Pipe}
 use Rattle.posix_terms.specs.declared.reply.Reply.{Reply}
 use Rattle.std.specs.Prelude.{slice_set}
@@ -6,7 +6,7 @@ use Rattle.descriptor_table.specs.Agreement.{TellsAsStep}
 use Rattle.object_store.specs.Acting.{holding}
 use Rattle.object_store.specs.Bodies.{keeping}
 use Rattle.object_store.specs.Store.{Replies, Stored, TableMade, kept_at}
-use Rattle.object_store.proofs.Making.{held_changed, pipe_makes}
+use Rattle.object_store.proofs.Making.{has_body, held_changed, pipe_makes}
 use Rattle.object_store.proofs.store.Store.open_pipe.Goals as goal
 
 pub returns-clause-reply : goal.returns-clause-reply
@@ -14,7 +14,7 @@ returns-clause-reply c =
     let h = c.args.self.now in
     let call = c.args.call.now in
     let new = c.change-given.new.self in
-    let inside : c.args.node < length h.bodies = subst (λ (n : ℕ). c.args.node < n) (sym c.requires.bodies) c.requires.inside in
+    let inside : c.args.node < length h.bodies = has_body h c.args.node (search rules) c.requires.inside in
     let made : TableMade h call None new.table = search rules in
     let bodies : new.bodies ≡ h.bodies = search rules in
     let tells : TellsAsStep h.table call None c.change-given.result = search rules in

@@ -1,6 +1,6 @@
-use Rattle.std.proofs.Common.{◌<◌, ℕ, length, sym, subst, rules}
+use Rattle.std.proofs.Common.{◌<◌, length, rules}
 use Rattle.object_store.specs.Acting.{HasWritten}
-use Rattle.object_store.proofs.Making.{only_write, write_ends}
+use Rattle.object_store.proofs.Making.{has_body, only_write, write_ends}
 use Rattle.object_store.proofs.store.Store.write_call.Goals as goal
 
 pub unreachable-requires : goal.unreachable-requires
@@ -9,6 +9,6 @@ unreachable-requires c = only_write c.args.self.now c.args.call.now c.args.node 
 pub returns-clause-ends : goal.returns-clause-ends
 returns-clause-ends c =
     let h = c.args.self.now in
-    let inside : c.args.node < length h.bodies = subst (λ (n : ℕ). c.args.node < n) (sym c.requires.bodies) c.requires.inside in
+    let inside : c.args.node < length h.bodies = has_body h c.args.node (search rules) c.requires.inside in
     let written : HasWritten c.args.to.«end» h c.args.node c.args.to c.in-Write.bytes c.write.result c.write.new.self = search rules in
     write_ends h c.write.new.self c.args.call.now c.in-Write.descriptor c.in-Write.bytes c.args.node c.args.to c.write.result c.requires.planned c.in-Write.is inside written

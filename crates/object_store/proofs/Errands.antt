@@ -1,0 +1,202 @@
+-- Which door an errand takes along.
+use Rattle.std.proofs.Common.{◌≡◌, ℕ, ◌==◌, ◌&&◌, [], length, Option, Some, None, Result, Ok, Err, Bool, true, false, not, if◌then◌else◌, refl, sym, ap, ◌∙◌, subst, IfOk}
+use Rattle.std.proofs.lemmas.Bool.{eqb-true, true≢false}
+use Rattle.std.specs.Prelude.{ℤ, nat_lt}
+use Rattle.posix_terms.specs.Calls.{can_read, can_write}
+use Rattle.posix_terms.specs.Descriptors as posix
+use Rattle.posix_terms.specs.Doors.{host_path, port_of}
+use Rattle.posix_terms.specs.Ends.{is_end}
+use Rattle.posix_terms.specs.Locked.{locked_object, locks_door}
+use Rattle.posix_terms.specs.Refusals.{◌>>=◌, count_of, refuse_if, some_or}
+use Rattle.posix_terms.specs.Step.{Carried}
+use Rattle.posix_terms.specs.declared.call.Call.{Call}
+use Rattle.posix_terms.specs.declared.call.Call.TheVariants as call
+use Rattle.posix_terms.specs.declared.call.ShutdownHow.{ShutdownHow}
+use Rattle.posix_terms.specs.declared.errno.Errno.{Errno}
+use Rattle.posix_terms.specs.declared.errno.Errno.TheVariants.{EBADF, EINVAL, EMFILE, ENFILE}
+use Rattle.posix_terms.specs.declared.limits.TheConstants.Limits as limit
+use Rattle.posix_terms.specs.declared.object.Door.TheVariants as door
+use Rattle.posix_terms.specs.declared.object.End.{End}
+use Rattle.posix_terms.specs.declared.object.End.TheVariants as part
+use Rattle.posix_terms.specs.declared.outcome.OutKind.{OutKind}
+use Rattle.posix_terms.specs.declared.outcome.OutKind.TheVariants as out
+use Rattle.posix_terms.specs.declared.reply.Reply.TheVariants as reply
+use Rattle.posix_terms.proofs.Outside as posix_outside
+use Rattle.file_descriptions.specs.declared.description.Description.{Description}
+use Rattle.descriptor_table.specs.Agreement.{object_of}
+use Rattle.descriptor_table.specs.Plans.{act_or_ask, answered, close_plan, errand, host_open_plan, leads_outside, locks, lseek_plan, not_listener, of_listener, opens_plan, plan_of, planned, read_plan, seekable, seen, shut_act, shutdown_plan, tcp_accept_plan, tcp_connect_plan, tcp_listen_plan, write_plan}
+use Rattle.descriptor_table.specs.Table.{TableState, described, free_object, lowest_free}
+use Rattle.descriptor_table.specs.declared.plan.Errand.{Errand}
+use Rattle.descriptor_table.specs.declared.plan.Op.{Op}
+use Rattle.descriptor_table.specs.declared.plan.Op.TheVariants as op
+use Rattle.descriptor_table.specs.declared.plan.Plan.{Plan}
+use Rattle.descriptor_table.specs.declared.plan.Plan.TheVariants as plan
+use Rattle.descriptor_table.proofs.KnownLemmas.{found_used}
+use Rattle.descriptor_table.proofs.ShownLemmas.{FoundBoth, found_both}
+use Rattle.descriptor_table.proofs.ShownLemmas.FoundBoth.{Open, Shut}
+use Rattle.lock_model.specs.RealCalls.{numbered}
+use Rattle.lock_model.specs.Terms.{World}
+use Rattle.object_store.specs.Errands.{LocksNext, TakesLocked, door_taken, object_found}
+use Rattle.object_store.specs.Store.{Stands, Stored}
+use Rattle.object_store.proofs.Shapes.{HasAct, planned_fits}
+use Rattle.object_store.proofs.Shapes.HasAct.{Accepts, ClosesOut, Connects, Listens, OpensOut, ReadsOut, SeeksOut, ShutsOut, WritesOut}
+use Rattle.object_store.proofs.Standing.{number_known, used_number}
+
+-- ## By the table
+
+-- the object of a descriptor, if it is open
+abbrev node_found : Result (ℕ × Description) Errno → Option ℕ
+node_found (Ok found) = Some found.1.node
+node_found (Err e) = None
+
+-- the object whose door a call takes along that locks this one
+abbrev door_planned : TableState → Call → ℕ → Option ℕ
+door_planned t (call.HostOpen path access flags) node = None
+door_planned t (call.TcpListen port) node = None
+door_planned t (call.TcpConnect port) node = None
+door_planned t (call.TcpAccept descriptor) node = node_found (described t descriptor)
+door_planned t c node = Some node
+
+abbrev TakesDoor : TableState → Call → Plan → Type 0
+TakesDoor t c (plan.Node node (op.Ask errand) keep) = errand.door ≡ door_planned t c node
+TakesDoor t c p = Unit {0}
+
+along : {A : Type 0} (P : Plan → Type 0) (r : Result A Errno) (f : A → Result Plan Errno) → ((x : A) → r ≡ Ok x → IfOk (f x) P) → IfOk (r >>= f) P
+along P (Ok x) f each = each x refl
+along P (Err e) f each = tt
+
+by_test : (P : Plan → Type 0) (b : Bool) (p q : Plan) → P p → P q → P (if b then p else q)
+by_test P true p q first second = first
+by_test P false p q first second = second
+
+module _ (t : TableState) where
+  -- what a call does where there is no door, or asks of one
+  either : (c : Call) (d : Description) (act ask : Op) → TakesDoor t c (locks d.node act) → TakesDoor t c (locks d.node ask) → TakesDoor t c (locks d.node (act_or_ask d act ask))
+  either c d act ask inside outside = by_outside (leads_outside d.«end»)
+    where
+      by_outside : (b : Bool) → TakesDoor t c (locks d.node (if b then ask else act))
+      by_outside true = outside
+      by_outside false = inside
+
+  shuts : (descriptor : ℤ) (how : ShutdownHow) (d : Description) (which : End) → IfOk (shut_act d how which) (λ act. TakesDoor t (call.Shutdown descriptor how) (locks d.node act))
+  shuts descriptor how d part.Only = tt
+  shuts descriptor how d part.Read = tt
+  shuts descriptor how d part.Write = tt
+  shuts descriptor how d (part.Socket side) = tt
+  shuts descriptor how d (part.Door door.HostFile) = tt
+  shuts descriptor how d (part.Door (door.Listener port)) = tt
+  shuts descriptor how d (part.Door door.Stream) = refl
+
+  shuts_with : (c : Call) (node : ℕ) (r : Result Op Errno) → IfOk r (λ act. TakesDoor t c (locks node act)) → IfOk (r >>= (λ act. Ok (locks node act))) (TakesDoor t c)
+  shuts_with c node (Ok act) has = has
+  shuts_with c node (Err e) has = tt
+
+  opens : (c : Call) (k : OutKind) (asked : ℕ) (waits : Bool) (listener : Option ℕ) → ((node : ℕ) → listener ≡ door_planned t c node) → IfOk (opens_plan t k asked waits listener) (TakesDoor t c)
+  opens c k asked waits listener has = along (TakesDoor t c) (some_or (lowest_free t 0) EMFILE) _ (λ n x. along (TakesDoor t c) (some_or (free_object t) ENFILE) _ (λ node y. has node))
+
+  takes : (c : Call) (errand : Errand) → HasAct c (op.Ask errand) → IfOk (plan_of t c) (TakesDoor t c)
+  unfolding close_plan read_plan write_plan lseek_plan shutdown_plan host_open_plan tcp_listen_plan tcp_connect_plan tcp_accept_plan
+  takes _ _ (ClosesOut descriptor asked waits taken) =
+      let P = TakesDoor t (call.Close descriptor) in
+      along P (described t descriptor) _ (λ found is.
+      let d = found.1 in
+      let ask = errand d out.Close 0 false in
+      by_test P (d.holders == 1) (locks d.node (act_or_ask d op.Release ask)) (plan.Reply reply.Done) (either (call.Close descriptor) d op.Release ask tt refl) tt)
+  takes _ _ (ReadsOut descriptor count asked waits taken) =
+      let P = TakesDoor t (call.Read descriptor count) in
+      along P (described t descriptor) _ (λ found is. along P (not_listener found.1.«end») _ (λ l u. along P (refuse_if (not (can_read found.1.access)) EBADF) _ (λ a x. along P (count_of count) _ (λ n y.
+      let d = found.1 in
+      let act = op.Read (seen found.0 d) n in
+      let ask = errand d out.Read n (not d.flags.nonblock) in
+      by_test P ((n == 0) && not (is_end d.«end» part.Only)) (plan.Reply (reply.Data [])) (locks d.node (act_or_ask d act ask)) tt (either (call.Read descriptor count) d act ask tt refl)))))
+  takes _ _ (WritesOut descriptor bytes asked waits taken) =
+      let P = TakesDoor t (call.Write descriptor bytes) in
+      along P (described t descriptor) _ (λ found is. along P (not_listener found.1.«end») _ (λ l u. along P (refuse_if (not (can_write found.1.access)) EBADF) _ (λ a x. along P (refuse_if (nat_lt limit.COUNT (length bytes)) EINVAL) _ (λ b y.
+      let d = found.1 in
+      let act = op.Write (seen found.0 d) in
+      let ask = errand d out.Write (length bytes) (not d.flags.nonblock) in
+      by_test P ((length bytes == 0) && not (is_end d.«end» part.Only)) (plan.Reply (reply.Count 0)) (locks d.node (act_or_ask d act ask)) tt (either (call.Write descriptor bytes) d act ask tt refl)))))
+  takes _ _ (SeeksOut descriptor offset whence asked waits taken) =
+      let P = TakesDoor t (call.Lseek descriptor offset whence) in
+      along P (described t descriptor) _ (λ found is. along P (seekable found.1.«end» offset whence) _ (λ u x.
+      either (call.Lseek descriptor offset whence) found.1 (op.Lseek (seen found.0 found.1)) (errand found.1 out.Seek 0 false) tt refl))
+  takes _ _ (ShutsOut descriptor how asked waits taken) =
+      along (TakesDoor t (call.Shutdown descriptor how)) (described t descriptor) _ (λ found is.
+      shuts_with (call.Shutdown descriptor how) found.1.node (shut_act found.1 how found.1.«end») (shuts descriptor how found.1 found.1.«end»))
+  takes _ _ (OpensOut path access flags asked waits taken) =
+      let P = TakesDoor t (call.HostOpen path access flags) in
+      along P (refuse_if (flags.truncate && not (can_write access)) EINVAL) _ (λ a x. along P (host_path path) _ (λ b y. opens (call.HostOpen path access flags) out.Open 0 false None (λ node. refl)))
+  takes _ _ (Listens port asked waits taken) = along (TakesDoor t (call.TcpListen port)) (port_of 0 port) _ (λ n x. opens (call.TcpListen port) out.Listen n false None (λ node. refl))
+  takes _ _ (Connects port asked waits taken) = along (TakesDoor t (call.TcpConnect port)) (port_of 1 port) _ (λ n x. opens (call.TcpConnect port) out.Connect n false None (λ node. refl))
+  takes _ _ (Accepts descriptor asked waits taken) =
+      let P = TakesDoor t (call.TcpAccept descriptor) in
+      along P (described t descriptor) _ (λ found is. along P (of_listener found.1.«end») _ (λ u x.
+      opens (call.TcpAccept descriptor) out.Accept 0 (not found.1.flags.nonblock) (Some found.1.node) (λ node. sym (ap node_found is))))
+
+takes_answered : (t : TableState) (c : Call) (r : Result Plan Errno) → IfOk r (TakesDoor t c) → TakesDoor t c (answered r)
+takes_answered t c (Ok p) has = has
+takes_answered t c (Err e) has = tt
+
+door_is_planned : (t : TableState) (c : Call) (node : ℕ) (errand : Errand) (keep : Bool) → planned t c ≡ plan.Node node (op.Ask errand) keep → errand.door ≡ door_planned t c node
+door_is_planned t c node errand keep is = subst (TakesDoor t c) is (takes_answered t c (plan_of t c) (takes t c errand (planned_fits t c node (op.Ask errand) keep is).0))
+
+-- ## In the world
+
+-- the object of an open descriptor has the number that the table says
+number_found : (h : Stored) (w : World) (descriptor : ℤ) → Stands h w → FoundBoth h.table w.object descriptor → node_found (described h.table descriptor) ≡ numbered w (object_found (posix.described w.object descriptor))
+number_found h w descriptor st (Shut table state) = rw (table, state) refl
+number_found h w descriptor st (Open key d offset at got there table state) =
+    rw (table, state) (sym (ap (λ (n : ℕ). Some n) (used_number h w d.node st (found_used h.table descriptor (key, d) st.sound table))))
+
+by_call : (h : Stored) (w : World) (c : Call) (node : ℕ) (turns : Carried) (errand : Errand) → Stands h w → HasAct c (op.Ask errand) → Some node ≡ numbered w (locked_object w.object c turns) → door_planned h.table c node ≡ numbered w (door_taken w.object c turns)
+by_call h w _ node turns _ st (ClosesOut descriptor asked waits taken) locked = locked
+by_call h w _ node turns _ st (ReadsOut descriptor count asked waits taken) locked = locked
+by_call h w _ node turns _ st (WritesOut descriptor bytes asked waits taken) locked = locked
+by_call h w _ node turns _ st (SeeksOut descriptor offset whence asked waits taken) locked = locked
+by_call h w _ node turns _ st (ShutsOut descriptor how asked waits taken) locked = locked
+by_call h w _ node turns _ st (OpensOut path access flags asked waits taken) locked = refl
+by_call h w _ node turns _ st (Listens port asked waits taken) locked = refl
+by_call h w _ node turns _ st (Connects port asked waits taken) locked = refl
+by_call h w _ node turns _ st (Accepts descriptor asked waits taken) locked = number_found h w descriptor st (found_both h.table w.object descriptor st.sound st.shows)
+
+-- an errand takes along the door that its call does
+pub door_known : (h : Stored) (w : World) (c : Call) (node : ℕ) (errand : Errand) (keep : Bool) (turns : Carried) → Stands h w → planned h.table c ≡ plan.Node node (op.Ask errand) keep → errand.door ≡ numbered w (door_taken w.object c turns)
+door_known h w c node errand keep turns st is =
+    let locked : Some node ≡ numbered w (locked_object w.object c turns) = sym (number_known h w c turns st ∙ ap object_of is) in
+    door_is_planned h.table c node errand keep is ∙ by_call h w c node turns errand st (planned_fits h.table c node (op.Ask errand) keep is).0 locked
+
+-- ## By the definition
+
+pub takes_locked : TakesLocked
+takes_locked s (call.Open path access flags) carried frees = refl
+takes_locked s (call.Close descriptor) carried frees = refl
+takes_locked s (call.Read descriptor count) carried frees = refl
+takes_locked s (call.Write descriptor bytes) carried frees = refl
+takes_locked s (call.Pread descriptor count position) carried frees = refl
+takes_locked s (call.Pwrite descriptor bytes position) carried frees = refl
+takes_locked s (call.Lseek descriptor offset whence) carried frees = refl
+takes_locked s (call.Ftruncate descriptor size) carried frees = refl
+takes_locked s (call.Fstat descriptor) carried frees = refl
+takes_locked s (call.Dup descriptor) carried frees = refl
+takes_locked s (call.DupFrom descriptor least) carried frees = refl
+takes_locked s (call.Dup2 descriptor target) carried frees = refl
+takes_locked s (call.Getfl descriptor) carried frees = refl
+takes_locked s (call.Setfl descriptor append nonblock) carried frees = refl
+takes_locked s (call.Link old_path new_path) carried frees = refl
+takes_locked s (call.Unlink path) carried frees = refl
+takes_locked s (call.Mkdir path) carried frees = refl
+takes_locked s (call.Rmdir path) carried frees = refl
+takes_locked s call.Pipe carried frees = refl
+takes_locked s call.Socketpair carried frees = refl
+takes_locked s (call.Shutdown descriptor how) carried frees = refl
+takes_locked s (call.HostOpen path access flags) carried frees = absurd (true≢false frees)
+takes_locked s (call.TcpListen port) carried frees = absurd (true≢false frees)
+takes_locked s (call.TcpConnect port) carried frees = absurd (true≢false frees)
+takes_locked s (call.TcpAccept descriptor) carried frees = absurd (true≢false frees)
+
+pub locks_next : LocksNext
+locks_next s c carried keeps asked = by_object (locked_object s c carried) (subst (λ (b : Bool). locks_door s b (locked_object s c carried) ≡ true) keeps (posix_outside.locks s c carried asked))
+  where
+    by_object : (o : Option ℕ) → locks_door s true o ≡ true → o ≡ Some s.next_object
+    by_object None is = absurd (true≢false (sym is))
+    by_object (Some object) is = ap (λ (n : ℕ). Some n) (eqb-true object s.next_object is)
