@@ -1,8 +1,19 @@
 use memory_files::FileBody;
 use pipes::{PipeAnswer, PipeBody};
 use posix_terms::{Errno, ShutdownHow, Side};
+use std::alloc::Global;
+use std::process::Abort;
 use std::test::Fail;
 use stream_sockets::PairBody;
+
+// What is done to a file, and what it answers.
+enum FileStep {
+    // A write of these bytes at a position.
+    Write(u64, &'static [u8], Result<usize, Errno>),
+    // The file has these bytes at a position and then ends, or goes on behind nine of them.
+    Has(u64, &'static [u8]),
+    Len(u64),
+}
 
 // Whether a file has these bytes at a position and then ends, or goes on behind nine of them.
 fn has(file: &FileBody, position: u64, wanted: &[u8]) -> bool {
@@ -11,29 +22,44 @@ fn has(file: &FileBody, position: u64, wanted: &[u8]) -> bool {
     &bytes[..count.min(9)] == wanted
 }
 
-// What a write to a file answers.
-fn written(file: &mut FileBody, position: u64, bytes: &[u8]) -> Result<usize, Errno> {
-    file.write_at(position, bytes)
+// Whether a file answers a step so.
+fn file_answers(file: &mut FileBody, step: &FileStep) -> bool {
+    match step {
+        FileStep::Write(position, bytes, wanted) => file.write_at(*position, bytes) == *wanted,
+        FileStep::Has(position, wanted) => has(file, *position, wanted),
+        FileStep::Len(wanted) => file.len() == *wanted,
+    }
 }
+
+// Asserts that a new file is empty and answers these steps so, one after another.
+fn assert_file(rt: &impl Abort, alloc: Global, steps: &[FileStep]) -> Result<(), Fail> {
+    let mut file = FileBody::new(alloc)?;
+    assert!(rt; file.is_empty());
+    for (number, step) in steps.iter().enumerate() {
+        assert!(rt; file_answers(&mut file, step), "at step {number}");
+    }
+    Ok(())
+}
+
+const WRITTEN: &[FileStep] = &[
+    FileStep::Write(2, b"hi", Ok(2)),
+    FileStep::Len(4),
+    FileStep::Has(0, b"\0\0hi"),
+    FileStep::Has(3, b"i"),
+    FileStep::Has(4, b""),
+    FileStep::Write(1, b"abc", Ok(3)),
+    FileStep::Has(0, b"\0abc"),
+];
 
 #[test]
 fn reads_what_was_written(rt: HostRuntime) -> Result<(), Fail> {
-    let mut file = FileBody::new(rt.alloc())?;
-    assert!(rt; file.is_empty());
-    assert_eq!(rt; written(&mut file, 2, b"hi"), Ok(2));
-    assert_eq!(rt; file.len(), 4);
-    assert!(rt; has(&file, 0, b"\0\0hi"));
-    assert!(rt; has(&file, 3, b"i"));
-    assert!(rt; has(&file, 4, b""));
-    assert_eq!(rt; written(&mut file, 1, b"abc"), Ok(3));
-    assert!(rt; has(&file, 0, b"\0abc"));
-    Ok(())
+    assert_file(&rt, rt.alloc(), WRITTEN)
 }
 
 #[test]
 fn lengths_are_set(rt: HostRuntime) -> Result<(), Fail> {
     let mut file = FileBody::new(rt.alloc())?;
-    assert_eq!(rt; written(&mut file, 1, b"abc"), Ok(3));
+    assert!(rt; file.write_at(1, b"abc") == Ok(3));
     file.set_len(2);
     file.set_len(3);
     assert!(rt; has(&file, 0, b"\0a\0"));
@@ -42,173 +68,195 @@ fn lengths_are_set(rt: HostRuntime) -> Result<(), Fail> {
     Ok(())
 }
 
+const AT_THE_LIMIT: &[FileStep] = &[
+    FileStep::Write(65_530, b"0123456789", Ok(6)),
+    FileStep::Len(65_536),
+    FileStep::Has(65_530, b"012345"),
+    FileStep::Write(65_536, b"0", Err(Errno::EFBIG)),
+    FileStep::Write(u64::MAX, b"", Ok(0)),
+    FileStep::Len(65_536),
+];
+
 #[test]
 fn stops_at_the_limit(rt: HostRuntime) -> Result<(), Fail> {
-    let mut file = FileBody::new(rt.alloc())?;
-    assert_eq!(rt; written(&mut file, 65_530, b"0123456789"), Ok(6));
-    assert_eq!(rt; file.len(), 65_536);
-    assert!(rt; has(&file, 65_530, b"012345"));
-    assert_eq!(rt; written(&mut file, 65_536, b"0"), Err(Errno::EFBIG));
-    assert_eq!(rt; written(&mut file, u64::MAX, b""), Ok(0));
-    assert_eq!(rt; file.len(), 65_536);
+    assert_file(&rt, rt.alloc(), AT_THE_LIMIT)
+}
+
+// What is done to a pipe, and what it answers. A read is one of three bytes, which are nines before.
+enum PipeStep {
+    // A write of these bytes; whether a read end is open.
+    Put(&'static [u8], bool, PipeAnswer),
+    // A read, after which the three bytes are these; whether a write end is open.
+    Take(bool, PipeAnswer, &'static [u8]),
+    Clear,
+}
+
+// Whether a pipe answers a step so.
+fn pipe_answers(pipe: &mut PipeBody, step: &PipeStep) -> bool {
+    match step {
+        PipeStep::Put(bytes, readers, wanted) => pipe.put(bytes, *readers) == *wanted,
+        PipeStep::Take(writers, wanted, bytes) => {
+            let mut into = [9; 3];
+            pipe.take(&mut into, *writers) == *wanted && into.as_slice() == *bytes
+        }
+        PipeStep::Clear => {
+            pipe.clear();
+            true
+        }
+    }
+}
+
+// Asserts that a new pipe answers these steps so, one after another.
+fn assert_pipe(rt: &impl Abort, alloc: Global, steps: &[PipeStep]) -> Result<(), Fail> {
+    let mut pipe = PipeBody::new(alloc)?;
+    for (number, step) in steps.iter().enumerate() {
+        assert!(rt; pipe_answers(&mut pipe, step), "at step {number}");
+    }
     Ok(())
-}
-
-// Whether a read of three bytes, which are nines before, is answered so and leaves these bytes.
-fn gives(pipe: &mut PipeBody, writers: bool, answer: PipeAnswer, bytes: &[u8]) -> bool {
-    let mut into = [9; 3];
-    pipe.take(&mut into, writers) == answer && into.as_slice() == bytes
-}
-
-// What a write to a pipe answers.
-fn put(pipe: &mut PipeBody, bytes: &[u8], readers: bool) -> PipeAnswer {
-    pipe.put(bytes, readers)
-}
-
-#[test]
-fn first_in_first_out(rt: HostRuntime) -> Result<(), Fail> {
-    let mut pipe = PipeBody::new(rt.alloc())?;
-    assert_eq!(rt; put(&mut pipe, b"abcd", true), PipeAnswer::Count(4));
-    assert_eq!(rt; put(&mut pipe, b"e", true), PipeAnswer::Count(1));
-    assert_eq!(rt; put(&mut pipe, b"f", false), PipeAnswer::Broken);
-    assert!(rt; gives(&mut pipe, false, PipeAnswer::Data(3), b"abc"));
-    assert!(rt; gives(&mut pipe, true, PipeAnswer::Data(2), b"de\x09"));
-    Ok(())
-}
-
-#[test]
-fn an_empty_pipe_blocks_or_ends(rt: HostRuntime) -> Result<(), Fail> {
-    let mut pipe = PipeBody::new(rt.alloc())?;
-    assert!(rt; gives(&mut pipe, true, PipeAnswer::Block, b"\x09\x09\x09"));
-    assert!(rt; gives(&mut pipe, false, PipeAnswer::End, b"\x09\x09\x09"));
-    assert_eq!(rt; put(&mut pipe, b"g", true), PipeAnswer::Count(1));
-    pipe.clear();
-    assert!(rt; gives(&mut pipe, false, PipeAnswer::End, b"\x09\x09\x09"));
-    Ok(())
-}
-
-#[test]
-fn a_full_pipe_blocks(rt: HostRuntime) -> Result<(), Fail> {
-    let mut pipe = PipeBody::new(rt.alloc())?;
-    assert_eq!(rt;
-        put(&mut pipe, &[7; 32_767], true),
-        PipeAnswer::Count(32_767)
-    );
-    assert_eq!(rt; put(&mut pipe, b"ab", true), PipeAnswer::Block);
-    assert_eq!(rt; put(&mut pipe, b"a", true), PipeAnswer::Count(1));
-    assert_eq!(rt; put(&mut pipe, b"a", true), PipeAnswer::Block);
-    assert_eq!(rt; put(&mut pipe, b"", true), PipeAnswer::Count(0));
-    Ok(())
-}
-
-// The same of one side of a pair: `peer` says whether the other side is open.
-fn brings(pair: &mut PairBody, side: Side, peer: bool, answer: PipeAnswer, bytes: &[u8]) -> bool {
-    let mut into = [9; 3];
-    pair.take(side, &mut into, peer) == answer && into.as_slice() == bytes
-}
-
-// What a write to one side of a pair answers.
-fn send(pair: &mut PairBody, side: Side, bytes: &[u8], peer: bool) -> PipeAnswer {
-    pair.put(side, bytes, peer)
 }
 
 const NINES: &[u8] = b"\x09\x09\x09";
 
+const FILLED_PIPE: &[PipeStep] = &[
+    PipeStep::Put(b"abcd", true, PipeAnswer::Count(4)),
+    PipeStep::Put(b"e", true, PipeAnswer::Count(1)),
+    PipeStep::Put(b"f", false, PipeAnswer::Broken),
+    PipeStep::Take(false, PipeAnswer::Data(3), b"abc"),
+    PipeStep::Take(true, PipeAnswer::Data(2), b"de\x09"),
+];
+
 #[test]
-fn a_half_closed_pair(rt: HostRuntime) -> Result<(), Fail> {
-    let mut pair = PairBody::new(rt.alloc())?;
-    assert!(rt; brings(&mut pair, Side::Side0, true, PipeAnswer::Block, NINES));
-    assert_eq!(rt;
-        send(&mut pair, Side::Side0, b"ab", true),
-        PipeAnswer::Count(2)
-    );
-    pair.shutdown(Side::Side0, ShutdownHow::Write);
-    assert_eq!(rt;
-        send(&mut pair, Side::Side0, b"c", true),
-        PipeAnswer::Broken
-    );
-    assert!(rt; brings(&mut pair, Side::Side1, true, PipeAnswer::Data(2), b"ab\x09"));
-    assert!(rt; brings(&mut pair, Side::Side1, true, PipeAnswer::End, NINES));
+fn first_in_first_out(rt: HostRuntime) -> Result<(), Fail> {
+    assert_pipe(&rt, rt.alloc(), FILLED_PIPE)
+}
+
+const EMPTY_PIPE: &[PipeStep] = &[
+    PipeStep::Take(true, PipeAnswer::Block, NINES),
+    PipeStep::Take(false, PipeAnswer::End, NINES),
+    PipeStep::Put(b"g", true, PipeAnswer::Count(1)),
+    PipeStep::Clear,
+    PipeStep::Take(false, PipeAnswer::End, NINES),
+];
+
+#[test]
+fn an_empty_pipe_blocks_or_ends(rt: HostRuntime) -> Result<(), Fail> {
+    assert_pipe(&rt, rt.alloc(), EMPTY_PIPE)
+}
+
+const FULL_PIPE: &[PipeStep] = &[
+    PipeStep::Put(&[7; 32_767], true, PipeAnswer::Count(32_767)),
+    PipeStep::Put(b"ab", true, PipeAnswer::Block),
+    PipeStep::Put(b"a", true, PipeAnswer::Count(1)),
+    PipeStep::Put(b"a", true, PipeAnswer::Block),
+    PipeStep::Put(b"", true, PipeAnswer::Count(0)),
+];
+
+#[test]
+fn a_full_pipe_blocks(rt: HostRuntime) -> Result<(), Fail> {
+    assert_pipe(&rt, rt.alloc(), FULL_PIPE)
+}
+
+// What is done to one side of a pair, and what it answers. A read is one of three bytes, which are nines before.
+enum PairStep {
+    // A write of these bytes; whether the other side is open.
+    Put(Side, &'static [u8], bool, PipeAnswer),
+    // A read, after which the three bytes are these; whether the other side is open.
+    Take(Side, bool, PipeAnswer, &'static [u8]),
+    Shut(Side, ShutdownHow),
+    Clear,
+}
+
+// Whether a pair answers a step so.
+fn pair_answers(pair: &mut PairBody, step: &PairStep) -> bool {
+    match step {
+        PairStep::Put(side, bytes, peer, wanted) => pair.put(*side, bytes, *peer) == *wanted,
+        PairStep::Take(side, peer, wanted, bytes) => {
+            let mut into = [9; 3];
+            pair.take(*side, &mut into, *peer) == *wanted && into.as_slice() == *bytes
+        }
+        PairStep::Shut(side, how) => {
+            pair.shutdown(*side, *how);
+            true
+        }
+        PairStep::Clear => {
+            pair.clear();
+            true
+        }
+    }
+}
+
+// Asserts that a new pair answers these steps so, one after another.
+fn assert_pair(rt: &impl Abort, alloc: Global, steps: &[PairStep]) -> Result<(), Fail> {
+    let mut pair = PairBody::new(alloc)?;
+    for (number, step) in steps.iter().enumerate() {
+        assert!(rt; pair_answers(&mut pair, step), "at step {number}");
+    }
     Ok(())
 }
+
+const HALF_CLOSED: &[PairStep] = &[
+    PairStep::Take(Side::Side0, true, PipeAnswer::Block, NINES),
+    PairStep::Put(Side::Side0, b"ab", true, PipeAnswer::Count(2)),
+    PairStep::Shut(Side::Side0, ShutdownHow::Write),
+    PairStep::Put(Side::Side0, b"c", true, PipeAnswer::Broken),
+    PairStep::Take(Side::Side1, true, PipeAnswer::Data(2), b"ab\x09"),
+    PairStep::Take(Side::Side1, true, PipeAnswer::End, NINES),
+];
+
+#[test]
+fn a_half_closed_pair(rt: HostRuntime) -> Result<(), Fail> {
+    assert_pair(&rt, rt.alloc(), HALF_CLOSED)
+}
+
+const OTHER_HALF: &[PairStep] = &[
+    PairStep::Shut(Side::Side0, ShutdownHow::Write),
+    PairStep::Put(Side::Side1, b"d", true, PipeAnswer::Count(1)),
+    PairStep::Take(Side::Side0, false, PipeAnswer::Data(1), b"d\x09\x09"),
+    PairStep::Take(Side::Side0, false, PipeAnswer::End, NINES),
+    PairStep::Put(Side::Side1, b"e", false, PipeAnswer::Broken),
+];
 
 #[test]
 fn the_other_half_of_a_pair(rt: HostRuntime) -> Result<(), Fail> {
-    let mut pair = PairBody::new(rt.alloc())?;
-    pair.shutdown(Side::Side0, ShutdownHow::Write);
-    assert_eq!(rt;
-        send(&mut pair, Side::Side1, b"d", true),
-        PipeAnswer::Count(1)
-    );
-    assert!(rt;
-        brings(
-            &mut pair,
-            Side::Side0,
-            false,
-            PipeAnswer::Data(1),
-            b"d\x09\x09"
-        )
-    );
-    assert!(rt; brings(&mut pair, Side::Side0, false, PipeAnswer::End, NINES));
-    assert_eq!(rt;
-        send(&mut pair, Side::Side1, b"e", false),
-        PipeAnswer::Broken
-    );
-    Ok(())
+    assert_pair(&rt, rt.alloc(), OTHER_HALF)
 }
+
+const SHUT_READING: &[PairStep] = &[
+    PairStep::Put(Side::Side1, b"ab", true, PipeAnswer::Count(2)),
+    PairStep::Shut(Side::Side0, ShutdownHow::Read),
+    PairStep::Shut(Side::Side0, ShutdownHow::Read),
+    PairStep::Take(Side::Side0, true, PipeAnswer::End, NINES),
+    PairStep::Put(Side::Side1, b"c", true, PipeAnswer::Broken),
+    PairStep::Put(Side::Side0, b"d", true, PipeAnswer::Count(1)),
+];
 
 #[test]
 fn shut_reading_drops_what_waits(rt: HostRuntime) -> Result<(), Fail> {
-    let mut pair = PairBody::new(rt.alloc())?;
-    assert_eq!(rt;
-        send(&mut pair, Side::Side1, b"ab", true),
-        PipeAnswer::Count(2)
-    );
-    pair.shutdown(Side::Side0, ShutdownHow::Read);
-    pair.shutdown(Side::Side0, ShutdownHow::Read);
-    assert!(rt; brings(&mut pair, Side::Side0, true, PipeAnswer::End, NINES));
-    assert_eq!(rt;
-        send(&mut pair, Side::Side1, b"c", true),
-        PipeAnswer::Broken
-    );
-    assert_eq!(rt;
-        send(&mut pair, Side::Side0, b"d", true),
-        PipeAnswer::Count(1)
-    );
-    Ok(())
+    assert_pair(&rt, rt.alloc(), SHUT_READING)
 }
+
+const CLEARED: &[PairStep] = &[
+    PairStep::Shut(Side::Side0, ShutdownHow::Read),
+    PairStep::Put(Side::Side0, b"d", true, PipeAnswer::Count(1)),
+    PairStep::Clear,
+    PairStep::Take(Side::Side1, true, PipeAnswer::Block, NINES),
+    PairStep::Put(Side::Side1, b"c", true, PipeAnswer::Count(1)),
+    PairStep::Shut(Side::Side1, ShutdownHow::Both),
+    PairStep::Put(Side::Side0, b"d", true, PipeAnswer::Broken),
+];
 
 #[test]
 fn a_cleared_pair_is_as_new(rt: HostRuntime) -> Result<(), Fail> {
-    let mut pair = PairBody::new(rt.alloc())?;
-    pair.shutdown(Side::Side0, ShutdownHow::Read);
-    assert_eq!(rt;
-        send(&mut pair, Side::Side0, b"d", true),
-        PipeAnswer::Count(1)
-    );
-    pair.clear();
-    assert!(rt; brings(&mut pair, Side::Side1, true, PipeAnswer::Block, NINES));
-    assert_eq!(rt;
-        send(&mut pair, Side::Side1, b"c", true),
-        PipeAnswer::Count(1)
-    );
-    pair.shutdown(Side::Side1, ShutdownHow::Both);
-    assert_eq!(rt;
-        send(&mut pair, Side::Side0, b"d", true),
-        PipeAnswer::Broken
-    );
-    Ok(())
+    assert_pair(&rt, rt.alloc(), CLEARED)
 }
+
+const FULL_STREAM: &[PairStep] = &[
+    PairStep::Put(Side::Side0, &[7; 32_768], true, PipeAnswer::Count(32_768)),
+    PairStep::Put(Side::Side0, b"a", true, PipeAnswer::Block),
+    PairStep::Put(Side::Side1, b"a", true, PipeAnswer::Count(1)),
+];
 
 #[test]
 fn a_full_stream_blocks(rt: HostRuntime) -> Result<(), Fail> {
-    let mut pair = PairBody::new(rt.alloc())?;
-    let sent = send(&mut pair, Side::Side0, &[7; 32_768], true);
-    assert_eq!(rt; sent, PipeAnswer::Count(32_768));
-    assert_eq!(rt; send(&mut pair, Side::Side0, b"a", true), PipeAnswer::Block);
-    assert_eq!(rt;
-        send(&mut pair, Side::Side1, b"a", true),
-        PipeAnswer::Count(1)
-    );
-    Ok(())
+    assert_pair(&rt, rt.alloc(), FULL_STREAM)
 }

@@ -7,6 +7,52 @@ const PLAIN: StatusFlags = StatusFlags {
     nonblock: false,
 };
 
+// Whether a description is known and is so.
+fn is_so(
+    all: &Descriptions,
+    key: usize,
+    access: Access,
+    flags: StatusFlags,
+    offset: u64,
+    holders: usize,
+) -> bool {
+    if !all.contains(key) {
+        return false;
+    }
+    let found = all.description(key);
+    found.access == access
+        && found.holders == holders
+        && all.flags(key) == flags
+        && all.offset(key) == offset
+}
+
+// Whether a description is known, before and after it is set to this offset and these flags.
+fn sets(all: &mut Descriptions, key: usize, offset: u64, flags: StatusFlags) -> bool {
+    if !all.contains(key) {
+        return false;
+    }
+    all.set_offset(key, offset);
+    if !all.contains(key) {
+        return false;
+    }
+    all.set_flags(key, flags);
+    all.contains(key)
+}
+
+// Whether a description with one holder is known, and gets another.
+fn holds(all: &mut Descriptions, key: usize) -> bool {
+    if !all.contains(key) || all.description(key).holders != 1 {
+        return false;
+    }
+    all.hold(key);
+    all.contains(key)
+}
+
+// Whether a description is known, and tells this as a holder lets it go.
+fn drops(all: &mut Descriptions, key: usize, wanted: Option<usize>) -> bool {
+    all.contains(key) && all.drop_one(key) == wanted
+}
+
 #[test]
 fn descriptors_share_a_description(rt: HostRuntime) -> Result<(), Fail> {
     let mut all = Descriptions::new(rt.alloc())?;
@@ -17,20 +63,11 @@ fn descriptors_share_a_description(rt: HostRuntime) -> Result<(), Fail> {
     let Some(key) = all.make(7, End::Only, Access::WriteOnly, flags) else {
         return Err("no room")?;
     };
-    assert!(rt; all.contains(key));
-    assert_eq!(rt; all.flags(key), flags);
-    assert_eq!(rt; all.offset(key), 0);
-    assert_eq!(rt; all.description(key).access, Access::WriteOnly);
-    all.set_offset(key, 12);
-    assert!(rt; all.contains(key));
-    all.set_flags(key, PLAIN);
-    assert!(rt; all.contains(key));
-    assert_eq!(rt; all.flags(key), PLAIN);
-    assert_eq!(rt; all.offset(key), 12);
-    assert_eq!(rt; all.description(key).holders, 1);
-    all.hold(key);
-    assert!(rt; all.contains(key));
-    assert_eq!(rt; all.drop_one(key), None);
+    assert!(rt; is_so(&all, key, Access::WriteOnly, flags, 0, 1));
+    assert!(rt; sets(&mut all, key, 12, PLAIN));
+    assert!(rt; is_so(&all, key, Access::WriteOnly, PLAIN, 12, 1));
+    assert!(rt; holds(&mut all, key));
+    assert!(rt; drops(&mut all, key, None));
     assert!(rt; all.contains(key));
     Ok(())
 }
@@ -41,32 +78,38 @@ fn the_last_holder_ends_it(rt: HostRuntime) -> Result<(), Fail> {
     let Some(key) = all.make(7, End::Only, Access::ReadOnly, PLAIN) else {
         return Err("no room")?;
     };
-    assert!(rt; all.contains(key));
-    assert_eq!(rt; all.drop_one(key), Some(7));
+    assert!(rt; drops(&mut all, key, Some(7)));
     assert!(rt; !all.contains(key));
-    assert_eq!(rt; all.ends(7), (0, 0));
+    assert!(rt; all.ends(7) == (0, 0));
     Ok(())
 }
+
+// Whether there is a description more, where there were not too many.
+fn makes(all: &mut Descriptions, node: usize, end: End) -> bool {
+    all.made() < 100 && all.make(node, end, Access::ReadWrite, PLAIN).is_some()
+}
+
+const MADE: &[(usize, End)] = &[
+    (1, End::Read),
+    (1, End::Write),
+    (1, End::Write),
+    (2, End::Socket(Side::Side0)),
+    (2, End::Socket(Side::Side1)),
+    (3, End::Only),
+    (3, End::Only),
+];
+
+// The ends of objects after that.
+const ENDS: &[(usize, (usize, usize))] = &[(0, (0, 0)), (1, (1, 2)), (2, (1, 1)), (3, (2, 0))];
 
 #[test]
 fn ends_are_counted_for_each_object(rt: HostRuntime) -> Result<(), Fail> {
     let mut all = Descriptions::new(rt.alloc())?;
-    for (node, end) in [
-        (1, End::Read),
-        (1, End::Write),
-        (1, End::Write),
-        (2, End::Socket(Side::Side0)),
-        (2, End::Socket(Side::Side1)),
-        (3, End::Only),
-        (3, End::Only),
-    ]
-    .iter()
-    {
-        assert!(rt; all.made() < 32);
-        assert!(rt; all.make(*node, *end, Access::ReadWrite, PLAIN).is_some());
+    for (node, end) in MADE.iter() {
+        assert!(rt; makes(&mut all, *node, *end));
     }
-    for (node, wanted) in [(0, (0, 0)), (1, (1, 2)), (2, (1, 1)), (3, (2, 0))].iter() {
-        assert_eq!(rt; all.ends(*node), *wanted, "at {node}");
+    for (node, wanted) in ENDS.iter() {
+        assert!(rt; all.ends(*node) == *wanted, "at {node}");
     }
     Ok(())
 }
@@ -76,9 +119,11 @@ fn there_are_at_most_as_many_as_descriptors(rt: HostRuntime) -> Result<(), Fail>
     let mut all = Descriptions::new(rt.alloc())?;
     for count in 0..33 {
         assert!(rt; all.made() < 33);
-        let made = all.make(0, End::Only, Access::ReadOnly, PLAIN);
-        assert_eq!(rt; made.is_some(), count < 32, "after {count}");
+        assert!(rt;
+            makes(&mut all, 0, End::Only) == (count < 32),
+            "after {count}"
+        );
     }
-    assert_eq!(rt; all.ends(0), (32, 0));
+    assert!(rt; all.ends(0) == (32, 0));
     Ok(())
 }

@@ -6,11 +6,17 @@ fn opens_only_to_a_later_time(rt: HostRuntime) {
     assert!(rt; lock.is_free());
     assert!(rt; lock.attempt(3, 1));
     assert!(rt; !lock.is_free());
-    assert_eq!(rt; lock.holder, Some(3));
+    assert!(rt; lock.holder == Some(3));
     lock.free(3, 9);
-    for (thread, clock, wanted) in [(0, 8, false), (0, 9, false), (1, 10, true), (0, 11, false)] {
-        assert_eq!(rt; lock.attempt(thread, clock), wanted, "at {clock}");
+    for (thread, clock, wanted) in [
+        (0, 8, false),
+        (0, 9, false),
+        (1, 10, true),
+        (0, 11, false),
+    ].iter()
+    {
+        assert!(rt; lock.attempt(*thread, *clock) == *wanted, "at {clock}");
     }
-    assert_eq!(rt; lock.holder, Some(1));
-    assert_eq!(rt; lock.released, 9);
+    assert!(rt; lock.holder == Some(1));
+    assert!(rt; lock.released == 9);
 }

@@ -1,13 +1,10 @@
+use crate::tables::outcome;
 use descriptor_table::Errand;
 use object_store::{Store, TurnEnd, TurnStart, end_outside};
 use posix_terms::{Access, Bytes, Call, Errno, OpenFlags, OutKind, Outcome, Reply};
-use std::alloc::Global;
+use std::alloc::{AllocError, Global};
+use std::process::Abort;
 use std::test::Fail;
-
-const READ: Call = Call::Read {
-    descriptor: 0,
-    count: 4,
-};
 
 const HOST_FILE: OpenFlags = OpenFlags {
     create: true,
@@ -17,257 +14,328 @@ const HOST_FILE: OpenFlags = OpenFlags {
     nonblock: false,
 };
 
-// How a turn starts of a call that was blocked for so many turns before, where the patience is 3.
-fn start(alloc: Global, store: &mut Store, call: &Call, turns: u32) -> Result<TurnStart, Fail> {
-    let (descriptions, objects) = store.table.made();
-    if descriptions >= 1_000 || objects >= 1_000 {
-        return Err("too many")?;
-    }
-    Ok(store.make(alloc, call, 3, turns)?)
+// A call, in short.
+enum Ask {
+    Pipe,
+    // A read of four bytes at descriptor 0.
+    Read,
+    Write(i64, &'static [u8]),
+    Getfl(i64),
+    Close(i64),
+    // Opens a file of the host for writing.
+    HostOpen,
+    // Listens at any port.
+    Listen,
+    // Accepts at descriptor 0.
+    Accept,
 }
 
-// Such a turn of a call that does not go outside.
-fn make(alloc: Global, store: &mut Store, call: &Call, turns: u32) -> Result<TurnEnd, Fail> {
-    match start(alloc, store, call, turns)? {
-        TurnStart::Ended(end) => Ok(end),
-        TurnStart::GoesOut(_) => Err("went outside")?,
-    }
+fn call_of(alloc: Global, ask: &Ask) -> Result<Call, AllocError> {
+    Ok(match ask {
+        Ask::Pipe => Call::Pipe,
+        Ask::Read => Call::Read {
+            descriptor: 0,
+            count: 4,
+        },
+        Ask::Write(descriptor, bytes) => Call::Write {
+            descriptor: *descriptor,
+            bytes: Bytes::from_slice(alloc, bytes)?,
+        },
+        Ask::Getfl(descriptor) => Call::Getfl {
+            descriptor: *descriptor,
+        },
+        Ask::Close(descriptor) => Call::Close {
+            descriptor: *descriptor,
+        },
+        Ask::HostOpen => Call::HostOpen {
+            path: Bytes::from_slice(alloc, b"out")?,
+            access: Access::WriteOnly,
+            flags: HOST_FILE,
+        },
+        Ask::Listen => Call::TcpListen { port: 0 },
+        Ask::Accept => Call::TcpAccept { descriptor: 0 },
+    })
 }
 
-// What a call asks that goes outside.
-fn ask(alloc: Global, store: &mut Store, call: &Call) -> Result<Errand, Fail> {
-    match start(alloc, store, call, 0)? {
-        TurnStart::Ended(_) => Err("did not go outside")?,
-        TurnStart::GoesOut(errand) => Ok(errand),
-    }
+// How a turn ends.
+enum End {
+    Count(u64),
+    Number(i64),
+    Pair(i64, i64),
+    Data(&'static [u8]),
+    Fail(Errno),
+    // It was not answered, and blocked for so many turns then.
+    Blocked(u32),
 }
 
-fn done(alloc: Global, value: u64) -> Outcome {
-    Outcome::Ok {
-        value,
-        bytes: Bytes::from_vec(Vec::new(alloc)),
-    }
-}
-
-// The end of a call that opens a door, with this outcome.
-fn open(store: &mut Store, call: &Call, outcome: &Outcome) -> Result<TurnEnd, Fail> {
-    let (descriptions, objects) = store.table.made();
-    if descriptions >= 1_000 || objects >= 1_000 {
-        return Err("too many")?;
-    }
-    Ok(store.open_door(call, outcome, 3, 0))
-}
-
-fn replied(end: TurnEnd, wanted: Reply) -> bool {
-    match end {
-        TurnEnd::Reply(reply) => reply == wanted,
-        TurnEnd::Blocked(_) => false,
-    }
-}
-
-// Whether a call that opens a door, with this outcome, is answered so.
-fn opens(store: &mut Store, call: &Call, outcome: &Outcome, wanted: Reply) -> Result<bool, Fail> {
-    Ok(replied(open(store, call, outcome)?, wanted))
-}
-
-// Whether a call opens a door at number 0, where it succeeds outside with this value.
-fn opens_at(alloc: Global, store: &mut Store, call: &Call, value: u64) -> Result<bool, Fail> {
-    let came = done(alloc, value);
-    opens(store, call, &came, Reply::Number(0))
-}
-
-// Whether a call that went outside ends so, where it was blocked for so many turns before.
-fn ends(errand: Errand, outcome: &Outcome, turns: u32, wanted: Reply) -> Result<bool, Fail> {
-    Ok(replied(end_outside(errand, outcome, 3, turns)?, wanted))
-}
-
-// A store with a pipe.
-fn with_a_pipe(alloc: Global) -> Result<Store, Fail> {
-    let mut store = Store::new(alloc)?;
-    match make(alloc, &mut store, &Call::Pipe, 0)? {
-        TurnEnd::Reply(Reply::Pair(0, 1)) => Ok(store),
-        _ => Err("no pipe")?,
-    }
-}
-
-// For how many turns a call was blocked then, if it was not answered.
-fn blocked(end: TurnEnd) -> Option<u32> {
-    match end {
-        TurnEnd::Reply(_) => None,
-        TurnEnd::Blocked(turns) => Some(turns),
-    }
-}
-
-// The number of the object whose lock a call takes.
-fn locked(store: &Store, call: Call) -> Option<usize> {
-    store.number_locked(&call)
-}
-
-#[test]
-fn a_call_locks_its_object(rt: HostRuntime) -> Result<(), Fail> {
-    let store = with_a_pipe(rt.alloc())?;
-    assert_eq!(rt; locked(&store, READ), Some(0));
-    assert_eq!(rt; locked(&store, Call::Pipe), Some(1));
-    assert_eq!(rt; locked(&store, Call::Getfl { descriptor: 0 }), None);
-    Ok(())
-}
-
-// For how many turns a read is blocked that was blocked for so many before, if it is not answered.
-fn read_is_blocked(alloc: Global, store: &mut Store, turns: u32) -> Result<Option<u32>, Fail> {
-    Ok(blocked(make(alloc, store, &READ, turns)?))
-}
-
-#[test]
-fn a_read_of_an_empty_pipe_waits(rt: HostRuntime) -> Result<(), Fail> {
-    let mut store = with_a_pipe(rt.alloc())?;
-    for (turns, wanted) in [(0, Some(1)), (1, Some(2)), (2, None)].iter() {
-        assert_eq!(rt; read_is_blocked(rt.alloc(), &mut store, *turns)?, *wanted);
-    }
-    Ok(())
-}
-
-// Whether a call is answered with these bytes.
-fn brings(end: TurnEnd, wanted: &[u8]) -> bool {
-    match end {
-        TurnEnd::Reply(Reply::Data(bytes)) => bytes.as_slice() == wanted,
+// Whether a turn ended with this reply.
+fn replied(reply: &Reply, wanted: &End) -> bool {
+    match (reply, wanted) {
+        (Reply::Count(count), End::Count(wanted)) => count == wanted,
+        (Reply::Number(number), End::Number(wanted)) => number == wanted,
+        (Reply::Pair(first, second), End::Pair(one, other)) => first == one && second == other,
+        (Reply::Data(bytes), End::Data(wanted)) => bytes.as_slice() == *wanted,
+        (Reply::Fail(error), End::Fail(wanted)) => error == wanted,
         _ => false,
     }
 }
 
-// Whether three bytes are written to descriptor 1.
-fn writes_three(alloc: Global, store: &mut Store, bytes: &[u8]) -> Result<bool, Fail> {
-    let write = Call::Write {
-        descriptor: 1,
-        bytes: Bytes::from_slice(alloc, bytes)?,
-    };
-    Ok(replied(make(alloc, store, &write, 0)?, Reply::Count(3)))
+// Whether a turn ended so.
+fn ended(end: &TurnEnd, wanted: &End) -> bool {
+    match (end, wanted) {
+        (TurnEnd::Reply(reply), _) => replied(reply, wanted),
+        (TurnEnd::Blocked(turns), End::Blocked(wanted)) => turns == wanted,
+        _ => false,
+    }
 }
 
-// Whether a read that was blocked for one turn brings these bytes.
-fn reads(alloc: Global, store: &mut Store, wanted: &[u8]) -> Result<bool, Fail> {
-    Ok(brings(make(alloc, store, &READ, 1)?, wanted))
+// What becomes of a call, where the patience is 3.
+enum Turn {
+    // Its turn, where it was blocked for so many before, ends so.
+    Ends(u32, End),
+    // Its turn asks this outside.
+    Asks(Errand),
+    // It asked this outside, where it was blocked for so many turns before, and ends so by this outcome.
+    Comes(Errand, Result<u64, Errno>, u32, End),
+    // It opens a door, with this outcome outside, and ends so.
+    Opens(Result<u64, Errno>, End),
+    // It takes the lock of the object of this number.
+    Locks(Option<usize>),
 }
 
-#[test]
-fn what_was_written_is_read(rt: HostRuntime) -> Result<(), Fail> {
-    let mut store = with_a_pipe(rt.alloc())?;
-    assert!(rt; writes_three(rt.alloc(), &mut store, b"abc")?);
-    assert!(rt; reads(rt.alloc(), &mut store, b"abc")?);
-    Ok(())
-}
-
-// Opens a file of the host for writing.
-fn host_file(alloc: Global) -> Result<Call, Fail> {
-    Ok(Call::HostOpen {
-        path: Bytes::from_slice(alloc, b"out")?,
-        access: Access::WriteOnly,
-        flags: HOST_FILE,
+// Whether a turn of a call ends so, where it was blocked for so many before, or asks this outside.
+fn makes(
+    alloc: Global,
+    store: &mut Store,
+    call: &Call,
+    turns: u32,
+    end: Option<&End>,
+    errand: Option<Errand>,
+) -> Result<bool, AllocError> {
+    let (descriptions, objects) = store.table.made();
+    if descriptions >= 1_000 || objects >= 1_000 {
+        return Ok(false);
+    }
+    Ok(match store.make(alloc, call, 3, turns)? {
+        TurnStart::Ended(found) => match end {
+            Some(wanted) => ended(&found, wanted),
+            None => false,
+        },
+        TurnStart::GoesOut(found) => errand == Some(found),
     })
 }
 
-// A store with a door.
-fn with_a_door(alloc: Global) -> Result<Store, Fail> {
-    let mut store = Store::new(alloc)?;
-    let call = host_file(alloc)?;
-    let _ = ask(alloc, &mut store, &call)?;
-    if !opens_at(alloc, &mut store, &call, 0)? {
-        return Err("no door".into());
+// Whether a call opens a door with this outcome outside, and ends so.
+fn opens(store: &mut Store, call: &Call, outcome: &Outcome, wanted: &End) -> bool {
+    let (descriptions, objects) = store.table.made();
+    if descriptions >= 1_000 || objects >= 1_000 {
+        return false;
     }
-    Ok(store)
+    ended(&store.open_door(call, outcome, 3, 0), wanted)
 }
+
+// Whether this becomes of a call.
+fn becomes(alloc: Global, store: &mut Store, call: &Call, turn: &Turn) -> Result<bool, AllocError> {
+    Ok(match turn {
+        Turn::Ends(turns, wanted) => makes(alloc, store, call, *turns, Some(wanted), None)?,
+        Turn::Asks(errand) => makes(alloc, store, call, 0, None, Some(*errand))?,
+        Turn::Comes(errand, came, turns, wanted) => {
+            let outcome = outcome(alloc, *came);
+            ended(&end_outside(*errand, &outcome, 3, *turns)?, wanted)
+        }
+        Turn::Opens(came, wanted) => opens(store, call, &outcome(alloc, *came), wanted),
+        Turn::Locks(wanted) => store.number_locked(call) == *wanted,
+    })
+}
+
+// The same of a call in short.
+fn holds(alloc: Global, store: &mut Store, ask: &Ask, turn: &Turn) -> Result<bool, AllocError> {
+    let call = call_of(alloc, ask)?;
+    becomes(alloc, store, &call, turn)
+}
+
+// Asserts that this becomes of these calls, one after another.
+fn assert_turns(
+    rt: &impl Abort,
+    alloc: Global,
+    store: &mut Store,
+    rows: &[(Ask, Turn)],
+) -> Result<(), Fail> {
+    for (number, (ask, turn)) in rows.iter().enumerate() {
+        assert!(rt; holds(alloc, store, ask, turn)?, "at row {number}");
+    }
+    Ok(())
+}
+
+// The same in a new store.
+fn assert_store(rt: &impl Abort, alloc: Global, rows: &[(Ask, Turn)]) -> Result<(), Fail> {
+    let mut store = Store::new(alloc)?;
+    assert_turns(rt, alloc, &mut store, rows)
+}
+
+const LOCKS: &[(Ask, Turn)] = &[
+    (Ask::Pipe, Turn::Ends(0, End::Pair(0, 1))),
+    (Ask::Read, Turn::Locks(Some(0))),
+    (Ask::Pipe, Turn::Locks(Some(1))),
+    (Ask::Getfl(0), Turn::Locks(None)),
+];
+
+#[test]
+fn a_call_locks_its_object(rt: HostRuntime) -> Result<(), Fail> {
+    assert_store(&rt, rt.alloc(), LOCKS)
+}
+
+const EMPTY_PIPE: &[(Ask, Turn)] = &[
+    (Ask::Pipe, Turn::Ends(0, End::Pair(0, 1))),
+    (Ask::Read, Turn::Ends(0, End::Blocked(1))),
+    (Ask::Read, Turn::Ends(1, End::Blocked(2))),
+    (Ask::Read, Turn::Ends(2, End::Fail(Errno::EINTR))),
+];
+
+#[test]
+fn a_read_of_an_empty_pipe_waits(rt: HostRuntime) -> Result<(), Fail> {
+    assert_store(&rt, rt.alloc(), EMPTY_PIPE)
+}
+
+const WRITTEN_PIPE: &[(Ask, Turn)] = &[
+    (Ask::Pipe, Turn::Ends(0, End::Pair(0, 1))),
+    (Ask::Write(1, b"abc"), Turn::Ends(0, End::Count(3))),
+    (Ask::Read, Turn::Ends(1, End::Data(b"abc"))),
+];
+
+#[test]
+fn what_was_written_is_read(rt: HostRuntime) -> Result<(), Fail> {
+    assert_store(&rt, rt.alloc(), WRITTEN_PIPE)
+}
+
+const OPEN: Errand = Errand {
+    kind: OutKind::Open,
+    asked: 0,
+    waits: false,
+    door: None,
+};
+
+const FAILED_DOOR: &[(Ask, Turn)] = &[
+    (Ask::HostOpen, Turn::Asks(OPEN)),
+    (
+        Ask::HostOpen,
+        Turn::Opens(Err(Errno::EACCES), End::Fail(Errno::EACCES)),
+    ),
+    (Ask::HostOpen, Turn::Opens(Ok(0), End::Number(0))),
+];
 
 #[test]
 fn a_door_that_fails_leaves_no_number(rt: HostRuntime) -> Result<(), Fail> {
-    let alloc = rt.alloc();
-    let mut store = Store::new(alloc)?;
-    let call = host_file(alloc)?;
-    let errand = ask(alloc, &mut store, &call)?;
-    assert_eq!(rt; (errand.kind, errand.door), (OutKind::Open, None));
-    let failed = Outcome::Fail(Errno::EACCES);
-    assert!(rt; opens(&mut store, &call, &failed, Reply::Fail(Errno::EACCES))?);
-    assert!(rt; opens(&mut store, &call, &done(alloc, 0), Reply::Number(0))?);
-    Ok(())
+    assert_store(&rt, rt.alloc(), FAILED_DOOR)
 }
 
 // What a write of three bytes to a door asks.
-fn write_errand(alloc: Global) -> Result<Errand, Fail> {
-    let mut store = with_a_door(alloc)?;
-    let write = Call::Write {
-        descriptor: 0,
-        bytes: Bytes::from_slice(alloc, b"abc")?,
-    };
-    ask(alloc, &mut store, &write)
-}
+const WRITE: Errand = Errand {
+    kind: OutKind::Write,
+    asked: 3,
+    waits: true,
+    door: Some(0),
+};
+
+const WRITTEN_DOOR: &[(Ask, Turn)] = &[
+    (Ask::HostOpen, Turn::Asks(OPEN)),
+    (Ask::HostOpen, Turn::Opens(Ok(0), End::Number(0))),
+    (Ask::Write(0, b"abc"), Turn::Asks(WRITE)),
+    (
+        Ask::Write(0, b"abc"),
+        Turn::Comes(WRITE, Ok(2), 0, End::Count(2)),
+    ),
+];
 
 #[test]
 fn a_door_is_written(rt: HostRuntime) -> Result<(), Fail> {
-    let errand = write_errand(rt.alloc())?;
-    assert_eq!(rt;
-        (errand.kind, errand.asked, errand.waits),
-        (OutKind::Write, 3, true)
-    );
-    assert_eq!(rt; errand.door, Some(0));
-    assert!(rt; ends(errand, &done(rt.alloc(), 2), 0, Reply::Count(2))?);
-    Ok(())
+    assert_store(&rt, rt.alloc(), WRITTEN_DOOR)
 }
+
+const WAITING_DOOR: &[(Ask, Turn)] = &[
+    (Ask::HostOpen, Turn::Asks(OPEN)),
+    (Ask::HostOpen, Turn::Opens(Ok(0), End::Number(0))),
+    (Ask::Write(0, b"abc"), Turn::Asks(WRITE)),
+    (
+        Ask::Write(0, b"abc"),
+        Turn::Comes(WRITE, Err(Errno::EAGAIN), 0, End::Blocked(1)),
+    ),
+    (
+        Ask::Write(0, b"abc"),
+        Turn::Comes(WRITE, Err(Errno::EAGAIN), 2, End::Fail(Errno::EINTR)),
+    ),
+];
 
 #[test]
 fn a_door_that_is_not_ready_waits(rt: HostRuntime) -> Result<(), Fail> {
-    let errand = write_errand(rt.alloc())?;
-    let again = Outcome::Fail(Errno::EAGAIN);
-    assert_eq!(rt; blocked(end_outside(errand, &again, 3, 0)?), Some(1));
-    assert!(rt; ends(errand, &again, 2, Reply::Fail(Errno::EINTR))?);
-    Ok(())
+    assert_store(&rt, rt.alloc(), WAITING_DOOR)
 }
+
+const CLOSE: Errand = Errand {
+    kind: OutKind::Close,
+    asked: 0,
+    waits: false,
+    door: Some(0),
+};
+
+const CLOSED_DOOR: &[(Ask, Turn)] = &[
+    (Ask::HostOpen, Turn::Asks(OPEN)),
+    (Ask::HostOpen, Turn::Opens(Ok(0), End::Number(0))),
+    (Ask::Close(0), Turn::Asks(CLOSE)),
+];
+
+const FAILED_CLOSE: &[(Ask, Turn)] = &[(
+    Ask::Close(0),
+    Turn::Comes(CLOSE, Err(Errno::EIO), 0, End::Fail(Errno::EIO)),
+)];
 
 // Its number is free whatever comes of the close.
 #[test]
 fn a_door_is_closed(rt: HostRuntime) -> Result<(), Fail> {
     let alloc = rt.alloc();
-    let mut store = with_a_door(alloc)?;
-    let errand = ask(alloc, &mut store, &Call::Close { descriptor: 0 })?;
-    assert_eq!(rt; store.table.lowest_free(0), Some(0));
-    let failed = Outcome::Fail(Errno::EIO);
-    assert!(rt; ends(errand, &failed, 0, Reply::Fail(Errno::EIO))?);
-    Ok(())
-}
-
-const LISTEN: Call = Call::TcpListen { port: 0 };
-
-const ACCEPT: Call = Call::TcpAccept { descriptor: 0 };
-
-// A store with a listener at port 8,080.
-fn with_a_listener(alloc: Global) -> Result<Store, Fail> {
     let mut store = Store::new(alloc)?;
-    if !opens_at(alloc, &mut store, &LISTEN, 8_080)? {
-        return Err("no listener".into());
-    }
-    Ok(store)
+    assert_turns(&rt, alloc, &mut store, CLOSED_DOOR)?;
+    assert!(rt; store.table.lowest_free(0) == Some(0));
+    assert_turns(&rt, alloc, &mut store, FAILED_CLOSE)
 }
+
+const LISTENER: &[(Ask, Turn)] = &[
+    (
+        Ask::Listen,
+        Turn::Asks(Errand {
+            kind: OutKind::Listen,
+            asked: 0,
+            waits: false,
+            door: None,
+        }),
+    ),
+    (Ask::Listen, Turn::Opens(Ok(8_080), End::Number(0))),
+];
 
 #[test]
 fn a_listener_is_opened_at_its_port(rt: HostRuntime) -> Result<(), Fail> {
-    let mut store = Store::new(rt.alloc())?;
-    let errand = ask(rt.alloc(), &mut store, &LISTEN)?;
-    assert_eq!(rt; (errand.kind, errand.asked), (OutKind::Listen, 0));
-    assert!(rt;
-        opens(
-            &mut store,
-            &LISTEN,
-            &done(rt.alloc(), 8_080),
-            Reply::Number(0)
-        )?
-    );
-    Ok(())
+    assert_store(&rt, rt.alloc(), LISTENER)
 }
+
+const ACCEPTED: &[(Ask, Turn)] = &[
+    (Ask::Listen, Turn::Opens(Ok(8_080), End::Number(0))),
+    (
+        Ask::Accept,
+        Turn::Asks(Errand {
+            kind: OutKind::Accept,
+            asked: 0,
+            waits: true,
+            door: Some(0),
+        }),
+    ),
+    (
+        Ask::Accept,
+        Turn::Opens(Err(Errno::EAGAIN), End::Blocked(1)),
+    ),
+    (Ask::Accept, Turn::Opens(Ok(0), End::Number(1))),
+];
 
 #[test]
 fn a_listener_accepts(rt: HostRuntime) -> Result<(), Fail> {
-    let mut store = with_a_listener(rt.alloc())?;
-    let errand = ask(rt.alloc(), &mut store, &ACCEPT)?;
-    assert_eq!(rt; (errand.waits, errand.door), (true, Some(0)));
-    let again = Outcome::Fail(Errno::EAGAIN);
-    assert_eq!(rt; blocked(open(&mut store, &ACCEPT, &again)?), Some(1));
-    assert!(rt; opens(&mut store, &ACCEPT, &done(rt.alloc(), 0), Reply::Number(1))?);
-    Ok(())
+    assert_store(&rt, rt.alloc(), ACCEPTED)
 }

@@ -7,7 +7,7 @@ use std::alloc::{AllocError, Global};
 use std::test::Fail;
 
 /// One call of the kind that the request has. `Err` where there is no outcome.
-pub fn reach<O: Outside>(
+fn reach<O: Outside>(
     outside: &mut O,
     number: u64,
     request: &Request,
@@ -40,20 +40,48 @@ pub fn plain(kind: OutKind, asked: u64) -> Request {
     }
 }
 
+/// What comes of a request.
+#[derive(Clone, Copy)]
+pub enum Came {
+    /// A success with this value and these bytes.
+    Success(u64, &'static [u8]),
+    Failure(Errno),
+    /// No outcome.
+    Stop(DoorStop),
+}
+
 /// Whether what came is a success with this value and these bytes.
-pub fn succeeded(came: Result<Outcome, DoorStop>, wanted: u64, data: &[u8]) -> bool {
+fn succeeded(came: &Result<Outcome, DoorStop>, wanted: u64, data: &[u8]) -> bool {
     match came {
-        Ok(Outcome::Ok { value, bytes }) => value == wanted && bytes.as_slice() == data,
+        Ok(Outcome::Ok { value, bytes }) => *value == wanted && bytes.as_slice() == data,
         _ => false,
     }
 }
 
-/// Whether what came is this failure.
-pub fn failed(came: Result<Outcome, DoorStop>, wanted: Errno) -> bool {
-    match came {
-        Ok(Outcome::Fail(error)) => error == wanted,
-        _ => false,
+/// Whether what came is this.
+pub fn is_so(came: &Result<Outcome, DoorStop>, wanted: &Came) -> bool {
+    match wanted {
+        Came::Success(value, bytes) => succeeded(came, *value, bytes),
+        Came::Failure(error) => matches!(came, Ok(Outcome::Fail(found)) if found == error),
+        Came::Stop(stop) => matches!(came, Err(found) if found == stop),
     }
+}
+
+/// Whether this comes of a request that says nothing more.
+fn comes<O: Outside>(
+    outside: &mut O,
+    number: u64,
+    kind: OutKind,
+    asked: u64,
+    door: O::Door,
+    wanted: Came,
+) -> bool
+    requires room { O.given outside.old < 1000 }
+    requires few { O.failures outside.old < 1000 }
+    ensures given { O.given outside.new ≤ O.given outside.old + 1 }
+    ensures failed { O.failures outside.new ≤ O.failures outside.old + 1 }
+{
+    is_so(&reach(outside, number, &plain(kind, asked), door), &wanted)
 }
 
 /// An open, a read of two bytes and a write that failed.
@@ -71,27 +99,31 @@ fn given(kind: OutKind, outcome: Outcome) -> Given {
     Given { kind, outcome }
 }
 
+const OPENED: Came = Came::Success(0, b"");
+
+const READ: Came = Came::Success(2, b"hi");
+
+const WRITTEN: Came = Came::Failure(Errno::EIO);
+
+const AT_THE_END: Came = Came::Stop(DoorStop::EndOfLog);
+
 #[test]
 fn a_list_gives_its_outcomes(rt: HostRuntime) -> Result<(), Fail> {
     let mut doors = ScriptDoors::new(three(rt.alloc())?, NoGate);
-    let opened = reach(&mut doors, 0, &plain(OutKind::Open, 0), ScriptDoor);
-    assert!(rt; succeeded(opened, 0, b""));
-    let read = reach(&mut doors, 1, &plain(OutKind::Read, 5), ScriptDoor);
-    assert!(rt; succeeded(read, 2, b"hi"));
-    let written = reach(&mut doors, 2, &plain(OutKind::Write, 5), ScriptDoor);
-    assert!(rt; failed(written, Errno::EIO));
-    let closed = reach(&mut doors, 3, &plain(OutKind::Close, 0), ScriptDoor);
-    assert_eq!(rt; closed.err(), Some(DoorStop::EndOfLog));
+    assert!(rt; comes(&mut doors, 0, OutKind::Open, 0, ScriptDoor, OPENED));
+    assert!(rt; comes(&mut doors, 1, OutKind::Read, 5, ScriptDoor, READ));
+    assert!(rt; comes(&mut doors, 2, OutKind::Write, 5, ScriptDoor, WRITTEN));
+    assert!(rt; comes(&mut doors, 3, OutKind::Close, 0, ScriptDoor, AT_THE_END));
     Ok(())
 }
+
+const DIVERGED: Came = Came::Stop(DoorStop::Diverged);
 
 #[test]
 fn an_outcome_of_another_request_diverges(rt: HostRuntime) -> Result<(), Fail> {
     let mut doors = ScriptDoors::new(three(rt.alloc())?, NoGate);
-    let seek = reach(&mut doors, 1, &plain(OutKind::Seek, 0), ScriptDoor);
-    assert_eq!(rt; seek.err(), Some(DoorStop::Diverged));
-    let read = reach(&mut doors, 1, &plain(OutKind::Read, 1), ScriptDoor);
-    assert_eq!(rt; read.err(), Some(DoorStop::Diverged));
+    assert!(rt; comes(&mut doors, 1, OutKind::Seek, 0, ScriptDoor, DIVERGED));
+    assert!(rt; comes(&mut doors, 1, OutKind::Read, 1, ScriptDoor, DIVERGED));
     Ok(())
 }
 
@@ -107,13 +139,13 @@ impl Gate for Shut {
     }
 }
 
+const LATE: Came = Came::Failure(Errno::ETIMEDOUT);
+
 #[test]
 fn a_shut_gate_times_out(rt: HostRuntime) -> Result<(), Fail> {
     let mut doors = ScriptDoors::new(three(rt.alloc())?, Shut);
-    let opened = reach(&mut doors, 0, &plain(OutKind::Open, 0), ScriptDoor);
-    assert!(rt; failed(opened, Errno::ETIMEDOUT));
-    let past = reach(&mut doors, 9, &plain(OutKind::Close, 0), ScriptDoor);
-    assert!(rt; failed(past, Errno::ETIMEDOUT));
+    assert!(rt; comes(&mut doors, 0, OutKind::Open, 0, ScriptDoor, LATE));
+    assert!(rt; comes(&mut doors, 9, OutKind::Close, 0, ScriptDoor, LATE));
     Ok(())
 }
 
@@ -146,7 +178,7 @@ fn answers(
     if let Err(DoorStop::Diverged) = came {
         return Ok(false);
     }
-    if succeeded(came, value, bytes) {
+    if succeeded(&came, value, bytes) {
         return Ok(true);
     }
     Err("another outcome".into())
@@ -216,22 +248,27 @@ fn successes_out_of_bounds_diverge(rt: HostRuntime) -> Result<(), Fail> {
     Ok(())
 }
 
+const KINDS: &[OutKind] = &[
+    OutKind::Open,
+    OutKind::Read,
+    OutKind::Write,
+    OutKind::Seek,
+    OutKind::Listen,
+    OutKind::Connect,
+    OutKind::Accept,
+    OutKind::Shutdown,
+    OutKind::Close,
+];
+
+/// Whether a failure answers a request.
+fn failure_answers(alloc: Global, kind: OutKind) -> bool {
+    let came = given_one(alloc, kind, 0, Outcome::Fail(Errno::ENOSPC));
+    is_so(&came, &Came::Failure(Errno::ENOSPC))
+}
+
 #[test]
 fn each_failure_answers_each_request(rt: HostRuntime) {
-    for kind in [
-        OutKind::Open,
-        OutKind::Read,
-        OutKind::Write,
-        OutKind::Seek,
-        OutKind::Listen,
-        OutKind::Connect,
-        OutKind::Accept,
-        OutKind::Shutdown,
-        OutKind::Close,
-    ]
-    .iter()
-    {
-        let came = given_one(rt.alloc(), *kind, 0, Outcome::Fail(Errno::ENOSPC));
-        assert!(rt; failed(came, Errno::ENOSPC), "{kind:?}");
+    for kind in KINDS.iter() {
+        assert!(rt; failure_answers(rt.alloc(), *kind), "{kind:?}");
     }
 }

@@ -69,15 +69,20 @@ fn values_fit_their_requests(rt: HostRuntime) -> Result<(), Fail> {
     Ok(())
 }
 
+/// Whether the most bytes of a read answer one that asks for so many.
+fn most_fit(alloc: Global, asked: u64) -> Result<bool, AllocError> {
+    let most = vec![in alloc; 7; 32_767]?;
+    fits(alloc, 32_767, most.as_slice(), OutKind::Read, asked)
+}
+
 #[test]
 fn bytes_fit_reads(rt: HostRuntime) -> Result<(), Fail> {
     let alloc = rt.alloc();
     assert!(rt; fits(alloc, 2, b"hi", OutKind::Read, 2)?);
     assert!(rt; !fits(alloc, 2, b"hi", OutKind::Read, 1)?);
     assert!(rt; !fits(alloc, 1, b"hi", OutKind::Read, 2)?);
-    let most = vec![in alloc; 7; 32_767]?;
-    assert!(rt; fits(alloc, 32_767, most.as_slice(), OutKind::Read, 32_767)?);
-    assert!(rt; !fits(alloc, 32_767, most.as_slice(), OutKind::Read, 32_766)?);
+    assert!(rt; most_fit(alloc, 32_767)?);
+    assert!(rt; !most_fit(alloc, 32_766)?);
     Ok(())
 }
 
@@ -94,6 +99,7 @@ fn bytes_fit_nothing_else(rt: HostRuntime) -> Result<(), Fail> {
 
 /// Whether two bytes of this kind of request answer a read of two bytes.
 fn answers_a_read(alloc: Global, kind: OutKind) -> Result<bool, AllocError> {
+    let outcome = success(alloc, 2, b"hi")?;
     let request = Request {
         kind: OutKind::Read,
         asked: 2,
@@ -102,7 +108,6 @@ fn answers_a_read(alloc: Global, kind: OutKind) -> Result<bool, AllocError> {
             count: 2,
         },
     };
-    let outcome = success(alloc, 2, b"hi")?;
     Ok(Given { kind, outcome }.answers(&request))
 }
 
