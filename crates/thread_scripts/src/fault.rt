@@ -46,7 +46,7 @@ impl From<AllocError> for Memory {
 }
 
 /// Why one line could not be read.
-#[derive(Clone, Copy, Debug, PartialEq, Eq)]
+#[derive(Clone, Copy)]
 pub(crate) enum LineFault {
     Bad,
     Memory,

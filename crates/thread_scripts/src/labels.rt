@@ -6,7 +6,7 @@ use crate::words::words;
 use std::alloc::{AllocError, Global};
 
 /// A label and the place of its line.
-#[derive(Clone, Copy, Debug, PartialEq, Eq)]
+#[derive(Clone, Copy)]
 pub(crate) struct Label<'a> {
     pub name: &'a [u8],
     pub place: usize,

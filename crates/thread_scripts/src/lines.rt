@@ -11,7 +11,7 @@ use posix_terms::{CallKind, Limits};
 use std::alloc::Global;
 
 /// What the first word of a line asks for.
-#[derive(Clone, Copy, Debug, PartialEq, Eq)]
+#[derive(Clone, Copy)]
 pub(crate) enum Word {
     Work,
     End,

@@ -11,7 +11,7 @@ use posix_terms::{Bytes, Call, Limits, Reply};
 use std::alloc::AllocError;
 
 /// What a line does.
-#[derive(Debug, PartialEq, Eq, Drop)]
+#[derive(Drop)]
 pub(crate) enum Action {
     Step(Step),
     Set(NumberRegister, i64),
@@ -21,7 +21,7 @@ pub(crate) enum Action {
 }
 
 /// What of a state changes while lines are executed.
-#[derive(Debug, Drop)]
+#[derive(Drop)]
 pub(crate) struct Saved {
     place: usize,
     numbers: [i64; 16],
