@@ -167,50 +167,113 @@ prints
 
 /// The command line of the program.
 pub fn command<'a>(alloc: Global) -> Result<Command<'a>, AllocError> {
-    Ok(
-        Command::new(alloc, "detio")
-            .bin_name("detio")?
-            .version("0.1.0")
-            .about(ABOUT)
-            .after_help(AFTER_HELP)
-            .subcommand_required(true)
-            .arg_required_else_help(true)
-            .disable_help_subcommand(true)
-            .subcommand(plain(alloc)?)?
-            .subcommand(replay(alloc)?)?
-            .subcommand(show(alloc)?)?,
-    )
+    let subcommands = subcommands(alloc)?;
+    program(alloc)?.subcommands(subcommands)
+}
+
+fn subcommands<'a>(alloc: Global) -> Result<Vec<Command<'a>>, AllocError> {
+    let mut subcommands = Vec::new(alloc);
+    subcommands.push(plain(alloc)?)?;
+    subcommands.push(replay(alloc)?)?;
+    subcommands.push(show(alloc)?)?;
+    Ok(subcommands)
+}
+
+// The program with no subcommand.
+fn program<'a>(alloc: Global) -> Result<Command<'a>, AllocError> {
+    wants_subcommand(Command::new(alloc, "detio"))
+        .version("0.1.0")
+        .about(ABOUT)
+        .after_help(AFTER_HELP)
+        .bin_name("detio")
+}
+
+fn wants_subcommand(command: Command<'_>) -> Command<'_> {
+    command
+        .subcommand_required(true)
+        .arg_required_else_help(true)
+        .disable_help_subcommand(true)
+}
+
+// A subcommand with its help and no argument.
+fn described<'a>(
+    alloc: Global,
+    name: &'a str,
+    about: &'a str,
+    long_about: &'a str,
+    after_help: &'a str,
+) -> Command<'a> {
+    Command::new(alloc, name)
+        .about(about)
+        .long_about(long_about)
+        .after_help(after_help)
 }
 
 fn plain<'a>(alloc: Global) -> Result<Command<'a>, AllocError> {
-    let patience = Arg::new(alloc, "patience")
-        .long("patience")
-        .value_name("N")
-        .value_parser(value_parser!(u32).range(1..=1_000_000))
-        .default_value("1000")
-        .help("For how many turns a call may be blocked");
-    let door_cost = Arg::new(alloc, "door-cost")
-        .long("door-cost")
-        .value_name("N")
-        .value_parser(value_parser!(u32).range(1..=1_000_000))
-        .default_value("100")
-        .help("What a call that goes outside adds to the clock of its thread");
-    Command::new(alloc, "plain")
-        .about(PLAIN_ABOUT)
-        .long_about(PLAIN_LONG_ABOUT)
-        .after_help(PLAIN_AFTER_HELP)
-        .arg(patience)?
-        .arg(door_cost)?
-        .arg(turns(alloc))?
-        .arg(scripts(alloc))
+    let patience = number(
+        alloc,
+        "patience",
+        "1000",
+        "For how many turns a call may be blocked",
+    );
+    let command = described(
+        alloc,
+        "plain",
+        PLAIN_ABOUT,
+        PLAIN_LONG_ABOUT,
+        PLAIN_AFTER_HELP,
+    );
+    with_door_cost(alloc, command.arg(patience)?)
 }
 
-fn scripts<'a>(alloc: Global) -> Arg<'a> {
-    Arg::new(alloc, "script")
-        .value_name("SCRIPT")
-        .action(ArgAction::Append)
-        .num_args(0..)
-        .help("The scripts to run, 1 to 8")
+fn with_door_cost<'a>(alloc: Global, command: Command<'a>) -> Result<Command<'a>, AllocError> {
+    let door_cost = number(
+        alloc,
+        "door-cost",
+        "100",
+        "What a call that goes outside adds to the clock of its thread",
+    );
+    with_scripts(alloc, command.arg(door_cost)?)
+}
+
+fn replay<'a>(alloc: Global) -> Result<Command<'a>, AllocError> {
+    let log = log(alloc, "The log to replay; /dev/stdin is standard input");
+    let command = described(
+        alloc,
+        "replay",
+        REPLAY_ABOUT,
+        REPLAY_LONG_ABOUT,
+        REPLAY_AFTER_HELP,
+    );
+    with_scripts(alloc, command.arg(log)?)
+}
+
+fn show<'a>(alloc: Global) -> Result<Command<'a>, AllocError> {
+    let log = log(alloc, "The log to print; /dev/stdin is standard input");
+    described(alloc, "show", SHOW_ABOUT, SHOW_LONG_ABOUT, SHOW_AFTER_HELP).arg(log)
+}
+
+// A subcommand that runs scripts.
+fn with_scripts<'a>(alloc: Global, command: Command<'a>) -> Result<Command<'a>, AllocError> {
+    command.arg(turns(alloc))?.arg(scripts(alloc))
+}
+
+// An option for a number from 1 to a million.
+fn number<'a>(alloc: Global, name: &'a str, default: &'a str, help: &'a str) -> Arg<'a> {
+    Arg::new(alloc, name)
+        .long(name)
+        .value_name("N")
+        .value_parser(value_parser!(u32).range(1..=1_000_000))
+        .default_value(default)
+        .help(help)
+}
+
+fn log<'a>(alloc: Global, help: &'a str) -> Arg<'a> {
+    Arg::new(alloc, "log")
+        .long("log")
+        .value_name("FILE")
+        .required(true)
+        .help(help)
 }
 
 fn turns<'a>(alloc: Global) -> Arg<'a> {
@@ -220,30 +283,10 @@ fn turns<'a>(alloc: Global) -> Arg<'a> {
         .help("Prints the clock of each turn")
 }
 
-fn replay<'a>(alloc: Global) -> Result<Command<'a>, AllocError> {
-    let log = Arg::new(alloc, "log")
-        .long("log")
-        .value_name("FILE")
-        .required(true)
-        .help("The log to replay; /dev/stdin is standard input");
-    Command::new(alloc, "replay")
-        .about(REPLAY_ABOUT)
-        .long_about(REPLAY_LONG_ABOUT)
-        .after_help(REPLAY_AFTER_HELP)
-        .arg(log)?
-        .arg(turns(alloc))?
-        .arg(scripts(alloc))
-}
-
-fn show<'a>(alloc: Global) -> Result<Command<'a>, AllocError> {
-    let log = Arg::new(alloc, "log")
-        .long("log")
-        .value_name("FILE")
-        .required(true)
-        .help("The log to print; /dev/stdin is standard input");
-    Command::new(alloc, "show")
-        .about(SHOW_ABOUT)
-        .long_about(SHOW_LONG_ABOUT)
-        .after_help(SHOW_AFTER_HELP)
-        .arg(log)
+fn scripts<'a>(alloc: Global) -> Arg<'a> {
+    Arg::new(alloc, "script")
+        .value_name("SCRIPT")
+        .action(ArgAction::Append)
+        .num_args(0..)
+        .help("The scripts to run, 1 to 8")
 }

@@ -24,20 +24,26 @@ fn main(rt: HostRuntime) -> ExitCode {
 
 // Runs the command that the command line names, and answers the exit status.
 fn run(rt: &HostRuntime) -> Result<u8, AllocError> {
-    let alloc = rt.alloc();
-    let words = match words(rt) {
-        Ok(words) => words,
-        Err(error) if error.kind() == io::ErrorKind::OutOfMemory => return Err(AllocError),
-        Err(_) => return Ok(not_text(rt)),
-    };
-    match command(alloc)?.try_get_matches_from(words.as_slice()) {
-        Ok(matches) => match matches.subcommand() {
-            Some(("plain", matches)) => run_plain(rt, matches),
-            Some(("replay", matches)) => run_replay(rt, matches),
-            Some(("show", matches)) => Ok(run_show(rt, matches)),
-            _ => Ok(2),
-        },
+    match words(rt) {
+        Ok(words) => run_words(rt, words.as_slice()),
+        Err(error) if error.kind() == io::ErrorKind::OutOfMemory => Err(AllocError),
+        Err(_) => Ok(not_text(rt)),
+    }
+}
+
+fn run_words(rt: &HostRuntime, words: &[String]) -> Result<u8, AllocError> {
+    match command(rt.alloc())?.try_get_matches_from(words) {
+        Ok(matches) => run_matches(rt, &matches),
         Err(error) => other_usage(rt, error),
+    }
+}
+
+fn run_matches(rt: &HostRuntime, matches: &ArgMatches<'_>) -> Result<u8, AllocError> {
+    match matches.subcommand() {
+        Some(("plain", matches)) => run_plain(rt, matches),
+        Some(("replay", matches)) => run_replay(rt, matches),
+        Some(("show", matches)) => Ok(run_show(rt, matches)),
+        _ => Ok(2),
     }
 }
 

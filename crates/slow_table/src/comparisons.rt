@@ -3,10 +3,10 @@ use crate::scripts::{Dice, door_script_text, script_text};
 use crate::table::SlowTable;
 use call_machine::{Plain, Stop, plain_run};
 use posix_terms::{Answer, CallKind, Errno, Given, HistoryRow, Limits, Outcomes, Reply, Settings};
-use std::alloc::Global;
+use std::alloc::{AllocError, Global};
 use std::process::Abort;
 use std::test::Fail;
-use thread_scripts::parse;
+use thread_scripts::{Script, parse};
 
 // How many times generated scripts without doors are run, and with them.
 const RUNS: u64 = 100;
@@ -16,71 +16,127 @@ const RUNS_WITH_DOORS: u64 = 40;
 // More than comes for a script about doors: it has less than 20 calls, and each is made at most 6 times.
 const MOST_OUTCOMES: u64 = 120;
 
-// The texts of scripts, and what came from outside for each of them so far.
+// The texts of scripts, what came from outside for each of them so far, and the patience that they are run with.
 #[derive(Drop)]
 struct Program {
+    patience: u32,
     texts: Vec<Vec<u8>>,
     given: Vec<Vec<Given>>,
 }
 
 impl Program {
     // Some scripts, for which nothing came.
-    fn of_texts(alloc: Global, texts: Vec<Vec<u8>>) -> Result<Program, Fail> {
+    fn of_texts(alloc: Global, patience: u32, texts: Vec<Vec<u8>>) -> Result<Program, Fail> {
         let mut given = Vec::new(alloc);
         for _ in texts.as_slice() {
             given.push(Vec::new(alloc))?;
         }
-        Ok(Program { texts, given })
+        Ok(Program {
+            patience,
+            texts,
+            given,
+        })
     }
 
     // 1 to 4 generated scripts without doors.
     fn in_memory(alloc: Global, dice: &mut Dice) -> Result<Program, Fail> {
+        let patience = dice.patience();
         let mut texts = Vec::new(alloc);
         for _ in 0..dice.below(4).saturating_add(1) {
             texts.push(script_text(alloc, dice)?)?;
         }
-        Program::of_texts(alloc, texts)
+        Program::of_texts(alloc, patience, texts)
     }
 
     // 1 to 3 about doors.
     fn with_doors(alloc: Global, dice: &mut Dice) -> Result<Program, Fail> {
+        let patience = dice.patience();
         let mut texts = Vec::new(alloc);
         for _ in 0..dice.below(3).saturating_add(1) {
             texts.push(door_script_text(alloc, dice)?)?;
         }
-        Program::of_texts(alloc, texts)
+        Program::of_texts(alloc, patience, texts)
     }
 
-    fn run(&self, alloc: Global, patience: u32) -> Result<Plain, Fail> {
+    fn scripts(&self, alloc: Global) -> Result<Vec<Script>, Fail> {
         let mut scripts = Vec::new(alloc);
-        let mut outcomes = Vec::new(alloc);
-        for (text, given) in self.texts.iter().zip(self.given.iter()) {
+        for text in &self.texts {
             scripts.push(parse(alloc, text.as_slice())?)?;
-            let mut list = Vec::new(alloc);
-            for item in given {
-                list.push(Given {
-                    kind: item.kind,
-                    outcome: item.outcome.try_clone()?,
-                })?;
-            }
-            outcomes.push(Outcomes::from_vec(list))?;
         }
+        Ok(scripts)
+    }
+
+    fn outcomes(&self, alloc: Global) -> Result<Vec<Outcomes>, Fail> {
+        let mut outcomes = Vec::new(alloc);
+        for given in &self.given {
+            outcomes.push(outcomes_of(alloc, given.as_slice())?)?;
+        }
+        Ok(outcomes)
+    }
+
+    fn run(&self, alloc: Global) -> Result<Plain, Fail> {
         let settings = Settings {
-            patience,
+            patience: self.patience,
             door_cost: 1,
         };
-        Ok(plain_run(alloc, scripts, outcomes, settings)?)
+        let scripts = self.scripts(alloc)?;
+        Ok(plain_run(alloc, scripts, self.outcomes(alloc)?, settings)?)
+    }
+
+    // It answers as the slow table.
+    fn compare(&self, rt: &impl Abort, alloc: Global) -> Result<(), Fail> {
+        let plain = self.run(alloc)?;
+        compare(rt, alloc, plain.history.rows(), self.patience)
+    }
+
+    // It answers as the slow table, and comes to its end.
+    fn compare_to_end(&self, rt: &impl Abort, alloc: Global, met: &mut Met) -> Result<(), Fail> {
+        let plain = self.run(alloc)?;
+        compare_ended(rt, alloc, &plain, self.patience, met)
+    }
+
+    // Runs it once: whether it wanted more outcomes, and then it got some.
+    fn give_once(
+        &mut self,
+        rt: &impl Abort,
+        alloc: Global,
+        host: &mut Host,
+        dice: &mut Dice,
+    ) -> Result<bool, Fail> {
+        let plain = self.run(alloc)?;
+        let Some(stop) = plain.stop else {
+            return Ok(false);
+        };
+        assert!(rt; matches!(stop, Stop::EndOfLog(_)), "{stop:?}");
+        self.give(alloc, plain.history.rows(), host, dice)?;
+        Ok(true)
+    }
+
+    // Runs it as often as it wants more outcomes.
+    fn give_all(
+        &mut self,
+        rt: &impl Abort,
+        alloc: Global,
+        host: &mut Host,
+        dice: &mut Dice,
+    ) -> Result<(), Fail> {
+        for _ in 0..MOST_OUTCOMES {
+            if !self.give_once(rt, alloc, host, dice)? {
+                break;
+            }
+        }
+        Ok(())
     }
 
     // One more outcome for each call that a run has no answer to: all of them wait for one.
     fn give(
         &mut self,
         alloc: Global,
-        plain: &Plain,
+        rows: &[HistoryRow],
         host: &mut Host,
         dice: &mut Dice,
     ) -> Result<(), Fail> {
-        for row in plain.history.rows() {
+        for row in rows {
             if row.answer.is_none()
                 && let Some(given) = self.given.get_mut(row.turn.thread)
             {
@@ -89,6 +145,18 @@ impl Program {
         }
         Ok(())
     }
+}
+
+// What came for one script so far.
+fn outcomes_of(alloc: Global, given: &[Given]) -> Result<Outcomes, AllocError> {
+    let mut list = Vec::new(alloc);
+    for item in given {
+        list.push(Given {
+            kind: item.kind,
+            outcome: item.outcome.try_clone()?,
+        })?;
+    }
+    Ok(Outcomes::from_vec(list))
 }
 
 // How a turn of a call ended.
@@ -141,11 +209,18 @@ impl SlowRun {
         }
         Ok(answer)
     }
+
+    fn compare(&mut self, rt: &impl Abort, alloc: Global, row: &HistoryRow) -> Result<(), Fail> {
+        let answer = self.answer(alloc, row)?;
+        assert_eq!(rt; row.answer, answer, "{:?}", row.call);
+        Ok(())
+    }
 }
 
-// The endings that were met, each once.
+// The endings that were met, each once: of all calls, or of those about doors.
 #[derive(Drop)]
 struct Met {
+    of_doors: bool,
     endings: Vec<(CallKind, Ending)>,
 }
 
@@ -160,6 +235,15 @@ impl Met {
         let ending = (row.call.kind(), ending);
         if !self.endings.contains(&ending) {
             self.endings.push(ending)?;
+        }
+        Ok(())
+    }
+
+    fn note_all(&mut self, rows: &[HistoryRow]) -> Result<(), Fail> {
+        for row in rows {
+            if !self.of_doors || is_about_doors(row) {
+                self.note(row)?;
+            }
         }
         Ok(())
     }
@@ -180,13 +264,39 @@ fn is_about_doors(row: &HistoryRow) -> bool {
 }
 
 // Each answer of a run is that of the slow table, where the calls are made one after the other in the order of their turns.
-fn compare(rt: &impl Abort, alloc: Global, plain: &Plain, patience: u32) -> Result<(), Fail> {
+fn compare(rt: &impl Abort, alloc: Global, rows: &[HistoryRow], patience: u32) -> Result<(), Fail> {
     let mut slow = SlowRun::new(alloc, patience)?;
-    for row in plain.history.rows() {
-        let answer = slow.answer(alloc, row)?;
-        assert_eq!(rt; row.answer, answer, "{:?}", row.call);
+    for row in rows {
+        slow.compare(rt, alloc, row)?;
     }
     Ok(())
+}
+
+// The same of a run that has come to its end; what was met is noted.
+fn compare_ended(
+    rt: &impl Abort,
+    alloc: Global,
+    plain: &Plain,
+    patience: u32,
+    met: &mut Met,
+) -> Result<(), Fail> {
+    assert_eq!(rt; plain.stop, None);
+    compare(rt, alloc, plain.history.rows(), patience)?;
+    met.note_all(plain.history.rows())
+}
+
+// Scripts about doors: where nothing came yet, so that the run stops for want of an outcome, and where all has come.
+fn compare_with_doors(
+    rt: &impl Abort,
+    alloc: Global,
+    host: &mut Host,
+    dice: &mut Dice,
+    met: &mut Met,
+) -> Result<(), Fail> {
+    let mut program = Program::with_doors(alloc, dice)?;
+    program.compare(rt, alloc)?;
+    program.give_all(rt, alloc, host, dice)?;
+    program.compare_to_end(rt, alloc, met)
 }
 
 // All that calls can answer without doors is met.
@@ -195,51 +305,29 @@ fn runs_answer_as_the_slow_table(rt: HostRuntime) -> Result<(), Fail> {
     let alloc = rt.alloc();
     let mut dice = Dice::new(20_170_612);
     let mut met = Met {
+        of_doors: false,
         endings: Vec::new(alloc),
     };
     for _ in 0..RUNS {
-        let patience = dice.patience();
-        let plain = Program::in_memory(alloc, &mut dice)?.run(alloc, patience)?;
-        compare(&rt, alloc, &plain, patience)?;
-        for row in plain.history.rows() {
-            met.note(row)?;
-        }
-        assert_eq!(rt; plain.stop, None);
+        let program = Program::in_memory(alloc, &mut dice)?;
+        program.compare_to_end(&rt, alloc, &mut met)?;
     }
     assert_eq!(rt; met.endings.len(), ENDINGS);
     Ok(())
 }
 
-// The same with doors: where nothing came yet, so that the run stops for want of an outcome, and where all has come. All
-// that calls can answer that are about doors is met.
+// All that calls can answer that are about doors is met.
 #[test]
 fn runs_with_doors_answer_as_the_slow_table(rt: HostRuntime) -> Result<(), Fail> {
     let alloc = rt.alloc();
     let mut dice = Dice::new(20_170_612);
     let mut host = Host::new();
     let mut met = Met {
+        of_doors: true,
         endings: Vec::new(alloc),
     };
     for _ in 0..RUNS_WITH_DOORS {
-        let patience = dice.patience();
-        let mut program = Program::with_doors(alloc, &mut dice)?;
-        let mut plain = program.run(alloc, patience)?;
-        compare(&rt, alloc, &plain, patience)?;
-        for _ in 0..MOST_OUTCOMES {
-            let Some(stop) = plain.stop else {
-                break;
-            };
-            assert!(rt; matches!(stop, Stop::EndOfLog(_)), "{stop:?}");
-            program.give(alloc, &plain, &mut host, &mut dice)?;
-            plain = program.run(alloc, patience)?;
-        }
-        assert_eq!(rt; plain.stop, None);
-        compare(&rt, alloc, &plain, patience)?;
-        for row in plain.history.rows() {
-            if is_about_doors(row) {
-                met.note(row)?;
-            }
-        }
+        compare_with_doors(&rt, alloc, &mut host, &mut dice, &mut met)?;
     }
     assert_eq!(rt; met.endings.len(), ENDINGS_WITH_DOORS);
     Ok(())

@@ -167,13 +167,10 @@ impl SlowTable {
 
     // Whether an open number is the last one that leads to a door.
     pub(crate) fn ends_a_door(&self, descriptor: i64) -> bool {
-        let (Ok(place), Ok(description)) = (self.place(descriptor), self.description(descriptor))
-        else {
+        let Ok(description) = self.description(descriptor) else {
             return false;
         };
-        let numbers = self.descriptors.iter().flatten();
-        matches!(description.end, End::Door(_))
-            && numbers.filter(|other| **other == place).count() == 1
+        matches!(description.end, End::Door(_)) && self.times_open(description.object, None) == 1
     }
 
     // The number is free whatever comes from outside, where a door is closed with its last one.

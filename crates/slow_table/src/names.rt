@@ -15,13 +15,7 @@ impl SlowTable {
         if flags.truncate && access == Access::ReadOnly {
             return Err(Refusal::Errno(Errno::EINVAL));
         }
-        let path = self.resolve(alloc, path)?;
-        let there = self.file_to_open(path.as_slice(), flags)?;
-        let number = self.lowest_from(0)?;
-        let object = match there {
-            Some(file) => file,
-            None => self.add_file(alloc, path)?,
-        };
+        let (object, number) = self.file_and_number(alloc, path, flags)?;
         if flags.truncate {
             self.file_mut(object)?.clear();
         }
@@ -34,6 +28,22 @@ impl SlowTable {
             nonblock: flags.nonblock,
         };
         Ok(Reply::Number(self.describe(number, description)?))
+    }
+
+    // The file that an open of this path finds or makes, and the number that is to lead to it.
+    fn file_and_number(
+        &mut self,
+        alloc: Global,
+        path: &[u8],
+        flags: OpenFlags,
+    ) -> Result<(usize, usize), Refusal> {
+        let path = self.resolve(alloc, path)?;
+        let there = self.file_to_open(path.as_slice(), flags)?;
+        let number = self.lowest_from(0)?;
+        match there {
+            Some(file) => Ok((file, number)),
+            None => Ok((self.add_file(alloc, path)?, number)),
+        }
     }
 
     // The file that an open of this path finds, or none where it is to make one.

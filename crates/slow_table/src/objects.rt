@@ -75,36 +75,30 @@ impl SlowTable {
         }
     }
 
-    // Whether a descriptor leads to the object.
-    pub(crate) fn is_open(&self, object: usize) -> bool {
-        for place in self.descriptors.iter().flatten() {
-            if let Some(description) = self.descriptions.get(*place)
-                && description.object == object
+    // How many descriptors lead to the object, or to this end of it where one is named.
+    pub(crate) fn times_open(&self, object: usize, end: Option<End>) -> usize {
+        let mut times = 0usize;
+        for place in &self.descriptors {
+            if let Some(place) = place
+                && let Some(description) = self.descriptions.get(*place)
+                && description.is_of(object, end)
             {
-                return true;
+                times = times.saturating_add(1);
             }
         }
-        false
+        times
     }
 
     // Whether a descriptor leads to this end of the object.
     pub(crate) fn is_end_open(&self, object: usize, end: End) -> bool {
-        for place in self.descriptors.iter().flatten() {
-            if let Some(description) = self.descriptions.get(*place)
-                && description.object == object
-                && description.end == end
-            {
-                return true;
-            }
-        }
-        false
+        self.times_open(object, Some(end)) > 0
     }
 
     // How many objects have a name or are open.
     pub(crate) fn live_objects(&self) -> usize {
         let mut live = 0usize;
         for object in 0..self.objects.len() {
-            if self.links(object) > 0 || self.is_open(object) {
+            if self.links(object) > 0 || self.times_open(object, None) > 0 {
                 live = live.saturating_add(1);
             }
         }

@@ -3,29 +3,41 @@ use crate::table::{Entry, SlowTable};
 use posix_terms::{Bytes, Errno, Limits, pieces};
 use std::alloc::Global;
 
-// The components of a path, where its form is right.
-fn components<'a>(alloc: Global, path: &'a [u8]) -> Result<Vec<&'a [u8]>, Refusal> {
+// Whether a path has a length that is allowed.
+fn expect_length(path: &[u8]) -> Result<(), Errno> {
     if path.is_empty() {
-        return Err(Refusal::Errno(Errno::ENOENT));
+        return Err(Errno::ENOENT);
     }
     if path.len() > Limits::PATH_BYTES {
-        return Err(Refusal::Errno(Errno::ENAMETOOLONG));
+        return Err(Errno::ENAMETOOLONG);
     }
-    let components = pieces(alloc, path, b'/')?;
+    Ok(())
+}
+
+// Whether a path with these components has a form that is allowed, and then whether each of them is short enough.
+fn expect_form(path: &[u8], components: &[&[u8]]) -> Result<(), Errno> {
     let goes_on = !components.is_empty() && path.last() == Some(&b'/');
-    if goes_on || path.iter().any(|byte| *byte == 0) {
-        return Err(Refusal::Errno(Errno::EINVAL));
+    if goes_on || path.contains(&0) {
+        return Err(Errno::EINVAL);
     }
-    for component in &components {
+    for component in components {
         if *component == b".".as_slice() || *component == b"..".as_slice() {
-            return Err(Refusal::Errno(Errno::EINVAL));
+            return Err(Errno::EINVAL);
         }
     }
-    for component in &components {
+    for component in components {
         if component.len() > Limits::NAME_BYTES {
-            return Err(Refusal::Errno(Errno::ENAMETOOLONG));
+            return Err(Errno::ENAMETOOLONG);
         }
     }
+    Ok(())
+}
+
+// The components of a path, where its form is right.
+fn components<'a>(alloc: Global, path: &'a [u8]) -> Result<Vec<&'a [u8]>, Refusal> {
+    expect_length(path)?;
+    let components = pieces(alloc, path, b'/')?;
+    expect_form(path, components.as_slice())?;
     Ok(components)
 }
 
@@ -43,15 +55,19 @@ impl SlowTable {
         None
     }
 
+    fn expect_directory(&self, path: &[Bytes]) -> Result<(), Errno> {
+        match self.find(path) {
+            Some(Entry::Directory) => Ok(()),
+            Some(Entry::File(_)) => Err(Errno::ENOTDIR),
+            None => Err(Errno::ENOENT),
+        }
+    }
+
     // The components of a path, each but the last of which leads on.
     pub(crate) fn resolve(&self, alloc: Global, path: &[u8]) -> Result<Vec<Bytes>, Refusal> {
         let mut walked = Vec::new(alloc);
         for component in &components(alloc, path)? {
-            match self.find(walked.as_slice()) {
-                Some(Entry::Directory) => {}
-                Some(Entry::File(_)) => return Err(Refusal::Errno(Errno::ENOTDIR)),
-                None => return Err(Refusal::Errno(Errno::ENOENT)),
-            }
+            self.expect_directory(walked.as_slice())?;
             walked.push(Bytes::from_slice(alloc, component)?)?;
         }
         Ok(walked)
@@ -60,19 +76,10 @@ impl SlowTable {
     // Whether there is a name below a directory.
     pub(crate) fn has_names_below(&self, directory: &[Bytes]) -> bool {
         for name in &self.names {
-            if name.path.len() > directory.len() && begins_with(name.path.as_slice(), directory) {
+            if name.path.len() > directory.len() && name.path.as_slice().starts_with(directory) {
                 return true;
             }
         }
         false
     }
-}
-
-fn begins_with(path: &[Bytes], prefix: &[Bytes]) -> bool {
-    for (ours, theirs) in path.iter().zip(prefix.iter()) {
-        if ours != theirs {
-            return false;
-        }
-    }
-    prefix.len() <= path.len()
 }

@@ -31,34 +31,34 @@ impl Dice {
     }
 
     // The pieces that a script begins with.
-    fn pieces(&mut self) -> [&'static str; 3] {
+    fn pieces(&mut self) -> &'static [&'static str] {
         match self.below(5) {
-            0 | 1 => [FILES, "", ""],
-            2 => [STREAMS, FILES, ""],
-            3 => [FILES, STREAMS, ""],
-            _ => [STREAMS, ALMOST_FULL, FILES],
+            0 | 1 => &[FILES],
+            2 => &[STREAMS, FILES],
+            3 => &[FILES, STREAMS],
+            _ => &[STREAMS, ALMOST_FULL, FILES],
         }
     }
+}
 
-    // One of the words that a template's letter stands for.
-    fn operand(&mut self, letter: u8) -> &'static str {
-        match letter {
-            b'P' => self.pick(PATHS),
-            b'F' => self.pick(NUMBERS),
-            b'E' => self.pick(ENDS),
-            b'D' => self.pick(DOOR_NUMBERS),
-            b'T' => self.pick(PORTS),
-            b'G' => self.pick(&["", "", " trunc", " append"]),
-            b'C' => self.pick(COUNTS),
-            b'B' => self.pick(BYTES),
-            b'O' => self.pick(OFFSETS),
-            b'S' => self.pick(SIZES),
-            b'W' => self.pick(&["set", "cur", "end"]),
-            b'H' => self.pick(&["read", "write", "both"]),
-            b'A' => self.pick(&["r", "w", "rw", "rw", "rw create", "rw create", "w create"]),
-            b'X' => self.pick(&["", "", "", " excl", " trunc", " append", " append nonblock"]),
-            _ => self.pick(&["", " append", " nonblock", " append nonblock"]),
-        }
+// The words that a template's letter stands for.
+fn operands(letter: u8) -> &'static [&'static str] {
+    match letter {
+        b'P' => PATHS,
+        b'F' => NUMBERS,
+        b'E' => ENDS,
+        b'D' => DOOR_NUMBERS,
+        b'T' => PORTS,
+        b'G' => &["", "", " trunc", " append"],
+        b'C' => COUNTS,
+        b'B' => BYTES,
+        b'O' => OFFSETS,
+        b'S' => SIZES,
+        b'W' => &["set", "cur", "end"],
+        b'H' => &["read", "write", "both"],
+        b'A' => &["r", "w", "rw", "rw", "rw create", "rw create", "w create"],
+        b'X' => &["", "", "", " excl", " trunc", " append", " append nonblock"],
+        _ => &["", " append", " nonblock", " append nonblock"],
     }
 }
 
@@ -257,32 +257,52 @@ fn add_many_files(alloc: Global, text: &mut Vec<u8>) -> Result<(), AllocError> {
     Ok(())
 }
 
+// Makes most of the directories that there may be.
+fn add_many_directories(alloc: Global, text: &mut Vec<u8>) -> Result<(), AllocError> {
+    for directory in 0u32..60 {
+        let line = format!(in alloc; "mkdir /n{directory}\n")?;
+        text.extend_from_slice(line.as_bytes())?;
+    }
+    Ok(())
+}
+
 // What a script begins with: sometimes it has a pipe and a pair, before its files or behind them, and sometimes it
 // uses up the numbers, the files or the names.
-fn beginning(alloc: Global, dice: &mut Dice) -> Result<Vec<u8>, AllocError> {
-    let mut text = Vec::new(alloc);
+fn begin(alloc: Global, text: &mut Vec<u8>, dice: &mut Dice) -> Result<(), AllocError> {
     for piece in dice.pieces() {
         text.extend_from_slice(piece.as_bytes())?;
     }
     match dice.below(12) {
-        0 => text.extend_from_slice(MANY_NUMBERS.as_bytes())?,
-        1 => add_many_files(alloc, &mut text)?,
-        2 => {
-            for directory in 0u32..60 {
-                let line = format!(in alloc; "mkdir /n{directory}\n")?;
-                text.extend_from_slice(line.as_bytes())?;
-            }
-        }
-        _ => {}
+        0 => Ok(text.extend_from_slice(MANY_NUMBERS.as_bytes())?),
+        1 => add_many_files(alloc, text),
+        2 => add_many_directories(alloc, text),
+        _ => Ok(()),
     }
-    Ok(text)
+}
+
+// The same for a script about doors: it opens three doors, sometimes sets them to nonblock, and sometimes uses up the
+// numbers or the objects.
+fn begin_with_doors(alloc: Global, text: &mut Vec<u8>, dice: &mut Dice) -> Result<(), AllocError> {
+    let way = dice.below(12);
+    if way == 0 {
+        add_many_files(alloc, text)?;
+    }
+    text.extend_from_slice(DOORS.as_bytes())?;
+    if way == 1 {
+        text.extend_from_slice(MANY_NUMBERS.as_bytes())?;
+    }
+    match way {
+        0 | 1 => Ok(text.extend_from_slice(ONE_MORE.as_bytes())?),
+        2..=6 => Ok(text.extend_from_slice(NONBLOCKING.as_bytes())?),
+        _ => Ok(()),
+    }
 }
 
 // Adds one of some lines, with operands that are found by chance.
 fn add_line(text: &mut Vec<u8>, dice: &mut Dice, lines: &[&'static str]) -> Result<(), AllocError> {
     for letter in dice.pick(lines).as_bytes() {
         if letter.is_ascii_uppercase() {
-            let operand = dice.operand(*letter);
+            let operand = dice.pick(operands(*letter));
             text.extend_from_slice(operand.as_bytes())?;
         } else {
             text.push(*letter)?;
@@ -292,35 +312,30 @@ fn add_line(text: &mut Vec<u8>, dice: &mut Dice, lines: &[&'static str]) -> Resu
     Ok(())
 }
 
+fn add_lines(
+    text: &mut Vec<u8>,
+    dice: &mut Dice,
+    lines: &[&'static str],
+    count: u32,
+) -> Result<(), AllocError> {
+    for _ in 0..count {
+        add_line(text, dice, lines)?;
+    }
+    Ok(())
+}
+
 // A script of some 30 lines behind its beginning, none of them about doors.
 pub fn script_text(alloc: Global, dice: &mut Dice) -> Result<Vec<u8>, AllocError> {
-    let mut text = beginning(alloc, dice)?;
-    for _ in 0u32..30 {
-        add_line(&mut text, dice, LINES)?;
-    }
+    let mut text = Vec::new(alloc);
+    begin(alloc, &mut text, dice)?;
+    add_lines(&mut text, dice, LINES, 30)?;
     Ok(text)
 }
 
-// A script of 12 lines about doors behind its beginning: it opens three doors, sometimes sets them to nonblock, and
-// sometimes uses up the numbers or the objects.
+// A script of 12 lines about doors behind its beginning.
 pub fn door_script_text(alloc: Global, dice: &mut Dice) -> Result<Vec<u8>, AllocError> {
     let mut text = Vec::new(alloc);
-    let way = dice.below(12);
-    if way == 0 {
-        add_many_files(alloc, &mut text)?;
-    }
-    text.extend_from_slice(DOORS.as_bytes())?;
-    match way {
-        0 => text.extend_from_slice(ONE_MORE.as_bytes())?,
-        1 => {
-            text.extend_from_slice(MANY_NUMBERS.as_bytes())?;
-            text.extend_from_slice(ONE_MORE.as_bytes())?;
-        }
-        2..=6 => text.extend_from_slice(NONBLOCKING.as_bytes())?,
-        _ => {}
-    }
-    for _ in 0u32..12 {
-        add_line(&mut text, dice, DOOR_LINES)?;
-    }
+    begin_with_doors(alloc, &mut text, dice)?;
+    add_lines(&mut text, dice, DOOR_LINES, 12)?;
     Ok(text)
 }

@@ -39,30 +39,38 @@ fn put(waiting: &mut Vec<u8>, description: Description, bytes: &[u8]) -> Result<
 
 impl SlowTable {
     pub(crate) fn pipe(&mut self, alloc: Global) -> Result<Reply, Refusal> {
+        let numbers = self.two_numbers()?;
         let reading = (End::Read, Access::ReadOnly);
         let writing = (End::Write, Access::WriteOnly);
-        self.add_two_ends(Object::Pipe(Vec::new(alloc)), reading, writing)
+        self.add_two_ends(numbers, Object::Pipe(Vec::new(alloc)), reading, writing)
     }
 
     pub(crate) fn socketpair(&mut self, alloc: Global) -> Result<Reply, Refusal> {
+        let numbers = self.two_numbers()?;
         let first = (End::Socket(Side::Side0), Access::ReadWrite);
         let second = (End::Socket(Side::Side1), Access::ReadWrite);
         let pair = Object::Pair([Socket::new(alloc), Socket::new(alloc)]);
-        self.add_two_ends(pair, first, second)
+        self.add_two_ends(numbers, pair, first, second)
     }
 
-    // The two lowest numbers that are not open lead to the two ends of a new object.
+    // The two lowest numbers that are not open, where there is room for an object.
+    fn two_numbers(&self) -> Result<(usize, usize), Errno> {
+        let first = self.lowest_from(0)?;
+        let second = self.lowest_from(first.saturating_add(1))?;
+        if self.live_objects() >= Limits::OBJECTS {
+            return Err(Errno::ENFILE);
+        }
+        Ok((first, second))
+    }
+
+    // Two numbers lead to the two ends of a new object.
     fn add_two_ends(
         &mut self,
+        (first_number, second_number): (usize, usize),
         object: Object,
         first: (End, Access),
         second: (End, Access),
     ) -> Result<Reply, Refusal> {
-        let first_number = self.lowest_from(0)?;
-        let second_number = self.lowest_from(first_number.saturating_add(1))?;
-        if self.live_objects() >= Limits::OBJECTS {
-            return Err(Refusal::Errno(Errno::ENFILE));
-        }
         let place = self.objects.len();
         self.objects.push(object)?;
         Ok(Reply::Pair(
@@ -117,6 +125,20 @@ impl SlowTable {
         put(self.pipe_mut(description.object)?, description, bytes)
     }
 
+    // Whether the peer of a socket can still write.
+    fn can_more_come(&self, object: usize, side: Side) -> Result<bool, Errno> {
+        let peer = self.socket(object, side.peer())?;
+        Ok(!peer.writing_shut && self.is_end_open(object, End::Socket(side.peer())))
+    }
+
+    // Whether what a socket writes can still be read.
+    fn can_be_read(&self, object: usize, side: Side) -> Result<bool, Errno> {
+        let reading_shut = self.socket(object, side.peer())?.reading_shut;
+        let writing_shut = self.socket(object, side)?.writing_shut;
+        let is_peer_open = self.is_end_open(object, End::Socket(side.peer()));
+        Ok(is_peer_open && !reading_shut && !writing_shut)
+    }
+
     // A read of at least one byte by a socket.
     pub(crate) fn read_socket(
         &mut self,
@@ -125,10 +147,8 @@ impl SlowTable {
         side: Side,
         count: usize,
     ) -> Result<Reply, Refusal> {
-        let object = description.object;
-        let more_can_come = self.is_end_open(object, End::Socket(side.peer()))
-            && !self.socket(object, side.peer())?.writing_shut;
-        let socket = self.socket_mut(object, side)?;
+        let more_can_come = self.can_more_come(description.object, side)?;
+        let socket = self.socket_mut(description.object, side)?;
         if socket.reading_shut {
             return Ok(Reply::Data(Bytes::from_vec(Vec::new(alloc))));
         }
@@ -145,13 +165,10 @@ impl SlowTable {
         side: Side,
         bytes: &[u8],
     ) -> Result<Reply, Refusal> {
-        let object = description.object;
-        let shut = self.socket(object, side)?.writing_shut
-            || self.socket(object, side.peer())?.reading_shut;
-        if shut || !self.is_end_open(object, End::Socket(side.peer())) {
+        if !self.can_be_read(description.object, side)? {
             return Err(Refusal::Errno(Errno::EPIPE));
         }
-        let peer = self.socket_mut(object, side.peer())?;
+        let peer = self.socket_mut(description.object, side.peer())?;
         put(&mut peer.waiting, description, bytes)
     }
 

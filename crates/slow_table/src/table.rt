@@ -14,6 +14,17 @@ pub(crate) struct Description {
     pub nonblock: bool,
 }
 
+impl Description {
+    // Whether it is of this object, and of this end where one is named.
+    pub(crate) fn is_of(&self, object: usize, end: Option<End>) -> bool {
+        let is_this_end = match end {
+            Some(end) => self.end == end,
+            None => true,
+        };
+        is_this_end && self.object == object
+    }
+}
+
 // What a name stands for. A file is known by its place among the objects.
 #[derive(Clone, Copy)]
 pub(crate) enum Entry {
@@ -71,19 +82,14 @@ impl SlowTable {
             Some(outcome) => Some(outcome.try_clone()?),
             None => None,
         };
-        let ended = self.attempt(alloc, call);
-        if self.came.is_some() {
-            return Ok(None);
-        }
-        match ended {
-            Ok(reply) => Ok(Some(Answer::Reply(reply))),
-            Err(Refusal::Errno(error)) => Ok(Some(Answer::Reply(Reply::Fail(error)))),
-            Err(Refusal::Blocked) if turns.saturating_add(1) >= patience => {
-                Ok(Some(Answer::Reply(Reply::Fail(Errno::EINTR))))
-            }
-            Err(Refusal::Blocked) => Ok(Some(Answer::Again)),
-            Err(Refusal::NoOutcome) => Ok(None),
-            Err(Refusal::Memory) => Err(AllocError),
+        let is_last = turns.saturating_add(1) >= patience;
+        let answer = match self.attempt(alloc, call) {
+            Ok(reply) => Some(Answer::Reply(reply)),
+            Err(refusal) => refusal.answer(is_last)?,
+        };
+        match self.came {
+            Some(_) => Ok(None),
+            None => Ok(answer),
         }
     }
 

@@ -16,6 +16,18 @@ fn start_at(position: i64) -> Result<u64, Errno> {
     u64::try_from(position).map_err(|_| Errno::EINVAL)
 }
 
+// The position that lies so far behind another one, or before it.
+fn sought(base: u64, offset: i64) -> Result<i64, Errno> {
+    let to = i128::from(base) + i128::from(offset);
+    if to < 0 {
+        return Err(Errno::EINVAL);
+    }
+    match i64::try_from(to) {
+        Ok(number) => Ok(number),
+        Err(_) => Err(Errno::EOVERFLOW),
+    }
+}
+
 // The bytes of a file from a position on, at most so many.
 fn bytes_from(
     alloc: Global,
@@ -192,13 +204,7 @@ impl SlowTable {
             Whence::Current => description.offset,
             Whence::End => self.file(description.object)?.len() as u64,
         };
-        let to = i128::from(base) + i128::from(offset);
-        if to < 0 {
-            return Err(Refusal::Errno(Errno::EINVAL));
-        }
-        let Ok(number) = i64::try_from(to) else {
-            return Err(Refusal::Errno(Errno::EOVERFLOW));
-        };
+        let number = sought(base, offset)?;
         self.description_mut(descriptor)?.offset = number.unsigned_abs();
         Ok(Reply::Number(number))
     }
