@@ -19,7 +19,7 @@ use Rattle.object_store.specs.Store.{Stored}
 use Rattle.object_store.proofs.Lists.{item_is}
 use Rattle.call_machine.specs.Events.{Parts, Reaches, Tries, parts}
 use Rattle.call_machine.specs.Lives.{Agree}
-use Rattle.call_machine.specs.Setup.{Inputs, setup_of}
+use Rattle.call_machine.specs.Setup.{Conditions, setup_under}
 use Rattle.call_machine.specs.Shows.{Attempts, PhaseShows, WantsIn, Whole, item_at, thread_at}
 use Rattle.call_machine.specs.Threads.{Thread, joined, timed}
 use Rattle.call_machine.specs.Views.{clocks_of, no_item}
@@ -36,57 +36,55 @@ use Rattle.call_machine.proofs.Turning.{clocks_shown}
 
 table_event : (w : Whole) (i : ℕ) (call : Call) (turns : ℕ) (made : Bool) (new : Parts) → i < length w.threads → has_turn (clocks_of w.threads) i ≡ true → (thread_at w i).phase ≡ phase.WantsTable call turns
     → Tries w.patience made i (table_parts w i) new → Attempts made i w (table_tried w i new)
-table_event w i call turns made new inside turn is tries input s arises h =
-    let a = attempt_whole input w s i call turns made new inside h (ap (λ cs. has_turn cs i) (clocks_shown input w s h) ∙ turn) is tries in (a.0, a.1, refl)
+table_event w i call turns made new inside turn is tries terms s (arises, h) =
+    let a = attempt_whole terms w s i call turns made new inside h (ap (λ cs. has_turn cs i) (clocks_shown terms w s h) ∙ turn) is tries in (a.0, a.1, refl)
 
 object_event : (w : Whole) (i n clock : ℕ) (call : Call) (turns : ℕ) (made : Bool) (now : DetLock) (new : Parts) → i < length w.threads → has_turn (clocks_of w.threads) i ≡ true
     → (thread_at w i).phase ≡ phase.WantsObject call turns clock n
     → Reaches w.patience made i (lock_at w n) now (table_parts w i) new → Attempts made i w (object_tried w i n now new)
-object_event w i n clock call turns made now new inside turn is tries input s arises h =
-    let plans = plans_arisen (setup_of input) (length input.scripts) limit.OBJECTS first_world s arises in
-    let a = reach_whole input w s i n clock call turns made now new inside h plans (ap (λ cs. has_turn cs i) (clocks_shown input w s h) ∙ turn) is tries in (a.0, a.1, refl)
+object_event w i n clock call turns made now new inside turn is tries terms s (arises, h) =
+    let plans = plans_arisen (setup_under terms) terms.threads limit.OBJECTS first_world s arises in
+    let a = reach_whole terms w s i n clock call turns made now new inside h plans (ap (λ cs. has_turn cs i) (clocks_shown terms w s h) ∙ turn) is tries in (a.0, a.1, refl)
 
 -- a call whose object is past the last number is in no run
 object_past : (w : Whole) (i n clock : ℕ) (call : Call) (turns : ℕ) → (thread_at w i).phase ≡ phase.WantsObject call turns clock n → length w.objects ≤ n → Attempts false i w w
-object_past w i n clock call turns is past input s arises h =
-    let P : Phase → Type 0 = λ p. PhaseShows input i s.rows (thread_at w i) (thread_of s i) p in
+object_past w i n clock call turns is past terms s (arises, h) =
+    let P : Phase → Type 0 = λ p. PhaseShows terms i s.rows (thread_at w i) (thread_of s i) p in
     let g = subst P is (h.threads i).phase in
-    absurd (too_far n (length w.objects) g.1.2 h.object_count past)
+    absurd (too_far n (length w.objects) g.1.1 h.object_count past)
   where
     too_far : (n m : ℕ) → n < limit.OBJECTS → m ≡ limit.OBJECTS → m ≤ n → ⊥
     too_far n m few e past = omega arith
 
 no_attempt_event : (w : Whole) (i : ℕ) → has_turn (clocks_of w.threads) i ≡ false → Attempts false i w w
-no_attempt_event w i late input s arises h = let a = attempt_waits input w s i h (ap (λ cs. has_turn cs i) (clocks_shown input w s h) ∙ late) in (a.0, a.1, refl)
+no_attempt_event w i late terms s (arises, h) = let a = attempt_waits terms w s i h (ap (λ cs. has_turn cs i) (clocks_shown terms w s h) ∙ late) in (a.0, a.1, refl)
 
 -- threads in other phases want no lock
 abbrev Idles : Phase → Type 0
 Idles phase.Working = Unit {0}
 Idles (phase.WantsTable call turns) = ⊥
 Idles (phase.WantsObject call turns clock object) = ⊥
-Idles (phase.Granted place object blocked) = Unit {0}
+Idles (phase.Granted place object e) = Unit {0}
 Idles (phase.ToOutside o) = Unit {0}
 Idles (phase.Outside o) = Unit {0}
 Idles (phase.Recorded o) = Unit {0}
 Idles (phase.Blocked call turns) = Unit {0}
-Idles phase.Stuck = Unit {0}
 Idles phase.Ended = Unit {0}
 
-idles_wants : (input : Inputs) (i : ℕ) (rows : List Row) (t : Thread) (u : lock.Thread) (p : Phase) → Idles p → PhaseShows input i rows t u p → wants u.phase ≡ false
-idles_wants input i rows t u phase.Working idles h = ap wants h.0
-idles_wants input i rows t u (phase.WantsTable call turns) idles h = absurd idles
-idles_wants input i rows t u (phase.WantsObject call turns clock object) idles h = absurd idles
-idles_wants input i rows t u (phase.Granted place object blocked) idles h = ap wants h.1.0
-idles_wants input i rows t u (phase.ToOutside o) idles h = ap wants h.1.0
-idles_wants input i rows t u (phase.Outside o) idles h = ap wants h.1.0
-idles_wants input i rows t u (phase.Recorded o) idles h = ap wants h.1.0
-idles_wants input i rows t u (phase.Blocked call turns) idles h = ap wants h.0
-idles_wants input i rows t u phase.Stuck idles h = ap wants h.0
-idles_wants input i rows t u phase.Ended idles h = ap wants h
+idles_wants : (terms : Conditions) (i : ℕ) (rows : List Row) (t : Thread) (u : lock.Thread) (p : Phase) → Idles p → PhaseShows terms i rows t u p → wants u.phase ≡ false
+idles_wants terms i rows t u phase.Working idles h = ap wants h
+idles_wants terms i rows t u (phase.WantsTable call turns) idles h = absurd idles
+idles_wants terms i rows t u (phase.WantsObject call turns clock object) idles h = absurd idles
+idles_wants terms i rows t u (phase.Granted place object e) idles h = ap wants h.1.0
+idles_wants terms i rows t u (phase.ToOutside o) idles h = ap wants h.1.0
+idles_wants terms i rows t u (phase.Outside o) idles h = ap wants h.1.0
+idles_wants terms i rows t u (phase.Recorded o) idles h = ap wants h.1.0
+idles_wants terms i rows t u (phase.Blocked call turns) idles h = ap wants h
+idles_wants terms i rows t u phase.Ended idles h = ap wants h
 
 idle_event : (w : Whole) (i : ℕ) → Idles (thread_at w i).phase → Attempts false i w w
-idle_event w i idles input s arises h =
-    let a = attempt_idle input w s i h (idles_wants input i s.rows (thread_at w i) (thread_of s i) (thread_at w i).phase idles (h.threads i).phase) in (a.0, a.1, refl)
+idle_event w i idles terms s (arises, h) =
+    let a = attempt_idle terms w s i h (idles_wants terms i s.rows (thread_at w i) (thread_of s i) (thread_at w i).phase idles (h.threads i).phase) in (a.0, a.1, refl)
 
 -- ## By the item and the clock that the code changes
 
@@ -113,12 +111,11 @@ wants_phase : (p : Phase) (n : ℕ) → WantsIn p n → WantsPhase p n
 wants_phase phase.Working n h = absurd h
 wants_phase (phase.WantsTable call turns) n h = absurd h
 wants_phase (phase.WantsObject call turns clock object) n h = (call, turns, clock, ap (phase.WantsObject call turns clock) h)
-wants_phase (phase.Granted place object blocked) n h = absurd h
+wants_phase (phase.Granted place object e) n h = absurd h
 wants_phase (phase.ToOutside o) n h = absurd h
 wants_phase (phase.Outside o) n h = absurd h
 wants_phase (phase.Recorded o) n h = absurd h
 wants_phase (phase.Blocked call turns) n h = absurd h
-wants_phase phase.Stuck n h = absurd h
 wants_phase phase.Ended n h = absurd h
 
 pub reach_done : (w : Whole) (ts : List declared.Thread) (cs ds : List ThreadClock) (i n : ℕ) (x v : declared.Thread) (l before own : DetLock) (later : Stored) (rows : List HistoryRow) (r : Result Bool AllocError)
@@ -145,12 +142,11 @@ idling : (p : Phase) → ((call : Call) (turns : ℕ) → p ≡ phase.WantsTable
 idling phase.Working tables objects = tt
 idling (phase.WantsTable call turns) tables objects = tables call turns refl
 idling (phase.WantsObject call turns clock object) tables objects = objects call turns clock object refl
-idling (phase.Granted place object blocked) tables objects = tt
+idling (phase.Granted place object e) tables objects = tt
 idling (phase.ToOutside o) tables objects = tt
 idling (phase.Outside o) tables objects = tt
 idling (phase.Recorded o) tables objects = tt
 idling (phase.Blocked call turns) tables objects = tt
-idling phase.Stuck tables objects = tt
 idling phase.Ended tables objects = tt
 
 pub idle_done : (w : Whole) (ts : List declared.Thread) (cs : List ThreadClock) (i : ℕ) (x : declared.Thread) → i < length ts → x ≡ get_or ts i x

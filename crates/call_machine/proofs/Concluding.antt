@@ -9,34 +9,34 @@ use Rattle.lock_model.proofs.Rising.{rising_arisen}
 use Rattle.call_machine.specs.Driven.{Begins, Ends}
 use Rattle.call_machine.specs.History.{AreRising}
 use Rattle.call_machine.specs.Plain.{IsPlainRun, are_settings, are_threads, plain_of}
+use Rattle.call_machine.specs.Playing.{Played}
 use Rattle.call_machine.specs.Setup.{Inputs, setup_of}
-use Rattle.call_machine.specs.Shows.{Whole}
-use Rattle.call_machine.specs.Starting.{first_whole, told}
+use Rattle.call_machine.specs.Starting.{first_played, told}
 use Rattle.call_machine.specs.declared.plain.Plain.{Plain}
 use Rattle.call_machine.proofs.Legality.{rising_shown}
 use Rattle.call_machine.proofs.Told.{first_begins, told_shown}
 
--- a run that was made is one to its end, of what stood at the start, whose header has as many threads as there are scripts
-pub ends_of : (input : Inputs) (threads : ℕ) (strayed : Option ℕ) (first last : Whole) → threads ≡ length input.scripts
-    → first ≡ first_whole (record { threads = threads; patience = input.settings.patience; door_cost = input.settings.door_cost }) input.scripts input.outcomes → ((i : Inputs) → Begins i first → Ends i strayed last) → Ends input strayed last
-ends_of input threads strayed first last count is run =
-    let P : Whole → Type 0 = λ w. Begins input w in
+-- a run at the start, whose header has as many threads as there are scripts
+pub begins_of : (input : Inputs) (threads : ℕ) (first : Played) → threads ≡ length input.scripts
+    → first ≡ first_played (record { threads = threads; patience = input.settings.patience; door_cost = input.settings.door_cost }) input.scripts input.outcomes → Begins input first
+begins_of input threads first count is =
+    let P : Played → Type 0 = Begins input in
     let H : ℕ → Header = λ n. record { threads = n; patience = input.settings.patience; door_cost = input.settings.door_cost } in
-    run input (subst P (sym (is ∙ ap (λ (n : ℕ). first_whole (H n) input.scripts input.outcomes) count)) (first_begins input))
+    subst P (sym (is ∙ ap (λ (n : ℕ). first_played (H n) input.scripts input.outcomes) count)) (first_begins input)
 
-plain_is : (input : Inputs) (strayed : Option ℕ) (w : Whole) (plain : Plain) (e : Ends input strayed w) → plain ≡ told strayed w → plain ≡ plain_of input e.count e.last
-plain_is input strayed w plain e is = is ∙ told_shown input w e.last e.count strayed e.shows e.log e.strays
+plain_is : (input : Inputs) (strayed : Option ℕ) (p : Played) (plain : Plain) (e : Ends input strayed p) → plain ≡ told strayed p.whole → plain ≡ plain_of input e.count e.last
+plain_is input strayed p plain e is = is ∙ told_shown input p.whole e.last e.count strayed e.plays.shows e.log e.strays
 
-pub plain_run_is : (input : Inputs) (strayed : Option ℕ) (w : Whole) (plain : Plain) → Ends input strayed w → plain ≡ told strayed w → are_threads input ≡ true → are_settings input.settings ≡ true → IsPlainRun input plain
-plain_run_is input strayed w plain e is threads settings =
-    record { threads = threads; settings = settings; count = e.count; last = e.last; goes = e.goes; ends = λ none. e.over (sym e.strays ∙ none); shows = plain_is input strayed w plain e is }
+pub plain_run_is : (input : Inputs) (strayed : Option ℕ) (p : Played) (plain : Plain) → Ends input strayed p → plain ≡ told strayed p.whole → are_threads input ≡ true → are_settings input.settings ≡ true → IsPlainRun input plain
+plain_run_is input strayed p plain e is threads settings =
+    record { threads = threads; settings = settings; count = e.count; last = e.last; goes = e.goes; ends = λ none. e.over (sym e.strays ∙ none); shows = plain_is input strayed p plain e is }
 
-pub plain_legal : (input : Inputs) (strayed : Option ℕ) (w : Whole) (plain : Plain) → Ends input strayed w → plain ≡ told strayed w → IsLegal input.settings plain.history.rows
-plain_legal input strayed w plain e is =
-    let P : Plain → Type 0 = λ p. IsLegal input.settings p.history.rows in
-    subst P (sym (plain_is input strayed w plain e is)) (real_legal_arisen input.settings (setup_of input).supply (length input.scripts) e.last e.arises)
+pub plain_legal : (input : Inputs) (strayed : Option ℕ) (p : Played) (plain : Plain) → Ends input strayed p → plain ≡ told strayed p.whole → IsLegal input.settings plain.history.rows
+plain_legal input strayed p plain e is =
+    let P : Plain → Type 0 = λ x. IsLegal input.settings x.history.rows in
+    subst P (sym (plain_is input strayed p plain e is)) (real_legal_arisen input.settings (setup_of input).supply (length input.scripts) e.last e.arises)
 
-pub plain_rising : (input : Inputs) (strayed : Option ℕ) (w : Whole) (plain : Plain) → Ends input strayed w → plain ≡ told strayed w → AreRising plain.history.rows
-plain_rising input strayed w plain e is =
-    let P : Plain → Type 0 = λ p. AreRising p.history.rows in
-    subst P (sym (plain_is input strayed w plain e is)) (rising_shown e.last.rows (rising_arisen (setup_of input) (length input.scripts) limit.OBJECTS first_world e.last e.arises))
+pub plain_rising : (input : Inputs) (strayed : Option ℕ) (p : Played) (plain : Plain) → Ends input strayed p → plain ≡ told strayed p.whole → AreRising plain.history.rows
+plain_rising input strayed p plain e is =
+    let P : Plain → Type 0 = λ x. AreRising x.history.rows in
+    subst P (sym (plain_is input strayed p plain e is)) (rising_shown e.last.rows (rising_arisen (setup_of input) (length input.scripts) limit.OBJECTS first_world e.last e.arises))

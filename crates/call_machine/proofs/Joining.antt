@@ -4,7 +4,6 @@ use Rattle.std.proofs.lemmas.List.{map-set}
 use Rattle.std.specs.Prelude.{if◌then◌else◌}
 use Rattle.logical_clocks.specs.ThreadClocks.{clock_at, first_clock, live_clock, live_clocks, thread_at}
 use Rattle.logical_clocks.specs.declared.clocks.ThreadClock.{ThreadClock}
-use Rattle.thread_scripts.specs.declared.line.Line.{Line}
 use Rattle.call_machine.specs.Lives.{Agree, is_live}
 use Rattle.call_machine.specs.Shows.{item_at}
 use Rattle.call_machine.specs.Starting.{first_item, first_thread, is_ended}
@@ -45,12 +44,11 @@ agree_parts b c t h = ap (λ (b : Bool). let o : Option ℕ = if b then Some c.c
     by_phase phase.Working n = refl
     by_phase (phase.WantsTable call turns) n = refl
     by_phase (phase.WantsObject call turns clock object) n = refl
-    by_phase (phase.Granted place object blocked) n = refl
+    by_phase (phase.Granted place object e) n = refl
     by_phase (phase.ToOutside outing) n = refl
     by_phase (phase.Outside outing) n = refl
     by_phase (phase.Recorded outing) n = refl
     by_phase (phase.Blocked call turns) n = refl
-    by_phase phase.Stuck n = refl
     by_phase phase.Ended n = refl
 
 -- what turns are about is the same
@@ -86,13 +84,13 @@ agree-kept ts cs ds i old t agree inside at h =
 
 -- ## At the start, and at the end
 
-pub joined_first : (scripts : List (List Line)) → joined (map first_item scripts) (replicate (length scripts) first_clock) ≡ map first_thread scripts
-joined_first [] = refl
-joined_first (x ∷ xs) = ap (λ (l : List Thread). first_thread x ∷ l) (joined_first xs)
+pub joined_first : (n : ℕ) → joined (replicate n first_item) (replicate n first_clock) ≡ replicate n first_thread
+joined_first zero = refl
+joined_first (suc n) = ap (λ (l : List Thread). first_thread ∷ l) (joined_first n)
 
-pub agree_first : (scripts : List (List Line)) → Agree (map first_item scripts) (replicate (length scripts) first_clock)
-agree_first [] = refl
-agree_first (x ∷ xs) = ap (λ (l : List Bool). true ∷ l) (agree_first xs)
+pub agree_first : (n : ℕ) → Agree (replicate n first_item) (replicate n first_clock)
+agree_first zero = refl
+agree_first (suc n) = ap (λ (l : List Bool). true ∷ l) (agree_first n)
 
 pub map-joined : {A : Type 0} (f : declared.Thread → A) (g : Thread → A) (ts : List declared.Thread) (cs : List ThreadClock) → ((t : declared.Thread) (n : ℕ) → g (timed t n) ≡ f t) → map g (joined ts cs) ≡ map f ts
 map-joined f g [] cs h = refl

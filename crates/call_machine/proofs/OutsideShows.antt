@@ -4,7 +4,7 @@ use Rattle.std.proofs.lemmas.Bool.{cond-true, cond-false, eq-eqb, leb-true, leb-
 use Rattle.std.proofs.lemmas.Bool.Decides.{nat_tests}
 use Rattle.std.proofs.lemmas.List.{append-nil, get_or-set_same, map-set, length-append}
 use Rattle.std.proofs.lemmas.Option.{same_Some, none-some, slice_get-map}
-use Rattle.std.specs.Prelude.{nat_le, nat_lt, option_map}
+use Rattle.std.specs.Prelude.{is_some, nat_le, nat_lt, option_map}
 use Rattle.det_mutex.specs.Attempt.{freed, new_lock}
 use Rattle.det_mutex.specs.declared.lock.DetLock.{DetLock}
 use Rattle.input_log.specs.Format.{record_text}
@@ -21,7 +21,7 @@ use Rattle.lock_model.specs.Rows.{shown}
 use Rattle.lock_model.specs.State as lock
 use Rattle.lock_model.specs.State.{Job, Row, State, nobody, thread_of}
 use Rattle.lock_model.specs.State.Phase.{Outside, Recorded, ToOutside}
-use Rattle.lock_model.specs.Terms.{Request, World}
+use Rattle.lock_model.specs.Terms.{World}
 use Rattle.lock_model.proofs.Commute.{advance_move, lock_mine, lock_other, world_mine}
 use Rattle.object_store.specs.Patience.{as_answer, ended}
 use Rattle.object_store.specs.Store.{Stands, Stored}
@@ -41,13 +41,14 @@ use Rattle.posix_terms.specs.declared.call.Call.{Call}
 use Rattle.posix_terms.specs.declared.limits.TheConstants.Limits as limit
 use Rattle.posix_terms.specs.declared.outcome.Given.{Given}
 use Rattle.posix_terms.specs.declared.outcome.Outcome.{Outcome}
-use Rattle.posix_terms.specs.declared.reply.Reply.{Reply}
+use Rattle.posix_terms.specs.declared.reply.Answer as posix_answer
 use Rattle.posix_terms.specs.declared.request.Request as posix
 use Rattle.posix_terms.specs.declared.transcript.HistoryRow.{HistoryRow}
+use Rattle.call_machine.specs.Held.{told_as}
 use Rattle.call_machine.specs.Logs.{Written, came_between, logged, record_of, records_of}
-use Rattle.call_machine.specs.Outings.{AnswersOutside, Begins, BeginsIf, ConcludesHeld, ConcludesIf, ConcludesRow, ConcludesWith, EndsTurn, LoggedParts, OutsideParts, Records, RecordsIf, RecordsNext, RecordsRow, answer_cost, answers_errand, logged_parts, outside_parts, row_concluded, row_recorded, table_freed, went_on}
-use Rattle.call_machine.specs.Setup.{Inputs, outcomes_of, setup_of}
-use Rattle.call_machine.specs.Shows.{Advanced, IsInCall, IsOut, LogsMore, PhaseShows, Shows, ThreadShows, Whole, has_moved, has_strayed, thread_at}
+use Rattle.call_machine.specs.Outings.{AnswersOutside, Begins, BeginsIf, ConcludesHeld, ConcludesIf, ConcludesRow, ConcludesWith, EndsTurn, LoggedParts, OutsideParts, Records, RecordsIf, RecordsRow, answer_cost, answers_errand, logged_parts, outside_parts, row_concluded, row_recorded, table_freed, went_on}
+use Rattle.call_machine.specs.Setup.{Conditions, setup_under}
+use Rattle.call_machine.specs.Shows.{Advanced, IsOut, LogsMore, PhaseShows, Shows, ThreadShows, Whole, has_moved, has_strayed, replied, thread_at}
 use Rattle.call_machine.specs.Strays.{is_stray, stray_in}
 use Rattle.call_machine.specs.Threads.{Thread}
 use Rattle.call_machine.specs.declared.outside.Progress.{Progress}
@@ -55,7 +56,7 @@ use Rattle.call_machine.specs.declared.outside.Progress.TheVariants as progress
 use Rattle.call_machine.specs.declared.thread.Outing.{Outing}
 use Rattle.call_machine.specs.declared.thread.Phase.{Phase}
 use Rattle.call_machine.specs.declared.thread.Phase.TheVariants as phase
-use Rattle.call_machine.proofs.AnswerShows.{answer_by, answered_clock, fill_one, late_none, locks_freed, open_row, rows_answered}
+use Rattle.call_machine.proofs.AnswerShows.{answer_by, answered_clock, fill_one, late_none, locks_freed, open_row, replies_answered, replies_moved, replies_still, rows_answered}
 use Rattle.call_machine.proofs.AskShows.{within_no, within_yes}
 use Rattle.call_machine.proofs.Requests.{Little, asked_little, within_a_record}
 use Rattle.call_machine.proofs.ShownThreads.{Moving, lock_quiet, locks_quiet, whole_changed, whole_moved, whole_still, world_keeps}
@@ -63,66 +64,66 @@ use Rattle.object_store.proofs.Lists.{set_same}
 
 -- ## `begin_outside`
 
-moves_begin : (input : Inputs) (i : ℕ) (u : lock.Thread) (job : Job) → u.phase ≡ ToOutside job → moves (setup_of input) i u ≡ within (2 ^ 62) (begin_outside (real_limits input.settings) u job)
+moves_begin : (terms : Conditions) (i : ℕ) (u : lock.Thread) (job : Job) → u.phase ≡ ToOutside job → moves (setup_under terms) i u ≡ within (2 ^ 62) (begin_outside (real_limits terms.settings) u job)
 unfolding moves
-moves_begin input i u job e = ap (λ (p : lock.Phase). within (2 ^ 62) (moves_in (setup_of input) i u p)) e
+moves_begin terms i u job e = ap (λ (p : lock.Phase). within (2 ^ 62) (moves_in (setup_under terms) i u p)) e
 
-abbrev begun : Inputs → lock.Thread → Job → Moved
-begun input u job = quietly (record u { phase = Outside job; clock = u.clock + input.settings.door_cost })
+abbrev begun : Conditions → lock.Thread → Job → Moved
+begun terms u job = quietly (record u { phase = Outside job; clock = u.clock + terms.settings.door_cost })
 
-begin_yes : (input : Inputs) (u : lock.Thread) (job : Job) → nat_lt (length u.came) limit.OUTCOMES ≡ true → begin_outside (real_limits input.settings) u job ≡ Some (begun input u job)
-begin_yes input u job few = cond-true _ (Some (begun input u job)) None few
+begin_yes : (terms : Conditions) (u : lock.Thread) (job : Job) → nat_lt (length u.came) limit.OUTCOMES ≡ true → begin_outside (real_limits terms.settings) u job ≡ Some (begun terms u job)
+begin_yes terms u job few = cond-true _ (Some (begun terms u job)) None few
 
-begin_no : (input : Inputs) (u : lock.Thread) (job : Job) → nat_lt (length u.came) limit.OUTCOMES ≡ false → begin_outside (real_limits input.settings) u job ≡ None
-begin_no input u job many = cond-false _ (Some (begun input u job)) None many
+begin_no : (terms : Conditions) (u : lock.Thread) (job : Job) → nat_lt (length u.came) limit.OUTCOMES ≡ false → begin_outside (real_limits terms.settings) u job ≡ None
+begin_no terms u job many = cond-false _ (Some (begun terms u job)) None many
 
 below : (a b : ℕ) → nat_lt a b ≡ true → a < b
 below a b h = grind (arith, nat_tests)
 
-pub begin_moves : (input : Inputs) (i : ℕ) (rows : List Row) (moved : Bool) (t v : Thread) (u : lock.Thread) (o : Outing) → t.phase ≡ phase.ToOutside o → ThreadShows input i rows t u → Begins input.settings.door_cost o moved t v → Moving input i rows moved v u
-begin_moves input i rows moved t v u o is h begins =
-    let P : Phase → Type 0 = λ p. PhaseShows input i rows t u p in
+pub begin_moves : (terms : Conditions) (i : ℕ) (rows : List Row) (moved : Bool) (t v : Thread) (u : lock.Thread) (o : Outing) → t.phase ≡ phase.ToOutside o → ThreadShows terms i rows t u → Begins terms.settings.door_cost o moved t v → Moving terms i rows moved v u
+begin_moves terms i rows moved t v u o is h begins =
+    let P : Phase → Type 0 = λ p. PhaseShows terms i rows t u p in
     let (job, now) = (subst P is h.phase) in
-    by_tests job now.0 now.1 now.2 (nat_lt t.came limit.OUTCOMES) (nat_le (t.clock + input.settings.door_cost) (2 ^ 62)) refl refl begins
+    by_tests job now.0 now.1 (nat_lt t.came limit.OUTCOMES) (nat_le (t.clock + terms.settings.door_cost) (2 ^ 62)) refl refl begins
   where
     few_shown : (b : Bool) → nat_lt t.came limit.OUTCOMES ≡ b → nat_lt (length u.came) limit.OUTCOMES ≡ b
     few_shown b e = ap (λ (n : ℕ). nat_lt n limit.OUTCOMES) h.came ∙ e
 
-    still : moves (setup_of input) i u ≡ None → moved ≡ false → v ≡ t → Moving input i rows moved v u
+    still : moves (setup_under terms) i u ≡ None → moved ≡ false → v ≡ t → Moving terms i rows moved v u
     still none moved_is v_is =
-        let Q : Bool → Type 0 = λ b. Moving input i rows b v u in
-        let R : Thread → Type 0 = λ y. ThreadShows input i rows y u in
+        let Q : Bool → Type 0 = λ b. Moving terms i rows b v u in
+        let R : Thread → Type 0 = λ y. ThreadShows terms i rows y u in
         subst Q (sym moved_is) (none, subst R (sym v_is) h)
 
-    by_tests : (job : Job) → u.phase ≡ ToOutside job → IsInCall input i t u → IsOut input i rows o job → (a b : Bool) → nat_lt t.came limit.OUTCOMES ≡ a → nat_le (t.clock + input.settings.door_cost) (2 ^ 62) ≡ b
-        → BeginsIf (a && b) input.settings.door_cost o moved t v → Moving input i rows moved v u
-    by_tests job at call out true true few room (moved_is, v_is) =
-        let m = begun input u job in
-        let in_time : t.clock + input.settings.door_cost ≤ 2 ^ 62 = leb-true (t.clock + input.settings.door_cost) (2 ^ 62) room in
-        let fits : u.clock + input.settings.door_cost ≤ 2 ^ 62 = subst (λ (c : ℕ). c + input.settings.door_cost ≤ 2 ^ 62) (sym h.clock) in_time in
-        let Q : Bool → Type 0 = λ b. Moving input i rows b v u in
-        let R : Thread → Type 0 = λ y. ThreadShows input i rows y m.thread in
+    by_tests : (job : Job) → u.phase ≡ ToOutside job → IsOut terms i rows o job → (a b : Bool) → nat_lt t.came limit.OUTCOMES ≡ a → nat_le (t.clock + terms.settings.door_cost) (2 ^ 62) ≡ b
+        → BeginsIf (a && b) terms.settings.door_cost o moved t v → Moving terms i rows moved v u
+    by_tests job at out true true few room (moved_is, v_is) =
+        let m = begun terms u job in
+        let in_time : t.clock + terms.settings.door_cost ≤ 2 ^ 62 = leb-true (t.clock + terms.settings.door_cost) (2 ^ 62) room in
+        let fits : u.clock + terms.settings.door_cost ≤ 2 ^ 62 = subst (λ (c : ℕ). c + terms.settings.door_cost ≤ 2 ^ 62) (sym h.clock) in_time in
+        let Q : Bool → Type 0 = λ b. Moving terms i rows b v u in
+        let R : Thread → Type 0 = λ y. ThreadShows terms i rows y m.thread in
         subst Q (sym moved_is) (
           m,
           (
-            moves_begin input i u job at ∙ ap (within (2 ^ 62)) (begin_yes input u job (few_shown true few)) ∙ within_yes (2 ^ 62) m fits,
+            moves_begin terms i u job at ∙ ap (within (2 ^ 62)) (begin_yes terms u job (few_shown true few)) ∙ within_yes (2 ^ 62) m fits,
             refl,
             subst R (sym v_is) (record {
-              clock = ap (λ (c : ℕ). c + input.settings.door_cost) h.clock;
+              clock = ap (λ (c : ℕ). c + terms.settings.door_cost) h.clock;
               in_time = in_time;
               asked = h.asked;
               came = h.came;
-              phase = (job, (refl, record { even = call.even; reached = call.reached }, out, below t.came limit.OUTCOMES few));
+              phase = (job, (refl, out, below t.came limit.OUTCOMES few));
             }),
           ),
         )
-    by_tests job at call out true false few room (moved_is, v_is) =
-        let m = begun input u job in
-        let past : 2 ^ 62 < t.clock + input.settings.door_cost = leb-false (t.clock + input.settings.door_cost) (2 ^ 62) room in
-        let full : 2 ^ 62 < u.clock + input.settings.door_cost = subst (λ (c : ℕ). 2 ^ 62 < c + input.settings.door_cost) (sym h.clock) past in
-        still (moves_begin input i u job at ∙ ap (within (2 ^ 62)) (begin_yes input u job (few_shown true few)) ∙ within_no (2 ^ 62) m full) moved_is v_is
-    by_tests job at call out false b few room (moved_is, v_is) =
-        still (moves_begin input i u job at ∙ ap (within (2 ^ 62)) (begin_no input u job (few_shown false few))) moved_is v_is
+    by_tests job at out true false few room (moved_is, v_is) =
+        let m = begun terms u job in
+        let past : 2 ^ 62 < t.clock + terms.settings.door_cost = leb-false (t.clock + terms.settings.door_cost) (2 ^ 62) room in
+        let full : 2 ^ 62 < u.clock + terms.settings.door_cost = subst (λ (c : ℕ). 2 ^ 62 < c + terms.settings.door_cost) (sym h.clock) past in
+        still (moves_begin terms i u job at ∙ ap (within (2 ^ 62)) (begin_yes terms u job (few_shown true few)) ∙ within_no (2 ^ 62) m full) moved_is v_is
+    by_tests job at out false b few room (moved_is, v_is) =
+        still (moves_begin terms i u job at ∙ ap (within (2 ^ 62)) (begin_no terms u job (few_shown false few))) moved_is v_is
 
 -- ## `record`
 
@@ -130,8 +131,8 @@ begin_moves input i rows moved t v u o is h begins =
 errand_request : (e : Errand) (c : Call) (g : Given) → (let r : posix.Request = record { kind = e.kind; asked = e.asked; call = c } in answers_request (Some r) g) ≡ (is_kind g.kind e.kind && fits e.kind e.asked g.outcome)
 errand_request e c g = refl
 
-errand_fits : (input : Inputs) (s : State) (i : ℕ) (o : Outing) (job : Job) (g : Given) → IsOut input i s.rows o job → answers_errand o.errand g ≡ fits_job (real_calls input.settings) job g
-errand_fits input s i o job g out =
+errand_fits : (terms : Conditions) (s : State) (i : ℕ) (o : Outing) (job : Job) (g : Given) → IsOut terms i s.rows o job → answers_errand o.errand g ≡ fits_job (real_calls terms.settings) job g
+errand_fits terms s i o job g out =
     let little : Little (request_of job.call (op.Ask o.errand)) = subst Little out.asks_is (asked_little job.found.object job.call job.carried) in
     ap (λ (b : Bool). is_kind g.kind o.errand.kind && (fits o.errand.kind o.errand.asked g.outcome && b)) (le-leb o.errand.asked 65535 (within_a_record o.errand.kind o.errand.asked little))
     ∙ last_true (is_kind g.kind o.errand.kind) (fits o.errand.kind o.errand.asked g.outcome)
@@ -142,12 +143,12 @@ errand_fits input s i o job g out =
     last_true true false = refl
     last_true false b = refl
 
-moves_record : (input : Inputs) (i : ℕ) (u : lock.Thread) (job : Job) → u.phase ≡ Outside job → moves (setup_of input) i u ≡ within (2 ^ 62) (record_outcome (real_calls input.settings) u job (slice_get (outcomes_of input i) (length u.came)))
+moves_record : (terms : Conditions) (i : ℕ) (u : lock.Thread) (job : Job) → u.phase ≡ Outside job → moves (setup_under terms) i u ≡ within (2 ^ 62) (record_outcome (real_calls terms.settings) u job (slice_get (terms.supply.outcomes i) (length u.came)))
 unfolding moves
-moves_record input i u job e = ap (λ (p : lock.Phase). within (2 ^ 62) (moves_in (setup_of input) i u p)) e
+moves_record terms i u job e = ap (λ (p : lock.Phase). within (2 ^ 62) (moves_in (setup_under terms) i u p)) e
 
-stray_is : (input : Inputs) (s : State) (i : ℕ) (job : Job) → (thread_of s i).phase ≡ Outside job → is_stray (setup_of input) s i ≡ stray_in (setup_of input) (Outside job) (slice_get (outcomes_of input i) (length (thread_of s i).came))
-stray_is input s i job e = ap (λ (p : lock.Phase). stray_in (setup_of input) p (slice_get (outcomes_of input i) (length (thread_of s i).came))) e
+stray_is : (terms : Conditions) (s : State) (i : ℕ) (job : Job) → (thread_of s i).phase ≡ Outside job → is_stray (setup_under terms) s i ≡ stray_in (setup_under terms) (Outside job) (slice_get (terms.supply.outcomes i) (length (thread_of s i).came))
+stray_is terms s i job e = ap (λ (p : lock.Phase). stray_in (setup_under terms) p (slice_get (terms.supply.outcomes i) (length (thread_of s i).came))) e
 
 -- nothing came where the thread has what it had
 pub none_between : (i : ℕ) (s after : State) → (thread_of after i).came ≡ (thread_of s i).came → came_between i s after ≡ []
@@ -189,18 +190,17 @@ rows_recorded i s w place job e g rows is mine at none out ans =
     ∙ ap₂ (λ (rs : List HistoryRow) (q : HistoryRow). set rs place q) is (shown_recorded job e g none out ans)
 
 -- what stands for a state does so with any log
-shows_log : (input : Inputs) (w : Whole) (s : State) (l : Written) → Shows input w s → Shows input (record w { log = l }) s
-shows_log input w s l h =
-    record { patience = h.patience; door_cost = h.door_cost; outcomes = h.outcomes; count = h.count; threads = h.threads; table = h.table; objects = h.objects; object_count = h.object_count; world = h.world; rows = h.rows }
+shows_log : (terms : Conditions) (w : Whole) (s : State) (l : Written) → Shows terms w s → Shows terms (record w { log = l }) s
+shows_log terms w s l h =
+    record { patience = h.patience; door_cost = h.door_cost; count = h.count; threads = h.threads; table = h.table; objects = h.objects; object_count = h.object_count; world = h.world; rows = h.rows }
 
 -- a thread that is outside
-record Waiting (input : Inputs) (w : Whole) (s : State) (i : ℕ) (o : Outing) (job : Job) : Type 0 where
+record Waiting (terms : Conditions) (w : Whole) (s : State) (i : ℕ) (o : Outing) (job : Job) : Type 0 where
   inside : i < length w.threads
-  shows : Shows input w s
+  shows : Shows terms w s
   rows : HaveRows s
   phase : (thread_of s i).phase ≡ Outside job
-  call : IsInCall input i (thread_at w i) (thread_of s i)
-  out : IsOut input i s.rows o job
+  out : IsOut terms i s.rows o job
   few : (thread_at w i).came < limit.OUTCOMES
   none : job.outcome ≡ None
 
@@ -210,50 +210,50 @@ logged_at w i = logged_parts (thread_at w i) w.rows w.log
 abbrev pub recorded_whole : Whole → ℕ → LoggedParts → Whole
 recorded_whole w i p = record w { threads = set w.threads i p.thread; rows = p.rows; log = p.log }
 
-abbrev Recording : Inputs → Whole → State → ℕ → Progress → LoggedParts → Type 0
-Recording input w s i made p = Advanced made i w (recorded_whole w i p) input s
+abbrev Recording : Conditions → Whole → State → ℕ → Progress → LoggedParts → Type 0
+Recording terms w s i made p = Advanced made i w (recorded_whole w i p) terms s
 
 -- an event that cannot be made, at an outcome that is or is not there
-recorded_no : (input : Inputs) (w : Whole) (s : State) (i : ℕ) (o : Outing) (job : Job) (made : Progress) (given : Option Given) (new : LoggedParts) → Waiting input w s i o job → slice_get (outcomes_of input i) (length (thread_of s i).came) ≡ given
-    → record_outcome (real_calls input.settings) (thread_of s i) job given ≡ None → has_moved made ≡ false → stray_in (setup_of input) (Outside job) given ≡ has_strayed made → new ≡ logged_at w i → Recording input w s i made new
-recorded_no input w s i o job made given new a given_is none still strays new_is =
+recorded_no : (terms : Conditions) (w : Whole) (s : State) (i : ℕ) (o : Outing) (job : Job) (made : Progress) (given : Option Given) (new : LoggedParts) → Waiting terms w s i o job → slice_get (terms.supply.outcomes i) (length (thread_of s i).came) ≡ given
+    → record_outcome (real_calls terms.settings) (thread_of s i) job given ≡ None → has_moved made ≡ false → stray_in (setup_under terms) (Outside job) given ≡ has_strayed made → new ≡ logged_at w i → Recording terms w s i made new
+recorded_no terms w s i o job made given new a given_is none still strays new_is =
     let u = thread_of s i in
-    let is : moves (setup_of input) i u ≡ None = moves_record input i u job a.phase ∙ ap (within (2 ^ 62)) (ap (record_outcome (real_calls input.settings) u job) given_is ∙ none) in
-    let next : advance (setup_of input) i s ≡ s = advance_move (setup_of input) i s ∙ ap (λ (m : Option Moved). machine.move i m s) is in
-    let P : LoggedParts → Type 0 = λ p. Recording input w s i made p in
-    let held = whole_still input w s i (thread_at w i) a.inside a.shows is (a.shows.threads i) in
+    let is : moves (setup_under terms) i u ≡ None = moves_record terms i u job a.phase ∙ ap (within (2 ^ 62)) (ap (record_outcome (real_calls terms.settings) u job) given_is ∙ none) in
+    let next : advance (setup_under terms) i s ≡ s = advance_move (setup_under terms) i s ∙ ap (λ (m : Option Moved). machine.move i m s) is in
+    let P : LoggedParts → Type 0 = λ p. Recording terms w s i made p in
+    let held = whole_still terms w s i (thread_at w i) a.inside a.shows is (a.shows.threads i) in
     subst P (sym new_is) (record {
       can = held.0 ∙ sym still;
-      strays = stray_is input s i job a.phase ∙ ap (stray_in (setup_of input) (Outside job)) given_is ∙ strays;
+      strays = stray_is terms s i job a.phase ∙ ap (stray_in (setup_under terms) (Outside job)) given_is ∙ strays;
       shows = held.1;
-      log = logs_none (came_between i s (advance (setup_of input) i s)) w.log w.log (none_between i s (advance (setup_of input) i s) (ap (λ (z : State). (thread_of z i).came) next)) refl;
+      log = logs_none (came_between i s (advance (setup_under terms) i s)) w.log w.log (none_between i s (advance (setup_under terms) i s) (ap (λ (z : State). (thread_of z i).came) next)) refl;
     })
 
-recorded_yes : (input : Inputs) (w : Whole) (s : State) (i : ℕ) (o : Outing) (job : Job) (g : Given) → Waiting input w s i o job → slice_get (outcomes_of input i) (length (thread_of s i).came) ≡ Some g → fits_job (real_calls input.settings) job g ≡ true
-    → Recording input w s i progress.Moves (row_recorded i o g (shown (row_of job)) (logged_at w i))
-recorded_yes input w s i o job g a given_is good =
+recorded_yes : (terms : Conditions) (w : Whole) (s : State) (i : ℕ) (o : Outing) (job : Job) (g : Given) → Waiting terms w s i o job → slice_get (terms.supply.outcomes i) (length (thread_of s i).came) ≡ Some g → fits_job (real_calls terms.settings) job g ≡ true
+    → Recording terms w s i progress.Moves (row_recorded i o g (shown (row_of job)) (logged_at w i))
+recorded_yes terms w s i o job g a given_is good =
     let u = thread_of s i in
     let t = thread_at w i in
     let h = a.shows.threads i in
-    let calls = real_calls input.settings in
+    let calls = real_calls terms.settings in
     let m : Moved = with_outcome u job g in
     let new = row_recorded i o g (shown (row_of job)) (logged_at w i) in
     let fits_in : u.clock ≤ 2 ^ 62 = subst (λ (c : ℕ). c ≤ 2 ^ 62) (sym h.clock) h.in_time in
     let recorded : record_outcome calls u job (Some g) ≡ Some m = cond-true (fits_job calls job g) (Some m) None good in
-    let is : moves (setup_of input) i u ≡ Some m = moves_record input i u job a.phase ∙ ap (within (2 ^ 62)) (ap (record_outcome calls u job) given_is ∙ recorded) ∙ within_yes (2 ^ 62) m fits_in in
-    let next : advance (setup_of input) i s ≡ machine.move i (Some m) s = advance_move (setup_of input) i s ∙ ap (λ (x : Option Moved). machine.move i x s) is in
+    let is : moves (setup_under terms) i u ≡ Some m = moves_record terms i u job a.phase ∙ ap (within (2 ^ 62)) (ap (record_outcome calls u job) given_is ∙ recorded) ∙ within_yes (2 ^ 62) m fits_in in
+    let next : advance (setup_under terms) i s ≡ machine.move i (Some m) s = advance_move (setup_under terms) i s ∙ ap (λ (x : Option Moved). machine.move i x s) is in
     let within_s : i < length s.threads = subst (λ (n : ℕ). i < n) (sym a.shows.count) a.inside in
-    let mine : thread_of (advance (setup_of input) i s) i ≡ m.thread = ap (λ (z : State). thread_of z i) next ∙ get_or-set_same s.threads i m.thread nobody within_s in
-    let moved = whole_moved input w s i new.thread m w.lock w.objects new.rows a.inside a.shows is
-    (record { clock = h.clock; in_time = h.in_time; asked = h.asked; came = length-append u.came (g ∷ []) ∙ ap (λ (n : ℕ). n + 1) h.came; phase = (record job { outcome = Some g }, (refl, record { even = a.call.even; reached = a.call.reached }, out_recorded m)) })
+    let mine : thread_of (advance (setup_under terms) i s) i ≡ m.thread = ap (λ (z : State). thread_of z i) next ∙ get_or-set_same s.threads i m.thread nobody within_s in
+    let moved = whole_moved terms w s i new.thread m w.lock w.objects new.rows a.inside a.shows is
+    (record { clock = h.clock; in_time = h.in_time; asked = h.asked; came = length-append u.came (g ∷ []) ∙ ap (λ (n : ℕ). n + 1) h.came; phase = (record job { outcome = Some g }, (refl, out_recorded m)) })
     (lock_quiet i s.table ∙ a.shows.table) (locks_quiet i s.objects ∙ a.shows.objects) refl
     (rows_recorded i s w.rows o.row job m.effect g a.rows a.shows.rows a.out.thread a.out.row a.none refl refl) in
-    let between : came_between i s (advance (setup_of input) i s) ≡ record_of i t.came g ∷ [] = one_between i s (advance (setup_of input) i s) g (ap (λ (x : lock.Thread). x.came) mine) ∙ ap (λ (n : ℕ). record_of i n g ∷ []) h.came in
+    let between : came_between i s (advance (setup_under terms) i s) ≡ record_of i t.came g ∷ [] = one_between i s (advance (setup_under terms) i s) g (ap (λ (x : lock.Thread). x.came) mine) ∙ ap (λ (n : ℕ). record_of i n g ∷ []) h.came in
     let L : List Record → Type 0 = λ rs. LogsMore rs w.log new.log in
     record {
       can = moved.0;
-      strays = stray_is input s i job a.phase ∙ ap (stray_in (setup_of input) (Outside job)) given_is ∙ ap not good;
-      shows = shows_log input (record w { threads = set w.threads i new.thread; rows = new.rows }) (advance (setup_of input) i s) new.log moved.1;
+      strays = stray_is terms s i job a.phase ∙ ap (stray_in (setup_under terms) (Outside job)) given_is ∙ ap not good;
+      shows = shows_log terms (record w { threads = set w.threads i new.thread; rows = new.rows }) (advance (setup_under terms) i s) new.log moved.1;
       log = subst L (sym between) (logs_one (record_of i t.came g) w.log);
     }
   where
@@ -262,7 +262,7 @@ recorded_yes input w s i o job g a given_is good =
     slice_get_set (r ∷ rs) zero x y e = refl
     slice_get_set (r ∷ rs) (suc k) x y e = slice_get_set rs k x y e
 
-    out_recorded : (m : Moved) → IsOut input i (map (row_after i (with_outcome (thread_of s i) job g).effect) s.rows) o (record job { outcome = Some g })
+    out_recorded : (m : Moved) → IsOut terms i (map (row_after i (with_outcome (thread_of s i) job g).effect) s.rows) o (record job { outcome = Some g })
     out_recorded m =
         let e = (with_outcome (thread_of s i) job g).effect in
         let open_is = open_row i job a.out.thread in
@@ -286,40 +286,28 @@ recorded_yes input w s i o job g a given_is good =
 room_for : (n : ℕ) → n < limit.OUTCOMES → nat_lt (n + 1) (2 ^ 32) ≡ true
 room_for n few = grind (arith, nat_tests)
 
-recorded_by : (input : Inputs) (w : Whole) (s : State) (i : ℕ) (o : Outing) (job : Job) (made : Progress) (new : LoggedParts) (given : Option Given) → Waiting input w s i o job → slice_get (outcomes_of input i) (thread_at w i).came ≡ given
-    → RecordsNext given made i o (logged_at w i) new → Recording input w s i made new
-recorded_by input w s i o job made new None a is (made_is, new_is) =
-    let P : Progress → Type 0 = λ p. Recording input w s i p new in
-    let at = ap (slice_get (outcomes_of input i)) (a.shows.threads i).came ∙ is in
-    subst P (sym made_is) (recorded_no input w s i o job progress.Stays None new a at refl refl refl new_is)
-recorded_by input w s i o job made new (Some g) a is h = by_test (answers_errand o.errand g) refl h
-  where
-    at : slice_get (outcomes_of input i) (length (thread_of s i).came) ≡ Some g
-    at = ap (slice_get (outcomes_of input i)) (a.shows.threads i).came ∙ is
+recorded_by : (terms : Conditions) (w : Whole) (s : State) (i : ℕ) (o : Outing) (job : Job) (made : Progress) (new : LoggedParts) (g : Given) → Waiting terms w s i o job → slice_get (terms.supply.outcomes i) (length (thread_of s i).came) ≡ Some g
+    → (b : Bool) → answers_errand o.errand g ≡ b → RecordsIf b made i o g (logged_at w i) new → Recording terms w s i made new
+recorded_by terms w s i o job made new g a at false e (made_is, new_is) =
+    let misfit : fits_job (real_calls terms.settings) job g ≡ false = sym (errand_fits terms s i o job g a.out) ∙ e in
+    let P : Progress → Type 0 = λ p. Recording terms w s i p new in
+    subst P (sym made_is) (recorded_no terms w s i o job progress.Strays (Some g) new a at (cond-false (fits_job (real_calls terms.settings) job g) _ None misfit) refl (ap not misfit) new_is)
+recorded_by terms w s i o job made new g a at true e h =
+    let there : slice_get w.rows o.row ≡ Some (shown (row_of job)) = ap (λ (rs : List HistoryRow). slice_get rs o.row) (sym a.shows.rows) ∙ slice_get-map shown s.rows o.row ∙ ap (option_map shown) a.out.row in
+    let R : Option HistoryRow → Type 0 = λ q. RecordsRow q (nat_lt ((thread_at w i).came + 1) (2 ^ 32)) made i o g (logged_at w i) new in
+    let S : Bool → Type 0 = λ b. RecordsRow (Some (shown (row_of job))) b made i o g (logged_at w i) new in
+    let k : (made ≡ progress.Moves) × (new ≡ row_recorded i o g (shown (row_of job)) (logged_at w i)) = subst S (room_for (thread_at w i).came a.few) (subst R there h) in
+    let P : Progress → Type 0 = λ p. Recording terms w s i p new in
+    let Q : LoggedParts → Type 0 = λ p. Recording terms w s i progress.Moves p in
+    subst P (sym k.0) (subst Q (sym k.1) (recorded_yes terms w s i o job g a at (sym (errand_fits terms s i o job g a.out) ∙ e)))
 
-    fits_as : (b : Bool) → answers_errand o.errand g ≡ b → fits_job (real_calls input.settings) job g ≡ b
-    fits_as b e = sym (errand_fits input s i o job g a.out) ∙ e
-
-    by_test : (b : Bool) → answers_errand o.errand g ≡ b → RecordsIf b made i o g (logged_at w i) new → Recording input w s i made new
-    by_test false e (made_is, new_is) =
-        let P : Progress → Type 0 = λ p. Recording input w s i p new in
-        subst P (sym made_is) (recorded_no input w s i o job progress.Strays (Some g) new a at (cond-false (fits_job (real_calls input.settings) job g) _ None (fits_as false e)) refl (ap not (fits_as false e)) new_is)
-    by_test true e h =
-        let there : slice_get w.rows o.row ≡ Some (shown (row_of job)) = ap (λ (rs : List HistoryRow). slice_get rs o.row) (sym a.shows.rows) ∙ slice_get-map shown s.rows o.row ∙ ap (option_map shown) a.out.row in
-        let R : Option HistoryRow → Type 0 = λ q. RecordsRow q (nat_lt ((thread_at w i).came + 1) (2 ^ 32)) made i o g (logged_at w i) new in
-        let S : Bool → Type 0 = λ b. RecordsRow (Some (shown (row_of job))) b made i o g (logged_at w i) new in
-        let k : (made ≡ progress.Moves) × (new ≡ row_recorded i o g (shown (row_of job)) (logged_at w i)) = subst S (room_for (thread_at w i).came a.few) (subst R there h) in
-        let P : Progress → Type 0 = λ p. Recording input w s i p new in
-        let Q : LoggedParts → Type 0 = λ p. Recording input w s i progress.Moves p in
-        subst P (sym k.0) (subst Q (sym k.1) (recorded_yes input w s i o job g a at (fits_as true e)))
-
-pub record_whole : (input : Inputs) (w : Whole) (s : State) (i : ℕ) (o : Outing) (made : Progress) (new : LoggedParts) → i < length w.threads → Shows input w s → HaveRows s → HavePlans (real_calls input.settings) s → (thread_at w i).phase ≡ phase.Outside o
-    → Records made i o (outcomes_of input i) (logged_at w i) new → Recording input w s i made new
-record_whole input w s i o made new inside h own plans is records =
-    let P : Phase → Type 0 = λ p. PhaseShows input i s.rows (thread_at w i) (thread_of s i) p in
+pub record_whole : (terms : Conditions) (w : Whole) (s : State) (i : ℕ) (o : Outing) (g : Given) (made : Progress) (new : LoggedParts) → i < length w.threads → Shows terms w s → HaveRows s → HavePlans (real_calls terms.settings) s → (thread_at w i).phase ≡ phase.Outside o
+    → slice_get (terms.supply.outcomes i) (length (thread_of s i).came) ≡ Some g → Records made i o g (logged_at w i) new → Recording terms w s i made new
+record_whole terms w s i o given made new inside h own plans is at records =
+    let P : Phase → Type 0 = λ p. PhaseShows terms i s.rows (thread_at w i) (thread_of s i) p in
     let g = subst P is (h.threads i).phase in
-    let a : Waiting input w s i o g.0 = record { inside = inside; shows = h; rows = own; phase = g.1.0; call = g.1.1; out = g.1.2; few = g.1.3; none = plans.waits i g.0 g.1.0 } in
-    recorded_by input w s i o g.0 made new (slice_get (outcomes_of input i) (thread_at w i).came) a refl records
+    let a : Waiting terms w s i o g.0 = record { inside = inside; shows = h; rows = own; phase = g.1.0; out = g.1.1; few = g.1.2; none = plans.waits i g.0 g.1.0 } in
+    recorded_by terms w s i o g.0 made new given a at (answers_errand o.errand given) refl records
 
 -- ## `answer`
 
@@ -346,30 +334,29 @@ concludes_by u c n keeps a w k =
       effect = record { outcome = None; answer = Some a; object_freed = Some u.clock; table_freed = Some (u.clock + 1); world = w };
     }
 
-answer_concludes : (input : Inputs) (u : lock.Thread) (job : Job) (n : ℕ) (keeps : Bool) (a : Answer) → job.plan ≡ Object n (way_of true keeps) → (real_calls input.settings).answer job.found job.call job.outcome job.carried ≡ a
-    → machine.answer (real_calls input.settings) u job ≡ concluding u job.call keeps a (late_change (real_calls input.settings) job job.outcome keeps)
-answer_concludes input u job n keeps a plan gives =
-    let calls = real_calls input.settings in
+answer_concludes : (terms : Conditions) (u : lock.Thread) (job : Job) (n : ℕ) (keeps : Bool) (a : Answer) → job.plan ≡ Object n (way_of true keeps) → (real_calls terms.settings).answer job.found job.call job.outcome job.carried ≡ a
+    → machine.answer (real_calls terms.settings) u job ≡ concluding u job.call keeps a (late_change (real_calls terms.settings) job job.outcome keeps)
+answer_concludes terms u job n keeps a plan gives =
+    let calls = real_calls terms.settings in
     ap (λ (p : Plan). answer_by u job.call p (calls.answer job.found job.call job.outcome job.carried) (late_change calls job job.outcome (keeps_table p))) plan
     ∙ ap₂ (λ (b : Answer) (k : Bool). answer_by u job.call (Object n (way_of true keeps)) b (late_change calls job job.outcome k)) gives (plan_kept n keeps)
     ∙ concludes_by u job.call n keeps a (late_change calls job job.outcome keeps)
 
-moves_recorded : (input : Inputs) (i : ℕ) (u : lock.Thread) (job : Job) (n : ℕ) (keeps : Bool) (a : Answer) → u.phase ≡ Recorded job → job.plan ≡ Object n (way_of true keeps) → (real_calls input.settings).answer job.found job.call job.outcome job.carried ≡ a
-    → moves (setup_of input) i u ≡ within (2 ^ 62) (Some (concluding u job.call keeps a (late_change (real_calls input.settings) job job.outcome keeps)))
+moves_recorded : (terms : Conditions) (i : ℕ) (u : lock.Thread) (job : Job) (n : ℕ) (keeps : Bool) (a : Answer) → u.phase ≡ Recorded job → job.plan ≡ Object n (way_of true keeps) → (real_calls terms.settings).answer job.found job.call job.outcome job.carried ≡ a
+    → moves (setup_under terms) i u ≡ within (2 ^ 62) (Some (concluding u job.call keeps a (late_change (real_calls terms.settings) job job.outcome keeps)))
 unfolding moves
-moves_recorded input i u job n keeps a e plan gives =
-    ap (λ (p : lock.Phase). within (2 ^ 62) (moves_in (setup_of input) i u p)) e
-    ∙ ap (λ (m : Moved). within (2 ^ 62) (Some m)) (answer_concludes input u job n keeps a plan gives)
+moves_recorded terms i u job n keeps a e plan gives =
+    ap (λ (p : lock.Phase). within (2 ^ 62) (moves_in (setup_under terms) i u p)) e
+    ∙ ap (λ (m : Moved). within (2 ^ 62) (Some m)) (answer_concludes terms u job n keeps a plan gives)
 
 -- a thread whose outcome came
-pub record Concluding (input : Inputs) (w : Whole) (s : State) (i : ℕ) (o : Outing) (job : Job) (g : Given) : Type 0 where
+pub record Concluding (terms : Conditions) (w : Whole) (s : State) (i : ℕ) (o : Outing) (job : Job) (g : Given) : Type 0 where
   pub inside : i < length w.threads
-  pub shows : Shows input w s
+  pub shows : Shows terms w s
   pub held : AreHeld s
   pub rows : HaveRows s
   pub phase : (thread_of s i).phase ≡ Recorded job
-  pub call : IsInCall input i (thread_at w i) (thread_of s i)
-  pub out : IsOut input i s.rows o job
+  pub out : IsOut terms i s.rows o job
   pub found : o.keeps_table ≡ true → job.found ≡ s.world
   pub came : job.outcome ≡ Some g
   pub good : fits o.errand.kind o.errand.asked g.outcome ≡ true
@@ -380,7 +367,7 @@ outside_at w i n = outside_parts (thread_at w i) (get_or w.objects n new_lock) w
 abbrev pub concluded_whole : Whole → ℕ → ℕ → OutsideParts → Whole
 concluded_whole w i n p = record w { threads = set w.threads i p.thread; lock = p.lock; objects = set w.objects n p.object; table = p.table; rows = p.rows }
 
-module _ (input : Inputs) (w : Whole) (s : State) (i : ℕ) (o : Outing) (job : Job) (g : Given) (c : Concluding input w s i o job g) where
+module _ (terms : Conditions) (w : Whole) (s : State) (i : ℕ) (o : Outing) (job : Job) (g : Given) (c : Concluding terms w s i o job g) where
   abbrev n : ℕ
   n = c.out.object
 
@@ -391,7 +378,7 @@ module _ (input : Inputs) (w : Whole) (s : State) (i : ℕ) (o : Outing) (job : 
   t = thread_at w i
 
   abbrev Concluded : Bool → OutsideParts → Type 0
-  Concluded moved p = (can_advance (setup_of input) s i ≡ moved) × Shows input (concluded_whole w i n p) (advance (setup_of input) i s)
+  Concluded moved p = (can_advance (setup_under terms) s i ≡ moved) × Shows terms (concluded_whole w i n p) (advance (setup_under terms) i s)
 
   -- whether thread i holds the table, and an object
   keeps_held : is_number s.table.holder i ≡ o.keeps_table
@@ -405,25 +392,25 @@ module _ (input : Inputs) (w : Whole) (s : State) (i : ℕ) (o : Outing) (job : 
 
   -- what the step says of this outcome
   abbrev stepped : Stepped
-  stepped = step input.settings job.found.object job.call (Some g.outcome) job.carried
+  stepped = step terms.settings job.found.object job.call (Some g.outcome) job.carried
 
-  gives_is : (x : TurnEnd) → answer_in stepped ≡ ended x → (real_calls input.settings).answer job.found job.call job.outcome job.carried ≡ ended x
-  gives_is x is = ap (λ (y : Option Given). answer_in (step input.settings job.found.object job.call (outcome_in y) job.carried)) c.came ∙ is
+  gives_is : (x : TurnEnd) → answer_in stepped ≡ ended x → (real_calls terms.settings).answer job.found job.call job.outcome job.carried ≡ ended x
+  gives_is x is = ap (λ (y : Option Given). answer_in (step terms.settings job.found.object job.call (outcome_in y) job.carried)) c.came ∙ is
 
   -- how the turn ended, and what the table stands for then
   record Ended (x : TurnEnd) (table : Stored) : Type 0 where
     answer_is : answer_in stepped ≡ ended x
-    world_is : Stands table (world_after i s.table (late_change (real_calls input.settings) job job.outcome o.keeps_table) s.world)
+    world_is : Stands table (world_after i s.table (late_change (real_calls terms.settings) job job.outcome o.keeps_table) s.world)
 
-  ended_by : (keeps : Bool) (x : TurnEnd) (table : Stored) → o.keeps_table ≡ keeps → EndsTurn keeps input.settings.patience o job.call g.outcome x w.table table → Ended x table
+  ended_by : (keeps : Bool) (x : TurnEnd) (table : Stored) → o.keeps_table ≡ keeps → EndsTurn keeps terms.settings.patience o job.call g.outcome x w.table table → Ended x table
   ended_by false x table keeps (ends, same) =
-      let patience_is : (settings : Settings) (z : posix_state.State) → settings.patience ≡ input.settings.patience → as_answer (acts.ended settings z o.turns (acts.outside_ending o.errand numbers.None (Some g.outcome))) ≡ ended x = ends c.good in
-      let at : as_answer (acts.ended input.settings job.found.object job.carried (acts.outside_ending o.errand numbers.None (Some g.outcome))) ≡ ended x =
-      subst (λ (k : ℕ). as_answer (acts.ended input.settings job.found.object k (acts.outside_ending o.errand numbers.None (Some g.outcome))) ≡ ended x) (sym c.out.carried) (patience_is input.settings job.found.object refl) in
-      let none : late_change (real_calls input.settings) job job.outcome o.keeps_table ≡ None = ap (late_change (real_calls input.settings) job job.outcome) keeps ∙ late_none (real_calls input.settings) job job.outcome in
+      let patience_is : (settings : Settings) (z : posix_state.State) → settings.patience ≡ terms.settings.patience → as_answer (acts.ended settings z o.turns (acts.outside_ending o.errand numbers.None (Some g.outcome))) ≡ ended x = ends c.good in
+      let at : as_answer (acts.ended terms.settings job.found.object job.carried (acts.outside_ending o.errand numbers.None (Some g.outcome))) ≡ ended x =
+      subst (λ (k : ℕ). as_answer (acts.ended terms.settings job.found.object k (acts.outside_ending o.errand numbers.None (Some g.outcome))) ≡ ended x) (sym c.out.carried) (patience_is terms.settings job.found.object refl) in
+      let none : late_change (real_calls terms.settings) job job.outcome o.keeps_table ≡ None = ap (late_change (real_calls terms.settings) job job.outcome) keeps ∙ late_none (real_calls terms.settings) job job.outcome in
       record {
         answer_is = ap as_answer (c.out.ends keeps g.outcome) ∙ at;
-        world_is = subst (λ (y : Stored). Stands y (world_after i s.table (late_change (real_calls input.settings) job job.outcome o.keeps_table) s.world)) (sym same)
+        world_is = subst (λ (y : Stored). Stands y (world_after i s.table (late_change (real_calls terms.settings) job job.outcome o.keeps_table) s.world)) (sym same)
             (subst (Stands w.table) (sym (ap (λ (v : Option World). world_after i s.table v s.world) none ∙ world_keeps i s.table s.world)) c.shows.world);
       }
   ended_by true x table keeps opens =
@@ -431,9 +418,9 @@ module _ (input : Inputs) (w : Whole) (s : State) (i : ℕ) (o : Outing) (job : 
       let stands : Stands w.table job.found = subst (Stands w.table) (sym found) c.shows.world in
       let keeps_call : posix_locked.keeps_table job.call ≡ true = sym c.out.keeps ∙ keeps in
       let asked : asks job.found.object job.call o.turns ≡ Some (record { kind = o.errand.kind; asked = o.errand.asked; call = job.call }) = subst (λ (k : ℕ). asks job.found.object job.call k ≡ request_of job.call (op.Ask o.errand)) c.out.carried c.out.asks_is in
-      let made = opens input.settings job.found (record { kind = o.errand.kind; asked = o.errand.asked; call = job.call }) refl stands keeps_call asked c.good in
-      let after : late_change (real_calls input.settings) job job.outcome o.keeps_table ≡ Some (world_with job.found stepped.after) = ap₂ (late_change (real_calls input.settings) job) c.came keeps in
-      let P : ℕ → Type 0 = λ k. let y = step input.settings job.found.object job.call (Some g.outcome) k in (answer_in y ≡ ended x) × Stands table (world_with job.found y.after) in
+      let made = opens terms.settings job.found (record { kind = o.errand.kind; asked = o.errand.asked; call = job.call }) refl stands keeps_call asked c.good in
+      let after : late_change (real_calls terms.settings) job job.outcome o.keeps_table ≡ Some (world_with job.found stepped.after) = ap₂ (late_change (real_calls terms.settings) job) c.came keeps in
+      let P : ℕ → Type 0 = λ k. let y = step terms.settings job.found.object job.call (Some g.outcome) k in (answer_in y ≡ ended x) × Stands table (world_with job.found y.after) in
       let both : P job.carried = subst P (sym c.out.carried) made in
       record {
         answer_is = both.0;
@@ -443,76 +430,63 @@ module _ (input : Inputs) (w : Whole) (s : State) (i : ℕ) (o : Outing) (job : 
   cost_le : (k cost : ℕ) → k + cost ≤ 2 ^ 62 → k + cost ≤ 2 ^ 62
   cost_le k cost h = h
 
-  -- the thread works with its reply, or makes its call again
+  -- the thread works, or makes its call again
   thread_concluded : (x : TurnEnd) (rows : List Row) → t.clock + answer_cost o.keeps_table ≤ 2 ^ 62
-      → ThreadShows input i rows (went_on job.call x (record t { clock = t.clock + answer_cost o.keeps_table })) (answered u job.call (u.clock + answer_cost o.keeps_table) (ended x))
+      → ThreadShows terms i rows (went_on job.call x (record t { clock = t.clock + answer_cost o.keeps_table })) (answered u job.call (u.clock + answer_cost o.keeps_table) (ended x))
   thread_concluded (end.Reply reply) rows room =
-      let h = c.shows.threads i in
-      record {
-        clock = ap (λ (k : ℕ). k + answer_cost o.keeps_table) h.clock;
-        in_time = room;
-        asked = h.asked;
-        came = h.came;
-        phase = (refl, record { even = one_more u.replies reply ∙ c.call.even; reached = c.call.reached reply });
-      }
-    where
-      one_more : (rs : List Reply) (r : Reply) → length (rs ++ r ∷ []) ≡ suc (length rs)
-      one_more rs r = length-append rs (r ∷ []) ∙ plus_one (length rs)
-        where
-          plus_one : (k : ℕ) → k + 1 ≡ suc k
-          plus_one k = omega arith
+      let h = c.shows.threads i in record { clock = ap (λ (k : ℕ). k + answer_cost o.keeps_table) h.clock; in_time = room; asked = h.asked; came = h.came; phase = refl }
   thread_concluded (end.Blocked turns) rows room =
-      let h = c.shows.threads i in
-      record {
-        clock = ap (λ (k : ℕ). k + answer_cost o.keeps_table) h.clock;
-        in_time = room;
-        asked = h.asked;
-        came = h.came;
-        phase = (refl, record { even = c.call.even; reached = c.call.reached });
-      }
+      let h = c.shows.threads i in record { clock = ap (λ (k : ℕ). k + answer_cost o.keeps_table) h.clock; in_time = room; asked = h.asked; came = h.came; phase = refl }
 
   table_after : (keeps : Bool) → o.keeps_table ≡ keeps → lock_after i (Some (u.clock + 1)) s.table ≡ table_freed keeps (t.clock + 1) w.lock
   table_after true keeps = lock_mine i (Some (u.clock + 1)) s.table (keeps_held ∙ keeps) ∙ ap (λ (k : ℕ). freed (k + 1)) (c.shows.threads i).clock
   table_after false keeps = lock_other i (Some (u.clock + 1)) s.table (keeps_held ∙ keeps) ∙ c.shows.table
 
-  concluded_yes : (x : TurnEnd) (table : Stored) → Ended x table → t.clock + answer_cost o.keeps_table ≤ 2 ^ 62 → Concluded true (row_concluded o (shown (row_of job)) x table (outside_at w i n))
+  -- it is told, where the clock has room
+  abbrev Told : Option posix_answer.Answer → OutsideParts → Type 0
+  Told told p = Concluded (is_some told) p × ((thread_of (advance (setup_under terms) i s) i).replies ≡ replied told u.replies)
+
+  concluded_yes : (x : TurnEnd) (table : Stored) → Ended x table → t.clock + answer_cost o.keeps_table ≤ 2 ^ 62 → Told (Some (told_as x)) (row_concluded o (shown (row_of job)) x table (outside_at w i n))
   concluded_yes x table e room =
       let h = c.shows.threads i in
-      let m = concluding u job.call o.keeps_table (ended x) (late_change (real_calls input.settings) job job.outcome o.keeps_table) in
+      let m = concluding u job.call o.keeps_table (ended x) (late_change (real_calls terms.settings) job job.outcome o.keeps_table) in
       let new = row_concluded o (shown (row_of job)) x table (outside_at w i n) in
       let fits_in : u.clock + answer_cost o.keeps_table ≤ 2 ^ 62 = subst (λ (k : ℕ). k + answer_cost o.keeps_table ≤ 2 ^ 62) (sym h.clock) room in
-      let is : moves (setup_of input) i u ≡ Some m = moves_recorded input i u job n o.keeps_table (ended x) c.phase c.out.plan (gives_is x e.answer_is) ∙ within_yes (2 ^ 62) m (subst (λ (k : ℕ). k ≤ 2 ^ 62) (sym (answered_clock u job.call (u.clock + answer_cost o.keeps_table) (ended x))) fits_in) in
-      whole_changed input w s i new.thread m new.lock (set w.objects n new.object) table new.rows c.inside c.shows is
-      (thread_concluded x (map (row_after i m.effect) s.rows) room)
-      (table_after o.keeps_table refl)
-      (locks_freed i n u.clock s.objects within_objects (object_held_is n within_objects ∙ eq-eqb n n refl) (λ k inside apart. object_held_is k inside ∙ ne_eqb n k (λ q. apart (sym q)))
-      ∙ ap₂ (λ (ls : List DetLock) (k : ℕ). set ls n (freed k)) c.shows.objects h.clock)
-      e.world_is
-      (rows_answered i s w.rows o.row job m.effect x c.rows c.shows.rows c.out.thread c.out.row refl refl)
+      let is : moves (setup_under terms) i u ≡ Some m = moves_recorded terms i u job n o.keeps_table (ended x) c.phase c.out.plan (gives_is x e.answer_is) ∙ within_yes (2 ^ 62) m (subst (λ (k : ℕ). k ≤ 2 ^ 62) (sym (answered_clock u job.call (u.clock + answer_cost o.keeps_table) (ended x))) fits_in) in
+      let inside : i < length s.threads = subst (λ (k : ℕ). i < k) (sym c.shows.count) c.inside in (
+        whole_changed terms w s i new.thread m new.lock (set w.objects n new.object) table new.rows c.inside c.shows is
+            (thread_concluded x (map (row_after i m.effect) s.rows) room)
+            (table_after o.keeps_table refl)
+            (locks_freed i n u.clock s.objects within_objects (object_held_is n within_objects ∙ eq-eqb n n refl) (λ k inside apart. object_held_is k inside ∙ ne_eqb n k (λ q. apart (sym q)))
+            ∙ ap₂ (λ (ls : List DetLock) (k : ℕ). set ls n (freed k)) c.shows.objects h.clock)
+            e.world_is
+            (rows_answered i s w.rows o.row job m.effect x c.rows c.shows.rows c.out.thread c.out.row refl refl),
+        replies_moved terms s i m inside is ∙ replies_answered u job.call (u.clock + answer_cost o.keeps_table) x,
+      )
 
-  concluded_no : (x : TurnEnd) → answer_in stepped ≡ ended x → 2 ^ 62 < t.clock + answer_cost o.keeps_table → Concluded false (outside_at w i n)
+  concluded_no : (x : TurnEnd) → answer_in stepped ≡ ended x → 2 ^ 62 < t.clock + answer_cost o.keeps_table → Told None (outside_at w i n)
   concluded_no x gives full =
       let h = c.shows.threads i in
-      let m = concluding u job.call o.keeps_table (ended x) (late_change (real_calls input.settings) job job.outcome o.keeps_table) in
+      let m = concluding u job.call o.keeps_table (ended x) (late_change (real_calls terms.settings) job job.outcome o.keeps_table) in
       let past : 2 ^ 62 < u.clock + answer_cost o.keeps_table = subst (λ (k : ℕ). 2 ^ 62 < k + answer_cost o.keeps_table) (sym h.clock) full in
-      let is : moves (setup_of input) i u ≡ None = moves_recorded input i u job n o.keeps_table (ended x) c.phase c.out.plan (gives_is x gives) ∙ within_no (2 ^ 62) m (subst (λ (k : ℕ). 2 ^ 62 < k) (sym (answered_clock u job.call (u.clock + answer_cost o.keeps_table) (ended x))) past) in
-      let still = whole_still input w s i t c.inside c.shows is h in
+      let is : moves (setup_under terms) i u ≡ None = moves_recorded terms i u job n o.keeps_table (ended x) c.phase c.out.plan (gives_is x gives) ∙ within_no (2 ^ 62) m (subst (λ (k : ℕ). 2 ^ 62 < k) (sym (answered_clock u job.call (u.clock + answer_cost o.keeps_table) (ended x))) past) in
+      let still = whole_still terms w s i t c.inside c.shows is h in
       let inside : n < length w.objects = subst (λ (k : ℕ). n < k) (sym c.shows.object_count) c.out.in_range in
-      let P : List DetLock → Type 0 = λ ls. Shows input (record w { threads = set w.threads i t; objects = ls }) (advance (setup_of input) i s) in
-      (still.0, subst P (sym (set_same w.objects n new_lock inside)) still.1)
+      let P : List DetLock → Type 0 = λ ls. Shows terms (record w { threads = set w.threads i t; objects = ls }) (advance (setup_under terms) i s) in
+      ((still.0, subst P (sym (set_same w.objects n new_lock inside)) still.1), replies_still terms s i is)
 
-  concluded_by : (moved : Bool) (new : OutsideParts) (b : Bool) → nat_le (t.clock + answer_cost o.keeps_table) (2 ^ 62) ≡ b → ConcludesIf b input.settings.patience moved o (shown (row_of job)) g.outcome (outside_at w i n) new → Concluded moved new
-  concluded_by moved new true room (moved_is, (x, (ends, new_is))) =
+  concluded_by : (told : Option posix_answer.Answer) (new : OutsideParts) (b : Bool) → nat_le (t.clock + answer_cost o.keeps_table) (2 ^ 62) ≡ b → ConcludesIf b terms.settings.patience told o (shown (row_of job)) g.outcome (outside_at w i n) new → Told told new
+  concluded_by told new true room (x, (told_is, ends, new_is)) =
       let e = ended_by o.keeps_table x new.table refl ends in
-      let Q : Bool → Type 0 = λ b. Concluded b new in
-      let R : OutsideParts → Type 0 = λ p. Concluded true p in
-      subst Q (sym moved_is) (subst R (sym new_is) (concluded_yes x new.table e (leb-true (t.clock + answer_cost o.keeps_table) (2 ^ 62) room)))
-  concluded_by moved new false room (moved_is, new_is) =
+      let Q : Option posix_answer.Answer → Type 0 = λ a. Told a new in
+      let R : OutsideParts → Type 0 = λ p. Told (Some (told_as x)) p in
+      subst Q (sym told_is) (subst R (sym new_is) (concluded_yes x new.table e (leb-true (t.clock + answer_cost o.keeps_table) (2 ^ 62) room)))
+  concluded_by told new false room (told_is, new_is) =
       let full = leb-false (t.clock + answer_cost o.keeps_table) (2 ^ 62) room in
       let x = some_end (answer_in stepped) in
-      let Q : Bool → Type 0 = λ b. Concluded b new in
-      let R : OutsideParts → Type 0 = λ p. Concluded false p in
-      subst Q (sym moved_is) (subst R (sym new_is) (concluded_no x.0 x.1 full))
+      let Q : Option posix_answer.Answer → Type 0 = λ a. Told a new in
+      let R : OutsideParts → Type 0 = λ p. Told None p in
+      subst Q (sym told_is) (subst R (sym new_is) (concluded_no x.0 x.1 full))
     where
       some_end : (a : Answer) → (x : TurnEnd) × (a ≡ ended x)
       some_end (Gives reply) = (end.Reply reply, refl)
@@ -529,38 +503,39 @@ module _ (input : Inputs) (w : Whole) (s : State) (i : ℕ) (o : Outing) (job : 
       always true = refl
       always false = refl
 
-  pub concluded_whole_is : (moved : Bool) (new : OutsideParts) → AnswersOutside input.settings.patience moved i o (outside_at w i n) new → Concluded moved new
-  concluded_whole_is moved new answers =
+  pub concluded_whole_is : (told : Option posix_answer.Answer) (new : OutsideParts) → AnswersOutside terms.settings.patience told i o (outside_at w i n) new → Told told new
+  concluded_whole_is told new answers =
       let old = outside_at w i n in
-      let P : Bool → Type 0 = λ b. ConcludesHeld b input.settings.patience moved o old new in
+      let P : Bool → Type 0 = λ b. ConcludesHeld b terms.settings.patience told o old new in
       let there : slice_get w.rows o.row ≡ Some (shown (row_of job)) = ap (λ (rs : List HistoryRow). slice_get rs o.row) (sym c.shows.rows) ∙ slice_get-map shown s.rows o.row ∙ ap (option_map shown) c.out.row in
-      let Q : Option HistoryRow → Type 0 = λ q. ConcludesRow q input.settings.patience moved o old new in
-      let R : Option Outcome → Type 0 = λ x. ConcludesWith x (shown (row_of job)) input.settings.patience moved o old new in
-      concluded_by moved new (nat_le (t.clock + answer_cost o.keeps_table) (2 ^ 62)) refl (subst R (ap outcome_in c.came) (subst Q there (subst P locks_are_held answers)))
+      let Q : Option HistoryRow → Type 0 = λ q. ConcludesRow q terms.settings.patience told o old new in
+      let R : Option Outcome → Type 0 = λ x. ConcludesWith x (shown (row_of job)) terms.settings.patience told o old new in
+      concluded_by told new (nat_le (t.clock + answer_cost o.keeps_table) (2 ^ 62)) refl (subst R (ap outcome_in c.came) (subst Q there (subst P locks_are_held answers)))
 
 -- a call that goes outside has its answer, by what came for it
-pub conclude_whole : (input : Inputs) (w : Whole) (s : State) (i n : ℕ) (o : Outing) (moved : Bool) (new : OutsideParts) → i < length w.threads → Shows input w s → AreHeld s → HaveRows s → HavePlans (real_calls input.settings) s → (thread_at w i).phase ≡ phase.Recorded o → o.object ≡ Some n
-    → AnswersOutside w.patience moved i o (outside_at w i n) new → (can_advance (setup_of input) s i ≡ moved) × Shows input (concluded_whole w i n new) (advance (setup_of input) i s)
-conclude_whole input w s i n o moved new inside h held own plans is object_is answers =
-    let P : Phase → Type 0 = λ p. PhaseShows input i s.rows (thread_at w i) (thread_of s i) p in
-    let (job, (at, call, out)) = (subst P is (h.threads i).phase) in
+pub conclude_whole : (terms : Conditions) (w : Whole) (s : State) (i n : ℕ) (o : Outing) (told : Option posix_answer.Answer) (new : OutsideParts) → i < length w.threads → Shows terms w s → AreHeld s → HaveRows s → HavePlans (real_calls terms.settings) s
+    → (thread_at w i).phase ≡ phase.Recorded o → o.object ≡ Some n → AnswersOutside w.patience told i o (outside_at w i n) new
+    → (can_advance (setup_under terms) s i ≡ is_some told) × Shows terms (concluded_whole w i n new) (advance (setup_under terms) i s) × ((thread_of (advance (setup_under terms) i s) i).replies ≡ replied told (thread_of s i).replies)
+conclude_whole terms w s i n o told new inside h held own plans is object_is answers =
+    let P : Phase → Type 0 = λ p. PhaseShows terms i s.rows (thread_at w i) (thread_of s i) p in
+    let (job, (at, out)) = (subst P is (h.threads i).phase) in
     let (g, came, good) = (plans.came i job at) in
     let same : out.object ≡ n = same_Some out.object n (sym out.object_is ∙ object_is) in
     let fits_errand : (is_kind g.kind o.errand.kind && fits o.errand.kind o.errand.asked g.outcome) ≡ true = ap (λ (r : Option posix.Request). answers_request r g) (sym out.asks_is) ∙ good in
-    let c : Concluding input w s i o job g =
+    let c : Concluding terms w s i o job g =
     record {
       inside = inside;
       shows = h;
       held = held;
       rows = own;
       phase = at;
-      call = call;
       out = out;
       found = λ keeps. plans.kept i job (ap job_in at) (ap keeps_table out.plan ∙ plan_kept out.object o.keeps_table ∙ keeps);
       came = came;
       good = (and_parts (is_kind g.kind o.errand.kind) (fits o.errand.kind o.errand.asked g.outcome) fits_errand).1;
     } in
-    let Q : ℕ → Type 0 = λ k. AnswersOutside w.patience moved i o (outside_at w i k) new in
-    let R : ℕ → Type 0 = λ k. AnswersOutside k moved i o (outside_at w i out.object) new in
-    let T : ℕ → Type 0 = λ k. (can_advance (setup_of input) s i ≡ moved) × Shows input (concluded_whole w i k new) (advance (setup_of input) i s) in
-    subst T same (concluded_whole_is input w s i o job g c moved new (subst R (sym h.patience) (subst Q (sym same) answers)))
+    let Q : ℕ → Type 0 = λ k. AnswersOutside w.patience told i o (outside_at w i k) new in
+    let R : ℕ → Type 0 = λ k. AnswersOutside k told i o (outside_at w i out.object) new in
+    let T : ℕ → Type 0 = λ k. (can_advance (setup_under terms) s i ≡ is_some told) × Shows terms (concluded_whole w i k new) (advance (setup_under terms) i s) × ((thread_of (advance (setup_under terms) i s) i).replies ≡ replied told (thread_of s i).replies) in
+    let made = concluded_whole_is terms w s i o job g c told new (subst R (sym h.patience) (subst Q (sym same) answers)) in
+    subst T same (made.0.0, made.0.1, made.1)

@@ -22,7 +22,7 @@ use Rattle.posix_terms.specs.declared.reply.Answer.{Answer}
 use Rattle.posix_terms.specs.declared.transcript.HistoryRow.{HistoryRow}
 use Rattle.call_machine.specs.Events.{Answers, AnswersIn, AnswersWith, Parts, in_time, row_answered}
 use Rattle.call_machine.specs.Held.{end_held, phase_behind, told_as}
-use Rattle.call_machine.specs.Outings.{AnswersOutside, ConcludesHeld, ConcludesIf, ConcludesRow, ConcludesWith, EndsTurn, LoggedParts, OutsideParts, Records, RecordsIf, RecordsNext, RecordsRow, answer_cost, answers_errand, row_concluded, row_recorded}
+use Rattle.call_machine.specs.Outings.{AnswersOutside, ConcludesHeld, ConcludesIf, ConcludesRow, ConcludesWith, EndsTurn, LoggedParts, OutsideParts, Records, RecordsIf, RecordsRow, answer_cost, answers_errand, row_concluded, row_recorded}
 use Rattle.call_machine.specs.declared.outside.Progress.TheVariants as progress
 use Rattle.call_machine.specs.declared.thread.Outing.{Outing}
 use Rattle.call_machine.specs.declared.thread.Phase.{Phase}
@@ -47,12 +47,12 @@ same_some n m is = ap number is
 
 -- ## `answer`
 
-pub answers_made : (i row : ℕ) (blocked : Option ℕ) (old new : Parts) (e : TurnEnd) (q : HistoryRow) → is_number old.lock.holder i ≡ true → in_time old 1 ≡ true → end_held blocked old.thread.last ≡ Some e → slice_get old.rows row ≡ Some q → new ≡ row_answered old row e q → Answers true i row blocked old new
-answers_made i row blocked old new e q held room ends there is =
-    let P : Bool → Type 0 = λ b. AnswersIn b true row blocked old new in
-    let Q : Option TurnEnd → Type 0 = λ x. AnswersWith true row x (slice_get old.rows row) old new in
-    let R : Option HistoryRow → Type 0 = λ x. AnswersWith true row (Some e) x old new in
-    subst P (sym (ap₂ (λ (a b : Bool). a && b) held room)) (subst Q (sym ends) (subst R (sym there) (refl, is)))
+pub answers_made : (i row : ℕ) (told : Option Answer) (old new : Parts) (e : TurnEnd) (q : HistoryRow) → is_number old.lock.holder i ≡ true → in_time old 1 ≡ true → end_held old.thread.phase ≡ Some e → slice_get old.rows row ≡ Some q → told ≡ Some (told_as e) → new ≡ row_answered old row e q → Answers told i row old new
+answers_made i row told old new e q held room ends there told_is is =
+    let P : Bool → Type 0 = λ b. AnswersIn b told row old new in
+    let Q : Option TurnEnd → Type 0 = λ x. AnswersWith told row x (slice_get old.rows row) old new in
+    let R : Option HistoryRow → Type 0 = λ x. AnswersWith told row (Some e) x old new in
+    subst P (sym (ap₂ (λ (a b : Bool). a && b) held room)) (subst Q (sym ends) (subst R (sym there) (told_is, is)))
 
 -- how the turn ended whose answer was found
 pub answered_end : (call : Call) (o : Option TurnEnd) (answer : Answer) (after : Phase) → ◌≡◌ {A = Option (Answer × Phase)} (Some (answer, after)) (option_map (λ e. (told_as e, phase_behind call e)) o)
@@ -70,23 +70,20 @@ answered_end call (Some e) answer after is = (e, (refl, (ap (answer_in answer) i
 
 -- ## `record`
 
-pub records_made : (i : ℕ) (o : Outing) (given : List Given) (old new : LoggedParts) (g : Given) (q : HistoryRow) → slice_get given old.thread.came ≡ Some g → answers_errand o.errand g ≡ true → slice_get old.rows o.row ≡ Some q → nat_lt (old.thread.came + 1) (2 ^ 32) ≡ true → new ≡ row_recorded i o g q old
-    → Records progress.Moves i o given old new
-records_made i o given old new g q came good there room is =
-    let P : Option Given → Type 0 = λ x. RecordsNext x progress.Moves i o old new in
+pub records_made : (i : ℕ) (o : Outing) (old new : LoggedParts) (g : Given) (q : HistoryRow) → answers_errand o.errand g ≡ true → slice_get old.rows o.row ≡ Some q → nat_lt (old.thread.came + 1) (2 ^ 32) ≡ true → new ≡ row_recorded i o g q old
+    → Records progress.Moves i o g old new
+records_made i o old new g q good there room is =
     let Q : Bool → Type 0 = λ b. RecordsIf b progress.Moves i o g old new in
     let R : Option HistoryRow → Type 0 = λ x. RecordsRow x (nat_lt (old.thread.came + 1) (2 ^ 32)) progress.Moves i o g old new in
     let S : Bool → Type 0 = λ b. RecordsRow (Some q) b progress.Moves i o g old new in
-    subst P (sym came) (subst Q (sym good) (subst R (sym there) (subst S (sym room) (refl, is))))
+    subst Q (sym good) (subst R (sym there) (subst S (sym room) (refl, is)))
 
-pub records_full : (i : ℕ) (o : Outing) (given : List Given) (old : LoggedParts) (g : Given) (q : HistoryRow) → slice_get given old.thread.came ≡ Some g → answers_errand o.errand g ≡ true → slice_get old.rows o.row ≡ Some q → nat_lt (old.thread.came + 1) (2 ^ 32) ≡ false
-    → Records progress.Stays i o given old old
-records_full i o given old g q came good there room =
-    let P : Option Given → Type 0 = λ x. RecordsNext x progress.Stays i o old old in
+pub records_full : (i : ℕ) (o : Outing) (old : LoggedParts) (g : Given) (q : HistoryRow) → answers_errand o.errand g ≡ true → slice_get old.rows o.row ≡ Some q → nat_lt (old.thread.came + 1) (2 ^ 32) ≡ false → Records progress.Stays i o g old old
+records_full i o old g q good there room =
     let Q : Bool → Type 0 = λ b. RecordsIf b progress.Stays i o g old old in
     let R : Option HistoryRow → Type 0 = λ x. RecordsRow x (nat_lt (old.thread.came + 1) (2 ^ 32)) progress.Stays i o g old old in
     let S : Bool → Type 0 = λ b. RecordsRow (Some q) b progress.Stays i o g old old in
-    subst P (sym came) (subst Q (sym good) (subst R (sym there) (subst S (sym room) (refl, refl))))
+    subst Q (sym good) (subst R (sym there) (subst S (sym room) (refl, refl)))
 
 -- ## `answer` of a call that went outside
 
@@ -109,28 +106,28 @@ object_holder i o p held = by_holder p.object.holder (and_parts (is_number p.obj
     by_holder None is = cc
     by_holder (Some j) is = ap (λ (k : ℕ). Some k) (eqb-true j i is)
 
-pub concludes_made : (patience i : ℕ) (o : Outing) (old new : OutsideParts) (q : HistoryRow) (x : Outcome) (e : TurnEnd) → holds_locks i o old ≡ true → slice_get old.rows o.row ≡ Some q → q.outcome ≡ Some x → nat_le (old.thread.clock + answer_cost o.keeps_table) (2 ^ 62) ≡ true
-    → EndsTurn o.keeps_table patience o q.call x e old.table new.table → new ≡ row_concluded o q e new.table old → AnswersOutside patience true i o old new
-concludes_made patience i o old new q x e held there came room ends is =
-    let P : Bool → Type 0 = λ b. ConcludesHeld b patience true o old new in
-    let Q : Option HistoryRow → Type 0 = λ y. ConcludesRow y patience true o old new in
-    let R : Option Outcome → Type 0 = λ y. ConcludesWith y q patience true o old new in
-    let S : Bool → Type 0 = λ b. ConcludesIf b patience true o q x old new in
-    subst P (sym held) (subst Q (sym there) (subst R (sym came) (subst S (sym room) (refl, (e, (ends, is))))))
+pub concludes_made : (patience i : ℕ) (o : Outing) (told : Option Answer) (old new : OutsideParts) (q : HistoryRow) (x : Outcome) (e : TurnEnd) → holds_locks i o old ≡ true → slice_get old.rows o.row ≡ Some q → q.outcome ≡ Some x → nat_le (old.thread.clock + answer_cost o.keeps_table) (2 ^ 62) ≡ true
+    → told ≡ Some (told_as e) → EndsTurn o.keeps_table patience o q.call x e old.table new.table → new ≡ row_concluded o q e new.table old → AnswersOutside patience told i o old new
+concludes_made patience i o told old new q x e held there came room told_is ends is =
+    let P : Bool → Type 0 = λ b. ConcludesHeld b patience told o old new in
+    let Q : Option HistoryRow → Type 0 = λ y. ConcludesRow y patience told o old new in
+    let R : Option Outcome → Type 0 = λ y. ConcludesWith y q patience told o old new in
+    let S : Bool → Type 0 = λ b. ConcludesIf b patience told o q x old new in
+    subst P (sym held) (subst Q (sym there) (subst R (sym came) (subst S (sym room) (e, (told_is, ends, is)))))
 
-pub concludes_pending : (patience i : ℕ) (o : Outing) (old : OutsideParts) (q : HistoryRow) → holds_locks i o old ≡ true → slice_get old.rows o.row ≡ Some q → q.outcome ≡ None → AnswersOutside patience false i o old old
+pub concludes_pending : (patience i : ℕ) (o : Outing) (old : OutsideParts) (q : HistoryRow) → holds_locks i o old ≡ true → slice_get old.rows o.row ≡ Some q → q.outcome ≡ None → AnswersOutside patience None i o old old
 concludes_pending patience i o old q held there none =
-    let P : Bool → Type 0 = λ b. ConcludesHeld b patience false o old old in
-    let Q : Option HistoryRow → Type 0 = λ y. ConcludesRow y patience false o old old in
-    let R : Option Outcome → Type 0 = λ y. ConcludesWith y q patience false o old old in
+    let P : Bool → Type 0 = λ b. ConcludesHeld b patience None o old old in
+    let Q : Option HistoryRow → Type 0 = λ y. ConcludesRow y patience None o old old in
+    let R : Option Outcome → Type 0 = λ y. ConcludesWith y q patience None o old old in
     subst P (sym held) (subst Q (sym there) (subst R (sym none) (refl, refl)))
 
-pub concludes_full : (patience i : ℕ) (o : Outing) (old : OutsideParts) (q : HistoryRow) (x : Outcome) → holds_locks i o old ≡ true → slice_get old.rows o.row ≡ Some q → q.outcome ≡ Some x → nat_le (old.thread.clock + answer_cost o.keeps_table) (2 ^ 62) ≡ false → AnswersOutside patience false i o old old
+pub concludes_full : (patience i : ℕ) (o : Outing) (old : OutsideParts) (q : HistoryRow) (x : Outcome) → holds_locks i o old ≡ true → slice_get old.rows o.row ≡ Some q → q.outcome ≡ Some x → nat_le (old.thread.clock + answer_cost o.keeps_table) (2 ^ 62) ≡ false → AnswersOutside patience None i o old old
 concludes_full patience i o old q x held there came room =
-    let P : Bool → Type 0 = λ b. ConcludesHeld b patience false o old old in
-    let Q : Option HistoryRow → Type 0 = λ y. ConcludesRow y patience false o old old in
-    let R : Option Outcome → Type 0 = λ y. ConcludesWith y q patience false o old old in
-    let S : Bool → Type 0 = λ b. ConcludesIf b patience false o q x old old in
+    let P : Bool → Type 0 = λ b. ConcludesHeld b patience None o old old in
+    let Q : Option HistoryRow → Type 0 = λ y. ConcludesRow y patience None o old old in
+    let R : Option Outcome → Type 0 = λ y. ConcludesWith y q patience None o old old in
+    let S : Bool → Type 0 = λ b. ConcludesIf b patience None o q x old old in
     subst P (sym held) (subst Q (sym there) (subst R (sym came) (subst S (sym room) (refl, refl))))
 
 -- ## The bytes of a record

@@ -1,8 +1,7 @@
 -- What a thread's next step makes of it, and what comes of a blocked call.
-use Rattle.std.specs.Prelude.{◌≡◌, ℕ, ◌+◌, ◌<◌, ◌≤◌, ◌^◌, [], ◌∷◌, ◌++◌, None, Bool, true, false}
+use Rattle.std.specs.Prelude.{◌≡◌, ℕ, ◌+◌, ◌<◌, ◌≤◌, ◌^◌, [], ◌∷◌, ◌++◌, Bool, true, false}
 use Rattle.posix_terms.specs.Step.{nothing_carried}
 use Rattle.posix_terms.specs.declared.call.Call.{Call}
-use Rattle.thread_scripts.specs.Meaning.{next_of}
 use Rattle.thread_scripts.specs.declared.actor.Step.{Step}
 use Rattle.thread_scripts.specs.declared.actor.Step.TheVariants as step
 use Rattle.call_machine.specs.declared.thread.Phase.{Phase}
@@ -10,11 +9,11 @@ use Rattle.call_machine.specs.declared.thread.Phase.TheVariants as phase
 use Rattle.call_machine.specs.Threads.{Thread}
 
 abbrev pub worked : ℕ → Thread → Thread
-worked n t = record t { clock = t.clock + n; asked = t.asked ++ step.Work n ∷ []; last = None }
+worked n t = record t { clock = t.clock + n; asked = t.asked ++ step.Work n ∷ [] }
 
 abbrev pub Works : Bool → ℕ → Thread → Thread → Type 0
 Works true n old new = (old.clock + n ≤ 2 ^ 62) × (new ≡ worked n old)
-Works false n old new = (2 ^ 62 < old.clock + n) × (new ≡ record old { phase = phase.Stuck })
+Works false n old new = (2 ^ 62 < old.clock + n) × (new ≡ old)
 
 abbrev pub after_want : Call → Thread → Thread
 after_want call t = record t { phase = phase.WantsTable call nothing_carried; asked = t.asked ++ step.Call call ∷ [] }
@@ -22,14 +21,11 @@ after_want call t = record t { phase = phase.WantsTable call nothing_carried; as
 abbrev pub after_end : Thread → Thread
 after_end t = record t { phase = phase.Ended; asked = t.asked ++ step.End ∷ [] }
 
--- by the step, whose script stands then in this state
-abbrev pub AsksStep : Bool → Step → Thread → Thread → Type 0
-AsksStep moved (step.Work n) old new = Works moved n old new
-AsksStep moved (step.Call call) old new = (moved ≡ true) × (new ≡ after_want call old)
-AsksStep moved step.End old new = (moved ≡ true) × (new ≡ after_end old)
-
-abbrev pub Asks : Bool → Thread → Thread → Type 0
-Asks moved old new = let next = next_of old.last old.actor in AsksStep moved next.0 (record old { actor = next.1 }) new
+-- this step is asked, where the clock has room for it
+abbrev pub Asks : Bool → Step → Thread → Thread → Type 0
+Asks moved (step.Work n) old new = Works moved n old new
+Asks moved (step.Call call) old new = (moved ≡ true) × (new ≡ after_want call old)
+Asks moved step.End old new = (moved ≡ true) × (new ≡ after_end old)
 
 -- a blocked call wants the table again
 abbrev pub GoesAgainIn : Phase → Bool → Thread → Thread → Type 0

@@ -1,5 +1,5 @@
 -- The plain schedule, driven by a run.
-use Rattle.std.specs.Prelude.{◌≡◌, ℕ, Option, Some, None}
+use Rattle.std.specs.Prelude.{◌≡◌, ℕ, Option, Some, None, true}
 use Rattle.input_log.specs.Format.{header_text}
 use Rattle.lock_model.specs.Machine.{Event, happens}
 use Rattle.lock_model.specs.Runs.{Arises}
@@ -8,33 +8,36 @@ use Rattle.lock_model.specs.State.{State}
 use Rattle.call_machine.specs.Logs.{Written, plain_records, recorded_by}
 use Rattle.call_machine.specs.Plain.{GoesTo, header_of}
 use Rattle.call_machine.specs.Setup.{Inputs, first_state, setup_of}
-use Rattle.call_machine.specs.Shows.{LogsMore, Shows, Whole}
+use Rattle.call_machine.specs.Playing.{ComesAt, IsPlayed, Played}
+use Rattle.call_machine.specs.Shows.{LogsMore}
+use Rattle.call_machine.specs.Weights.{Falls}
 use Rattle.call_machine.specs.Strays.{diverging}
 use Rattle.call_machine.specs.declared.drive.Went.{Went}
 use Rattle.call_machine.specs.declared.drive.Went.TheVariants as went
 
 -- the next event of the plain schedule was made
-pub record GoesOn (input : Inputs) (s : State) (old new : Whole) : Type 0 where
+pub record GoesOn (input : Inputs) (s : State) (old new : Played) : Type 0 where
   pub straight : diverging (setup_of input) s ≡ None
   pub event : Event
   pub next : next_event (setup_of input) s ≡ Some event
-  pub shows : Shows input new (happens (setup_of input) event s)
-  pub log : LogsMore (recorded_by (setup_of input) s event) old.log new.log
+  pub plays : IsPlayed input new (happens (setup_of input) event s)
+  pub log : LogsMore (recorded_by (setup_of input) s event) old.whole.log new.whole.log
+  pub falls : Falls true old.whole.threads old.players new.whole.threads new.players
 
 -- the run stays where it is: it diverges at this thread, or no event is next
-pub record StaysAt (input : Inputs) (s : State) (strayed : Option ℕ) (old new : Whole) : Type 0 where
+pub record StaysAt (input : Inputs) (s : State) (strayed : Option ℕ) (old new : Played) : Type 0 where
   pub strays : diverging (setup_of input) s ≡ strayed
   pub over : strayed ≡ None → IsOver (setup_of input) s
-  pub shows : Shows input new s
-  pub log : new.log ≡ old.log
+  pub plays : IsPlayed input new s
+  pub log : new.whole.log ≡ old.whole.log
 
-abbrev pub WentSo : Went → Inputs → State → Whole → Whole → Type 0
+abbrev pub WentSo : Went → Inputs → State → Played → Played → Type 0
 WentSo went.On input s old new = GoesOn input s old new
 WentSo went.Over input s old new = StaysAt input s None old new
 WentSo (went.Strays i) input s old new = StaysAt input s (Some i) old new
 
-abbrev pub Plainly : Went → Whole → Whole → Type 0
-Plainly w old new = (input : Inputs) (s : State) → Arises (setup_of input) (first_state input) s → Shows input old s → WentSo w input s old new
+abbrev pub Plainly : Went → Played → Played → Type 0
+Plainly w old new = (input : Inputs) (s : State) → ComesAt old input s → WentSo w input s old new
 
 -- the log of a run after so many events
 abbrev pub first_log : Inputs → Written
@@ -44,26 +47,26 @@ abbrev pub IsLogged : Inputs → ℕ → Written → Type 0
 IsLogged input count log = LogsMore (plain_records (setup_of input) count (first_state input)) (first_log input) log
 
 -- so many events of the plain run lead to a state that the run shows
-pub record ComesTo (input : Inputs) (w : Whole) : Type 0 where
+pub record ComesTo (input : Inputs) (p : Played) : Type 0 where
   pub state : State
   pub count : ℕ
   pub goes : GoesTo (setup_of input) (first_state input) count state
   pub arises : Arises (setup_of input) (first_state input) state
-  pub shows : Shows input w state
-  pub log : IsLogged input count w.log
+  pub plays : IsPlayed input p state
+  pub log : IsLogged input count p.whole.log
 
 -- the plain run has come to its end, or diverges at this thread
-pub record Ends (input : Inputs) (strayed : Option ℕ) (w : Whole) : Type 0 where
+pub record Ends (input : Inputs) (strayed : Option ℕ) (p : Played) : Type 0 where
   pub last : State
   pub count : ℕ
   pub goes : GoesTo (setup_of input) (first_state input) count last
   pub strays : diverging (setup_of input) last ≡ strayed
   pub over : strayed ≡ None → IsOver (setup_of input) last
   pub arises : Arises (setup_of input) (first_state input) last
-  pub shows : Shows input w last
-  pub log : IsLogged input count w.log
+  pub plays : IsPlayed input p last
+  pub log : IsLogged input count p.whole.log
 
 -- from a run at its start
-pub record Begins (input : Inputs) (w : Whole) : Type 0 where
-  pub shows : Shows input w (first_state input)
-  pub log : w.log ≡ first_log input
+pub record Begins (input : Inputs) (p : Played) : Type 0 where
+  pub plays : IsPlayed input p (first_state input)
+  pub log : p.whole.log ≡ first_log input

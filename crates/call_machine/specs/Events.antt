@@ -2,6 +2,7 @@
 use Rattle.std.specs.Prelude.{◌≡◌, ℕ, ◌+◌, ◌<◌, ◌^◌, List, [], ◌∷◌, ◌++◌, length, Option, Some, None, Bool, true, false, ◌&&◌, nat_le, slice_get, slice_set}
 use Rattle.posix_terms.specs.Locked.{keeps_table}
 use Rattle.posix_terms.specs.declared.call.Call.{Call}
+use Rattle.posix_terms.specs.declared.reply.Answer as posix
 use Rattle.posix_terms.specs.declared.limits.TheConstants.Limits as limit
 use Rattle.posix_terms.specs.declared.transcript.HistoryRow.{HistoryRow}
 use Rattle.posix_terms.specs.declared.transcript.Turn.{Turn}
@@ -45,17 +46,18 @@ row_answered p row e q =
       rows = slice_set p.rows row (record q { answer = Some (told_as e) });
     }
 
-abbrev pub AnswersWith : Bool → ℕ → Option TurnEnd → Option HistoryRow → Parts → Parts → Type 0
-AnswersWith moved row (Some e) (Some q) old new = (moved ≡ true) × (new ≡ row_answered old row e q)
-AnswersWith moved row (Some e) None old new = (moved ≡ false) × (new ≡ old)
-AnswersWith moved row None q old new = (moved ≡ false) × (new ≡ old)
+abbrev pub AnswersWith : Option posix.Answer → ℕ → Option TurnEnd → Option HistoryRow → Parts → Parts → Type 0
+AnswersWith told row (Some e) (Some q) old new = (told ≡ Some (told_as e)) × (new ≡ row_answered old row e q)
+AnswersWith told row (Some e) None old new = (told ≡ None) × (new ≡ old)
+AnswersWith told row None q old new = (told ≡ None) × (new ≡ old)
 
-abbrev pub AnswersIn : Bool → Bool → ℕ → Option ℕ → Parts → Parts → Type 0
-AnswersIn true moved row blocked old new = AnswersWith moved row (end_held blocked old.thread.last) (slice_get old.rows row) old new
-AnswersIn false moved row blocked old new = (moved ≡ false) × (new ≡ old)
+abbrev pub AnswersIn : Bool → Option posix.Answer → ℕ → Parts → Parts → Type 0
+AnswersIn true told row old new = AnswersWith told row (end_held old.thread.phase) (slice_get old.rows row) old new
+AnswersIn false told row old new = (told ≡ None) × (new ≡ old)
 
-abbrev pub Answers : Bool → ℕ → ℕ → Option ℕ → Parts → Parts → Type 0
-Answers moved i row blocked old new = AnswersIn (is_number old.lock.holder i && in_time old 1) moved row blocked old new
+-- the answer is told, where there is one
+abbrev pub Answers : Option posix.Answer → ℕ → ℕ → Parts → Parts → Type 0
+Answers told i row old new = AnswersIn (is_number old.lock.holder i && in_time old 1) told row old new
 
 -- ## The grant
 

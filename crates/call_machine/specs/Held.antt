@@ -4,7 +4,6 @@ use Rattle.posix_terms.specs.Locked.{keeps_table}
 use Rattle.posix_terms.specs.declared.call.Call.{Call}
 use Rattle.posix_terms.specs.declared.reply.Answer as posix
 use Rattle.posix_terms.specs.declared.reply.Answer.TheVariants as answer
-use Rattle.posix_terms.specs.declared.reply.Reply.{Reply}
 use Rattle.object_store.specs.declared.patience.TurnEnd.{TurnEnd}
 use Rattle.object_store.specs.declared.patience.TurnEnd.TheVariants as end
 use Rattle.object_store.specs.declared.patience.TurnStart.{TurnStart}
@@ -18,30 +17,18 @@ abbrev pub told_as : TurnEnd → posix.Answer
 told_as (end.Reply reply) = answer.Reply reply
 told_as (end.Blocked turns) = answer.Again
 
--- for how many turns the call was blocked, if it is blocked
-abbrev pub turns_blocked : TurnEnd → Option ℕ
-turns_blocked (end.Reply reply) = None
-turns_blocked (end.Blocked turns) = Some turns
+-- the phase of a thread whose call was granted, with the row of this place, and whose turn started so, which was blocked for so many turns before
+abbrev pub phase_started : ℕ → Option ℕ → Call → ℕ → TurnStart → Phase
+phase_started row object c turns (start.Ended e) = phase.Granted row object e
+phase_started row object c turns (start.GoesOut errand) = phase.ToOutside (record { row = row; object = object; turns = turns; errand = errand; keeps_table = keeps_table c })
 
--- the last reply behind it
-abbrev pub last_behind : TurnEnd → Option Reply → Option Reply
-last_behind (end.Reply reply) last = Some reply
-last_behind (end.Blocked turns) last = last
-
--- a thread whose call was granted, with the row of this place, and whose turn ended so
-abbrev pub turn_ended : ℕ → Option ℕ → TurnEnd → Thread → Thread
-turn_ended row object e t = record t { phase = phase.Granted row object (turns_blocked e); last = last_behind e t.last }
-
--- and whose turn started so, which was blocked for so many turns before
 abbrev pub turn_started : ℕ → Option ℕ → Call → ℕ → TurnStart → Thread → Thread
-turn_started row object c turns (start.Ended e) t = turn_ended row object e t
-turn_started row object c turns (start.GoesOut errand) t = record t { phase = phase.ToOutside (record { row = row; object = object; turns = turns; errand = errand; keeps_table = keeps_table c }) }
+turn_started row object c turns start t = record t { phase = phase_started row object c turns start }
 
--- how the turn ended that such a thread is in, by the number of its blocked turns and the last reply
-abbrev pub end_held : Option ℕ → Option Reply → Option TurnEnd
-end_held (Some turns) last = Some (end.Blocked turns)
-end_held None (Some reply) = Some (end.Reply reply)
-end_held None None = None
+-- how the turn ended that a thread is in
+abbrev pub end_held : Phase → Option TurnEnd
+end_held (phase.Granted row object e) = Some e
+end_held p = None
 
 -- its phase once the call is answered
 abbrev pub phase_behind : Call → TurnEnd → Phase

@@ -8,6 +8,7 @@ pub mod Events
 pub mod Setup
 pub mod Shows
 pub mod Weights
+pub mod Playing
 pub mod Driven
 pub mod Plain
 pub mod Starting

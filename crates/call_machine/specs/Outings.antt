@@ -13,8 +13,9 @@ use Rattle.posix_terms.specs.declared.call.Call.{Call}
 use Rattle.posix_terms.specs.declared.limits.TheConstants.Limits as limit
 use Rattle.posix_terms.specs.declared.outcome.Given.{Given}
 use Rattle.posix_terms.specs.declared.outcome.Outcome.{Outcome}
+use Rattle.posix_terms.specs.declared.reply.Answer as posix
 use Rattle.posix_terms.specs.declared.transcript.HistoryRow.{HistoryRow}
-use Rattle.call_machine.specs.Held.{last_behind, phase_behind, told_as}
+use Rattle.call_machine.specs.Held.{phase_behind, told_as}
 use Rattle.call_machine.specs.Logs.{Written, logged, record_of}
 use Rattle.call_machine.specs.Threads.{Thread}
 use Rattle.call_machine.specs.declared.outside.Progress.{Progress}
@@ -63,12 +64,9 @@ abbrev pub RecordsIf : Bool → Progress → ℕ → Outing → Given → Logged
 RecordsIf true made i o g old new = RecordsRow (slice_get old.rows o.row) (nat_lt (old.thread.came + 1) (2 ^ 32)) made i o g old new
 RecordsIf false made i o g old new = (made ≡ progress.Strays) × (new ≡ old)
 
-abbrev pub RecordsNext : Option Given → Progress → ℕ → Outing → LoggedParts → LoggedParts → Type 0
-RecordsNext (Some g) made i o old new = RecordsIf (answers_errand o.errand g) made i o g old new
-RecordsNext None made i o old new = (made ≡ progress.Stays) × (new ≡ old)
-
-abbrev pub Records : Progress → ℕ → Outing → List Given → LoggedParts → LoggedParts → Type 0
-Records made i o given old new = RecordsNext (slice_get given old.thread.came) made i o old new
+-- this outcome comes, where it answers
+abbrev pub Records : Progress → ℕ → Outing → Given → LoggedParts → LoggedParts → Type 0
+Records made i o g old new = RecordsIf (answers_errand o.errand g) made i o g old new
 
 -- ## `answer`
 
@@ -98,7 +96,7 @@ answer_cost false = 1
 
 -- the thread goes on, and the row has its answer
 abbrev pub went_on : Call → TurnEnd → Thread → Thread
-went_on c e t = record t { phase = phase_behind c e; last = last_behind e t.last }
+went_on c e t = record t { phase = phase_behind c e }
 
 abbrev pub row_concluded : Outing → HistoryRow → TurnEnd → Stored → OutsideParts → OutsideParts
 row_concluded o q e table p =
@@ -110,25 +108,26 @@ row_concluded o q e table p =
       rows = slice_set p.rows o.row (record q { answer = Some (told_as e) });
     }
 
-abbrev pub StaysSo : Bool → OutsideParts → OutsideParts → Type 0
-StaysSo moved old new = (moved ≡ false) × (new ≡ old)
+abbrev pub StaysSo : Option posix.Answer → OutsideParts → OutsideParts → Type 0
+StaysSo told old new = (told ≡ None) × (new ≡ old)
 
-abbrev pub ConcludesIf : Bool → ℕ → Bool → Outing → HistoryRow → Outcome → OutsideParts → OutsideParts → Type 0
-ConcludesIf true patience moved o q x old new =
-    (moved ≡ true) × ((e : TurnEnd) × (EndsTurn o.keeps_table patience o q.call x e old.table new.table × (new ≡ row_concluded o q e new.table old)))
-ConcludesIf false patience moved o q x old new = StaysSo moved old new
+abbrev pub ConcludesIf : Bool → ℕ → Option posix.Answer → Outing → HistoryRow → Outcome → OutsideParts → OutsideParts → Type 0
+ConcludesIf true patience told o q x old new =
+    (e : TurnEnd) × ((told ≡ Some (told_as e)) × EndsTurn o.keeps_table patience o q.call x e old.table new.table × (new ≡ row_concluded o q e new.table old))
+ConcludesIf false patience told o q x old new = StaysSo told old new
 
-abbrev pub ConcludesWith : Option Outcome → HistoryRow → ℕ → Bool → Outing → OutsideParts → OutsideParts → Type 0
-ConcludesWith (Some x) q patience moved o old new = ConcludesIf (nat_le (old.thread.clock + answer_cost o.keeps_table) (2 ^ 62)) patience moved o q x old new
-ConcludesWith None q patience moved o old new = StaysSo moved old new
+abbrev pub ConcludesWith : Option Outcome → HistoryRow → ℕ → Option posix.Answer → Outing → OutsideParts → OutsideParts → Type 0
+ConcludesWith (Some x) q patience told o old new = ConcludesIf (nat_le (old.thread.clock + answer_cost o.keeps_table) (2 ^ 62)) patience told o q x old new
+ConcludesWith None q patience told o old new = StaysSo told old new
 
-abbrev pub ConcludesRow : Option HistoryRow → ℕ → Bool → Outing → OutsideParts → OutsideParts → Type 0
-ConcludesRow (Some q) patience moved o old new = ConcludesWith q.outcome q patience moved o old new
-ConcludesRow None patience moved o old new = StaysSo moved old new
+abbrev pub ConcludesRow : Option HistoryRow → ℕ → Option posix.Answer → Outing → OutsideParts → OutsideParts → Type 0
+ConcludesRow (Some q) patience told o old new = ConcludesWith q.outcome q patience told o old new
+ConcludesRow None patience told o old new = StaysSo told old new
 
-abbrev pub ConcludesHeld : Bool → ℕ → Bool → Outing → OutsideParts → OutsideParts → Type 0
-ConcludesHeld true patience moved o old new = ConcludesRow (slice_get old.rows o.row) patience moved o old new
-ConcludesHeld false patience moved o old new = StaysSo moved old new
+abbrev pub ConcludesHeld : Bool → ℕ → Option posix.Answer → Outing → OutsideParts → OutsideParts → Type 0
+ConcludesHeld true patience told o old new = ConcludesRow (slice_get old.rows o.row) patience told o old new
+ConcludesHeld false patience told o old new = StaysSo told old new
 
-abbrev pub AnswersOutside : ℕ → Bool → ℕ → Outing → OutsideParts → OutsideParts → Type 0
-AnswersOutside patience moved i o old new = ConcludesHeld (is_number old.object.holder i && (not o.keeps_table || is_number old.lock.holder i)) patience moved o old new
+-- the answer is told, where there is one
+abbrev pub AnswersOutside : ℕ → Option posix.Answer → ℕ → Outing → OutsideParts → OutsideParts → Type 0
+AnswersOutside patience told i o old new = ConcludesHeld (is_number old.object.holder i && (not o.keeps_table || is_number old.lock.holder i)) patience told o old new

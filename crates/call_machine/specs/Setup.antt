@@ -1,12 +1,28 @@
--- What a plain run is made of, as a setup of the lock machine.
+-- What a run is made of, as a setup of the lock machine.
 use Rattle.std.specs.Prelude.{ℕ, List, [], length, slice_index_or}
 use Rattle.posix_terms.specs.declared.outcome.Given.{Given}
 use Rattle.posix_terms.specs.declared.transcript.Settings.{Settings}
 use Rattle.thread_scripts.specs.declared.line.Line.{Line}
 use Rattle.lock_model.specs.Machine.{Setup}
+use Rattle.lock_model.specs.Programs.{Supply}
 use Rattle.lock_model.specs.RealLaws.{real_setup, real_start}
 use Rattle.lock_model.specs.ScriptPrograms.{scripted}
 use Rattle.lock_model.specs.State.{State}
+
+-- so many threads, with the steps that they ask and the outcomes that come for them from outside, whoever supplies these
+pub record Conditions : Type 0 where
+  pub threads : ℕ
+  pub settings : Settings
+  pub supply : Supply
+
+abbrev pub setup_under : Conditions → Setup
+setup_under terms = real_setup terms.settings terms.supply
+
+-- over a table with nothing open and only the root
+abbrev pub start_under : Conditions → State
+start_under terms = real_start terms.threads
+
+-- ## Scripts
 
 -- by thread its script and its outcomes from outside
 pub record Inputs : Type 0 where
@@ -20,9 +36,12 @@ script_of input i = slice_index_or input.scripts i []
 abbrev pub outcomes_of : Inputs → ℕ → List Given
 outcomes_of input i = slice_index_or input.outcomes i []
 
-abbrev pub setup_of : Inputs → Setup
-setup_of input = real_setup input.settings (record { next = λ i. scripted (script_of input i); outcomes = outcomes_of input })
+-- a thread for each script, which asks what its script says
+abbrev pub conditions_of : Inputs → Conditions
+conditions_of input = record { threads = length input.scripts; settings = input.settings; supply = record { next = λ i. scripted (script_of input i); outcomes = outcomes_of input } }
 
--- a thread for each script, over a table with nothing open and only the root
+abbrev pub setup_of : Inputs → Setup
+setup_of input = setup_under (conditions_of input)
+
 abbrev pub first_state : Inputs → State
-first_state input = real_start (length input.scripts)
+first_state input = start_under (conditions_of input)

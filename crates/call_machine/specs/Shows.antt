@@ -1,5 +1,5 @@
 -- How the data of a run stand for a state of the lock machine.
-use Rattle.std.specs.Prelude.{◌≡◌, ℕ, suc, ◌<◌, ◌≤◌, ◌^◌, List, [], ◌∷◌, ◌++◌, length, map, get_or, slice_get, Option, Some, None, IfSome, Bool, true, false, ◌+◌}
+use Rattle.std.specs.Prelude.{◌≡◌, ℕ, ◌<◌, ◌≤◌, ◌^◌, List, [], ◌∷◌, ◌++◌, length, map, get_or, slice_get, is_some, Option, Some, None, IfSome, Bool, true, false, ◌+◌}
 use Rattle.descriptor_table.specs.Acts as acts
 use Rattle.descriptor_table.specs.Agreement.{request_of}
 use Rattle.descriptor_table.specs.declared.plan.NewNumbers.TheVariants as numbers
@@ -9,25 +9,26 @@ use Rattle.posix_terms.specs.Step.{asks, step}
 use Rattle.posix_terms.specs.declared.outcome.Given.{Given}
 use Rattle.posix_terms.specs.declared.outcome.Outcome.{Outcome}
 use Rattle.posix_terms.specs.declared.limits.TheConstants.Limits as limit
+use Rattle.posix_terms.specs.declared.reply.Answer as posix
+use Rattle.posix_terms.specs.declared.reply.Answer.TheVariants as answer
 use Rattle.posix_terms.specs.declared.reply.Reply.{Reply}
 use Rattle.posix_terms.specs.declared.transcript.HistoryRow.{HistoryRow}
+use Rattle.thread_scripts.specs.declared.actor.Step.{Step}
 use Rattle.det_mutex.specs.declared.lock.DetLock.{DetLock}
 use Rattle.lock_model.specs.CallTable.{Way}
 use Rattle.lock_model.specs.CallTable.Plan.{Object}
 use Rattle.lock_model.specs.CallTable.Way.{Inside}
 use Rattle.lock_model.specs.Held.{row_of}
-use Rattle.lock_model.specs.Machine.{advance, attempt, can_advance, can_attempt, moves}
+use Rattle.lock_model.specs.Machine.{advance, attempt, can_advance, can_attempt}
 use Rattle.lock_model.specs.RealCalls.{answer_in, numbered, outcome_in, plan_of, way_of}
-use Rattle.lock_model.specs.Runs.{Arises, calls_in}
-use Rattle.lock_model.specs.ScriptPrograms.{at_start, reached_after}
+use Rattle.lock_model.specs.Runs.{Arises}
 use Rattle.lock_model.specs.State as lock
 use Rattle.lock_model.specs.State.{Job, Row, State, thread_of}
 use Rattle.lock_model.specs.State.Phase.{Working, WantsTable, WantsObject, Granted, ToOutside, Outside, Recorded, Blocked, Ended}
 use Rattle.lock_model.specs.Rows.{shown}
-use Rattle.call_machine.specs.Setup.{Inputs, setup_of, first_state, script_of}
+use Rattle.call_machine.specs.Setup.{Conditions, setup_under, start_under}
 use Rattle.object_store.specs.Errands.{door_taken, waits_outside}
 use Rattle.object_store.specs.Patience.{ended}
-use Rattle.call_machine.specs.Held.{end_held}
 use Rattle.object_store.specs.Store.{Stands, Stored}
 use Rattle.call_machine.specs.Logs.{Written, came_between}
 use Rattle.call_machine.specs.Strays.{is_stray}
@@ -46,28 +47,16 @@ use Rattle.call_machine.specs.Threads.{Thread, joined}
 
 -- ## Threads
 
--- out of a call, the script has come to where the actor stands, with the last reply
-pub record IsBetween (input : Inputs) (i : ℕ) (t : Thread) (u : lock.Thread) : Type 0 where
-  pub even : length u.replies ≡ calls_in u.asked
-  pub reached : reached_after (at_start (script_of input i)) u.asked u.replies ≡ record { last = t.last; state = t.actor }
-
--- in a call, it comes there with the reply to it
-pub record IsInCall (input : Inputs) (i : ℕ) (t : Thread) (u : lock.Thread) : Type 0 where
-  pub even : suc (length u.replies) ≡ calls_in u.asked
-  pub reached : (r : Reply) → reached_after (at_start (script_of input i)) u.asked (u.replies ++ r ∷ []) ≡ record { last = Some r; state = t.actor }
-
 -- the call that a thread was granted, with the row of its place, and how its turn ended
-pub record IsGranted (input : Inputs) (i : ℕ) (rows : List Row) (place : ℕ) (object blocked : Option ℕ) (last : Option Reply) (job : Job) : Type 0 where
+pub record IsGranted (terms : Conditions) (i : ℕ) (rows : List Row) (place : ℕ) (object : Option ℕ) (ends : TurnEnd) (job : Job) : Type 0 where
   pub plan : job.plan ≡ plan_of Inside object
   pub in_range : IfSome object (λ n. n < limit.OBJECTS)
   pub thread : job.turn.thread ≡ i
-  pub ends : TurnEnd
-  pub waits : end_held blocked last ≡ Some ends
-  pub answers : answer_in (step input.settings job.found.object job.call (outcome_in job.outcome) job.carried) ≡ ended ends
+  pub answers : answer_in (step terms.settings job.found.object job.call (outcome_in job.outcome) job.carried) ≡ ended ends
   pub row : slice_get rows place ≡ Some (row_of job)
 
 -- the call that a thread was granted and goes outside with: what it asks, at whose door, and whether EAGAIN makes it wait
-pub record IsOut (input : Inputs) (i : ℕ) (rows : List Row) (o : Outing) (job : Job) : Type 0 where
+pub record IsOut (terms : Conditions) (i : ℕ) (rows : List Row) (o : Outing) (job : Job) : Type 0 where
   pub object : ℕ
   pub object_is : o.object ≡ Some object
   pub in_range : object < limit.OBJECTS
@@ -79,37 +68,35 @@ pub record IsOut (input : Inputs) (i : ℕ) (rows : List Row) (o : Outing) (job 
   pub waits : o.errand.waits ≡ waits_outside job.found.object job.call job.carried
   pub keeps : o.keeps_table ≡ keeps_table job.call
   -- whatever comes, unless it keeps the table
-  pub ends : o.keeps_table ≡ false → (x : Outcome) → let stepped = step input.settings job.found.object job.call (Some x) job.carried in
-      (stepped.answer, stepped.carried) ≡ acts.ended input.settings job.found.object job.carried (acts.outside_ending o.errand numbers.None (Some x))
+  pub ends : o.keeps_table ≡ false → (x : Outcome) → let stepped = step terms.settings job.found.object job.call (Some x) job.carried in
+      (stepped.answer, stepped.carried) ≡ acts.ended terms.settings job.found.object job.carried (acts.outside_ending o.errand numbers.None (Some x))
   pub row : slice_get rows o.row ≡ Some (row_of job)
 
-abbrev pub PhaseShows : Inputs → ℕ → List Row → Thread → lock.Thread → Phase → Type 0
-PhaseShows input i rows t u phase.Working = (u.phase ≡ Working) × IsBetween input i t u
-PhaseShows input i rows t u (phase.WantsTable call turns) = (u.phase ≡ WantsTable call turns) × IsInCall input i t u
-PhaseShows input i rows t u (phase.WantsObject call turns clock object) = (way : Way) × ((u.phase ≡ WantsObject call turns clock object way) × IsInCall input i t u × (object < limit.OBJECTS))
-PhaseShows input i rows t u (phase.Granted place object blocked) = (job : Job) × ((u.phase ≡ Granted job) × IsInCall input i t u × IsGranted input i rows place object blocked t.last job)
-PhaseShows input i rows t u (phase.ToOutside o) = (job : Job) × ((u.phase ≡ ToOutside job) × IsInCall input i t u × IsOut input i rows o job)
-PhaseShows input i rows t u (phase.Outside o) = (job : Job) × ((u.phase ≡ Outside job) × IsInCall input i t u × IsOut input i rows o job × (t.came < limit.OUTCOMES))
-PhaseShows input i rows t u (phase.Recorded o) = (job : Job) × ((u.phase ≡ Recorded job) × IsInCall input i t u × IsOut input i rows o job)
-PhaseShows input i rows t u (phase.Blocked call turns) = (u.phase ≡ Blocked call turns) × IsInCall input i t u
-PhaseShows input i rows t u phase.Stuck = (u.phase ≡ Working) × (moves (setup_of input) i u ≡ None)
-PhaseShows input i rows t u phase.Ended = u.phase ≡ Ended
+abbrev pub PhaseShows : Conditions → ℕ → List Row → Thread → lock.Thread → Phase → Type 0
+PhaseShows terms i rows t u phase.Working = u.phase ≡ Working
+PhaseShows terms i rows t u (phase.WantsTable call turns) = u.phase ≡ WantsTable call turns
+PhaseShows terms i rows t u (phase.WantsObject call turns clock object) = (way : Way) × ((u.phase ≡ WantsObject call turns clock object way) × (object < limit.OBJECTS))
+PhaseShows terms i rows t u (phase.Granted place object ends) = (job : Job) × ((u.phase ≡ Granted job) × IsGranted terms i rows place object ends job)
+PhaseShows terms i rows t u (phase.ToOutside o) = (job : Job) × ((u.phase ≡ ToOutside job) × IsOut terms i rows o job)
+PhaseShows terms i rows t u (phase.Outside o) = (job : Job) × ((u.phase ≡ Outside job) × IsOut terms i rows o job × (t.came < limit.OUTCOMES))
+PhaseShows terms i rows t u (phase.Recorded o) = (job : Job) × ((u.phase ≡ Recorded job) × IsOut terms i rows o job)
+PhaseShows terms i rows t u (phase.Blocked call turns) = u.phase ≡ Blocked call turns
+PhaseShows terms i rows t u phase.Ended = u.phase ≡ Ended
 
-pub record ThreadShows (input : Inputs) (i : ℕ) (rows : List Row) (t : Thread) (u : lock.Thread) : Type 0 where
+pub record ThreadShows (terms : Conditions) (i : ℕ) (rows : List Row) (t : Thread) (u : lock.Thread) : Type 0 where
   pub clock : u.clock ≡ t.clock
   pub in_time : t.clock ≤ 2 ^ 62
   pub asked : u.asked ≡ t.asked
   pub came : length u.came ≡ t.came
-  pub phase : PhaseShows input i rows t u t.phase
+  pub phase : PhaseShows terms i rows t u t.phase
 
 -- ## The whole
 
--- the patience of a run's calls and the cost of going outside, what comes from there by thread and the log of that, the threads, the locks of the
--- table and of the object numbers, what the table holds, and the rows
+-- the patience of a run's calls and the cost of going outside, the log of what came from there, the threads, the locks of the table and of the
+-- object numbers, what the table holds, and the rows
 pub record Whole : Type 0 where
   pub patience : ℕ
   pub door_cost : ℕ
-  pub outcomes : List (List Given)
   pub log : Written
   pub threads : List Thread
   pub lock : DetLock
@@ -122,7 +109,6 @@ whole_of m =
     record {
       patience = m.patience;
       door_cost = m.door_cost;
-      outcomes = m.outcomes.items;
       log = m.log;
       threads = joined m.threads.items m.clocks;
       lock = m.shared.lock;
@@ -134,12 +120,11 @@ whole_of m =
 abbrev pub thread_at : Whole → ℕ → Thread
 thread_at w k = get_or w.threads k no_thread
 
-pub record Shows (input : Inputs) (w : Whole) (s : State) : Type 0 where
-  pub patience : input.settings.patience ≡ w.patience
-  pub door_cost : input.settings.door_cost ≡ w.door_cost
-  pub outcomes : input.outcomes ≡ w.outcomes
+pub record Shows (terms : Conditions) (w : Whole) (s : State) : Type 0 where
+  pub patience : terms.settings.patience ≡ w.patience
+  pub door_cost : terms.settings.door_cost ≡ w.door_cost
   pub count : length s.threads ≡ length w.threads
-  pub threads : (k : ℕ) → ThreadShows input k s.rows (thread_at w k) (thread_of s k)
+  pub threads : (k : ℕ) → ThreadShows terms k s.rows (thread_at w k) (thread_of s k)
   pub table : s.table ≡ w.lock
   pub objects : s.objects ≡ w.objects
   pub object_count : length w.objects ≡ limit.OBJECTS
@@ -151,13 +136,25 @@ pub record Shows (input : Inputs) (w : Whole) (s : State) : Type 0 where
 abbrev pub item_at : List declared.Thread → ℕ → declared.Thread
 item_at threads i = get_or threads i no_item
 
--- thread i is in a call that goes outside
-abbrev pub IsOutAt : List declared.Thread → ℕ → Phase → Type 0
-IsOutAt threads i p = (let t : declared.Thread = item_at threads i in t.phase) ≡ p
+-- thread i is in this phase
+abbrev pub IsAt : List declared.Thread → ℕ → Phase → Type 0
+IsAt threads i p = (let t : declared.Thread = item_at threads i in t.phase) ≡ p
 
--- thread i is in a call with this row and object, which was blocked for so many turns, if it is blocked
-abbrev pub IsGrantedAt : List declared.Thread → ℕ → ℕ → Option ℕ → Option ℕ → Type 0
-IsGrantedAt threads i row object blocked = (let t : declared.Thread = item_at threads i in t.phase) ≡ phase.Granted row object blocked
+abbrev pub GrantedIn : Phase → ℕ → Option ℕ → Type 0
+GrantedIn (phase.Granted row object e) place other = (row ≡ place) × (object ≡ other)
+GrantedIn p place other = ⊥
+
+-- thread i is in a call that was granted with this row and object, if with one
+abbrev pub IsGrantedAt : List declared.Thread → ℕ → ℕ → Option ℕ → Type 0
+IsGrantedAt threads i row object = let t : declared.Thread = item_at threads i in GrantedIn t.phase row object
+
+abbrev pub BlockedIn : Phase → Type 0
+BlockedIn (phase.Blocked call turns) = Unit {0}
+BlockedIn p = ⊥
+
+-- thread i is in a call that is blocked
+abbrev pub IsBlockedAt : List declared.Thread → ℕ → Type 0
+IsBlockedAt threads i = let t : declared.Thread = item_at threads i in BlockedIn t.phase
 
 abbrev pub WantsIn : Phase → ℕ → Type 0
 WantsIn (phase.WantsObject call turns clock object) other = object ≡ other
@@ -167,7 +164,7 @@ WantsIn p other = ⊥
 abbrev pub WantsAt : List declared.Thread → ℕ → ℕ → Type 0
 WantsAt threads i object = let t : declared.Thread = item_at threads i in WantsIn t.phase object
 
--- ## Events
+-- ## Events, whoever supplies the steps and the outcomes
 
 abbrev pub has_moved : Progress → Bool
 has_moved progress.Moves = true
@@ -184,31 +181,50 @@ abbrev pub LogsMore : List Record → Written → Written → Type 0
 LogsMore records old new = (new.text ≡ old.text ++ records_text records) × (new.records ≡ old.records + length records)
 
 -- thread i makes its event that needs no turn, just where it can, and strays just where what is there for it does not answer
-pub record Advanced (made : Progress) (i : ℕ) (old new : Whole) (input : Inputs) (s : State) : Type 0 where
-  pub can : can_advance (setup_of input) s i ≡ has_moved made
-  pub strays : is_stray (setup_of input) s i ≡ has_strayed made
-  pub shows : Shows input new (advance (setup_of input) i s)
-  pub log : LogsMore (came_between i s (advance (setup_of input) i s)) old.log new.log
+pub record Advanced (made : Progress) (i : ℕ) (old new : Whole) (terms : Conditions) (s : State) : Type 0 where
+  pub can : can_advance (setup_under terms) s i ≡ has_moved made
+  pub strays : is_stray (setup_under terms) s i ≡ has_strayed made
+  pub shows : Shows terms new (advance (setup_under terms) i s)
+  pub log : LogsMore (came_between i s (advance (setup_under terms) i s)) old.log new.log
 
-abbrev pub Advances : Progress → ℕ → Whole → Whole → Type 0
-Advances made i old new = (input : Inputs) (s : State) → Arises (setup_of input) (first_state input) s → Shows input old s → Advanced made i old new input s
+-- it makes one in which no outcome comes, just where it can
+pub record Quietly (moved : Bool) (i : ℕ) (old new : Whole) (terms : Conditions) (s : State) : Type 0 where
+  pub can : can_advance (setup_under terms) s i ≡ moved
+  pub shows : Shows terms new (advance (setup_under terms) i s)
+  pub log : new.log ≡ old.log
 
--- the same of an event in which no outcome comes
+-- the run has come to this state
+abbrev pub StandsAt : Whole → Conditions → State → Type 0
+StandsAt w terms s = Arises (setup_under terms) (start_under terms) s × Shows terms w s
+
+-- it goes outside, or makes a blocked call again
 abbrev pub AdvancesQuietly : Bool → ℕ → Whole → Whole → Type 0
-AdvancesQuietly moved i old new =
-    (input : Inputs) (s : State) → Arises (setup_of input) (first_state input) s → Shows input old s
-    → (can_advance (setup_of input) s i ≡ moved) × Shows input new (advance (setup_of input) i s) × (new.log ≡ old.log)
+AdvancesQuietly moved i old new = (terms : Conditions) (s : State) → StandsAt old terms s → Quietly moved i old new terms s
 
-abbrev pub outside_in : Phase → Bool
-outside_in (phase.Outside outing) = true
-outside_in p = false
+-- it asks this step
+abbrev pub AsksFor : Bool → ℕ → Step → Whole → Whole → Type 0
+AsksFor moved i x old new =
+    (terms : Conditions) (s : State) → StandsAt old terms s → (let u : lock.Thread = thread_of s i in terms.supply.next i u.asked u.replies ≡ Some x) → Quietly moved i old new terms s
 
--- thread i is outside
-abbrev pub is_outside : Machine → ℕ → Bool
-is_outside m i = let t : declared.Thread = item_at m.threads.items i in outside_in t.phase
+-- the replies of a thread behind its answer, if it has one
+abbrev pub replied : Option posix.Answer → List Reply → List Reply
+replied (Some (answer.Reply r)) rs = rs ++ r ∷ []
+replied (Some answer.Again) rs = rs
+replied None rs = rs
+
+-- its call has this answer, if it has one
+abbrev pub Tells : Option posix.Answer → ℕ → Whole → Whole → Type 0
+Tells told i old new =
+    (terms : Conditions) (s : State) → StandsAt old terms s
+    → Quietly (is_some told) i old new terms s × ((thread_of (advance (setup_under terms) i s) i).replies ≡ replied told (thread_of s i).replies)
+
+-- this outcome comes
+abbrev pub RecordsGiven : Progress → ℕ → Given → Whole → Whole → Type 0
+RecordsGiven made i g old new =
+    (terms : Conditions) (s : State) → StandsAt old terms s → slice_get (terms.supply.outcomes i) (length (thread_of s i).came) ≡ Some g → Advanced made i old new terms s
 
 -- thread i makes its attempt, just where it can
 abbrev pub Attempts : Bool → ℕ → Whole → Whole → Type 0
 Attempts made i old new =
-    (input : Inputs) (s : State) → Arises (setup_of input) (first_state input) s → Shows input old s
-    → (can_attempt (setup_of input) s i ≡ made) × Shows input new (attempt (setup_of input) i s) × (new.log ≡ old.log)
+    (terms : Conditions) (s : State) → StandsAt old terms s
+    → (can_attempt (setup_under terms) s i ≡ made) × Shows terms new (attempt (setup_under terms) i s) × (new.log ≡ old.log)

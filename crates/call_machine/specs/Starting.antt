@@ -9,38 +9,46 @@ use Rattle.thread_scripts.specs.declared.line.Line.{Line}
 use Rattle.det_mutex.specs.Attempt.{new_lock}
 use Rattle.call_machine.specs.History.{transcripts_of}
 use Rattle.call_machine.specs.Plain.{all_true}
+use Rattle.call_machine.specs.Playing.{Played}
 use Rattle.call_machine.specs.Shows.{Whole}
 use Rattle.call_machine.specs.Views.{clocks_of, no_thread}
 use Rattle.call_machine.specs.declared.fault.Stop.{Stop}
 use Rattle.call_machine.specs.declared.fault.Stop.TheVariants as stop
 use Rattle.logical_clocks.specs.TurnOrder.{turn_holder}
 use Rattle.posix_terms.specs.declared.outcome.Given.{Given}
+use Rattle.call_machine.specs.declared.players.Player.{Player}
 use Rattle.call_machine.specs.declared.plain.Plain.{Plain}
 use Rattle.call_machine.specs.declared.thread.Phase.{Phase}
 use Rattle.call_machine.specs.declared.thread.Phase.TheVariants as phase
 use Rattle.call_machine.specs.Threads.{Thread}
 use Rattle.call_machine.specs.declared.thread.Thread as declared
 
--- a thread before its script's first line, without its clock
-abbrev pub first_item : List Line → declared.Thread
-first_item script = record { phase = phase.Working; asked = []; actor = start_of script; last = None; came = 0 }
+-- a thread before its first step, without its clock
+abbrev pub first_item : declared.Thread
+first_item = record { phase = phase.Working; asked = []; came = 0 }
 
-abbrev pub first_thread : List Line → Thread
-first_thread script = record { phase = phase.Working; clock = 1; asked = []; actor = start_of script; last = None; came = 0 }
+abbrev pub first_thread : Thread
+first_thread = record { phase = phase.Working; clock = 1; asked = []; came = 0 }
 
-abbrev pub first_whole : Header → List (List Line) → List (List Given) → Whole
-first_whole header scripts outcomes =
+abbrev pub first_whole : Header → ℕ → Whole
+first_whole header threads =
     record {
       patience = header.patience;
       door_cost = header.door_cost;
-      outcomes = outcomes;
       log = record { text = header_text header; records = 0 };
-      threads = map first_thread scripts;
+      threads = replicate threads first_thread;
       lock = new_lock;
       objects = replicate limit.OBJECTS new_lock;
       table = first_stored;
       rows = [];
     }
+
+-- a script before its first line
+abbrev pub first_player : List Line → Player
+first_player script = record { actor = start_of script; last = None; stuck = false }
+
+abbrev pub first_played : Header → List (List Line) → List (List Given) → Played
+first_played header scripts outcomes = record { whole = first_whole header (length scripts); players = map first_player scripts; outcomes = outcomes }
 
 abbrev pub is_ended : Phase → Bool
 is_ended phase.Ended = true

@@ -1,9 +1,7 @@
 -- The threads of a run with their clocks.
-use Rattle.std.specs.Prelude.{◌≡◌, ℕ, List, [], ◌∷◌, Option, slice_set}
+use Rattle.std.specs.Prelude.{◌≡◌, ℕ, List, [], ◌∷◌, slice_set}
 use Rattle.logical_clocks.specs.ThreadClocks.{thread_at}
 use Rattle.logical_clocks.specs.declared.clocks.ThreadClock.{ThreadClock}
-use Rattle.posix_terms.specs.declared.reply.Reply.{Reply}
-use Rattle.thread_scripts.specs.declared.actor.ScriptState.{ScriptState}
 use Rattle.thread_scripts.specs.declared.actor.Step.{Step}
 use Rattle.call_machine.specs.Lives.{is_live}
 use Rattle.call_machine.specs.declared.thread.Phase.{Phase}
@@ -13,12 +11,10 @@ pub record Thread : Type 0 where
   pub phase : Phase
   pub clock : ℕ
   pub asked : List Step
-  pub actor : ScriptState
-  pub last : Option Reply
   pub came : ℕ
 
 abbrev pub timed : declared.Thread → ℕ → Thread
-timed t clock = record { phase = t.phase; clock = clock; asked = t.asked; actor = t.actor; last = t.last; came = t.came }
+timed t clock = record { phase = t.phase; clock = clock; asked = t.asked; came = t.came }
 
 -- each with its clock
 abbrev pub joined : List declared.Thread → List ThreadClock → List Thread

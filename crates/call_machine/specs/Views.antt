@@ -1,6 +1,5 @@
 -- The clocks of a run's live threads.
 use Rattle.std.specs.Prelude.{ℕ, List, [], map, Option, Some, None}
-use Rattle.thread_scripts.specs.Meaning.{start_of}
 use Rattle.call_machine.specs.Threads.{Thread, timed}
 use Rattle.call_machine.specs.declared.thread.Thread as declared
 use Rattle.call_machine.specs.declared.thread.Phase.{Phase}
@@ -19,7 +18,7 @@ clocks_of threads = map live_clock_of threads
 
 -- past the last thread
 abbrev pub no_item : declared.Thread
-no_item = record { phase = phase.Ended; asked = []; actor = start_of []; last = None; came = 0 }
+no_item = record { phase = phase.Ended; asked = []; came = 0 }
 
 abbrev pub no_thread : Thread
 no_thread = timed no_item 0

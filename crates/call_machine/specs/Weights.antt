@@ -1,44 +1,32 @@
--- How much a thread can still do: a number that falls with each of its events.
-use Rattle.std.specs.Prelude.{ℕ, ◌+◌, ◌-◌, ◌*◌, ◌^◌, ◌<◌, ◌≤◌, List, [], ◌∷◌, Bool, true, false}
+-- How much a script can still do with its thread: a number that falls with each of the thread's events.
+use Rattle.std.specs.Prelude.{ℕ, ◌+◌, ◌-◌, ◌*◌, ◌^◌, ◌<◌, ◌≤◌, List, [], ◌∷◌, Bool, true, false, if◌then◌else◌}
 use Rattle.thread_scripts.specs.Meaning.{lines_left}
-use Rattle.call_machine.specs.declared.drive.Went.{Went}
-use Rattle.call_machine.specs.declared.drive.Went.TheVariants as went
+use Rattle.call_machine.specs.declared.players.Player.{Player}
 use Rattle.call_machine.specs.declared.thread.Phase.{Phase}
 use Rattle.call_machine.specs.declared.thread.Phase.TheVariants as phase
-use Rattle.call_machine.specs.Shows.{Whole}
 use Rattle.call_machine.specs.Threads.{Thread}
 
-abbrev pub left_in : Phase → ℕ → ℕ
-left_in phase.Working lines = 2 * lines + 1
-left_in (phase.WantsTable call turns) lines = 2 * lines + 2
-left_in (phase.WantsObject call turns clock object) lines = 2 * lines + 2
-left_in (phase.Granted row object blocked) lines = 2 * lines + 2
-left_in (phase.ToOutside outing) lines = 2 * lines + 5
-left_in (phase.Outside outing) lines = 2 * lines + 4
-left_in (phase.Recorded outing) lines = 2 * lines + 3
-left_in (phase.Blocked call turns) lines = 2 * lines + 3
-left_in phase.Stuck lines = 0
-left_in phase.Ended lines = 0
+-- by the lines that its script has left, of which a stuck one reads none
+abbrev pub left_in : Phase → Bool → ℕ → ℕ
+left_in phase.Working stuck lines = if stuck then 0 else 2 * lines + 1
+left_in (phase.WantsTable call turns) stuck lines = 2 * lines + 2
+left_in (phase.WantsObject call turns clock object) stuck lines = 2 * lines + 2
+left_in (phase.Granted row object ends) stuck lines = 2 * lines + 2
+left_in (phase.ToOutside outing) stuck lines = 2 * lines + 5
+left_in (phase.Outside outing) stuck lines = 2 * lines + 4
+left_in (phase.Recorded outing) stuck lines = 2 * lines + 3
+left_in (phase.Blocked call turns) stuck lines = 2 * lines + 3
+left_in phase.Ended stuck lines = 0
 
-unfoldable pub weight : Thread → ℕ
-weight t = 4 * (2 ^ 62 - t.clock) + left_in t.phase (lines_left t.actor)
+unfoldable pub weight : Thread → Player → ℕ
+weight t p = 4 * (2 ^ 62 - t.clock) + left_in t.phase p.stuck (lines_left p.actor)
 
-abbrev pub total : List Thread → ℕ
-total [] = 0
-total (t ∷ threads) = weight t + total threads
+abbrev pub total : List Thread → List Player → ℕ
+total [] players = 0
+total (t ∷ threads) [] = 0
+total (t ∷ threads) (p ∷ players) = weight t p + total threads players
 
 -- an event that is made lowers it
-abbrev pub Falls : Bool → List Thread → List Thread → Type 0
-Falls true old new = total new < total old
-Falls false old new = total new ≤ total old
-
-abbrev pub Lowers : Bool → Whole → Whole → Type 0
-Lowers moved old new = Falls moved old.threads new.threads
-
-abbrev pub goes_on : Went → Bool
-goes_on went.On = true
-goes_on went.Over = false
-goes_on (went.Strays i) = false
-
-abbrev pub LowersOn : Went → Whole → Whole → Type 0
-LowersOn w old new = Lowers (goes_on w) old new
+abbrev pub Falls : Bool → List Thread → List Player → List Thread → List Player → Type 0
+Falls true threads players later players_then = total later players_then < total threads players
+Falls false threads players later players_then = total later players_then ≤ total threads players

@@ -1,75 +1,71 @@
-ghost use Rattle.std.specs.Prelude.{◌≡◌, ◌<◌, true, false, IfOk, length, if◌then◌else◌};
+ghost use Rattle.std.specs.Prelude.{◌≡◌, ◌<◌, true, IfOk, length};
 ghost use Rattle.logical_clocks.specs.ThreadClocks.{live_clocks};
 ghost use Rattle.logical_clocks.specs.TurnOrder.{has_turn};
-ghost use Rattle.call_machine.specs.Shows.{Advances, AdvancesQuietly, Attempts, IsOutAt, has_moved, is_outside, whole_of};
+ghost use Rattle.call_machine.specs.Shows.{AdvancesQuietly, AsksFor, Attempts, IsAt, IsBlockedAt, IsGrantedAt, RecordsGiven, Tells, WantsAt, whole_of};
 ghost use Rattle.call_machine.specs.declared.thread.Phase.TheVariants as phase;
-ghost use Rattle.call_machine.specs.declared.outside.Progress.TheVariants as progress;
-ghost use Rattle.call_machine.specs.Shows.{IsGrantedAt, WantsAt};
-ghost use Rattle.call_machine.specs.Weights.{Lowers};
 
 use crate::events::{answer, try_object, try_table};
 use crate::machine::Machine;
 use crate::outside::{Progress, answer_outside, begin_outside, record};
 use crate::thread::{Outing, Phase};
-use posix_terms::Limits;
+use posix_terms::{Answer, Given, Limits};
 use std::alloc::{AllocError, Global};
+use thread_scripts::Step;
 
 impl Machine {
-    // Thread i makes its event that needs no turn, where it can.
-    pub fn advance(&mut self, alloc: Global, i: usize) -> Result<Progress, AllocError>
-        requires { i < length self.old.threads.items }
-        ensures event { IfOk result (λ made. Advances made i (whole_of self.old) (whole_of self.new)) }
-        ensures falls { IfOk result (λ made. Lowers (has_moved made) (whole_of self.old) (whole_of self.new)) }
+    // Thread i, which works, asks this step; and tells whether its clock has room for that.
+    pub fn ask(&mut self, i: usize, step: Step) -> Result<bool, AllocError>
+        requires inside { i < length self.old.threads.items }
+        requires working { IsAt self.old.threads.items i phase.Working }
+        ensures event { IfOk result (λ moved. AsksFor moved i step (whole_of self.old) (whole_of self.new)) }
         ensures count { length self.new.threads.items ≡ length self.old.threads.items }
     {
-        match self.threads[i].phase {
-            Phase::Outside(outing) => self.record(alloc, i, outing),
-            _ => Ok(progress(self.move_on(i)?)),
-        }
+        self.threads[i].ask(&mut self.clocks, i, step)
     }
 
-    // Any such event but that an outcome comes; and tells whether it could.
-    fn move_on(&mut self, i: usize) -> Result<bool, AllocError>
+    // Thread i, which was granted a call that it goes outside with, does so; and tells whether it could.
+    pub fn begin_outside(&mut self, i: usize, outing: Outing) -> bool
         requires inside { i < length self.old.threads.items }
-        ensures event { is_outside self.old i ≡ false → IfOk result (λ moved. AdvancesQuietly moved i (whole_of self.old) (whole_of self.new)) }
-        ensures falls { IfOk result (λ moved. Lowers moved (whole_of self.old) (whole_of self.new)) }
+        requires granted { IsAt self.old.threads.items i (phase.ToOutside outing) }
+        ensures event { AdvancesQuietly result i (whole_of self.old) (whole_of self.new) }
         ensures count { length self.new.threads.items ≡ length self.old.threads.items }
     {
-        match self.threads[i].phase {
-            Phase::Working => self.threads[i].ask(&mut self.clocks, i),
-            Phase::Granted {
-                row,
-                object,
-                blocked,
-            } => self.answer(i, row, object, blocked),
-            Phase::ToOutside(outing) => Ok(begin_outside(
-                i,
-                outing,
-                self.door_cost,
-                &mut self.threads[i],
-                &mut self.clocks,
-            )),
-            Phase::Recorded(outing) => self.answer_outside(i, outing),
-            Phase::Blocked { .. } => Ok(self.threads[i].again()),
-            _ => Ok(false),
-        }
+        begin_outside(
+            i,
+            outing,
+            self.door_cost,
+            &mut self.threads[i],
+            &mut self.clocks,
+        )
     }
 
-    // The next outcome of thread i, which is outside, comes.
-    fn record(&mut self, alloc: Global, i: usize, outing: Outing) -> Result<Progress, AllocError>
+    // Thread i, which is blocked, makes its call again; and tells whether it could.
+    pub fn again(&mut self, i: usize) -> bool
         requires inside { i < length self.old.threads.items }
-        requires outside { IsOutAt self.old.threads.items i (phase.Outside outing) }
-        ensures event { IfOk result (λ made. Advances made i (whole_of self.old) (whole_of self.new)) }
-        ensures falls { IfOk result (λ made. Lowers (has_moved made) (whole_of self.old) (whole_of self.new)) }
+        requires blocked { IsBlockedAt self.old.threads.items i }
+        ensures event { AdvancesQuietly result i (whole_of self.old) (whole_of self.new) }
+        ensures count { length self.new.threads.items ≡ length self.old.threads.items }
+    {
+        self.threads[i].again()
+    }
+
+    // This outcome comes for thread i, which is outside.
+    pub fn record(
+        &mut self,
+        alloc: Global,
+        i: usize,
+        outing: Outing,
+        given: &Given,
+    ) -> Result<Progress, AllocError>
+        requires inside { i < length self.old.threads.items }
+        requires outside { IsAt self.old.threads.items i (phase.Outside outing) }
+        ensures event { IfOk result (λ made. RecordsGiven made i given.now (whole_of self.old) (whole_of self.new)) }
         ensures count { length self.new.threads.items ≡ length self.old.threads.items }
     {
         // No run has so many threads.
         if i >= Limits::THREADS {
             return Err(AllocError);
         }
-        let Some(given) = self.outcomes.get(i) else {
-            return Ok(Progress::Stays);
-        };
         record(
             alloc,
             i,
@@ -81,19 +77,18 @@ impl Machine {
         )
     }
 
-    // The call of thread i, whose outcome came, has its answer.
-    fn answer_outside(&mut self, i: usize, outing: Outing) -> Result<bool, AllocError>
+    // The call of thread i, whose outcome came, has its answer; this is told, where it could be given.
+    pub fn answer_outside(&mut self, i: usize, outing: Outing) -> Result<Option<Answer>, AllocError>
         requires inside { i < length self.old.threads.items }
-        requires recorded { IsOutAt self.old.threads.items i (phase.Recorded outing) }
-        ensures event { IfOk result (λ moved. AdvancesQuietly moved i (whole_of self.old) (whole_of self.new)) }
-        ensures falls { IfOk result (λ moved. Lowers moved (whole_of self.old) (whole_of self.new)) }
+        requires recorded { IsAt self.old.threads.items i (phase.Recorded outing) }
+        ensures event { IfOk result (λ told. Tells told i (whole_of self.old) (whole_of self.new)) }
         ensures count { length self.new.threads.items ≡ length self.old.threads.items }
     {
         let Some(object) = outing.object else {
-            return Ok(false);
+            return Ok(None);
         };
         let Some(lock) = self.objects.get_mut(object) else {
-            return Ok(false);
+            return Ok(None);
         };
         answer_outside(
             i,
@@ -106,18 +101,17 @@ impl Machine {
         )
     }
 
-    // The call of thread i, granted with this row and object, has its answer.
-    fn answer(
+    // The call of thread i, which was granted with this object and asks nothing outside, has its answer; this is told,
+    // where it could be given.
+    pub fn answer(
         &mut self,
         i: usize,
         row: usize,
         object: Option<usize>,
-        blocked: Option<u32>,
-    ) -> Result<bool, AllocError>
+    ) -> Result<Option<Answer>, AllocError>
         requires inside { i < length self.old.threads.items }
-        requires granted { IsGrantedAt self.old.threads.items i row object blocked }
-        ensures event { IfOk result (λ moved. AdvancesQuietly moved i (whole_of self.old) (whole_of self.new)) }
-        ensures falls { IfOk result (λ moved. Lowers moved (whole_of self.old) (whole_of self.new)) }
+        requires granted { IsGrantedAt self.old.threads.items i row object }
+        ensures event { IfOk result (λ told. Tells told i (whole_of self.old) (whole_of self.new)) }
         ensures count { length self.new.threads.items ≡ length self.old.threads.items }
     {
         match object {
@@ -126,20 +120,18 @@ impl Machine {
                 &mut self.threads[i],
                 &mut self.clocks,
                 row,
-                blocked,
                 &mut self.shared.lock,
                 &mut self.shared.rows,
             ),
             Some(object) => {
                 let Some(lock) = self.objects.get_mut(object) else {
-                    return Ok(false);
+                    return Ok(None);
                 };
                 answer(
                     i,
                     &mut self.threads[i],
                     &mut self.clocks,
                     row,
-                    blocked,
                     lock,
                     &mut self.shared.rows,
                 )
@@ -151,7 +143,7 @@ impl Machine {
     pub fn attempt(&mut self, alloc: Global, i: usize) -> Result<bool, AllocError>
         requires { i < length self.old.threads.items }
         ensures event { IfOk result (λ made. Attempts made i (whole_of self.old) (whole_of self.new)) }
-        ensures falls { IfOk result (λ made. Lowers made (whole_of self.old) (whole_of self.new)) }
+        ensures count { length self.new.threads.items ≡ length self.old.threads.items }
     {
         if !self.clocks.is_turn(i) {
             return Ok(false);
@@ -176,7 +168,7 @@ impl Machine {
         requires turn { has_turn (live_clocks self.old.clocks) i ≡ true }
         requires wants { WantsAt self.old.threads.items i object }
         ensures event { IfOk result (λ made. Attempts made i (whole_of self.old) (whole_of self.new)) }
-        ensures falls { IfOk result (λ made. Lowers made (whole_of self.old) (whole_of self.new)) }
+        ensures count { length self.new.threads.items ≡ length self.old.threads.items }
     {
         let Some(lock) = self.objects.get_mut(object) else {
             return Ok(false);
@@ -190,16 +182,5 @@ impl Machine {
             lock,
             &mut self.shared,
         )
-    }
-}
-
-// Whether an event was made, as its progress.
-fn progress(moved: bool) -> Progress
-    ensures { result ≡ (if moved then progress.Moves else progress.Stays) }
-{
-    if moved {
-        Progress::Moves
-    } else {
-        Progress::Stays
     }
 }

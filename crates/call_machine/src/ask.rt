@@ -9,21 +9,20 @@ use logical_clocks::Clocks;
 use posix_terms::Call;
 use std::alloc::AllocError;
 use std::mem;
-use thread_scripts::{Actor, Step};
+use thread_scripts::Step;
 
 impl Thread {
-    // Asks the next step of thread i, which works; and tells whether its clock has room for that.
-    pub fn ask(&mut self, clocks: &mut Clocks, i: usize) -> Result<bool, AllocError>
+    // Thread i, which works, asks this step; and tells whether its clock has room for that.
+    pub fn ask(&mut self, clocks: &mut Clocks, i: usize, step: Step) -> Result<bool, AllocError>
         requires inside { i < length clocks.old }
         requires live { is_live self.old.phase ≡ true }
-        ensures event { IfOk result (λ moved. Asks moved (timed self.old (clock_at clocks.old i)) (timed self.new (clock_at clocks.new i))) }
+        ensures event { IfOk result (λ moved. Asks moved step (timed self.old (clock_at clocks.old i)) (timed self.new (clock_at clocks.new i))) }
         ensures others { KeepsOthers i self.old clocks.old self.new clocks.new }
     {
-        match self.actor.next(self.last.as_ref()) {
-            Ok(Step::Work(amount)) => self.work(clocks, i, amount),
-            Ok(Step::Call(call)) => self.want(call),
-            Ok(Step::End) => self.end(clocks, i),
-            Err(_) => Err(AllocError),
+        match step {
+            Step::Work(amount) => self.work(clocks, i, amount),
+            Step::Call(call) => self.want(call),
+            Step::End => self.end(clocks, i),
         }
     }
 
@@ -34,11 +33,9 @@ impl Thread {
         ensures others { KeepsOthers i self.old clocks.old self.new clocks.new }
     {
         if clocks.add(i, amount).is_err() {
-            self.phase = Phase::Stuck;
             return Ok(false);
         }
         self.asked.push(Step::Work(amount))?;
-        self.last = None;
         Ok(true)
     }
 
@@ -68,7 +65,7 @@ impl Thread {
         ensures event { (clock : ℕ) → GoesAgain result (timed self.old clock) (timed self.new clock) }
         ensures live { is_live self.old.phase ≡ is_live self.new.phase }
     {
-        match mem::replace(&mut self.phase, Phase::Stuck) {
+        match mem::replace(&mut self.phase, Phase::Working) {
             Phase::Blocked { call, turns } => {
                 self.phase = Phase::WantsTable { call, turns };
                 true

@@ -5,9 +5,8 @@ ghost use Rattle.lock_model.specs.Machine.{is_number};
 ghost use Rattle.logical_clocks.specs.ThreadClocks.{clock_at};
 ghost use Rattle.call_machine.specs.Events.{Answers, Grants, wants_to_keep, GrantsObject, PlansTo, Reaches, Tries, object_taken, parts};
 ghost use Rattle.call_machine.specs.Lives.{is_live};
-ghost use Rattle.call_machine.specs.Held.{end_held, turn_ended, phase_behind, told_as};
+ghost use Rattle.call_machine.specs.Held.{end_held, phase_behind, phase_started, told_as};
 ghost use Rattle.call_machine.specs.Threads.{KeepsOthers, timed};
-ghost use Rattle.call_machine.specs.declared.thread.Phase.TheVariants as phase;
 ghost use Rattle.object_store.specs.Store.{Stored, number_locked};
 
 use crate::machine::Shared;
@@ -20,59 +19,80 @@ use posix_terms::{Answer, Call, HistoryRow, Turn};
 use std::alloc::{AllocError, Global};
 use std::mem;
 
-// `answer`: the call of thread i has its reply, or is to be made again where it was blocked for so many turns; and
-// the lock that it holds is free.
+// `answer`: the call of thread i, which has this row, has its reply, or is to be made again where it was blocked; this is
+// told. The lock that the call holds is free.
 pub fn answer(
     i: usize,
     thread: &mut Thread,
     clocks: &mut Clocks,
     row: usize,
-    blocked: Option<u32>,
     lock: &mut DetLock,
     rows: &mut Vec<HistoryRow>,
-) -> Result<bool, AllocError>
+) -> Result<Option<Answer>, AllocError>
     requires inside { i < length clocks.old }
     requires live { is_live thread.old.phase ≡ true }
-    ensures event { IfOk result (λ moved. (table : Stored) → Answers moved i row blocked (parts (timed thread.old (clock_at clocks.old i)) lock.old table rows.old.items) (parts (timed thread.new (clock_at clocks.new i)) lock.new table rows.new.items)) }
+    ensures event { IfOk result (λ told. (table : Stored) → Answers told i row (parts (timed thread.old (clock_at clocks.old i)) lock.old table rows.old.items) (parts (timed thread.new (clock_at clocks.new i)) lock.new table rows.new.items)) }
     ensures others { KeepsOthers i thread.old clocks.old thread.new clocks.new }
     ensures rows { length rows.new.items ≡ length rows.old.items }
 {
     if !holds(*lock, i) {
-        return Ok(false);
+        return Ok(None);
     }
     let Some(row) = rows.get_mut(row) else {
-        return Ok(false);
+        return Ok(None);
     };
-    let Some((answer, phase)) = answered(thread, blocked, &row.call)? else {
-        return Ok(false);
+    let Some((answer, phase)) = answered(&thread.phase, &row.call)? else {
+        return Ok(None);
     };
     let clock = clocks.clock(i);
     if clocks.add(i, 1).is_err() {
-        return Ok(false);
+        return Ok(None);
     }
     row.answer = Some(answer);
     lock.free(i, clock);
-    thread.phase = phase;
-    Ok(true)
+    Ok(told(mem::replace(&mut thread.phase, phase)))
 }
 
-// The answer of a call that this thread is in, and the thread's phase behind it.
-fn answered(
-    thread: &Thread,
-    blocked: Option<u32>,
-    call: &Call,
-) -> Result<Option<(Answer, Phase)>, AllocError>
-    ensures ends { IfOk result (λ found. found ≡ option_map (λ e. (told_as e, phase_behind call.now e)) (end_held blocked thread.now.last)) }
+// The answer of a call whose thread is in this phase, and the phase behind it.
+fn answered(phase: &Phase, call: &Call) -> Result<Option<(Answer, Phase)>, AllocError>
+    ensures ends { IfOk result (λ found. found ≡ option_map (λ e. (told_as e, phase_behind call.now e)) (end_held phase.now)) }
     ensures live { IfOk result (λ found. IfSome found (λ x. is_live x.1 ≡ true)) }
 {
-    if let Some(turns) = blocked {
-        let call = call.try_clone()?;
-        return Ok(Some((Answer::Again, Phase::Blocked { call, turns })));
+    match phase {
+        Phase::Granted {
+            ends: TurnEnd::Reply(reply),
+            ..
+        } => Ok(Some((Answer::Reply(reply.try_clone()?), Phase::Working))),
+        Phase::Granted {
+            ends: TurnEnd::Blocked(turns),
+            ..
+        } => {
+            let call = call.try_clone()?;
+            let turns = *turns;
+            Ok(Some((Answer::Again, Phase::Blocked { call, turns })))
+        }
+        _ => Ok(None),
     }
-    let Some(last) = thread.last.as_ref() else {
-        return Ok(None);
-    };
-    Ok(Some((Answer::Reply(last.try_clone()?), Phase::Working)))
+}
+
+// What is told of a call that was in this phase.
+fn told(phase: Phase) -> Option<Answer>
+    ensures { result ≡ option_map told_as (end_held phase) }
+{
+    match phase {
+        Phase::Granted { ends, .. } => Some(told_as(ends)),
+        _ => None,
+    }
+}
+
+// A turn that ended so, as the answer of its row.
+pub fn told_as(end: TurnEnd) -> Answer
+    ensures { result ≡ told_as end }
+{
+    match end {
+        TurnEnd::Reply(reply) => Answer::Reply(reply),
+        TurnEnd::Blocked(_) => Answer::Again,
+    }
 }
 
 // Whether thread i holds a lock.
@@ -99,7 +119,7 @@ pub fn try_table(
     ensures event { IfOk result (λ made. Tries patience made i (parts (timed thread.old (clock_at clocks.old i)) shared.old.lock shared.old.store shared.old.rows.items) (parts (timed thread.new (clock_at clocks.new i)) shared.new.lock shared.new.store shared.new.rows.items)) }
     ensures others { KeepsOthers i thread.old clocks.old thread.new clocks.new }
 {
-    match mem::replace(&mut thread.phase, Phase::Stuck) {
+    match mem::replace(&mut thread.phase, Phase::Working) {
         Phase::WantsTable { call, turns } => {
             let clock = clocks.clock(i);
             if clocks.add(i, 1).is_err() {
@@ -205,7 +225,7 @@ fn grant_object(
     ensures event { IfOk result (λ _. (clock : ℕ) → GrantsObject patience thread.old.phase i (parts (timed thread.old clock) shared.old.lock shared.old.store shared.old.rows.items) (parts (timed thread.new clock) shared.new.lock shared.new.store shared.new.rows.items)) }
     ensures live { is_live thread.old.phase ≡ true → is_live thread.new.phase ≡ true }
 {
-    match mem::replace(&mut thread.phase, Phase::Stuck) {
+    match mem::replace(&mut thread.phase, Phase::Working) {
         Phase::WantsObject {
             call,
             turns,
@@ -262,22 +282,8 @@ fn grant(
         return Err(AllocError);
     }
     let row = shared.rows.len();
-    match shared.store.make(alloc, &call, patience, turns)? {
-        TurnStart::Ended(ends) => hold(thread, row, object, ends),
-        TurnStart::GoesOut(errand) => {
-            let keeps_table = keeps_table(&call);
-            go_out(
-                thread,
-                Outing {
-                    row,
-                    object,
-                    turns,
-                    errand,
-                    keeps_table,
-                },
-            );
-        }
-    }
+    let start = shared.store.make(alloc, &call, patience, turns)?;
+    thread.phase = started(row, object, turns, &call, start);
     shared
         .rows
         .push(HistoryRow {
@@ -290,29 +296,19 @@ fn grant(
     Ok(())
 }
 
-// A turn ended so, which has this row: its reply waits, or the number of its blocked turns.
-fn hold(thread: &mut Thread, row: usize, object: Option<usize>, ends: TurnEnd)
-    ensures holds { (clock : ℕ) → timed thread.new clock ≡ turn_ended row object ends (timed thread.old clock) }
-    ensures live { is_live thread.new.phase ≡ true }
+// The phase of a thread whose turn started so, which has this row.
+fn started(row: usize, object: Option<usize>, turns: u32, call: &Call, start: TurnStart) -> Phase
+    ensures phase { result ≡ phase_started row object call.now turns start }
+    ensures live { is_live result ≡ true }
 {
-    let blocked = match ends {
-        TurnEnd::Reply(reply) => {
-            thread.last = Some(reply);
-            None
-        }
-        TurnEnd::Blocked(turns) => Some(turns),
-    };
-    thread.phase = Phase::Granted {
-        row,
-        object,
-        blocked,
-    };
-}
-
-// A turn goes outside, which has this row.
-fn go_out(thread: &mut Thread, outing: Outing)
-    ensures goes { (clock : ℕ) → timed thread.new clock ≡ record (timed thread.old clock) { phase = phase.ToOutside outing } }
-    ensures live { is_live thread.new.phase ≡ true }
-{
-    thread.phase = Phase::ToOutside(outing);
+    match start {
+        TurnStart::Ended(ends) => Phase::Granted { row, object, ends },
+        TurnStart::GoesOut(errand) => Phase::ToOutside(Outing {
+            row,
+            object,
+            turns,
+            errand,
+            keeps_table: keeps_table(call),
+        }),
+    }
 }

@@ -4,6 +4,7 @@
 mod advance;
 mod ask;
 mod drive;
+mod driver;
 mod events;
 mod fault;
 mod finish;
@@ -13,6 +14,7 @@ mod log;
 mod machine;
 mod outside;
 mod plain;
+mod players;
 mod run;
 mod start;
 mod thread;

@@ -6,7 +6,7 @@ use crate::thread::Thread;
 use det_mutex::DetLock;
 use logical_clocks::Clocks;
 use object_store::Store;
-use posix_terms::{HistoryRow, Outcomes};
+use posix_terms::HistoryRow;
 
 // The table with its lock and the bodies of the objects, and the rows of what was granted so far.
 #[derive(Drop)]
@@ -24,8 +24,6 @@ pub struct Machine {
     pub patience: u32,
     // what a call that goes outside adds to its thread's clock
     pub door_cost: u32,
-    // by thread, what comes for it from outside
-    pub outcomes: Vec<Outcomes>,
     // the record of each outcome that came
     pub log: Log,
     pub threads: Vec<Thread>,

@@ -7,7 +7,7 @@ ghost use Rattle.call_machine.specs.Held.{told_as};
 ghost use Rattle.call_machine.specs.Outings.{AnswersOutside, Begins, EndsTurn, Records, answer_cost, answers_errand, logged_parts, outside_parts, table_freed, went_on};
 ghost use Rattle.call_machine.specs.Threads.{KeepsOthers, timed};
 
-use crate::events::holds;
+use crate::events::{holds, told_as};
 use crate::log::Log;
 use crate::machine::Shared;
 use crate::thread::{Outing, Phase, Thread};
@@ -16,7 +16,7 @@ use det_mutex::DetLock;
 use input_log::Record;
 use logical_clocks::Clocks;
 use object_store::{Store, TurnEnd, end_outside};
-use posix_terms::{Answer, Call, Given, HistoryRow, Limits, Outcome, Outcomes};
+use posix_terms::{Answer, Call, Given, HistoryRow, Limits, Outcome};
 use std::alloc::{AllocError, Global};
 
 // How far an event comes that needs no turn.
@@ -75,24 +75,21 @@ fn answers(errand: Errand, given: &Given) -> bool
         && errand.asked <= 65_535
 }
 
-// `record`: the next outcome of thread i goes into the log, and then into the call's row.
+// `record`: this outcome of thread i goes into the log, and then into the call's row.
 pub fn record(
     alloc: Global,
     i: usize,
     outing: Outing,
-    given: &Outcomes,
+    given: &Given,
     thread: &mut Thread,
     rows: &mut Vec<HistoryRow>,
     log: &mut Log,
 ) -> Result<Progress, AllocError>
     requires thread { i < 8 }
-    ensures event { IfOk result (λ progress. (clock : ℕ) → Records progress i outing given.now (logged_parts (timed thread.old clock) rows.old.items log.old) (logged_parts (timed thread.new clock) rows.new.items log.new)) }
+    ensures event { IfOk result (λ made. (clock : ℕ) → Records made i outing given.now (logged_parts (timed thread.old clock) rows.old.items log.old) (logged_parts (timed thread.new clock) rows.new.items log.new)) }
     ensures live { is_live thread.old.phase ≡ true → is_live thread.new.phase ≡ true }
 {
-    let Some(next) = given.as_slice().get(thread.came as usize) else {
-        return Ok(Progress::Stays);
-    };
-    if !answers(outing.errand, next) {
+    if !answers(outing.errand, given) {
         return Ok(Progress::Strays);
     }
     let Some(row) = rows.get_mut(outing.row) else {
@@ -104,8 +101,8 @@ pub fn record(
     let item = Record {
         thread: i as u16,
         number: thread.came,
-        kind: next.kind,
-        outcome: next.outcome.try_clone()?,
+        kind: given.kind,
+        outcome: given.outcome.try_clone()?,
     };
     log.append(alloc, &item)?;
     row.outcome = Some(item.outcome);
@@ -124,30 +121,30 @@ pub fn answer_outside(
     clocks: &mut Clocks,
     lock: &mut DetLock,
     shared: &mut Shared,
-) -> Result<bool, AllocError>
+) -> Result<Option<Answer>, AllocError>
     requires inside { i < length clocks.old }
     requires live { is_live thread.old.phase ≡ true }
-    ensures event { IfOk result (λ moved. AnswersOutside patience moved i outing (outside_parts (timed thread.old (clock_at clocks.old i)) lock.old shared.old.lock shared.old.store shared.old.rows.items) (outside_parts (timed thread.new (clock_at clocks.new i)) lock.new shared.new.lock shared.new.store shared.new.rows.items)) }
+    ensures event { IfOk result (λ told. AnswersOutside patience told i outing (outside_parts (timed thread.old (clock_at clocks.old i)) lock.old shared.old.lock shared.old.store shared.old.rows.items) (outside_parts (timed thread.new (clock_at clocks.new i)) lock.new shared.new.lock shared.new.store shared.new.rows.items)) }
     ensures others { KeepsOthers i thread.old clocks.old thread.new clocks.new }
 {
     if !holds_locks(outing, i, *lock, shared.lock) {
-        return Ok(false);
+        return Ok(None);
     }
     let Some(row) = shared.rows.get_mut(outing.row) else {
-        return Ok(false);
+        return Ok(None);
     };
     let Some(outcome) = row.outcome.as_ref() else {
-        return Ok(false);
+        return Ok(None);
     };
     let now = clocks.clock(i);
     if clocks.add(i, answer_cost(outing.keeps_table)).is_err() {
-        return Ok(false);
+        return Ok(None);
     }
     let end = end_turn(outing, &row.call, outcome, patience, &mut shared.store)?;
-    row.answer = Some(go_on(thread, &row.call, end)?);
+    row.answer = Some(go_on(thread, &row.call, &end)?);
     lock.free(i, now);
     free_table(outing.keeps_table, i, now + 1, &mut shared.lock);
-    Ok(true)
+    Ok(Some(told_as(end)))
 }
 
 // Whether thread i holds the lock of its object and, where its call kept the table, that of the table.
@@ -196,20 +193,20 @@ fn end_turn(
 }
 
 // The thread goes on behind a turn that ended so, whose answer is given.
-fn go_on(thread: &mut Thread, call: &Call, end: TurnEnd) -> Result<Answer, AllocError>
-    ensures answer { IfOk result (λ answer. answer ≡ told_as end) }
-    ensures thread { IfOk result (λ _. (clock : ℕ) → timed thread.new clock ≡ went_on call.now end (timed thread.old clock)) }
+fn go_on(thread: &mut Thread, call: &Call, end: &TurnEnd) -> Result<Answer, AllocError>
+    ensures answer { IfOk result (λ answer. answer ≡ told_as end.now) }
+    ensures thread { IfOk result (λ _. (clock : ℕ) → timed thread.new clock ≡ went_on call.now end.now (timed thread.old clock)) }
     ensures live { is_live thread.old.phase ≡ true → is_live thread.new.phase ≡ true }
 {
     match end {
         TurnEnd::Reply(reply) => {
             let answer = Answer::Reply(reply.try_clone()?);
             thread.phase = Phase::Working;
-            thread.last = Some(reply);
             Ok(answer)
         }
         TurnEnd::Blocked(turns) => {
             let call = call.try_clone()?;
+            let turns = *turns;
             thread.phase = Phase::Blocked { call, turns };
             Ok(Answer::Again)
         }

@@ -4,8 +4,8 @@ ghost use Rattle.call_machine.specs.Covered.{IsCovered};
 ghost use Rattle.call_machine.specs.History.{AreRising};
 ghost use Rattle.call_machine.specs.Plain.{Runs, are_settings, counts_fit, header_of};
 
+use crate::driver::Driver;
 use crate::fault::PlainFault;
-use crate::machine::Machine;
 use crate::plain::Plain;
 use input_log::Header;
 use posix_terms::{Limits, Outcomes, Settings};
@@ -46,9 +46,9 @@ pub fn plain_run(
         patience: settings.patience,
         door_cost: settings.door_cost,
     };
-    let mut machine = Machine::new(alloc, scripts, outcomes, header)?;
-    let strayed = machine.run(alloc)?;
-    Ok(machine.finish(alloc, strayed)?)
+    let mut driver = Driver::new(alloc, scripts, outcomes, header)?;
+    let strayed = driver.run(alloc)?;
+    Ok(driver.machine.finish(alloc, strayed)?)
 }
 
 fn counts_fit(scripts: usize, outcomes: usize) -> bool

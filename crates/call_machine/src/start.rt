@@ -1,4 +1,4 @@
-ghost use Rattle.std.specs.Prelude.{◌≡◌, ◌≤◌, IfOk, length, map};
+ghost use Rattle.std.specs.Prelude.{◌≡◌, ◌≤◌, IfOk, length, map, replicate};
 ghost use Rattle.posix_terms.specs.declared.limits.TheConstants.Limits as limit;
 ghost use Rattle.call_machine.specs.Shows.{whole_of};
 ghost use Rattle.call_machine.specs.Starting.{first_item, first_whole};
@@ -11,30 +11,22 @@ use det_mutex::DetLock;
 use input_log::Header;
 use logical_clocks::Clocks;
 use object_store::Store;
-use posix_terms::{Limits, Outcomes};
+use posix_terms::Limits;
 use std::alloc::{AllocError, Global};
-use thread_scripts::{Script, ScriptActor};
 
 impl Machine {
-    // A thread for each script, with its outcomes, over a table with nothing open and only the root. The header's
-    // settings are the run's.
-    pub fn new(
-        alloc: Global,
-        scripts: Vec<Script>,
-        outcomes: Vec<Outcomes>,
-        header: Header,
-    ) -> Result<Machine, AllocError>
-        requires some { 1 ≤ length scripts.items }
-        requires within_limit { length scripts.items ≤ limit.THREADS }
-        ensures { IfOk result (λ machine. whole_of machine ≡ first_whole header scripts.items outcomes.items) }
+    // So many threads, over a table with nothing open and only the root. The header's settings are the run's.
+    pub fn new(alloc: Global, threads: usize, header: Header) -> Result<Machine, AllocError>
+        requires some { 1 ≤ threads }
+        requires within_limit { threads ≤ limit.THREADS }
+        ensures { IfOk result (λ machine. whole_of machine ≡ first_whole header threads) }
     {
-        let clocks = Clocks::new(alloc, scripts.len())?;
+        let clocks = Clocks::new(alloc, threads)?;
         Ok(Machine {
             patience: header.patience,
             door_cost: header.door_cost,
-            outcomes,
             log: Log::new(alloc, header)?,
-            threads: first_threads(alloc, scripts)?,
+            threads: first_threads(alloc, threads)?,
             clocks,
             shared: Shared {
                 lock: DetLock::new(),
@@ -46,24 +38,22 @@ impl Machine {
     }
 }
 
-fn first_threads(alloc: Global, scripts: Vec<Script>) -> Result<Vec<Thread>, AllocError>
-    ensures { IfOk result (λ threads. threads.items ≡ map first_item scripts.items) }
+fn first_threads(alloc: Global, count: usize) -> Result<Vec<Thread>, AllocError>
+    ensures { IfOk result (λ threads. threads.items ≡ replicate count first_item) }
 {
     let mut threads = Vec::new(alloc);
-    for script in scripts {
-        threads.push(first_thread(alloc, script))?;
+    for _ in 0..count {
+        threads.push(first_thread(alloc))?;
     }
     Ok(threads)
 }
 
-fn first_thread(alloc: Global, script: Script) -> Thread
-    ensures { result ≡ first_item script }
+fn first_thread(alloc: Global) -> Thread
+    ensures { result ≡ first_item }
 {
     Thread {
         phase: Phase::Working,
         asked: Steps::from_vec(Vec::new(alloc)),
-        actor: ScriptActor::new(script),
-        last: None,
         came: 0,
     }
 }

@@ -1,7 +1,7 @@
 use crate::history::Steps;
 use descriptor_table::Errand;
-use posix_terms::{Call, Reply};
-use thread_scripts::ScriptActor;
+use object_store::TurnEnd;
+use posix_terms::Call;
 
 // A call that goes outside: the row of the history that it has, the object whose lock it holds, for how many turns it
 // was blocked before, what it asks, and whether it keeps the table to its answer.
@@ -30,12 +30,12 @@ pub enum Phase {
         clock: u64,
         object: usize,
     },
-    // in a call that has this row of the history; it holds the lock of its object or, without one, the table. Its
-    // reply waits, or it is blocked, for so many turns with this one
+    // in a call that has this row of the history, and whose turn ended so; it holds the lock of its object or, without
+    // one, the table
     Granted {
         row: usize,
         object: Option<usize>,
-        blocked: Option<u32>,
+        ends: TurnEnd,
     },
     // in a call that was granted and has still to go outside
     ToOutside(Outing),
@@ -48,18 +48,13 @@ pub enum Phase {
         call: Call,
         turns: u32,
     },
-    // its next step would bring its clock past the limit
-    Stuck,
     Ended,
 }
 
-// A thread of a run: with its script, the steps that it asked, the last reply, which its script sees with its
-// next step, and how many outcomes came for it from outside.
+// A thread of a run: the steps that it asked, and how many outcomes came for it from outside.
 #[derive(Drop)]
 pub struct Thread {
     pub phase: Phase,
     pub asked: Steps,
-    pub actor: ScriptActor,
-    pub last: Option<Reply>,
     pub came: u32,
 }

@@ -1,4 +1,4 @@
-use Rattle.std.proofs.Common.{◌≡◌, ◌+◌, ◌^◌, List, Some, None, true, false, refl, sym, ap, ◌∙◌, subst, length, rules}
+use Rattle.std.proofs.Common.{◌≡◌, ◌+◌, ◌^◌, List, Some, None, true, refl, sym, ap, ◌∙◌, subst, length, rules}
 use Rattle.std.proofs.lemmas.Option.{slice_get_read}
 use Rattle.std.specs.Prelude.{nat_le, slice_get}
 use Rattle.std.proofs.Math.ListN.{set}
@@ -21,7 +21,7 @@ returns-in_default-as_ref-clause-event c =
     let size : rows.len ≡ length rows.items = search rules in
     let there : slice_get rows.items c.args.outing.row ≡ Some c.in-Some.row.now = slice_get_read rows.items rows.len c.args.outing.row c.in-Some.row.now size (c.in-Some.ensures.variant.0 refl) c.in-Some.ensures.value in
     let none : c.in-Some.row.now.outcome ≡ None = search rules in
-    subst (λ (rows : List HistoryRow). AnswersOutside c.args.patience false c.args.i c.args.outing old (record old { rows = rows })) (sym (got_set c.args.shared.now.rows.items c.args.outing.row c.in-Some.row.now there))
+    subst (λ (rows : List HistoryRow). AnswersOutside c.args.patience None c.args.i c.args.outing old (record old { rows = rows })) (sym (got_set c.args.shared.now.rows.items c.args.outing.row c.in-Some.row.now there))
     (concludes_pending c.args.patience c.args.i c.args.outing old c.in-Some.row.now held there none)
 
 pub returns-in_err-go_on-clause-others : goal.returns-in_err-go_on-clause-others
@@ -51,7 +51,7 @@ returns-clause-event c =
     c.in_ok-go_on.ensures.thread (clock_at c.add.new.self c.args.i) ∙ ap (λ n. went_on c.in-Some.row.now.call c.in_ok-end.end (timed c.args.thread.now n)) at in
     let object : c.free.new.self ≡ freed old.thread.clock = c.free.ensures ∙ ap freed c.clock-now.ensures.value in
     let lock : c.free_table.new.table ≡ table_freed c.args.outing.keeps_table (old.thread.clock + 1) c.args.shared.now.lock = c.free_table.ensures ∙ ap (λ n. table_freed c.args.outing.keeps_table (n + 1) c.args.shared.now.lock) c.clock-now.ensures.value in
-    concludes_made c.args.patience c.args.i c.args.outing old _ c.in-Some.row.now c.in-Some-as_ref.outcome.now c.in_ok-end.end held there came room
+    concludes_made c.args.patience c.args.i c.args.outing (Some c.told_as.result) old _ c.in-Some.row.now c.in-Some-as_ref.outcome.now c.in_ok-end.end held there came room (ap Some c.told_as.ensures)
     c.in_ok-end.ensures
     (λ k. record {
       thread = thread k;

@@ -1,6 +1,5 @@
 use Rattle.call_machine.specs.declared.thread.Phase.TheVariants as phase
 use Rattle.call_machine.proofs.EventShows.{conclude_done, conclude_none, item_agrees, item_of, phase_at}
-use Rattle.call_machine.proofs.Lowering.{outside_lowers}
 use Rattle.std.proofs.Common.{◌≡◌, ℕ, ◌≤◌, length, get_or, sym, ◌∙◌, subst, rules}
 use Rattle.call_machine.specs.Shows.{whole_of}
 use Rattle.call_machine.proofs.Parting.{same_some}
@@ -32,10 +31,3 @@ returns-clause-event c =
     let own : c.in-Some-get_mut.lock.now ≡ get_or m.objects.items c.in-Some.object new_lock = search rules in
     conclude_done (whole_of m) m.threads.items m.clocks c.answer_outside.new.clocks c.args.i c.in-Some.object c.args.outing c.index_mut.result.now c.answer_outside.new.thread c.in-Some-get_mut.lock.now c.answer_outside.new.lock c.answer_outside.new.shared.lock c.answer_outside.new.shared.store c.answer_outside.new.shared.rows.items c.answer_outside.result item
     (phase_at m.threads.items c.args.i c.index_mut.result.now (phase.Recorded c.args.outing) c.requires.inside c.index_mut.ensures.value c.requires.recorded) c.in-Some.is own c.answer_outside.ensures.event
-
-pub returns-clause-falls : goal.returns-clause-falls
-returns-clause-falls c =
-    let m = c.args.self.now in
-    let item = item_of m.threads.items m.clocks c.args.i c.index_mut.result.now c.answer_outside.new.thread c.answer_outside.new.clocks m.agree c.requires.inside c.index_mut.ensures.value c.answer_outside.ensures.others in
-    outside_lowers m.threads.items m.clocks c.answer_outside.new.clocks m.patience c.args.i c.args.outing c.in-Some-get_mut.lock.now m.shared.lock c.answer_outside.new.lock c.answer_outside.new.shared.lock m.shared.store c.answer_outside.new.shared.store m.shared.rows.items c.answer_outside.new.shared.rows.items c.index_mut.result.now c.answer_outside.new.thread c.answer_outside.result item
-    (phase_at m.threads.items c.args.i c.index_mut.result.now (phase.Recorded c.args.outing) c.requires.inside c.index_mut.ensures.value c.requires.recorded) c.answer_outside.ensures.event

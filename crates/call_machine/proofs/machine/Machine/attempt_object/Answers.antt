@@ -2,7 +2,7 @@ use Rattle.std.proofs.Common.{◌≡◌, ◌≤◌, length, get_or, rules}
 use Rattle.det_mutex.specs.Attempt.{new_lock}
 use Rattle.call_machine.specs.Shows.{whole_of}
 use Rattle.call_machine.proofs.AttemptEvents.{reach_done, reach_none}
-use Rattle.call_machine.proofs.EventShows.{item_agrees, item_of, reach_lowers, wants_at}
+use Rattle.call_machine.proofs.EventShows.{item_agrees, item_of, wants_at}
 use Rattle.call_machine.proofs.machine.Machine.attempt_object.Goals as goal
 
 pub returns-in_default-clause-event : goal.returns-in_default-clause-event
@@ -23,9 +23,3 @@ returns-clause-event c =
     reach_done (whole_of m) m.threads.items m.clocks c.try_object.new.clocks c.args.i c.args.object c.index_mut.result.now c.try_object.new.thread c.try_object.new.shared.lock c.in-Some.lock.now c.try_object.new.lock c.try_object.new.shared.store c.try_object.new.shared.rows.items c.try_object.result
     (item_of m.threads.items m.clocks c.args.i c.index_mut.result.now c.try_object.new.thread c.try_object.new.clocks m.agree c.requires.inside c.index_mut.ensures.value c.try_object.ensures.others)
     m.agree c.requires.turn (wants_at m.threads.items c.args.i c.args.object c.index_mut.result.now c.requires.inside c.index_mut.ensures.value c.requires.wants) own c.try_object.ensures.event
-
-pub returns-clause-falls : goal.returns-clause-falls
-returns-clause-falls c =
-    let m = c.args.self.now in
-    reach_lowers m.patience m.threads.items m.clocks c.try_object.new.clocks m.shared.lock m.shared.store m.shared.rows.items c.args.i c.index_mut.result.now c.try_object.new.thread c.try_object.new.shared.lock c.in-Some.lock.now c.try_object.new.lock c.try_object.new.shared.store c.try_object.new.shared.rows.items c.try_object.result
-    (item_of m.threads.items m.clocks c.args.i c.index_mut.result.now c.try_object.new.thread c.try_object.new.clocks m.agree c.requires.inside c.index_mut.ensures.value c.try_object.ensures.others) c.try_object.ensures.event

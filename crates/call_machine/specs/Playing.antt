@@ -1,0 +1,108 @@
+-- Scripts that play the threads of a machine.
+use Rattle.std.specs.Prelude.{◌≡◌, ℕ, suc, List, [], ◌∷◌, ◌++◌, length, get_or, set, Option, Some, None, Bool, true, false}
+use Rattle.posix_terms.specs.declared.outcome.Given.{Given}
+use Rattle.posix_terms.specs.declared.reply.Answer as posix
+use Rattle.posix_terms.specs.declared.reply.Answer.TheVariants as answer
+use Rattle.posix_terms.specs.declared.reply.Reply.{Reply}
+use Rattle.thread_scripts.specs.Meaning.{start_of}
+use Rattle.lock_model.specs.Machine.{advance, attempt, can_advance, can_attempt, moves}
+use Rattle.lock_model.specs.Runs.{Arises, calls_in}
+use Rattle.lock_model.specs.ScriptPrograms.{at_start, reached_after}
+use Rattle.lock_model.specs.State as lock
+use Rattle.lock_model.specs.State.{State, thread_of}
+use Rattle.lock_model.specs.State.Phase.{Ended, Working}
+use Rattle.call_machine.specs.Logs.{came_between}
+use Rattle.call_machine.specs.Setup.{Inputs, conditions_of, first_state, script_of, setup_of}
+use Rattle.call_machine.specs.Shows.{LogsMore, Shows, Whole, has_moved, has_strayed, whole_of}
+use Rattle.call_machine.specs.Strays.{is_stray}
+use Rattle.call_machine.specs.Weights.{Falls}
+use Rattle.call_machine.specs.declared.driver.Driver.{Driver}
+use Rattle.call_machine.specs.declared.outside.Progress.{Progress}
+use Rattle.call_machine.specs.declared.players.Player.{Player}
+
+-- a run with the scripts that play its threads, and the outcomes that come for each
+pub record Played : Type 0 where
+  pub whole : Whole
+  pub players : List Player
+  pub outcomes : List (List Given)
+
+abbrev pub played_of : Driver → Played
+played_of d = record { whole = whole_of d.machine; players = d.players.items; outcomes = d.outcomes.items }
+
+-- past the last thread
+abbrev pub no_player : Player
+no_player = record { actor = start_of []; last = None; stuck = false }
+
+abbrev pub player_at : Played → ℕ → Player
+player_at p k = get_or p.players k no_player
+
+-- ## Where the script of a thread stands
+
+-- out of a call, it has come to where the actor stands, with the last reply
+pub record IsBetween (input : Inputs) (i : ℕ) (p : Player) (u : lock.Thread) : Type 0 where
+  pub even : length u.replies ≡ calls_in u.asked
+  pub reached : reached_after (at_start (script_of input i)) u.asked u.replies ≡ record { last = p.last; state = p.actor }
+
+-- in a call, it comes there with the reply to it
+pub record IsInCall (input : Inputs) (i : ℕ) (p : Player) (u : lock.Thread) : Type 0 where
+  pub even : suc (length u.replies) ≡ calls_in u.asked
+  pub reached : (r : Reply) → reached_after (at_start (script_of input i)) u.asked (u.replies ++ r ∷ []) ≡ record { last = Some r; state = p.actor }
+  pub free : p.stuck ≡ false
+
+-- between calls, or its next step has no room on the thread's clock
+abbrev pub Pauses : Bool → Inputs → ℕ → Player → lock.Thread → Type 0
+Pauses false input i p u = IsBetween input i p u
+Pauses true input i p u = moves (setup_of input) i u ≡ None
+
+abbrev pub PlaysIn : lock.Phase → Inputs → ℕ → Player → lock.Thread → Type 0
+PlaysIn Working input i p u = Pauses p.stuck input i p u
+PlaysIn Ended input i p u = Unit {0}
+PlaysIn phase input i p u = IsInCall input i p u
+
+abbrev pub Plays : Inputs → ℕ → Player → lock.Thread → Type 0
+Plays input i p u = PlaysIn u.phase input i p u
+
+-- the run stands for this state, and each script plays its thread
+pub record IsPlayed (input : Inputs) (p : Played) (s : State) : Type 0 where
+  pub shows : Shows (conditions_of input) p.whole s
+  pub outcomes : input.outcomes ≡ p.outcomes
+  pub count : length p.players ≡ length p.whole.threads
+  pub plays : (k : ℕ) → Plays input k (player_at p k) (thread_of s k)
+
+-- the run has come to this state
+abbrev pub ComesAt : Played → Inputs → State → Type 0
+ComesAt p input s = Arises (setup_of input) (first_state input) s × IsPlayed input p s
+
+-- ## What a script hears
+
+-- its call was told this answer, if it has one
+abbrev pub heard : Option posix.Answer → Player → Player
+heard (Some (answer.Reply r)) p = record p { last = Some r }
+heard (Some answer.Again) p = p
+heard None p = p
+
+abbrev pub hears : Option posix.Answer → ℕ → Played → Played
+hears told i p = record p { players = set p.players i (heard told (player_at p i)) }
+
+-- ## Events
+
+-- thread i makes its event that needs no turn, just where it can, and strays just where what is there for it does not answer
+pub record Made (made : Progress) (i : ℕ) (old new : Played) (input : Inputs) (s : State) : Type 0 where
+  pub can : can_advance (setup_of input) s i ≡ has_moved made
+  pub strays : is_stray (setup_of input) s i ≡ has_strayed made
+  pub plays : IsPlayed input new (advance (setup_of input) i s)
+  pub log : LogsMore (came_between i s (advance (setup_of input) i s)) old.whole.log new.whole.log
+  pub falls : Falls (has_moved made) old.whole.threads old.players new.whole.threads new.players
+
+abbrev pub Makes : Progress → ℕ → Played → Played → Type 0
+Makes made i old new = (input : Inputs) (s : State) → ComesAt old input s → Made made i old new input s
+
+-- thread i makes its attempt, just where it can
+pub record Tried (made : Bool) (i : ℕ) (old new : Played) (input : Inputs) (s : State) : Type 0 where
+  pub can : can_attempt (setup_of input) s i ≡ made
+  pub plays : IsPlayed input new (attempt (setup_of input) i s)
+  pub log : new.whole.log ≡ old.whole.log
+  pub falls : Falls made old.whole.threads old.players new.whole.threads new.players
+
+abbrev pub Attempted : Bool → ℕ → Played → Played → Type 0
+Attempted made i old new = (input : Inputs) (s : State) → ComesAt old input s → Tried made i old new input s
