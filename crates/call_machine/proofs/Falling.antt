@@ -22,14 +22,14 @@ use Rattle.lock_model.proofs.Growth.{at_moves}
 use Rattle.lock_model.proofs.Turn.{moves_out}
 use Rattle.std.proofs.lemmas.Bool.{leb-true}
 use Rattle.call_machine.specs.Playing.{no_player}
-use Rattle.call_machine.specs.Setup.{Conditions, setup_under}
-use Rattle.call_machine.specs.Shows.{PhaseShows, ThreadShows}
-use Rattle.call_machine.specs.Threads.{Thread}
-use Rattle.call_machine.specs.Views.{no_thread}
+use Rattle.lock_machine.specs.Conditions.{Conditions, setup_under}
+use Rattle.lock_machine.specs.Shows.{PhaseShows, ThreadShows}
+use Rattle.lock_machine.specs.Threads.{Thread}
+use Rattle.lock_machine.specs.Views.{no_thread}
 use Rattle.call_machine.specs.Weights.{Falls, left_in, total, weight}
 use Rattle.call_machine.specs.declared.players.Player.{Player}
-use Rattle.call_machine.specs.declared.thread.Phase.{Phase}
-use Rattle.call_machine.specs.declared.thread.Phase.TheVariants as phase
+use Rattle.lock_machine.specs.declared.thread.Phase.{Phase}
+use Rattle.lock_machine.specs.declared.thread.Phase.TheVariants as phase
 
 -- ## By the thread of the lock machine
 

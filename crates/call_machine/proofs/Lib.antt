@@ -1,17 +1,3 @@
-pub mod ClockLemmas
-pub mod Joining
-pub mod ShownThreads
-pub mod AskShows
-pub mod AnswerShows
-pub mod Requests
-pub mod OutsideShows
-pub mod AttemptShows
-pub mod ReachShows
-pub mod Granting
-pub mod Turning
-pub mod EventShows
-pub mod AttemptEvents
-pub mod Parting
 pub mod Quiet
 pub mod Falling
 pub mod Playing

@@ -28,22 +28,24 @@ use Rattle.lock_model.proofs.Ends.{attempt_clock}
 use Rattle.lock_model.proofs.Follows.{IsIn, attempt_tried, calls_push}
 use Rattle.lock_model.proofs.Growth.{at_moves}
 use Rattle.lock_model.proofs.ScriptProgress.{past, reached_call, reached_work}
-use Rattle.call_machine.specs.Logs.{came_between}
+use Rattle.lock_machine.specs.Logs.{came_between}
 use Rattle.call_machine.specs.Playing as playing
 use Rattle.call_machine.specs.Playing.{Attempted, IsBetween, IsInCall, IsPlayed, Made, Makes, Pauses, Played, Plays, PlaysIn, heard, hears, no_player, player_at}
-use Rattle.call_machine.specs.Setup.{Conditions, Inputs, conditions_of, outcomes_of, script_of, setup_of, setup_under}
-use Rattle.call_machine.specs.Shows as shows
-use Rattle.call_machine.specs.Shows.{Advanced, AdvancesQuietly, AsksFor, PhaseShows, Quietly, RecordsGiven, Shows, Tells, Whole, has_moved, has_strayed, replied, thread_at}
-use Rattle.call_machine.specs.Strays.{is_stray, stray_in}
-use Rattle.call_machine.specs.Threads.{Thread}
-use Rattle.call_machine.specs.Views.{no_thread}
+use Rattle.lock_machine.specs.Conditions.{Conditions, setup_under}
+use Rattle.call_machine.specs.Setup.{Inputs, conditions_of, outcomes_of, script_of, setup_of}
+use Rattle.lock_machine.specs.Shows as shows
+use Rattle.lock_machine.specs.Shows.{Advanced, AdvancesQuietly, AsksFor, PhaseShows, Quietly, RecordsGiven, Shows, Tells, has_moved, has_strayed, replied}
+use Rattle.lock_machine.specs.Whole.{Whole, thread_at}
+use Rattle.lock_machine.specs.Strays.{is_stray, stray_in}
+use Rattle.lock_machine.specs.Threads.{Thread}
+use Rattle.lock_machine.specs.Views.{no_thread}
 use Rattle.call_machine.specs.Weights.{Falls, weight}
-use Rattle.call_machine.specs.declared.outside.Progress.{Progress}
-use Rattle.call_machine.specs.declared.outside.Progress.TheVariants as progress
+use Rattle.lock_machine.specs.declared.outside.Progress.{Progress}
+use Rattle.lock_machine.specs.declared.outside.Progress.TheVariants as progress
 use Rattle.call_machine.specs.declared.players.Player.{Player}
-use Rattle.call_machine.specs.declared.thread.Outing.{Outing}
-use Rattle.call_machine.specs.declared.thread.Phase.{Phase}
-use Rattle.call_machine.specs.declared.thread.Phase.TheVariants as phase
+use Rattle.lock_machine.specs.declared.thread.Outing.{Outing}
+use Rattle.lock_machine.specs.declared.thread.Phase.{Phase}
+use Rattle.lock_machine.specs.declared.thread.Phase.TheVariants as phase
 use Rattle.call_machine.proofs.Falling.{asked_falls, attempt_falls, move_falls, stuck_weighs, total_falls, total_stays, weight_at, weight_shown}
 use Rattle.call_machine.proofs.Quiet.{is_outside, logs_none, moved_thread, none_between, quiet_came, quiet_strays}
 

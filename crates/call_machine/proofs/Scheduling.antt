@@ -18,18 +18,20 @@ use Rattle.lock_model.proofs.Arising.{arises_event, arises_start}
 use Rattle.lock_model.proofs.Ends.{one_more}
 use Rattle.lock_model.proofs.Diamond.{not_allowed}
 use Rattle.call_machine.specs.Driven.{Begins, ComesTo, Ends, IsLogged, Plainly, StaysAt, first_log}
-use Rattle.call_machine.specs.Logs.{Written, came_between, plain_records, recorded_by, recorded_next}
+use Rattle.lock_machine.specs.Logs.{Written, came_between}
+use Rattle.call_machine.specs.Logs.{plain_records, recorded_by, recorded_next}
 use Rattle.call_machine.specs.Plain.{GoesTo}
 use Rattle.call_machine.specs.Playing.{Attempted, ComesAt, IsPlayed, Makes, Played}
 use Rattle.call_machine.specs.Setup.{Inputs, conditions_of, first_state, setup_of}
-use Rattle.call_machine.specs.Shows.{LogsMore}
-use Rattle.call_machine.specs.Strays.{diverging, if_stray, is_stray}
-use Rattle.call_machine.specs.Views.{clocks_of}
+use Rattle.lock_machine.specs.Shows.{LogsMore}
+use Rattle.call_machine.specs.Strays.{diverging, if_stray}
+use Rattle.lock_machine.specs.Strays.{is_stray}
+use Rattle.lock_machine.specs.Views.{clocks_of}
 use Rattle.call_machine.specs.Weights.{Falls, total}
 use Rattle.call_machine.specs.declared.drive.Went.TheVariants as went
-use Rattle.call_machine.specs.declared.outside.Progress.TheVariants as progress
+use Rattle.lock_machine.specs.declared.outside.Progress.TheVariants as progress
 use Rattle.call_machine.proofs.Quiet.{attempt_came, logs_none, none_between}
-use Rattle.call_machine.proofs.Turning.{clocks_shown}
+use Rattle.lock_machine.proofs.Turning.{clocks_shown}
 
 -- ## Strays and advances together
 

@@ -18,18 +18,21 @@ use Rattle.call_machine.specs.declared.fault.Stop.{Stop}
 use Rattle.call_machine.specs.declared.fault.Stop.TheVariants as stop
 use Rattle.call_machine.specs.Plain.{all_true, has_ended, header_of, log_of, plain_of, stop_by, stop_of, stuck_in}
 use Rattle.call_machine.specs.Playing.{Plays, no_player}
-use Rattle.call_machine.specs.Setup.{Conditions, Inputs, conditions_of, first_state, script_of, setup_of}
-use Rattle.call_machine.specs.Shows.{PhaseShows, Shows, ThreadShows, Whole, thread_at}
-use Rattle.call_machine.specs.Starting.{first_played, first_player, first_thread, first_whole, is_ended, stop_for, stop_told, stuck_for, told}
-use Rattle.call_machine.specs.Views.{clocks_of, no_thread}
+use Rattle.lock_machine.specs.Conditions.{Conditions}
+use Rattle.call_machine.specs.Setup.{Inputs, conditions_of, first_state, script_of, setup_of}
+use Rattle.lock_machine.specs.Shows.{PhaseShows, Shows, ThreadShows}
+use Rattle.lock_machine.specs.Whole.{Whole, thread_at}
+use Rattle.call_machine.specs.Starting.{first_played, first_player, is_ended, stop_for, stop_told, stuck_for, told}
+use Rattle.lock_machine.specs.Starting.{first_thread, first_whole}
+use Rattle.lock_machine.specs.Views.{clocks_of, no_thread}
 use Rattle.call_machine.specs.declared.players.Player.{Player}
-use Rattle.call_machine.specs.declared.thread.Phase.{Phase}
-use Rattle.call_machine.specs.declared.thread.Phase.TheVariants as phase
-use Rattle.call_machine.specs.Threads.{Thread}
+use Rattle.lock_machine.specs.declared.thread.Phase.{Phase}
+use Rattle.lock_machine.specs.declared.thread.Phase.TheVariants as phase
+use Rattle.lock_machine.specs.Threads.{Thread}
 use Rattle.object_store.proofs.Lists.{maps_agree}
 use Rattle.object_store.proofs.Standing.{stands_first}
-use Rattle.call_machine.proofs.ShownThreads.{thread_along}
-use Rattle.call_machine.proofs.Turning.{clocks_shown}
+use Rattle.lock_machine.proofs.ShownThreads.{thread_along}
+use Rattle.lock_machine.proofs.Turning.{clocks_shown}
 
 -- ## At the start
 

@@ -1,15 +1,16 @@
--- The plain schedule, driven by a run.
+-- The plain schedule, made by a driver.
 use Rattle.std.specs.Prelude.{◌≡◌, ℕ, Option, Some, None, true}
 use Rattle.input_log.specs.Format.{header_text}
 use Rattle.lock_model.specs.Machine.{Event, happens}
 use Rattle.lock_model.specs.Runs.{Arises}
 use Rattle.lock_model.specs.Schedule.{IsOver, next_event}
 use Rattle.lock_model.specs.State.{State}
-use Rattle.call_machine.specs.Logs.{Written, plain_records, recorded_by}
+use Rattle.lock_machine.specs.Logs.{Written}
+use Rattle.call_machine.specs.Logs.{plain_records, recorded_by}
 use Rattle.call_machine.specs.Plain.{GoesTo, header_of}
 use Rattle.call_machine.specs.Setup.{Inputs, first_state, setup_of}
 use Rattle.call_machine.specs.Playing.{ComesAt, IsPlayed, Played}
-use Rattle.call_machine.specs.Shows.{LogsMore}
+use Rattle.lock_machine.specs.Shows.{LogsMore}
 use Rattle.call_machine.specs.Weights.{Falls}
 use Rattle.call_machine.specs.Strays.{diverging}
 use Rattle.call_machine.specs.declared.drive.Went.{Went}

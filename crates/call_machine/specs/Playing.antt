@@ -11,13 +11,14 @@ use Rattle.lock_model.specs.ScriptPrograms.{at_start, reached_after}
 use Rattle.lock_model.specs.State as lock
 use Rattle.lock_model.specs.State.{State, thread_of}
 use Rattle.lock_model.specs.State.Phase.{Ended, Working}
-use Rattle.call_machine.specs.Logs.{came_between}
+use Rattle.lock_machine.specs.Logs.{came_between}
 use Rattle.call_machine.specs.Setup.{Inputs, conditions_of, first_state, script_of, setup_of}
-use Rattle.call_machine.specs.Shows.{LogsMore, Shows, Whole, has_moved, has_strayed, whole_of}
-use Rattle.call_machine.specs.Strays.{is_stray}
+use Rattle.lock_machine.specs.Shows.{LogsMore, Shows, has_moved, has_strayed}
+use Rattle.lock_machine.specs.Whole.{Whole}
+use Rattle.lock_machine.specs.Strays.{is_stray}
 use Rattle.call_machine.specs.Weights.{Falls}
 use Rattle.call_machine.specs.declared.driver.Driver.{Driver}
-use Rattle.call_machine.specs.declared.outside.Progress.{Progress}
+use Rattle.lock_machine.specs.declared.outside.Progress.{Progress}
 use Rattle.call_machine.specs.declared.players.Player.{Player}
 
 -- a run with the scripts that play its threads, and the outcomes that come for each
@@ -27,7 +28,7 @@ pub record Played : Type 0 where
   pub outcomes : List (List Given)
 
 abbrev pub played_of : Driver → Played
-played_of d = record { whole = whole_of d.machine; players = d.players.items; outcomes = d.outcomes.items }
+played_of d = record { whole = d.machine; players = d.players.items; outcomes = d.outcomes.items }
 
 -- past the last thread
 abbrev pub no_player : Player

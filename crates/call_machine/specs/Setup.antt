@@ -1,28 +1,12 @@
--- What a run is made of, as a setup of the lock machine.
+-- Scripts as what a run is made of.
 use Rattle.std.specs.Prelude.{ℕ, List, [], length, slice_index_or}
 use Rattle.posix_terms.specs.declared.outcome.Given.{Given}
 use Rattle.posix_terms.specs.declared.transcript.Settings.{Settings}
 use Rattle.thread_scripts.specs.declared.line.Line.{Line}
 use Rattle.lock_model.specs.Machine.{Setup}
-use Rattle.lock_model.specs.Programs.{Supply}
-use Rattle.lock_model.specs.RealLaws.{real_setup, real_start}
 use Rattle.lock_model.specs.ScriptPrograms.{scripted}
 use Rattle.lock_model.specs.State.{State}
-
--- so many threads, with the steps that they ask and the outcomes that come for them from outside, whoever supplies these
-pub record Conditions : Type 0 where
-  pub threads : ℕ
-  pub settings : Settings
-  pub supply : Supply
-
-abbrev pub setup_under : Conditions → Setup
-setup_under terms = real_setup terms.settings terms.supply
-
--- over a table with nothing open and only the root
-abbrev pub start_under : Conditions → State
-start_under terms = real_start terms.threads
-
--- ## Scripts
+use Rattle.lock_machine.specs.Conditions.{Conditions, setup_under, start_under}
 
 -- by thread its script and its outcomes from outside
 pub record Inputs : Type 0 where

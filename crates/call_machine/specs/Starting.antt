@@ -1,47 +1,24 @@
 -- A run at its start, and what it comes to.
-use Rattle.std.specs.Prelude.{ℕ, List, [], ◌++◌, get_or, length, map, replicate, Option, Some, None, Bool, true, false}
-use Rattle.input_log.specs.Format.{closing, header_text}
+use Rattle.std.specs.Prelude.{ℕ, List, ◌++◌, get_or, length, map, Option, Some, None, Bool, true, false}
+use Rattle.input_log.specs.Format.{closing}
 use Rattle.input_log.specs.declared.log.Header.{Header}
-use Rattle.object_store.specs.Store.{first_stored}
-use Rattle.posix_terms.specs.declared.limits.TheConstants.Limits as limit
 use Rattle.thread_scripts.specs.Meaning.{start_of}
 use Rattle.thread_scripts.specs.declared.line.Line.{Line}
-use Rattle.det_mutex.specs.Attempt.{new_lock}
 use Rattle.call_machine.specs.History.{transcripts_of}
 use Rattle.call_machine.specs.Plain.{all_true}
 use Rattle.call_machine.specs.Playing.{Played}
-use Rattle.call_machine.specs.Shows.{Whole}
-use Rattle.call_machine.specs.Views.{clocks_of, no_thread}
+use Rattle.lock_machine.specs.Starting.{first_whole}
+use Rattle.lock_machine.specs.Whole.{Whole}
+use Rattle.lock_machine.specs.Views.{clocks_of, no_thread}
 use Rattle.call_machine.specs.declared.fault.Stop.{Stop}
 use Rattle.call_machine.specs.declared.fault.Stop.TheVariants as stop
 use Rattle.logical_clocks.specs.TurnOrder.{turn_holder}
 use Rattle.posix_terms.specs.declared.outcome.Given.{Given}
 use Rattle.call_machine.specs.declared.players.Player.{Player}
 use Rattle.call_machine.specs.declared.plain.Plain.{Plain}
-use Rattle.call_machine.specs.declared.thread.Phase.{Phase}
-use Rattle.call_machine.specs.declared.thread.Phase.TheVariants as phase
-use Rattle.call_machine.specs.Threads.{Thread}
-use Rattle.call_machine.specs.declared.thread.Thread as declared
-
--- a thread before its first step, without its clock
-abbrev pub first_item : declared.Thread
-first_item = record { phase = phase.Working; asked = []; came = 0 }
-
-abbrev pub first_thread : Thread
-first_thread = record { phase = phase.Working; clock = 1; asked = []; came = 0 }
-
-abbrev pub first_whole : Header → ℕ → Whole
-first_whole header threads =
-    record {
-      patience = header.patience;
-      door_cost = header.door_cost;
-      log = record { text = header_text header; records = 0 };
-      threads = replicate threads first_thread;
-      lock = new_lock;
-      objects = replicate limit.OBJECTS new_lock;
-      table = first_stored;
-      rows = [];
-    }
+use Rattle.lock_machine.specs.declared.thread.Phase.{Phase}
+use Rattle.lock_machine.specs.declared.thread.Phase.TheVariants as phase
+use Rattle.lock_machine.specs.Threads.{Thread}
 
 -- a script before its first line
 abbrev pub first_player : List Line → Player

@@ -2,9 +2,9 @@
 use Rattle.std.specs.Prelude.{ℕ, ◌+◌, ◌-◌, ◌*◌, ◌^◌, ◌<◌, ◌≤◌, List, [], ◌∷◌, Bool, true, false, if◌then◌else◌}
 use Rattle.thread_scripts.specs.Meaning.{lines_left}
 use Rattle.call_machine.specs.declared.players.Player.{Player}
-use Rattle.call_machine.specs.declared.thread.Phase.{Phase}
-use Rattle.call_machine.specs.declared.thread.Phase.TheVariants as phase
-use Rattle.call_machine.specs.Threads.{Thread}
+use Rattle.lock_machine.specs.declared.thread.Phase.{Phase}
+use Rattle.lock_machine.specs.declared.thread.Phase.TheVariants as phase
+use Rattle.lock_machine.specs.Threads.{Thread}
 
 -- by the lines that its script has left, of which a stuck one reads none
 abbrev pub left_in : Phase → Bool → ℕ → ℕ

@@ -3,17 +3,15 @@ ghost use Rattle.posix_terms.specs.declared.limits.TheConstants.Limits as limit;
 ghost use Rattle.call_machine.specs.Driven.{Begins, Ends, Plainly};
 ghost use Rattle.call_machine.specs.Playing.{Attempted, Makes, hears, played_of};
 ghost use Rattle.call_machine.specs.Setup.{Inputs};
-ghost use Rattle.call_machine.specs.Shows.{IsAt};
+ghost use Rattle.lock_machine.specs.Shows.{IsAt};
 ghost use Rattle.call_machine.specs.Starting.{first_played};
-ghost use Rattle.call_machine.specs.declared.outside.Progress.TheVariants as progress;
-ghost use Rattle.call_machine.specs.declared.thread.Phase.TheVariants as phase;
+ghost use Rattle.lock_machine.specs.declared.outside.Progress.TheVariants as progress;
+ghost use Rattle.lock_machine.specs.declared.thread.Phase.TheVariants as phase;
 
 use crate::driver::Driver;
-use crate::machine::Machine;
-use crate::outside::Progress;
 use crate::players::first_players;
-use crate::thread::{Outing, Phase};
 use input_log::Header;
+use lock_machine::{LockMachine, Outing, Phase, Progress};
 use posix_terms::{Answer, Outcomes};
 use std::alloc::{AllocError, Global};
 use thread_scripts::Script;
@@ -42,7 +40,7 @@ impl Driver {
         ensures { IfOk result (λ driver. played_of driver ≡ first_played header scripts.items outcomes.items) }
     {
         Ok(Driver {
-            machine: Machine::new(alloc, scripts.len(), header)?,
+            machine: LockMachine::new(alloc, scripts.len(), header)?,
             players: first_players(alloc, scripts)?,
             outcomes,
         })
@@ -76,7 +74,7 @@ impl Driver {
                 Progress::Stays => {}
             }
         }
-        let Some(i) = self.machine.clocks.turn_holder() else {
+        let Some(i) = self.machine.turn_holder() else {
             return Ok(Went::Over);
         };
         if self.attempt(alloc, i)? {
@@ -92,7 +90,7 @@ impl Driver {
         ensures event { IfOk result (λ made. Makes made i (played_of self.old) (played_of self.new)) }
         ensures count { length self.new.players.items ≡ length self.old.players.items }
     {
-        match self.machine.threads[i].phase {
+        match *self.machine.phase(i) {
             Phase::Working => self.ask(i),
             Phase::Granted { row, object, .. } => {
                 let told = self.machine.answer(i, row, object)?;
@@ -109,10 +107,10 @@ impl Driver {
         }
     }
 
-    // The script of thread i, which works, is asked for its next step.
+    // The script of thread i, which works, is asked for its next step, unless it is stuck.
     fn ask(&mut self, i: usize) -> Result<Progress, AllocError>
         requires inside { i < length self.old.players.items }
-        requires working { IsAt self.old.machine.threads.items i phase.Working }
+        requires working { IsAt self.old.machine i phase.Working }
         ensures event { IfOk result (λ made. Makes made i (played_of self.old) (played_of self.new)) }
         ensures count { length self.new.players.items ≡ length self.old.players.items }
     {
@@ -128,11 +126,11 @@ impl Driver {
     // The next outcome of thread i, which is outside, comes.
     fn record(&mut self, alloc: Global, i: usize, outing: Outing) -> Result<Progress, AllocError>
         requires inside { i < length self.old.players.items }
-        requires outside { IsAt self.old.machine.threads.items i (phase.Outside outing) }
+        requires outside { IsAt self.old.machine i (phase.Outside outing) }
         ensures event { IfOk result (λ made. Makes made i (played_of self.old) (played_of self.new)) }
         ensures count { length self.new.players.items ≡ length self.old.players.items }
     {
-        let came = self.machine.threads[i].came as usize;
+        let came = self.machine.came(i) as usize;
         let Some(outcomes) = self.outcomes.get(i) else {
             return Ok(Progress::Stays);
         };

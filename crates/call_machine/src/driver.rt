@@ -1,15 +1,15 @@
 ghost use Rattle.std.specs.Prelude.{◌≡◌, length};
 
-use crate::machine::Machine;
 use crate::players::Player;
+use lock_machine::LockMachine;
 use posix_terms::Outcomes;
 
 // Scripts that play the threads of a machine on the plain schedule, with the outcomes that come for each from outside.
 #[derive(Drop)]
 pub struct Driver {
-    pub machine: Machine,
+    pub machine: LockMachine,
     pub players: Vec<Player>,
     pub outcomes: Vec<Outcomes>,
 
-    ghost seats: { length players.items ≡ length machine.threads.items },
+    ghost seats: { length players.items ≡ length machine.threads },
 }

@@ -1,65 +1,67 @@
 ghost use Rattle.std.specs.Prelude.{◌≡◌, ℕ, List, IfOk, map};
 ghost use Rattle.call_machine.specs.History.{transcript_of, transcripts_of};
 ghost use Rattle.call_machine.specs.Plain.{all_true};
-ghost use Rattle.call_machine.specs.Shows.{thread_at, whole_of};
 ghost use Rattle.call_machine.specs.Starting.{is_ended, stop_told, stuck_for, told};
-ghost use Rattle.call_machine.specs.declared.thread.Thread.{Thread};
+ghost use Rattle.lock_machine.specs.Threads.{Thread};
+ghost use Rattle.lock_machine.specs.Whole.{thread_at};
 
+use crate::driver::Driver;
 use crate::fault::Stop;
-use crate::history::{History, Steps};
-use crate::machine::Machine;
+use crate::history::History;
 use crate::plain::Plain;
-use crate::thread::{Phase, Thread};
+use lock_machine::Phase;
 use posix_terms::{Answer, HistoryRow, Row, Transcript, Transcripts};
 use std::alloc::{AllocError, Global};
 
-impl Machine {
+impl Driver {
     // What a run tells that has come to its end, or diverged at this thread.
-    #[tactic(auto, using(crate::proofs::Joining::joining))]
     pub fn finish(self, alloc: Global, strayed: Option<usize>) -> Result<Plain, AllocError>
-        ensures { IfOk result (λ plain. plain ≡ told strayed (whole_of self)) }
+        ensures { IfOk result (λ plain. plain ≡ told strayed self.machine) }
     {
         let stop = self.stop(strayed);
-        let Machine {
-            threads,
-            shared,
-            log,
-            ..
-        } = self;
-        let rows = shared.rows;
-        let ended = have_ended(&threads);
-        let transcripts = transcripts(alloc, threads.len(), &rows)?;
-        let asked = asked(alloc, threads)?;
+        let ended = self.have_ended();
+        let threads = self.machine.len();
+        let left = self.machine.finish(alloc)?;
+        let transcripts = transcripts(alloc, threads, left.rows.as_slice())?;
         Ok(Plain {
             transcripts: Transcripts::from_vec(transcripts),
-            history: History::new(rows, asked),
-            log: log.finish(ended)?,
+            history: History::new(left.rows, left.asked),
+            log: left.log.finish(ended)?,
             stop,
         })
     }
 
     // Why a run stopped that diverged at this thread, or not: nobody has the turn once all threads have ended.
     fn stop(&self, strayed: Option<usize>) -> Option<Stop>
-        ensures { result ≡ (let w = whole_of self.now in stop_told w.threads strayed) }
+        ensures { result ≡ stop_told self.now.machine.threads strayed }
     {
         if let Some(i) = strayed {
             return Some(Stop::Diverged(i, self.came(i)));
         }
-        let i = self.clocks.turn_holder()?;
-        match self.threads.get(i) {
-            Some(thread) => Some(stuck_for(&thread.phase, i)),
-            None => Some(Stop::ClockFull),
-        }
+        let i = self.machine.turn_holder()?;
+        Some(stuck_for(self.machine.phase(i), i))
     }
 
     // How many outcomes came for thread i.
     fn came(&self, i: usize) -> u32
-        ensures { result ≡ (let w = whole_of self.now in (thread_at w i).came) }
+        ensures { result ≡ (thread_at self.now.machine i).came }
     {
-        match self.threads.get(i) {
-            Some(thread) => thread.came,
-            None => 0,
+        if i < self.machine.len() {
+            self.machine.came(i)
+        } else {
+            0
         }
+    }
+
+    fn have_ended(&self) -> bool
+        ensures { result ≡ all_true (map (λ (t : Thread). is_ended t.phase) self.now.machine.threads) }
+    {
+        for i in 0..self.machine.len() {
+            if !has_ended(self.machine.phase(i)) {
+                return false;
+            }
+        }
+        true
     }
 }
 
@@ -73,34 +75,13 @@ fn stuck_for(phase: &Phase, i: usize) -> Stop
     }
 }
 
-fn have_ended(threads: &[Thread]) -> bool
-    ensures { result ≡ all_true (map (λ (t : Thread). is_ended t.phase) threads.now) }
+fn has_ended(phase: &Phase) -> bool
+    ensures { result ≡ is_ended phase.now }
 {
-    for thread in threads {
-        if !has_ended(thread) {
-            return false;
-        }
-    }
-    true
-}
-
-fn has_ended(thread: &Thread) -> bool
-    ensures { result ≡ is_ended thread.now.phase }
-{
-    match thread.phase {
+    match phase {
         Phase::Ended => true,
         _ => false,
     }
-}
-
-fn asked(alloc: Global, threads: Vec<Thread>) -> Result<Vec<Steps>, AllocError>
-    ensures { IfOk result (λ asked. asked.items ≡ map (λ (t : Thread). t.asked) threads.items) }
-{
-    let mut asked = Vec::new(alloc);
-    for thread in threads {
-        asked.push(thread.asked)?;
-    }
-    Ok(asked)
 }
 
 // What each of the first threads saw.

@@ -7,8 +7,8 @@ use posix_terms::{Answer, Reply};
 use std::alloc::{AllocError, Global};
 use thread_scripts::{Actor, Script, ScriptActor, Step};
 
-// A script that plays a thread: with the last reply, which it sees with its next step, and whether that step has no room
-// on the thread's clock.
+// A script that plays a thread: with the last reply, which it sees with its next step, and whether its last step had no
+// room on the thread's clock.
 #[derive(Drop)]
 pub struct Player {
     pub actor: ScriptActor,

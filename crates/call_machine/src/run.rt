@@ -16,12 +16,13 @@ use thread_scripts::Script;
 /// machine. There is a list of outcomes from outside for each script, of which each call that goes outside takes the
 /// next.
 ///
-/// Events that need no turn come first, those of the thread with the least number before the others; when there is
-/// none, whoever has the turn attempts its call. A thread that lacks its next outcome, or whose clock would pass its
-/// limit, stays where it is, and the others go on. The run ends when all threads have ended, or when the thread that
-/// has the turn stays where it is: `EndOfLog` for want of an outcome, else `ClockFull`. It ends at once, `Diverged`,
-/// where the least thread that could make an event has an outcome that does not answer what it asked. Its history is
-/// legal, and its turns rise. Its log is a header, a record of each outcome in the order in which they came, each
+/// At each moment the lowest-numbered thread that can go on without the turn does so; when none can, the thread that holds the
+/// turn tries for the lock that its call wants. Two things hold a thread back: its list has no outcome left for what it asked,
+/// or its clock has no room. The others then run on until the turn is its own, and there the run stops, with `EndOfLog` in the
+/// first case and `ClockFull` in the second; it has no stop once all threads have ended. An outcome that does not answer what was
+/// asked stops it at once, with `Diverged`, where the thread that it is for would be the next to go on.
+///
+/// The history is legal, and its turns rise. The log is a header, a record of each outcome in the order in which they came, each
 /// before its call was answered, and, where all threads ended, the end. These bytes spell a log, and by thread its records are
 /// the outcomes of the rows (`covered`).
 pub fn plain_run(
@@ -48,7 +49,7 @@ pub fn plain_run(
     };
     let mut driver = Driver::new(alloc, scripts, outcomes, header)?;
     let strayed = driver.run(alloc)?;
-    Ok(driver.machine.finish(alloc, strayed)?)
+    Ok(driver.finish(alloc, strayed)?)
 }
 
 fn counts_fit(scripts: usize, outcomes: usize) -> bool

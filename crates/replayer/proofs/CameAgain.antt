@@ -3,7 +3,8 @@ use Rattle.std.proofs.Common.{◌≡◌, ℕ, zero, suc, ◌+◌, ◌≤◌, tru
 use Rattle.std.proofs.lemmas.Bool.{false≢true, cases_Bool, cond-true, cond-false}
 use Rattle.std.proofs.lemmas.List.{get_or_past, length-replicate, length-set}
 use Rattle.std.proofs.lemmas.Option.{none-some, same_Some, slice_get_within}
-use Rattle.call_machine.specs.Strays.{diverging, if_stray, is_stray, stray_in}
+use Rattle.call_machine.specs.Strays.{diverging, if_stray}
+use Rattle.lock_machine.specs.Strays.{is_stray, stray_in}
 use Rattle.lock_model.specs.Machine.{Setup, Event, Moved, happens, is_allowed, move}
 use Rattle.lock_model.specs.Machine.Event.{Advances, Attempts}
 use Rattle.lock_model.specs.Runs.{Arises, run}

@@ -1,8 +1,7 @@
-use Rattle.std.proofs.Common.{◌≡◌, ◌<◌, Bool, None, Some, length, sym, subst, ◌∙◌, rules}
+use Rattle.std.proofs.Common.{◌≡◌, ◌<◌, Bool, length, sym, subst, ◌∙◌, rules}
 use Rattle.call_machine.specs.Playing.{Attempted, Makes, played_of}
-use Rattle.call_machine.specs.declared.outside.Progress.{Progress}
+use Rattle.lock_machine.specs.declared.outside.Progress.{Progress}
 use Rattle.call_machine.proofs.Scheduling.{advanced_next, attempted_next, none_at_first, one_more_none, over_next, refused_next, strayed_next}
-use Rattle.call_machine.proofs.Seats.{holder_seated, holder_shown}
 use Rattle.call_machine.proofs.driver.Driver.step.Goals as goal
 
 pub loop-i-init : goal.loop-i-init
@@ -37,10 +36,7 @@ pub returns-in_default : goal.returns-in_default
 returns-in_default c =
     let old = played_of c.args.self.now in
     let all : c.loop-i.i ≡ length old.players = search rules in
-    over_next c.loop-i.i old (played_of c.loop-i.self) all c.loop-i.invariant (holder_shown c.loop-i.self.machine None (sym c.turn_holder.ensures ∙ c.in_default.is))
-
-pub attempt-requires : goal.attempt-requires
-attempt-requires c = holder_seated c.loop-i.self c.in-Some.i (sym c.turn_holder.ensures ∙ c.in-Some.is)
+    over_next c.loop-i.i old (played_of c.loop-i.self) all c.loop-i.invariant (sym c.turn_holder.ensures.holder ∙ c.in_default.is)
 
 pub returns-then-branch : goal.returns-then-branch
 returns-then-branch c =
@@ -49,7 +45,7 @@ returns-then-branch c =
     let new = played_of c.attempt.new.self in
     let all : c.loop-i.i ≡ length old.players = search rules in
     let Q : Bool → Type 0 = λ b. Attempted b c.in-Some.i now new in
-    attempted_next c.loop-i.i c.in-Some.i old now new all c.loop-i.invariant (holder_shown c.loop-i.self.machine (Some c.in-Some.i) (sym c.turn_holder.ensures ∙ c.in-Some.is)) (subst Q c.if-branch.true c.in_ok-attempt.ensures.event)
+    attempted_next c.loop-i.i c.in-Some.i old now new all c.loop-i.invariant (sym c.turn_holder.ensures.holder ∙ c.in-Some.is) (subst Q c.if-branch.true c.in_ok-attempt.ensures.event)
 
 pub returns-else-branch : goal.returns-else-branch
 returns-else-branch c =
@@ -58,4 +54,4 @@ returns-else-branch c =
     let new = played_of c.attempt.new.self in
     let all : c.loop-i.i ≡ length old.players = search rules in
     let Q : Bool → Type 0 = λ b. Attempted b c.in-Some.i now new in
-    refused_next c.loop-i.i c.in-Some.i old now new all c.loop-i.invariant (holder_shown c.loop-i.self.machine (Some c.in-Some.i) (sym c.turn_holder.ensures ∙ c.in-Some.is)) (subst Q c.if-branch.false c.in_ok-attempt.ensures.event)
+    refused_next c.loop-i.i c.in-Some.i old now new all c.loop-i.invariant (sym c.turn_holder.ensures.holder ∙ c.in-Some.is) (subst Q c.if-branch.false c.in_ok-attempt.ensures.event)

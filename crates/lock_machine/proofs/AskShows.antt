@@ -1,0 +1,109 @@
+-- The steps that a thread asks are those that it is given.
+use Rattle.std.proofs.Common.{◌≡◌, ℕ, ◌+◌, ◌<◌, ◌≤◌, ◌^◌, List, [], ◌∷◌, ◌++◌, length, Option, Some, None, Bool, true, false, sym, refl, ap, ◌∙◌, subst}
+use Rattle.std.proofs.lemmas.Bool.{cond-true, cond-false, le-leb, lt-leb}
+use Rattle.posix_terms.specs.declared.call.Call.{Call}
+use Rattle.thread_scripts.specs.declared.actor.Step.{Step}
+use Rattle.thread_scripts.specs.declared.actor.Step.TheVariants as step
+use Rattle.lock_model.specs.Machine.{Moved, after_step, again, ask, moves, moves_in, quietly, within}
+use Rattle.lock_model.specs.RealCalls.{real_calls}
+use Rattle.lock_model.specs.State as lock
+use Rattle.lock_model.specs.State.{Row}
+use Rattle.lock_model.specs.State.Phase.{Blocked, Working}
+use Rattle.lock_machine.specs.Asking.{Asks, GoesAgain, GoesAgainIn, worked}
+use Rattle.lock_machine.specs.Conditions.{Conditions, setup_under}
+use Rattle.lock_machine.specs.Shows.{PhaseShows, ThreadShows}
+use Rattle.lock_machine.specs.declared.thread.Phase.{Phase}
+use Rattle.lock_machine.specs.declared.thread.Phase.TheVariants as phase
+use Rattle.lock_machine.specs.Threads.{Thread}
+use Rattle.lock_machine.proofs.ShownThreads.{Moving}
+
+pub within_yes : (limit : ℕ) (m : Moved) → m.thread.clock ≤ limit → within limit (Some m) ≡ Some m
+within_yes limit m h = cond-true _ _ _ (le-leb m.thread.clock limit h)
+
+pub within_no : (limit : ℕ) (m : Moved) → limit < m.thread.clock → within limit (Some m) ≡ None
+within_no limit m h = cond-false _ _ _ (lt-leb m.thread.clock limit h)
+
+-- a thread that works, and whose next step is this
+record Next (terms : Conditions) (i : ℕ) (t : Thread) (u : lock.Thread) (x : Step) : Type 0 where
+  clock : u.clock ≡ t.clock
+  in_time : t.clock ≤ 2 ^ 62
+  asked : u.asked ≡ t.asked
+  came : length u.came ≡ t.came
+  works : t.phase ≡ phase.Working
+  moves_is : moves (setup_under terms) i u ≡ within (2 ^ 62) (Some (quietly (after_step (real_calls terms.settings) u x)))
+  working : u.phase ≡ Working
+
+moves_at : (terms : Conditions) (i : ℕ) (u : lock.Thread) (x : Step) → u.phase ≡ Working → terms.supply.next i u.asked u.replies ≡ Some x
+    → moves (setup_under terms) i u ≡ within (2 ^ 62) (Some (quietly (after_step (real_calls terms.settings) u x)))
+unfolding moves
+moves_at terms i u x e next = ap (λ (p : lock.Phase). within (2 ^ 62) (moves_in (setup_under terms) i u p)) e ∙ ap (λ (o : Option Step). within (2 ^ 62) (ask (real_calls terms.settings) u o)) next
+
+step_moves : (terms : Conditions) (i : ℕ) (rows : List Row) (moved : Bool) (t v : Thread) (u : lock.Thread) (x : Step) → Next terms i t u x → Asks moved x t v → Moving terms i rows moved v u
+step_moves terms i rows true t v u (step.Work n) h (room, v_is) =
+    let m : Moved = quietly (after_step (real_calls terms.settings) u (step.Work n)) in
+    let fits : u.clock + n ≤ 2 ^ 62 = subst (λ (c : ℕ). c + n ≤ 2 ^ 62) (sym h.clock) room in
+    let P : Thread → Type 0 = λ y. ThreadShows terms i rows y m.thread in
+    let W : Phase → Type 0 = λ p. PhaseShows terms i rows (worked n t) m.thread p in (
+      m,
+      (
+        h.moves_is ∙ within_yes (2 ^ 62) m fits,
+        refl,
+        subst P (sym v_is) (record { clock = ap (λ (c : ℕ). c + n) h.clock; in_time = room; asked = ap (λ (a : List Step). a ++ step.Work n ∷ []) h.asked; came = h.came; phase = subst W (sym h.works) refl }),
+      ),
+    )
+step_moves terms i rows false t v u (step.Work n) h (room, v_is) =
+    let m : Moved = quietly (after_step (real_calls terms.settings) u (step.Work n)) in
+    let full : 2 ^ 62 < u.clock + n = subst (λ (c : ℕ). 2 ^ 62 < c + n) (sym h.clock) room in
+    let none : moves (setup_under terms) i u ≡ None = h.moves_is ∙ within_no (2 ^ 62) m full in
+    let P : Thread → Type 0 = λ y. ThreadShows terms i rows y u in
+    let W : Phase → Type 0 = λ p. PhaseShows terms i rows t u p in
+    (none, subst P (sym v_is) (record { clock = h.clock; in_time = h.in_time; asked = h.asked; came = h.came; phase = subst W (sym h.works) h.working }))
+step_moves terms i rows moved t v u (step.Call call) h (moved_is, v_is) =
+    let m : Moved = quietly (after_step (real_calls terms.settings) u (step.Call call)) in
+    let fits : u.clock ≤ 2 ^ 62 = subst (λ (c : ℕ). c ≤ 2 ^ 62) (sym h.clock) h.in_time in
+    let P : Thread → Type 0 = λ y. ThreadShows terms i rows y m.thread in
+    let Q : Bool → Type 0 = λ b. Moving terms i rows b v u in
+    subst Q (sym moved_is) (
+      m,
+      (
+        h.moves_is ∙ within_yes (2 ^ 62) m fits,
+        refl,
+        subst P (sym v_is) (record { clock = h.clock; in_time = h.in_time; asked = ap (λ (a : List Step). a ++ step.Call call ∷ []) h.asked; came = h.came; phase = refl }),
+      ),
+    )
+step_moves terms i rows moved t v u step.End h (moved_is, v_is) =
+    let m : Moved = quietly (after_step (real_calls terms.settings) u step.End) in
+    let fits : u.clock ≤ 2 ^ 62 = subst (λ (c : ℕ). c ≤ 2 ^ 62) (sym h.clock) h.in_time in
+    let P : Thread → Type 0 = λ y. ThreadShows terms i rows y m.thread in
+    let Q : Bool → Type 0 = λ b. Moving terms i rows b v u in
+    subst Q (sym moved_is) (m, (h.moves_is ∙ within_yes (2 ^ 62) m fits, refl, subst P (sym v_is) (record { clock = h.clock; in_time = h.in_time; asked = ap (λ (a : List Step). a ++ step.End ∷ []) h.asked; came = h.came; phase = refl })))
+
+pub ask_moves : (terms : Conditions) (i : ℕ) (rows : List Row) (moved : Bool) (x : Step) (t v : Thread) (u : lock.Thread) → t.phase ≡ phase.Working → ThreadShows terms i rows t u → terms.supply.next i u.asked u.replies ≡ Some x → Asks moved x t v → Moving terms i rows moved v u
+ask_moves terms i rows moved x t v u works h next asks =
+    let P : Phase → Type 0 = λ p. PhaseShows terms i rows t u p in
+    let now : u.phase ≡ Working = subst P works h.phase in
+    step_moves terms i rows moved t v u x (record { clock = h.clock; in_time = h.in_time; asked = h.asked; came = h.came; works = works; moves_is = moves_at terms i u x now next; working = now }) asks
+
+moves_again : (terms : Conditions) (i : ℕ) (u : lock.Thread) (call : Call) (turns : ℕ) → u.phase ≡ Blocked call turns → moves (setup_under terms) i u ≡ within (2 ^ 62) (Some (again u call turns))
+unfolding moves
+moves_again terms i u call turns e = ap (λ (p : lock.Phase). within (2 ^ 62) (moves_in (setup_under terms) i u p)) e
+
+-- a blocked call wants the table again
+pub again_moves : (terms : Conditions) (i : ℕ) (rows : List Row) (moved : Bool) (t v : Thread) (u : lock.Thread) (call : Call) (turns : ℕ) → t.phase ≡ phase.Blocked call turns → ThreadShows terms i rows t u → GoesAgain moved t v → Moving terms i rows moved v u
+again_moves terms i rows moved t v u call turns is h goes =
+    let P : Phase → Type 0 = λ p. PhaseShows terms i rows t u p in
+    let now : u.phase ≡ Blocked call turns = subst P is h.phase in
+    let G : Phase → Type 0 = λ p. GoesAgainIn p moved t v in
+    let went : (moved ≡ true) × (v ≡ record t { phase = phase.WantsTable call turns }) = subst G is goes in
+    let m : Moved = again u call turns in
+    let fits : u.clock ≤ 2 ^ 62 = subst (λ (c : ℕ). c ≤ 2 ^ 62) (sym h.clock) h.in_time in
+    let Q : Bool → Type 0 = λ b. Moving terms i rows b v u in
+    let R : Thread → Type 0 = λ y. ThreadShows terms i rows y m.thread in
+    subst Q (sym went.0) (
+      m,
+      (
+        moves_again terms i u call turns now ∙ within_yes (2 ^ 62) m fits,
+        refl,
+        subst R (sym went.1) (record { clock = h.clock; in_time = h.in_time; asked = h.asked; came = h.came; phase = refl }),
+      ),
+    )

@@ -1,0 +1,166 @@
+-- Attempts of a run, by what they make of one thread.
+use Rattle.std.proofs.Common.{◌≡◌, ℕ, ◌<◌, ◌≤◌, List, length, set, get_or, Bool, true, false, refl, sym, ap, ◌∙◌, subst, arith}
+use Rattle.std.specs.Prelude.{IfOk, Result}
+use Rattle.std.specs.declared.alloc.AllocError.{AllocError}
+use Rattle.posix_terms.specs.declared.call.Call.{Call}
+use Rattle.posix_terms.specs.declared.limits.TheConstants.Limits as limit
+use Rattle.posix_terms.specs.declared.transcript.HistoryRow.{HistoryRow}
+use Rattle.det_mutex.specs.Attempt.{new_lock}
+use Rattle.det_mutex.specs.declared.lock.DetLock.{DetLock}
+use Rattle.logical_clocks.specs.ThreadClocks.{clock_at, live_clocks}
+use Rattle.logical_clocks.specs.TurnOrder.{has_turn}
+use Rattle.logical_clocks.specs.declared.clocks.ThreadClock.{ThreadClock}
+use Rattle.lock_model.specs.Machine.{wants}
+use Rattle.lock_model.specs.Numbers.{first_world}
+use Rattle.lock_model.specs.State as lock
+use Rattle.lock_model.specs.State.{Row, thread_of}
+use Rattle.lock_model.proofs.OwnPlans.{plans_arisen}
+use Rattle.object_store.specs.Store.{Stored}
+use Rattle.object_store.proofs.Lists.{item_is}
+use Rattle.lock_machine.specs.Events.{Parts, Reaches, Tries, parts}
+use Rattle.lock_machine.specs.Lives.{Agree}
+use Rattle.lock_machine.specs.Conditions.{Conditions, setup_under}
+use Rattle.lock_machine.specs.Shows.{Attempts, PhaseShows, WantsIn}
+use Rattle.lock_machine.specs.Whole.{Whole, thread_at}
+use Rattle.lock_machine.specs.Threads.{Thread, joined, timed}
+use Rattle.lock_machine.specs.Views.{clocks_of, item_at, no_item}
+use Rattle.lock_machine.specs.declared.thread.Phase.{Phase}
+use Rattle.lock_machine.specs.declared.thread.Phase.TheVariants as phase
+use Rattle.lock_machine.specs.declared.thread.Thread as declared
+use Rattle.lock_machine.proofs.AttemptShows.{attempt_idle, attempt_waits, attempt_whole, table_parts, table_tried}
+use Rattle.lock_machine.proofs.EventShows.{Item, if_ok, item_phase, item_thread, joined_inside, run_at, turn_shown}
+use Rattle.lock_machine.proofs.Joining.{joined-kept}
+use Rattle.lock_machine.proofs.ReachShows.{lock_at, object_tried, reach_whole}
+use Rattle.lock_machine.proofs.Turning.{clocks_shown}
+
+-- ## On the threads with their clocks
+
+table_event : (w : Whole) (i : ℕ) (call : Call) (turns : ℕ) (made : Bool) (new : Parts) → i < length w.threads → has_turn (clocks_of w.threads) i ≡ true → (thread_at w i).phase ≡ phase.WantsTable call turns
+    → Tries w.patience made i (table_parts w i) new → Attempts made i w (table_tried w i new)
+table_event w i call turns made new inside turn is tries terms s (arises, h) =
+    let a = attempt_whole terms w s i call turns made new inside h (ap (λ cs. has_turn cs i) (clocks_shown terms w s h) ∙ turn) is tries in (a.0, a.1, refl)
+
+object_event : (w : Whole) (i n clock : ℕ) (call : Call) (turns : ℕ) (made : Bool) (now : DetLock) (new : Parts) → i < length w.threads → has_turn (clocks_of w.threads) i ≡ true
+    → (thread_at w i).phase ≡ phase.WantsObject call turns clock n
+    → Reaches w.patience made i (lock_at w n) now (table_parts w i) new → Attempts made i w (object_tried w i n now new)
+object_event w i n clock call turns made now new inside turn is tries terms s (arises, h) =
+    let plans = plans_arisen (setup_under terms) terms.threads limit.OBJECTS first_world s arises in
+    let a = reach_whole terms w s i n clock call turns made now new inside h plans (ap (λ cs. has_turn cs i) (clocks_shown terms w s h) ∙ turn) is tries in (a.0, a.1, refl)
+
+-- a call whose object is past the last number is in no run
+object_past : (w : Whole) (i n clock : ℕ) (call : Call) (turns : ℕ) → (thread_at w i).phase ≡ phase.WantsObject call turns clock n → length w.objects ≤ n → Attempts false i w w
+object_past w i n clock call turns is past terms s (arises, h) =
+    let P : Phase → Type 0 = λ p. PhaseShows terms i s.rows (thread_at w i) (thread_of s i) p in
+    let g = subst P is (h.threads i).phase in
+    absurd (too_far n (length w.objects) g.1.1 h.object_count past)
+  where
+    too_far : (n m : ℕ) → n < limit.OBJECTS → m ≡ limit.OBJECTS → m ≤ n → ⊥
+    too_far n m few e past = omega arith
+
+no_attempt_event : (w : Whole) (i : ℕ) → has_turn (clocks_of w.threads) i ≡ false → Attempts false i w w
+no_attempt_event w i late terms s (arises, h) = let a = attempt_waits terms w s i h (ap (λ cs. has_turn cs i) (clocks_shown terms w s h) ∙ late) in (a.0, a.1, refl)
+
+-- threads in other phases want no lock
+abbrev Idles : Phase → Type 0
+Idles phase.Working = Unit {0}
+Idles (phase.WantsTable call turns) = ⊥
+Idles (phase.WantsObject call turns clock object) = ⊥
+Idles (phase.Granted place object e) = Unit {0}
+Idles (phase.ToOutside o) = Unit {0}
+Idles (phase.Outside o) = Unit {0}
+Idles (phase.Recorded o) = Unit {0}
+Idles (phase.Blocked call turns) = Unit {0}
+Idles phase.Ended = Unit {0}
+
+idles_wants : (terms : Conditions) (i : ℕ) (rows : List Row) (t : Thread) (u : lock.Thread) (p : Phase) → Idles p → PhaseShows terms i rows t u p → wants u.phase ≡ false
+idles_wants terms i rows t u phase.Working idles h = ap wants h
+idles_wants terms i rows t u (phase.WantsTable call turns) idles h = absurd idles
+idles_wants terms i rows t u (phase.WantsObject call turns clock object) idles h = absurd idles
+idles_wants terms i rows t u (phase.Granted place object e) idles h = ap wants h.1.0
+idles_wants terms i rows t u (phase.ToOutside o) idles h = ap wants h.1.0
+idles_wants terms i rows t u (phase.Outside o) idles h = ap wants h.1.0
+idles_wants terms i rows t u (phase.Recorded o) idles h = ap wants h.1.0
+idles_wants terms i rows t u (phase.Blocked call turns) idles h = ap wants h
+idles_wants terms i rows t u phase.Ended idles h = ap wants h
+
+idle_event : (w : Whole) (i : ℕ) → Idles (thread_at w i).phase → Attempts false i w w
+idle_event w i idles terms s (arises, h) =
+    let a = attempt_idle terms w s i h (idles_wants terms i s.rows (thread_at w i) (thread_of s i) (thread_at w i).phase idles (h.threads i).phase) in (a.0, a.1, refl)
+
+-- ## By the item and the clock that the code changes
+
+pub try_done : (w : Whole) (ts : List declared.Thread) (cs ds : List ThreadClock) (i : ℕ) (call : Call) (turns : ℕ) (x v : declared.Thread) (l : DetLock) (later : Stored) (rows : List HistoryRow) (r : Result Bool AllocError)
+    → Item ts cs i x v ds → Agree ts cs → has_turn (live_clocks cs) i ≡ true → x.phase ≡ phase.WantsTable call turns
+    → IfOk r (λ made. Tries w.patience made i (parts (timed x (clock_at cs i)) w.lock w.table w.rows) (parts (timed v (clock_at ds i)) l later rows))
+    → IfOk r (λ made. Attempts made i (run_at w ts cs) (record w { threads = joined (set ts i v) ds; lock = l; table = later; rows = rows }))
+try_done w ts cs ds i call turns x v l later rows r h agree turn is tried =
+    let z = run_at w ts cs in
+    let new = parts (timed v (clock_at ds i)) l later rows in
+    let P : Bool → Type 0 = λ made. Tries w.patience made i (parts (timed x (clock_at cs i)) w.lock w.table w.rows) new in
+    let Q : Bool → Type 0 = λ made. Attempts made i z (record w { threads = joined (set ts i v) ds; lock = l; table = later; rows = rows }) in
+    if_ok r P Q (λ made a.
+    let R : Thread → Type 0 = λ t. Tries w.patience made i (parts t w.lock w.table w.rows) new in
+    let T : List Thread → Type 0 = λ us. Attempts made i z (record w { threads = us; lock = l; table = later; rows = rows }) in
+    subst T (sym (joined-kept ts cs ds i x v h.clocked h.kept))
+    (table_event z i call turns made new (joined_inside ts cs i h.inside) (turn_shown ts cs i true agree turn) (item_phase ts cs i x (phase.WantsTable call turns) h.inside h.item is)
+    (subst R (sym (item_thread ts cs i x h.inside h.item)) a))) tried
+
+abbrev WantsPhase : Phase → ℕ → Type 0
+WantsPhase p n = (call : Call) × (turns : ℕ) × (clock : ℕ) × (p ≡ phase.WantsObject call turns clock n)
+
+wants_phase : (p : Phase) (n : ℕ) → WantsIn p n → WantsPhase p n
+wants_phase phase.Working n h = absurd h
+wants_phase (phase.WantsTable call turns) n h = absurd h
+wants_phase (phase.WantsObject call turns clock object) n h = (call, turns, clock, ap (phase.WantsObject call turns clock) h)
+wants_phase (phase.Granted place object e) n h = absurd h
+wants_phase (phase.ToOutside o) n h = absurd h
+wants_phase (phase.Outside o) n h = absurd h
+wants_phase (phase.Recorded o) n h = absurd h
+wants_phase (phase.Blocked call turns) n h = absurd h
+wants_phase phase.Ended n h = absurd h
+
+pub reach_done : (w : Whole) (ts : List declared.Thread) (cs ds : List ThreadClock) (i n : ℕ) (x v : declared.Thread) (l before own : DetLock) (later : Stored) (rows : List HistoryRow) (r : Result Bool AllocError)
+    → Item ts cs i x v ds → Agree ts cs → has_turn (live_clocks cs) i ≡ true → WantsIn x.phase n → before ≡ get_or w.objects n new_lock
+    → IfOk r (λ made. Reaches w.patience made i before own (parts (timed x (clock_at cs i)) w.lock w.table w.rows) (parts (timed v (clock_at ds i)) l later rows))
+    → IfOk r (λ made. Attempts made i (run_at w ts cs) (record w { threads = joined (set ts i v) ds; lock = l; objects = set w.objects n own; table = later; rows = rows }))
+reach_done w ts cs ds i n x v l before own later rows r h agree turn wanting before_is tried =
+    let z = run_at w ts cs in
+    let new = parts (timed v (clock_at ds i)) l later rows in
+    let found = wants_phase x.phase n wanting in
+    let P : Bool → Type 0 = λ made. Reaches w.patience made i before own (parts (timed x (clock_at cs i)) w.lock w.table w.rows) new in
+    let Q : Bool → Type 0 = λ made. Attempts made i z (record w { threads = joined (set ts i v) ds; lock = l; objects = set w.objects n own; table = later; rows = rows }) in
+    if_ok r P Q (λ made a.
+    let R : Thread → Type 0 = λ t. Reaches w.patience made i (get_or w.objects n new_lock) own (parts t w.lock w.table w.rows) new in
+    let K : DetLock → Type 0 = λ k. Reaches w.patience made i k own (parts (timed x (clock_at cs i)) w.lock w.table w.rows) new in
+    let T : List Thread → Type 0 = λ us. Attempts made i z (record w { threads = us; lock = l; objects = set w.objects n own; table = later; rows = rows }) in
+    subst T (sym (joined-kept ts cs ds i x v h.clocked h.kept))
+    (object_event z i n found.2 found.0 found.1 made own new (joined_inside ts cs i h.inside) (turn_shown ts cs i true agree turn) (item_phase ts cs i x (phase.WantsObject found.0 found.1 found.2 n) h.inside h.item found.3)
+    (subst R (sym (item_thread ts cs i x h.inside h.item)) (subst K before_is a)))) tried
+
+-- ## Where nothing is done
+
+idling : (p : Phase) → ((call : Call) (turns : ℕ) → p ≡ phase.WantsTable call turns → ⊥) → ((call : Call) (turns clock object : ℕ) → p ≡ phase.WantsObject call turns clock object → ⊥) → Idles p
+idling phase.Working tables objects = tt
+idling (phase.WantsTable call turns) tables objects = tables call turns refl
+idling (phase.WantsObject call turns clock object) tables objects = objects call turns clock object refl
+idling (phase.Granted place object e) tables objects = tt
+idling (phase.ToOutside o) tables objects = tt
+idling (phase.Outside o) tables objects = tt
+idling (phase.Recorded o) tables objects = tt
+idling (phase.Blocked call turns) tables objects = tt
+idling phase.Ended tables objects = tt
+
+pub idle_done : (w : Whole) (ts : List declared.Thread) (cs : List ThreadClock) (i : ℕ) (x : declared.Thread) → i < length ts → x ≡ get_or ts i x
+    → ((call : Call) (turns : ℕ) → x.phase ≡ phase.WantsTable call turns → ⊥) → ((call : Call) (turns clock object : ℕ) → x.phase ≡ phase.WantsObject call turns clock object → ⊥)
+    → Attempts false i (run_at w ts cs) (run_at w ts cs)
+idle_done w ts cs i x inside at no_table no_object =
+    idle_event (run_at w ts cs) i (subst Idles (sym (item_phase ts cs i x x.phase inside (item_is ts i x no_item inside at) refl)) (idling x.phase no_table no_object))
+
+pub reach_none : (w : Whole) (ts : List declared.Thread) (cs : List ThreadClock) (i n : ℕ) → i < length ts → (let t : declared.Thread = item_at ts i in WantsIn t.phase n) → length w.objects ≤ n → Attempts false i (run_at w ts cs) (run_at w ts cs)
+reach_none w ts cs i n inside wanting past =
+    let x = item_at ts i in
+    let found = wants_phase x.phase n wanting in
+    object_past (run_at w ts cs) i n found.2 found.0 found.1 (item_phase ts cs i x (phase.WantsObject found.0 found.1 found.2 n) inside refl found.3) past
+
+pub no_turn : (w : Whole) (ts : List declared.Thread) (cs : List ThreadClock) (i : ℕ) → Agree ts cs → has_turn (live_clocks cs) i ≡ false → Attempts false i (run_at w ts cs) (run_at w ts cs)
+no_turn w ts cs i agree late = no_attempt_event (run_at w ts cs) i (turn_shown ts cs i false agree late)

@@ -1,0 +1,15 @@
+pub mod ClockLemmas
+pub mod Joining
+pub mod Inside
+pub mod ShownThreads
+pub mod AskShows
+pub mod AnswerShows
+pub mod Requests
+pub mod OutsideShows
+pub mod AttemptShows
+pub mod ReachShows
+pub mod Granting
+pub mod Turning
+pub mod EventShows
+pub mod AttemptEvents
+pub mod Parting

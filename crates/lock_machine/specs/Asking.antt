@@ -1,0 +1,36 @@
+-- What a thread's next step makes of it, and what comes of a blocked call.
+use Rattle.std.specs.Prelude.{◌≡◌, ℕ, ◌+◌, ◌<◌, ◌≤◌, ◌^◌, [], ◌∷◌, ◌++◌, Bool, true, false}
+use Rattle.posix_terms.specs.Step.{nothing_carried}
+use Rattle.posix_terms.specs.declared.call.Call.{Call}
+use Rattle.thread_scripts.specs.declared.actor.Step.{Step}
+use Rattle.thread_scripts.specs.declared.actor.Step.TheVariants as step
+use Rattle.lock_machine.specs.declared.thread.Phase.{Phase}
+use Rattle.lock_machine.specs.declared.thread.Phase.TheVariants as phase
+use Rattle.lock_machine.specs.Threads.{Thread}
+
+abbrev pub worked : ℕ → Thread → Thread
+worked n t = record t { clock = t.clock + n; asked = t.asked ++ step.Work n ∷ [] }
+
+abbrev pub Works : Bool → ℕ → Thread → Thread → Type 0
+Works true n old new = (old.clock + n ≤ 2 ^ 62) × (new ≡ worked n old)
+Works false n old new = (2 ^ 62 < old.clock + n) × (new ≡ old)
+
+abbrev pub after_want : Call → Thread → Thread
+after_want call t = record t { phase = phase.WantsTable call nothing_carried; asked = t.asked ++ step.Call call ∷ [] }
+
+abbrev pub after_end : Thread → Thread
+after_end t = record t { phase = phase.Ended; asked = t.asked ++ step.End ∷ [] }
+
+-- this step is asked, where the clock has room for it
+abbrev pub Asks : Bool → Step → Thread → Thread → Type 0
+Asks moved (step.Work n) old new = Works moved n old new
+Asks moved (step.Call call) old new = (moved ≡ true) × (new ≡ after_want call old)
+Asks moved step.End old new = (moved ≡ true) × (new ≡ after_end old)
+
+-- a blocked call wants the table again
+abbrev pub GoesAgainIn : Phase → Bool → Thread → Thread → Type 0
+GoesAgainIn (phase.Blocked call turns) moved old new = (moved ≡ true) × (new ≡ record old { phase = phase.WantsTable call turns })
+GoesAgainIn p moved old new = (moved ≡ false) × (new ≡ old)
+
+abbrev pub GoesAgain : Bool → Thread → Thread → Type 0
+GoesAgain moved old new = GoesAgainIn old.phase moved old new

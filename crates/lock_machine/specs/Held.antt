@@ -1,0 +1,36 @@
+-- How a turn that ended stands in its thread until it is answered.
+use Rattle.std.specs.Prelude.{ℕ, Option, Some, None}
+use Rattle.posix_terms.specs.Locked.{keeps_table}
+use Rattle.posix_terms.specs.declared.call.Call.{Call}
+use Rattle.posix_terms.specs.declared.reply.Answer as posix
+use Rattle.posix_terms.specs.declared.reply.Answer.TheVariants as answer
+use Rattle.object_store.specs.declared.patience.TurnEnd.{TurnEnd}
+use Rattle.object_store.specs.declared.patience.TurnEnd.TheVariants as end
+use Rattle.object_store.specs.declared.patience.TurnStart.{TurnStart}
+use Rattle.object_store.specs.declared.patience.TurnStart.TheVariants as start
+use Rattle.lock_machine.specs.Threads.{Thread}
+use Rattle.lock_machine.specs.declared.thread.Phase.{Phase}
+use Rattle.lock_machine.specs.declared.thread.Phase.TheVariants as phase
+
+-- as the answer of a row
+abbrev pub told_as : TurnEnd → posix.Answer
+told_as (end.Reply reply) = answer.Reply reply
+told_as (end.Blocked turns) = answer.Again
+
+-- the phase of a thread whose call was granted, with the row of this place, and whose turn started so, which was blocked for so many turns before
+abbrev pub phase_started : ℕ → Option ℕ → Call → ℕ → TurnStart → Phase
+phase_started row object c turns (start.Ended e) = phase.Granted row object e
+phase_started row object c turns (start.GoesOut errand) = phase.ToOutside (record { row = row; object = object; turns = turns; errand = errand; keeps_table = keeps_table c })
+
+abbrev pub turn_started : ℕ → Option ℕ → Call → ℕ → TurnStart → Thread → Thread
+turn_started row object c turns start t = record t { phase = phase_started row object c turns start }
+
+-- how the turn ended that a thread is in
+abbrev pub end_held : Phase → Option TurnEnd
+end_held (phase.Granted row object e) = Some e
+end_held p = None
+
+-- its phase once the call is answered
+abbrev pub phase_behind : Call → TurnEnd → Phase
+phase_behind call (end.Reply reply) = phase.Working
+phase_behind call (end.Blocked turns) = phase.Blocked call turns

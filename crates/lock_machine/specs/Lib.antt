@@ -1,0 +1,13 @@
+pub mod Lives
+pub mod Threads
+pub mod Views
+pub mod Logs
+pub mod Whole
+pub mod Conditions
+pub mod Asking
+pub mod Held
+pub mod Events
+pub mod Outings
+pub mod Strays
+pub mod Shows
+pub mod Starting

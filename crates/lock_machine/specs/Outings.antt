@@ -1,0 +1,133 @@
+-- What the events of a call make of it that goes outside.
+use Rattle.std.specs.Prelude.{◌≡◌, ℕ, ◌+◌, ◌^◌, List, Option, Some, None, Bool, true, false, not, ◌&&◌, ◌||◌, nat_le, nat_lt, slice_get, slice_set}
+use Rattle.descriptor_table.specs.declared.plan.Errand.{Errand}
+use Rattle.descriptor_table.specs.declared.plan.NewNumbers.TheVariants as numbers
+use Rattle.det_mutex.specs.Attempt.{freed}
+use Rattle.det_mutex.specs.declared.lock.DetLock.{DetLock}
+use Rattle.lock_model.specs.Machine.{is_number}
+use Rattle.object_store.specs.Patience.{EndsOutside}
+use Rattle.object_store.specs.Store.{Opens, Stored}
+use Rattle.object_store.specs.declared.patience.TurnEnd.{TurnEnd}
+use Rattle.posix_terms.specs.Outcomes.{fits, is_kind}
+use Rattle.posix_terms.specs.declared.call.Call.{Call}
+use Rattle.posix_terms.specs.declared.limits.TheConstants.Limits as limit
+use Rattle.posix_terms.specs.declared.outcome.Given.{Given}
+use Rattle.posix_terms.specs.declared.outcome.Outcome.{Outcome}
+use Rattle.posix_terms.specs.declared.reply.Answer as posix
+use Rattle.posix_terms.specs.declared.transcript.HistoryRow.{HistoryRow}
+use Rattle.lock_machine.specs.Held.{phase_behind, told_as}
+use Rattle.lock_machine.specs.Logs.{Written, logged, record_of}
+use Rattle.lock_machine.specs.Threads.{Thread}
+use Rattle.lock_machine.specs.declared.outside.Progress.{Progress}
+use Rattle.lock_machine.specs.declared.outside.Progress.TheVariants as progress
+use Rattle.lock_machine.specs.declared.thread.Outing.{Outing}
+use Rattle.lock_machine.specs.declared.thread.Phase.TheVariants as phase
+
+-- ## `begin_outside`
+
+abbrev pub BeginsIf : Bool → ℕ → Outing → Bool → Thread → Thread → Type 0
+BeginsIf true cost o moved old new = (moved ≡ true) × (new ≡ record old { phase = phase.Outside o; clock = old.clock + cost })
+BeginsIf false cost o moved old new = (moved ≡ false) × (new ≡ old)
+
+abbrev pub Begins : ℕ → Outing → Bool → Thread → Thread → Type 0
+Begins cost o moved old new = BeginsIf (nat_lt old.came limit.OUTCOMES && nat_le (old.clock + cost) (2 ^ 62)) cost o moved old new
+
+-- ## `record`
+
+-- a thread, with the rows and the log
+pub record LoggedParts : Type 0 where
+  pub thread : Thread
+  pub rows : List HistoryRow
+  pub log : Written
+
+abbrev pub logged_parts : Thread → List HistoryRow → Written → LoggedParts
+logged_parts thread rows log = record { thread = thread; rows = rows; log = log }
+
+-- what was given answers what was asked
+abbrev pub answers_errand : Errand → Given → Bool
+answers_errand e g = is_kind g.kind e.kind && (fits e.kind e.asked g.outcome && nat_le e.asked 65535)
+
+abbrev pub row_recorded : ℕ → Outing → Given → HistoryRow → LoggedParts → LoggedParts
+row_recorded i o g q p =
+    record {
+      thread = record p.thread { phase = phase.Recorded o; came = p.thread.came + 1 };
+      rows = slice_set p.rows o.row (record q { outcome = Some g.outcome });
+      log = logged p.log (record_of i p.thread.came g);
+    }
+
+abbrev pub RecordsRow : Option HistoryRow → Bool → Progress → ℕ → Outing → Given → LoggedParts → LoggedParts → Type 0
+RecordsRow (Some q) true made i o g old new = (made ≡ progress.Moves) × (new ≡ row_recorded i o g q old)
+RecordsRow (Some q) false made i o g old new = (made ≡ progress.Stays) × (new ≡ old)
+RecordsRow None room made i o g old new = (made ≡ progress.Stays) × (new ≡ old)
+
+abbrev pub RecordsIf : Bool → Progress → ℕ → Outing → Given → LoggedParts → LoggedParts → Type 0
+RecordsIf true made i o g old new = RecordsRow (slice_get old.rows o.row) (nat_lt (old.thread.came + 1) (2 ^ 32)) made i o g old new
+RecordsIf false made i o g old new = (made ≡ progress.Strays) × (new ≡ old)
+
+-- this outcome comes, where it answers
+abbrev pub Records : Progress → ℕ → Outing → Given → LoggedParts → LoggedParts → Type 0
+Records made i o g old new = RecordsIf (answers_errand o.errand g) made i o g old new
+
+-- ## `answer`
+
+-- a thread, with the lock of an object, that of the table, the table with the bodies, and the rows
+pub record OutsideParts : Type 0 where
+  pub thread : Thread
+  pub object : DetLock
+  pub lock : DetLock
+  pub table : Stored
+  pub rows : List HistoryRow
+
+abbrev pub outside_parts : Thread → DetLock → DetLock → Stored → List HistoryRow → OutsideParts
+outside_parts thread object lock table rows = record { thread = thread; object = object; lock = lock; table = table; rows = rows }
+
+-- the turn ended so. Where it kept the table its change is made now
+abbrev pub EndsTurn : Bool → ℕ → Outing → Call → Outcome → TurnEnd → Stored → Stored → Type 0
+EndsTurn true patience o c x e old new = Opens patience o.turns old c x e new
+EndsTurn false patience o c x e old new = (fits o.errand.kind o.errand.asked x ≡ true → EndsOutside patience o.turns o.errand numbers.None x e) × (new ≡ old)
+
+abbrev pub table_freed : Bool → ℕ → DetLock → DetLock
+table_freed true clock lock = freed clock
+table_freed false clock lock = lock
+
+abbrev pub answer_cost : Bool → ℕ
+answer_cost true = 2
+answer_cost false = 1
+
+-- the thread goes on, and the row has its answer
+abbrev pub went_on : Call → TurnEnd → Thread → Thread
+went_on c e t = record t { phase = phase_behind c e }
+
+abbrev pub row_concluded : Outing → HistoryRow → TurnEnd → Stored → OutsideParts → OutsideParts
+row_concluded o q e table p =
+    record {
+      thread = went_on q.call e (record p.thread { clock = p.thread.clock + answer_cost o.keeps_table });
+      object = freed p.thread.clock;
+      lock = table_freed o.keeps_table (p.thread.clock + 1) p.lock;
+      table = table;
+      rows = slice_set p.rows o.row (record q { answer = Some (told_as e) });
+    }
+
+abbrev pub StaysSo : Option posix.Answer → OutsideParts → OutsideParts → Type 0
+StaysSo told old new = (told ≡ None) × (new ≡ old)
+
+abbrev pub ConcludesIf : Bool → ℕ → Option posix.Answer → Outing → HistoryRow → Outcome → OutsideParts → OutsideParts → Type 0
+ConcludesIf true patience told o q x old new =
+    (e : TurnEnd) × ((told ≡ Some (told_as e)) × EndsTurn o.keeps_table patience o q.call x e old.table new.table × (new ≡ row_concluded o q e new.table old))
+ConcludesIf false patience told o q x old new = StaysSo told old new
+
+abbrev pub ConcludesWith : Option Outcome → HistoryRow → ℕ → Option posix.Answer → Outing → OutsideParts → OutsideParts → Type 0
+ConcludesWith (Some x) q patience told o old new = ConcludesIf (nat_le (old.thread.clock + answer_cost o.keeps_table) (2 ^ 62)) patience told o q x old new
+ConcludesWith None q patience told o old new = StaysSo told old new
+
+abbrev pub ConcludesRow : Option HistoryRow → ℕ → Option posix.Answer → Outing → OutsideParts → OutsideParts → Type 0
+ConcludesRow (Some q) patience told o old new = ConcludesWith q.outcome q patience told o old new
+ConcludesRow None patience told o old new = StaysSo told old new
+
+abbrev pub ConcludesHeld : Bool → ℕ → Option posix.Answer → Outing → OutsideParts → OutsideParts → Type 0
+ConcludesHeld true patience told o old new = ConcludesRow (slice_get old.rows o.row) patience told o old new
+ConcludesHeld false patience told o old new = StaysSo told old new
+
+-- the answer is told, where there is one
+abbrev pub AnswersOutside : ℕ → Option posix.Answer → ℕ → Outing → OutsideParts → OutsideParts → Type 0
+AnswersOutside patience told i o old new = ConcludesHeld (is_number old.object.holder i && (not o.keeps_table || is_number old.lock.holder i)) patience told o old new

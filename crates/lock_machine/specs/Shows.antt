@@ -1,0 +1,195 @@
+-- How the data of a run stand for a state of the lock machine.
+use Rattle.std.specs.Prelude.{◌≡◌, ℕ, ◌<◌, ◌≤◌, ◌^◌, List, [], ◌∷◌, ◌++◌, length, map, slice_get, is_some, Option, Some, None, IfSome, Bool, true, false, ◌+◌}
+use Rattle.descriptor_table.specs.Acts as acts
+use Rattle.descriptor_table.specs.Agreement.{request_of}
+use Rattle.descriptor_table.specs.declared.plan.NewNumbers.TheVariants as numbers
+use Rattle.descriptor_table.specs.declared.plan.Op.TheVariants as op
+use Rattle.posix_terms.specs.Locked.{keeps_table}
+use Rattle.posix_terms.specs.Step.{asks, step}
+use Rattle.posix_terms.specs.declared.outcome.Given.{Given}
+use Rattle.posix_terms.specs.declared.outcome.Outcome.{Outcome}
+use Rattle.posix_terms.specs.declared.limits.TheConstants.Limits as limit
+use Rattle.posix_terms.specs.declared.reply.Answer as posix
+use Rattle.posix_terms.specs.declared.reply.Answer.TheVariants as answer
+use Rattle.posix_terms.specs.declared.reply.Reply.{Reply}
+use Rattle.thread_scripts.specs.declared.actor.Step.{Step}
+use Rattle.lock_model.specs.CallTable.{Way}
+use Rattle.lock_model.specs.CallTable.Plan.{Object}
+use Rattle.lock_model.specs.CallTable.Way.{Inside}
+use Rattle.lock_model.specs.Held.{row_of}
+use Rattle.lock_model.specs.Machine.{advance, attempt, can_advance, can_attempt}
+use Rattle.lock_model.specs.RealCalls.{answer_in, numbered, outcome_in, plan_of, way_of}
+use Rattle.lock_model.specs.Runs.{Arises}
+use Rattle.lock_model.specs.State as lock
+use Rattle.lock_model.specs.State.{Job, Row, State, thread_of}
+use Rattle.lock_model.specs.State.Phase.{Working, WantsTable, WantsObject, Granted, ToOutside, Outside, Recorded, Blocked, Ended}
+use Rattle.lock_model.specs.Rows.{shown}
+use Rattle.lock_machine.specs.Conditions.{Conditions, setup_under, start_under}
+use Rattle.object_store.specs.Errands.{door_taken, waits_outside}
+use Rattle.object_store.specs.Patience.{ended}
+use Rattle.object_store.specs.Store.{Stands}
+use Rattle.lock_machine.specs.Logs.{Written, came_between}
+use Rattle.lock_machine.specs.Strays.{is_stray}
+use Rattle.input_log.specs.Format.{records_text}
+use Rattle.input_log.specs.declared.log.Record.{Record}
+use Rattle.lock_machine.specs.declared.outside.Progress.{Progress}
+use Rattle.lock_machine.specs.declared.outside.Progress.TheVariants as progress
+use Rattle.lock_machine.specs.declared.thread.Outing.{Outing}
+use Rattle.object_store.specs.declared.patience.TurnEnd.{TurnEnd}
+use Rattle.lock_machine.specs.declared.thread.Phase.{Phase}
+use Rattle.lock_machine.specs.declared.thread.Phase.TheVariants as phase
+use Rattle.lock_machine.specs.Threads.{Thread}
+use Rattle.lock_machine.specs.Whole.{Whole, thread_at}
+
+-- ## Threads
+
+-- the call that a thread was granted, with the row of its place, and how its turn ended
+pub record IsGranted (terms : Conditions) (i : ℕ) (rows : List Row) (place : ℕ) (object : Option ℕ) (ends : TurnEnd) (job : Job) : Type 0 where
+  pub plan : job.plan ≡ plan_of Inside object
+  pub in_range : IfSome object (λ n. n < limit.OBJECTS)
+  pub thread : job.turn.thread ≡ i
+  pub answers : answer_in (step terms.settings job.found.object job.call (outcome_in job.outcome) job.carried) ≡ ended ends
+  pub row : slice_get rows place ≡ Some (row_of job)
+
+-- the call that a thread was granted and goes outside with: what it asks, at whose door, and whether EAGAIN makes it wait
+pub record IsOut (terms : Conditions) (i : ℕ) (rows : List Row) (o : Outing) (job : Job) : Type 0 where
+  pub object : ℕ
+  pub object_is : o.object ≡ Some object
+  pub in_range : object < limit.OBJECTS
+  pub plan : job.plan ≡ Object object (way_of true o.keeps_table)
+  pub thread : job.turn.thread ≡ i
+  pub carried : job.carried ≡ o.turns
+  pub asks_is : asks job.found.object job.call job.carried ≡ request_of job.call (op.Ask o.errand)
+  pub door : o.errand.door ≡ numbered job.found (door_taken job.found.object job.call job.carried)
+  pub waits : o.errand.waits ≡ waits_outside job.found.object job.call job.carried
+  pub keeps : o.keeps_table ≡ keeps_table job.call
+  -- whatever comes, unless it keeps the table
+  pub ends : o.keeps_table ≡ false → (x : Outcome) → let stepped = step terms.settings job.found.object job.call (Some x) job.carried in
+      (stepped.answer, stepped.carried) ≡ acts.ended terms.settings job.found.object job.carried (acts.outside_ending o.errand numbers.None (Some x))
+  pub row : slice_get rows o.row ≡ Some (row_of job)
+
+abbrev pub PhaseShows : Conditions → ℕ → List Row → Thread → lock.Thread → Phase → Type 0
+PhaseShows terms i rows t u phase.Working = u.phase ≡ Working
+PhaseShows terms i rows t u (phase.WantsTable call turns) = u.phase ≡ WantsTable call turns
+PhaseShows terms i rows t u (phase.WantsObject call turns clock object) = (way : Way) × ((u.phase ≡ WantsObject call turns clock object way) × (object < limit.OBJECTS))
+PhaseShows terms i rows t u (phase.Granted place object ends) = (job : Job) × ((u.phase ≡ Granted job) × IsGranted terms i rows place object ends job)
+PhaseShows terms i rows t u (phase.ToOutside o) = (job : Job) × ((u.phase ≡ ToOutside job) × IsOut terms i rows o job)
+PhaseShows terms i rows t u (phase.Outside o) = (job : Job) × ((u.phase ≡ Outside job) × IsOut terms i rows o job × (t.came < limit.OUTCOMES))
+PhaseShows terms i rows t u (phase.Recorded o) = (job : Job) × ((u.phase ≡ Recorded job) × IsOut terms i rows o job)
+PhaseShows terms i rows t u (phase.Blocked call turns) = u.phase ≡ Blocked call turns
+PhaseShows terms i rows t u phase.Ended = u.phase ≡ Ended
+
+pub record ThreadShows (terms : Conditions) (i : ℕ) (rows : List Row) (t : Thread) (u : lock.Thread) : Type 0 where
+  pub clock : u.clock ≡ t.clock
+  pub in_time : t.clock ≤ 2 ^ 62
+  pub asked : u.asked ≡ t.asked
+  pub came : length u.came ≡ t.came
+  pub phase : PhaseShows terms i rows t u t.phase
+
+-- ## The whole
+
+pub record Shows (terms : Conditions) (w : Whole) (s : State) : Type 0 where
+  pub patience : terms.settings.patience ≡ w.patience
+  pub door_cost : terms.settings.door_cost ≡ w.door_cost
+  pub count : length s.threads ≡ length w.threads
+  pub threads : (k : ℕ) → ThreadShows terms k s.rows (thread_at w k) (thread_of s k)
+  pub table : s.table ≡ w.lock
+  pub objects : s.objects ≡ w.objects
+  pub object_count : length w.objects ≡ limit.OBJECTS
+  pub world : Stands w.table s.world
+  pub rows : map shown s.rows ≡ w.rows
+
+-- ## Phases
+
+-- thread i is in this phase
+abbrev pub IsAt : Whole → ℕ → Phase → Type 0
+IsAt w i p = (thread_at w i).phase ≡ p
+
+abbrev pub GrantedIn : Phase → ℕ → Option ℕ → Type 0
+GrantedIn (phase.Granted row object e) place other = (row ≡ place) × (object ≡ other)
+GrantedIn p place other = ⊥
+
+-- thread i is in a call that was granted with this row and object, if with one
+abbrev pub IsGrantedAt : Whole → ℕ → ℕ → Option ℕ → Type 0
+IsGrantedAt w i row object = GrantedIn (thread_at w i).phase row object
+
+abbrev pub BlockedIn : Phase → Type 0
+BlockedIn (phase.Blocked call turns) = Unit {0}
+BlockedIn p = ⊥
+
+-- thread i is in a call that is blocked
+abbrev pub IsBlockedAt : Whole → ℕ → Type 0
+IsBlockedAt w i = BlockedIn (thread_at w i).phase
+
+abbrev pub WantsIn : Phase → ℕ → Type 0
+WantsIn (phase.WantsObject call turns clock object) other = object ≡ other
+WantsIn p other = ⊥
+
+-- thread i wants this object
+abbrev pub WantsAt : Whole → ℕ → ℕ → Type 0
+WantsAt w i object = WantsIn (thread_at w i).phase object
+
+-- ## Events, whoever supplies the steps and the outcomes
+
+abbrev pub has_moved : Progress → Bool
+has_moved progress.Moves = true
+has_moved progress.Stays = false
+has_moved progress.Strays = false
+
+abbrev pub has_strayed : Progress → Bool
+has_strayed progress.Strays = true
+has_strayed progress.Moves = false
+has_strayed progress.Stays = false
+
+-- so many records more
+abbrev pub LogsMore : List Record → Written → Written → Type 0
+LogsMore records old new = (new.text ≡ old.text ++ records_text records) × (new.records ≡ old.records + length records)
+
+-- thread i makes its event that needs no turn, just where it can, and strays just where what is there for it does not answer
+pub record Advanced (made : Progress) (i : ℕ) (old new : Whole) (terms : Conditions) (s : State) : Type 0 where
+  pub can : can_advance (setup_under terms) s i ≡ has_moved made
+  pub strays : is_stray (setup_under terms) s i ≡ has_strayed made
+  pub shows : Shows terms new (advance (setup_under terms) i s)
+  pub log : LogsMore (came_between i s (advance (setup_under terms) i s)) old.log new.log
+
+-- it makes one in which no outcome comes, just where it can
+pub record Quietly (moved : Bool) (i : ℕ) (old new : Whole) (terms : Conditions) (s : State) : Type 0 where
+  pub can : can_advance (setup_under terms) s i ≡ moved
+  pub shows : Shows terms new (advance (setup_under terms) i s)
+  pub log : new.log ≡ old.log
+
+-- the run has come to this state
+abbrev pub StandsAt : Whole → Conditions → State → Type 0
+StandsAt w terms s = Arises (setup_under terms) (start_under terms) s × Shows terms w s
+
+-- it goes outside, or makes a blocked call again
+abbrev pub AdvancesQuietly : Bool → ℕ → Whole → Whole → Type 0
+AdvancesQuietly moved i old new = (terms : Conditions) (s : State) → StandsAt old terms s → Quietly moved i old new terms s
+
+-- it asks this step
+abbrev pub AsksFor : Bool → ℕ → Step → Whole → Whole → Type 0
+AsksFor moved i x old new =
+    (terms : Conditions) (s : State) → StandsAt old terms s → (let u : lock.Thread = thread_of s i in terms.supply.next i u.asked u.replies ≡ Some x) → Quietly moved i old new terms s
+
+-- the replies of a thread behind its answer, if it has one
+abbrev pub replied : Option posix.Answer → List Reply → List Reply
+replied (Some (answer.Reply r)) rs = rs ++ r ∷ []
+replied (Some answer.Again) rs = rs
+replied None rs = rs
+
+-- its call has this answer, if it has one
+abbrev pub Tells : Option posix.Answer → ℕ → Whole → Whole → Type 0
+Tells told i old new =
+    (terms : Conditions) (s : State) → StandsAt old terms s
+    → Quietly (is_some told) i old new terms s × ((thread_of (advance (setup_under terms) i s) i).replies ≡ replied told (thread_of s i).replies)
+
+-- this outcome comes
+abbrev pub RecordsGiven : Progress → ℕ → Given → Whole → Whole → Type 0
+RecordsGiven made i g old new =
+    (terms : Conditions) (s : State) → StandsAt old terms s → slice_get (terms.supply.outcomes i) (length (thread_of s i).came) ≡ Some g → Advanced made i old new terms s
+
+-- thread i makes its attempt, just where it can
+abbrev pub Attempts : Bool → ℕ → Whole → Whole → Type 0
+Attempts made i old new =
+    (terms : Conditions) (s : State) → StandsAt old terms s
+    → (can_attempt (setup_under terms) s i ≡ made) × Shows terms new (attempt (setup_under terms) i s) × (new.log ≡ old.log)

@@ -1,0 +1,128 @@
+ghost use Rattle.std.specs.Prelude.{◌≡◌, ◌<◌, IfOk, IfSome, length, map};
+ghost use Rattle.logical_clocks.specs.TurnOrder.{turn_holder};
+ghost use Rattle.lock_machine.specs.Lives.{Agree};
+ghost use Rattle.lock_machine.specs.Threads.{Thread as Seen};
+ghost use Rattle.lock_machine.specs.Views.{clocks_of};
+ghost use Rattle.lock_machine.specs.Whole.{thread_at};
+ghost use Rattle.lock_machine.specs.declared.thread.Thread as declared;
+
+use crate::log::Log;
+use crate::steps::Steps;
+use crate::thread::{Phase, Thread};
+use det_mutex::DetLock;
+use logical_clocks::Clocks;
+use object_store::Store;
+use posix_terms::HistoryRow;
+use std::alloc::{AllocError, Global};
+use std::marker::Model;
+
+// The table with its lock and the bodies of the objects, and the rows of what was granted so far.
+#[derive(Drop)]
+pub struct Shared {
+    pub lock: DetLock,
+    pub store: Store,
+    pub rows: Vec<HistoryRow>,
+}
+
+/// Threads that share one table of descriptors, by locks that they take at their turns: the lock machine of `lock_model`, made run. It
+/// knows no actor: it is handed each step and each outcome. Contracts see the threads with their clocks, the locks, the table and the rows.
+#[derive(Drop)]
+pub struct LockMachine {
+    // a call that is blocked for so many turns is not made again
+    pub(crate) patience: u32,
+    // what a call that goes outside adds to its thread's clock
+    pub(crate) door_cost: u32,
+    // the record of each outcome that came
+    pub(crate) log: Log,
+    pub(crate) threads: Vec<Thread>,
+    pub(crate) clocks: Clocks,
+    pub(crate) shared: Shared,
+    // a number that is used again keeps its lock
+    pub(crate) objects: Vec<DetLock>,
+
+    // a thread is live in its clock just until its phase is that it has ended
+    ghost agree: { Agree threads.items clocks },
+}
+
+impl Model for LockMachine {
+    ghost use Rattle.lock_machine.specs.Threads.{joined};
+    ghost use Rattle.lock_machine.specs.Whole.{Whole};
+    ghost use Rattle.object_store.specs.StoreCode.{stored_code};
+    ghost use Rattle.std.specs.Coded.{codes};
+
+    ghost Value = { Whole };
+
+    ghost coded = { Prim.hlevel (codes, stored_code) };
+
+    ghost view = { λ m. record { patience = m.patience; door_cost = m.door_cost; log = m.log; threads = joined m.threads.items m.clocks; lock = m.shared.lock; objects = m.objects.items; table = m.shared.store; rows = m.shared.rows.items } };
+}
+
+/// What a machine leaves that is over: the rows of its history, the steps that each thread asked, and the log.
+#[derive(Drop)]
+pub struct Left {
+    pub rows: Vec<HistoryRow>,
+    pub asked: Vec<Steps>,
+    pub log: Log,
+}
+
+impl LockMachine {
+    /// How many threads there are.
+    pub fn len(&self) -> usize
+        ensures { result ≡ length self.now.threads }
+    {
+        self.threads.len()
+    }
+
+    /// Where thread i is between its events.
+    pub fn phase(&self, i: usize) -> &Phase
+        requires { i < length self.now.threads }
+        ensures { result.now ≡ (thread_at self.now i).phase }
+    {
+        &self.threads[i].phase
+    }
+
+    /// How many outcomes came for thread i.
+    pub fn came(&self, i: usize) -> u32
+        requires { i < length self.now.threads }
+        ensures { result ≡ (thread_at self.now i).came }
+    {
+        self.threads[i].came
+    }
+
+    /// The thread that has the turn: nobody has, once all threads have ended.
+    pub fn turn_holder(&self) -> Option<usize>
+        ensures holder { result ≡ turn_holder (clocks_of self.now.threads) }
+        ensures inside { IfSome result (λ i. i < length self.now.threads) }
+    {
+        self.clocks.turn_holder()
+    }
+
+    /// What is left of the machine when it is over.
+    pub fn finish(self, alloc: Global) -> Result<Left, AllocError>
+        ensures rows { IfOk result (λ left. left.rows.items ≡ self.rows) }
+        ensures asked { IfOk result (λ left. left.asked.items ≡ map (λ (t : Seen). t.asked) self.threads) }
+        ensures log { IfOk result (λ left. left.log ≡ self.log) }
+    {
+        let LockMachine {
+            threads,
+            shared,
+            log,
+            ..
+        } = self;
+        Ok(Left {
+            rows: shared.rows,
+            asked: asked(alloc, threads)?,
+            log,
+        })
+    }
+}
+
+fn asked(alloc: Global, threads: Vec<Thread>) -> Result<Vec<Steps>, AllocError>
+    ensures { IfOk result (λ asked. asked.items ≡ map (λ (t : declared.Thread). t.asked) threads.items) }
+{
+    let mut asked = Vec::new(alloc);
+    for thread in threads {
+        asked.push(thread.asked)?;
+    }
+    Ok(asked)
+}

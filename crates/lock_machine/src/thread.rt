@@ -1,0 +1,60 @@
+use crate::steps::Steps;
+use descriptor_table::Errand;
+use object_store::TurnEnd;
+use posix_terms::Call;
+
+/// A call that goes outside: the row of the history that it has, the object whose lock it holds, for how many turns it
+/// was blocked before, what it asks, and whether it keeps the table to its answer.
+#[derive(Clone, Copy)]
+pub struct Outing {
+    pub row: usize,
+    pub object: Option<usize>,
+    pub turns: u32,
+    pub errand: Errand,
+    pub keeps_table: bool,
+}
+
+/// Where a thread is between its events.
+#[derive(Drop)]
+pub enum Phase {
+    Working,
+    /// wants the table, for a call that was blocked for so many turns
+    WantsTable {
+        call: Call,
+        turns: u32,
+    },
+    /// holds the table, which it took at this clock, and wants the lock of the object with this number
+    WantsObject {
+        call: Call,
+        turns: u32,
+        clock: u64,
+        object: usize,
+    },
+    /// in a call that has this row of the history, and whose turn ended so; it holds the lock of its object or, without
+    /// one, the table
+    Granted {
+        row: usize,
+        object: Option<usize>,
+        ends: TurnEnd,
+    },
+    /// in a call that was granted and has still to go outside
+    ToOutside(Outing),
+    /// outside, where its outcome is awaited
+    Outside(Outing),
+    /// its outcome came and stands in the log
+    Recorded(Outing),
+    /// in a call that was blocked for so many turns, which it makes again
+    Blocked {
+        call: Call,
+        turns: u32,
+    },
+    Ended,
+}
+
+// A thread of a run: the steps that it asked, and how many outcomes came for it from outside.
+#[derive(Drop)]
+pub struct Thread {
+    pub phase: Phase,
+    pub asked: Steps,
+    pub came: u32,
+}
