@@ -1,6 +1,7 @@
 pub mod Quiet
 pub mod Falling
 pub mod Playing
+pub mod Coming
 pub mod Seats
 pub mod Scheduling
 pub mod Told

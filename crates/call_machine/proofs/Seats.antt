@@ -3,7 +3,7 @@ use Rattle.std.proofs.Common.{◌≡◌, ℕ, zero, suc, ◌<◌, ◌≤◌, Lis
 use Rattle.std.proofs.lemmas.Bool.Decides.{nat_tests}
 use Rattle.std.proofs.lemmas.List.{get_or_past, get_or-set_same, length-set}
 use Rattle.std.proofs.lemmas.Option.{slice_get_past, slice_get_read}
-use Rattle.std.specs.Prelude.{IfOk, Result, Ok, Err, nat_lt}
+use Rattle.std.specs.Prelude.{nat_lt}
 use Rattle.object_store.proofs.Lists.{item_is}
 use Rattle.posix_terms.specs.declared.call.Call.{Call}
 use Rattle.posix_terms.specs.declared.outcome.Given.{Given}
@@ -17,11 +17,6 @@ use Rattle.call_machine.specs.Playing.{no_player, player_at, played_of}
 use Rattle.call_machine.specs.declared.driver.Driver.{Driver}
 use Rattle.call_machine.specs.declared.players.Player.{Player}
 use Rattle.call_machine.proofs.Playing.{is_idle, next_given, stepped}
-
--- a fact of each result, made from one
-pub if_ok : {A E : Type 0} (r : Result A E) (P Q : A → Type 0) → ((a : A) → P a → Q a) → IfOk r P → IfOk r Q
-if_ok (Ok a) P Q f h = f a h
-if_ok (Err e) P Q f h = tt
 
 -- an element that was found
 pub got_at : {A : Type 0} (xs : List A) (i : ℕ) (x : A) → true ≡ nat_lt i (length xs) → x ≡ get_or xs i x → slice_get xs i ≡ Some x

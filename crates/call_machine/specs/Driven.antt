@@ -1,5 +1,5 @@
 -- The plain schedule, made by a driver.
-use Rattle.std.specs.Prelude.{◌≡◌, ℕ, Option, Some, None, true}
+use Rattle.std.specs.Prelude.{◌≡◌, ℕ, Option, Some, None, true, Result, Ok, Err}
 use Rattle.input_log.specs.Format.{header_text}
 use Rattle.lock_model.specs.Machine.{Event, happens}
 use Rattle.lock_model.specs.Runs.{Arises}
@@ -11,6 +11,8 @@ use Rattle.call_machine.specs.Plain.{GoesTo, header_of}
 use Rattle.call_machine.specs.Setup.{Inputs, first_state, setup_of}
 use Rattle.call_machine.specs.Playing.{ComesAt, IsPlayed, Played}
 use Rattle.lock_machine.specs.Shows.{LogsMore}
+use Rattle.lock_machine.specs.declared.refused.Refused.{Refused}
+use Rattle.lock_machine.specs.declared.refused.Refused.TheVariants as refused
 use Rattle.call_machine.specs.Weights.{Falls}
 use Rattle.call_machine.specs.Strays.{diverging}
 use Rattle.call_machine.specs.declared.drive.Went.{Went}
@@ -71,3 +73,10 @@ pub record Ends (input : Inputs) (strayed : Option ℕ) (p : Played) : Type 0 wh
 pub record Begins (input : Inputs) (p : Played) : Type 0 where
   pub plays : IsPlayed input p (first_state input)
   pub log : p.whole.log ≡ first_log input
+
+-- what an event of the machine gave, if it was made
+abbrev pub IsTold : {A : Type 0} → Result A Refused → Option A → Type 0
+IsTold (Ok a) o = o ≡ Some a
+IsTold (Err refused.WrongPhase) o = o ≡ None
+IsTold (Err refused.ClockFull) o = o ≡ None
+IsTold (Err refused.Memory) o = ⊥

@@ -1,20 +1,20 @@
-ghost use Rattle.std.specs.Prelude.{◌≡◌, ◌<◌, ◌≤◌, IfOk, is_some, length, if◌then◌else◌};
+ghost use Rattle.std.specs.Prelude.{◌≡◌, ◌<◌, ◌≤◌, true, IfOk, is_some, length, if◌then◌else◌};
 ghost use Rattle.posix_terms.specs.declared.limits.TheConstants.Limits as limit;
-ghost use Rattle.call_machine.specs.Driven.{Begins, Ends, Plainly};
+ghost use Rattle.call_machine.specs.Driven.{Begins, Ends, IsTold, Plainly};
 ghost use Rattle.call_machine.specs.Playing.{Attempted, Makes, hears, played_of};
 ghost use Rattle.call_machine.specs.Setup.{Inputs};
-ghost use Rattle.lock_machine.specs.Shows.{IsAt};
+ghost use Rattle.lock_machine.specs.Refusals.{Comes, has_answer, is_outside, phase_at, works};
+ghost use Rattle.lock_machine.specs.Shows.{AsksFor};
 ghost use Rattle.call_machine.specs.Starting.{first_played};
 ghost use Rattle.lock_machine.specs.declared.outside.Progress.TheVariants as progress;
-ghost use Rattle.lock_machine.specs.declared.thread.Phase.TheVariants as phase;
 
 use crate::driver::Driver;
 use crate::players::first_players;
 use input_log::Header;
-use lock_machine::{LockMachine, Outing, Phase, Progress};
+use lock_machine::{LockMachine, Phase, Progress, Refused};
 use posix_terms::{Answer, Outcomes};
 use std::alloc::{AllocError, Global};
-use thread_scripts::Script;
+use thread_scripts::{Script, Step};
 
 // How a run went on.
 #[derive(Clone, Copy)]
@@ -90,19 +90,19 @@ impl Driver {
         ensures event { IfOk result (λ made. Makes made i (played_of self.old) (played_of self.new)) }
         ensures count { length self.new.players.items ≡ length self.old.players.items }
     {
-        match *self.machine.phase(i) {
+        match self.machine.phase(i) {
             Phase::Working => self.ask(i),
-            Phase::Granted { row, object, .. } => {
-                let told = self.machine.answer(i, row, object)?;
-                Ok(self.hear(i, told))
+            Phase::Granted { .. } => self.answer(i),
+            Phase::ToOutside(_) => {
+                let begun = told(self.machine.begin_outside(i))?;
+                Ok(progress(begun.is_some()))
             }
-            Phase::ToOutside(outing) => Ok(progress(self.machine.begin_outside(i, outing))),
-            Phase::Outside(outing) => self.record(alloc, i, outing),
-            Phase::Recorded(outing) => {
-                let told = self.machine.answer_outside(i, outing)?;
-                Ok(self.hear(i, told))
+            Phase::Outside(_) => self.record(alloc, i),
+            Phase::Recorded(_) => self.answer(i),
+            Phase::Blocked { .. } => {
+                let wanted = told(self.machine.again(i))?;
+                Ok(progress(wanted.is_some()))
             }
-            Phase::Blocked { .. } => Ok(progress(self.machine.again(i))),
             _ => Ok(Progress::Stays),
         }
     }
@@ -110,7 +110,7 @@ impl Driver {
     // The script of thread i, which works, is asked for its next step, unless it is stuck.
     fn ask(&mut self, i: usize) -> Result<Progress, AllocError>
         requires inside { i < length self.old.players.items }
-        requires working { IsAt self.old.machine i phase.Working }
+        requires working { works (phase_at self.old.machine i) ≡ true }
         ensures event { IfOk result (λ made. Makes made i (played_of self.old) (played_of self.new)) }
         ensures count { length self.new.players.items ≡ length self.old.players.items }
     {
@@ -118,15 +118,15 @@ impl Driver {
             return Ok(Progress::Stays);
         }
         let step = self.players[i].next()?;
-        let moved = self.machine.ask(i, step)?;
+        let moved = told(ask(&mut self.machine, i, step))?.is_some();
         self.players[i].stuck = !moved;
         Ok(progress(moved))
     }
 
     // The next outcome of thread i, which is outside, comes.
-    fn record(&mut self, alloc: Global, i: usize, outing: Outing) -> Result<Progress, AllocError>
+    fn record(&mut self, alloc: Global, i: usize) -> Result<Progress, AllocError>
         requires inside { i < length self.old.players.items }
-        requires outside { IsAt self.old.machine i (phase.Outside outing) }
+        requires outside { is_outside (phase_at self.old.machine i) ≡ true }
         ensures event { IfOk result (λ made. Makes made i (played_of self.old) (played_of self.new)) }
         ensures count { length self.new.players.items ≡ length self.old.players.items }
     {
@@ -135,7 +135,10 @@ impl Driver {
             return Ok(Progress::Stays);
         };
         match outcomes.as_slice().get(came) {
-            Some(given) => self.machine.record(alloc, i, outing, given),
+            Some(given) => {
+                let made = told(self.machine.record(alloc, i, given))?;
+                Ok(made.unwrap_or(Progress::Stays))
+            }
             None => Ok(Progress::Stays),
         }
     }
@@ -146,7 +149,18 @@ impl Driver {
         ensures event { IfOk result (λ made. Attempted made i (played_of self.old) (played_of self.new)) }
         ensures count { length self.new.players.items ≡ length self.old.players.items }
     {
-        self.machine.attempt(alloc, i)
+        Ok(told(self.machine.attempt(alloc, i))?.is_some())
+    }
+
+    // The call of thread i has its answer, and the script hears it.
+    fn answer(&mut self, i: usize) -> Result<Progress, AllocError>
+        requires inside { i < length self.old.players.items }
+        requires answered { has_answer (phase_at self.old.machine i) ≡ true }
+        ensures event { IfOk result (λ made. Makes made i (played_of self.old) (played_of self.new)) }
+        ensures count { length self.new.players.items ≡ length self.old.players.items }
+    {
+        let told = told(self.machine.answer(i))?;
+        Ok(self.hear(i, told))
     }
 
     // The script of thread i hears what its call was told, if it was.
@@ -159,6 +173,29 @@ impl Driver {
         let moved = told.is_some();
         self.players[i].hear(told);
         progress(moved)
+    }
+}
+
+// Thread i, which works, asks this step, or ends.
+fn ask(machine: &mut LockMachine, i: usize, step: Step) -> Result<(), Refused>
+    requires { i < length machine.old.threads }
+    ensures event { Comes (works (phase_at machine.old i)) result machine.old machine.new (λ o. AsksFor (is_some o) i step machine.old machine.new) }
+    ensures count { length machine.new.threads ≡ length machine.old.threads }
+{
+    match step {
+        Step::End => machine.end(i),
+        step => machine.ask(i, step),
+    }
+}
+
+// What an event gave, if it was made.
+fn told<T>(given: Result<T, Refused>) -> Result<Option<T>, AllocError>
+    ensures { IfOk result (λ o. IsTold given o) }
+{
+    match given {
+        Ok(value) => Ok(Some(value)),
+        Err(Refused::Memory) => Err(AllocError),
+        Err(_) => Ok(None),
     }
 }
 

@@ -1,5 +1,6 @@
 -- Attempts of a run, by what they make of one thread.
 use Rattle.std.proofs.Common.{◌≡◌, ℕ, ◌<◌, ◌≤◌, List, length, set, get_or, Bool, true, false, refl, sym, ap, ◌∙◌, subst, arith}
+use Rattle.std.proofs.lemmas.Result.{IfOk-weaker}
 use Rattle.std.specs.Prelude.{IfOk, Result}
 use Rattle.std.specs.declared.alloc.AllocError.{AllocError}
 use Rattle.posix_terms.specs.declared.call.Call.{Call}
@@ -16,19 +17,18 @@ use Rattle.lock_model.specs.State as lock
 use Rattle.lock_model.specs.State.{Row, thread_of}
 use Rattle.lock_model.proofs.OwnPlans.{plans_arisen}
 use Rattle.object_store.specs.Store.{Stored}
-use Rattle.object_store.proofs.Lists.{item_is}
 use Rattle.lock_machine.specs.Events.{Parts, Reaches, Tries, parts}
 use Rattle.lock_machine.specs.Lives.{Agree}
 use Rattle.lock_machine.specs.Conditions.{Conditions, setup_under}
 use Rattle.lock_machine.specs.Shows.{Attempts, PhaseShows, WantsIn}
 use Rattle.lock_machine.specs.Whole.{Whole, thread_at}
 use Rattle.lock_machine.specs.Threads.{Thread, joined, timed}
-use Rattle.lock_machine.specs.Views.{clocks_of, item_at, no_item}
+use Rattle.lock_machine.specs.Views.{clocks_of, item_at}
 use Rattle.lock_machine.specs.declared.thread.Phase.{Phase}
 use Rattle.lock_machine.specs.declared.thread.Phase.TheVariants as phase
 use Rattle.lock_machine.specs.declared.thread.Thread as declared
 use Rattle.lock_machine.proofs.AttemptShows.{attempt_idle, attempt_waits, attempt_whole, table_parts, table_tried}
-use Rattle.lock_machine.proofs.EventShows.{Item, if_ok, item_phase, item_thread, joined_inside, run_at, turn_shown}
+use Rattle.lock_machine.proofs.EventShows.{Item, item_phase, item_thread, joined_inside, run_at, turn_shown}
 use Rattle.lock_machine.proofs.Joining.{joined-kept}
 use Rattle.lock_machine.proofs.ReachShows.{lock_at, object_tried, reach_whole}
 use Rattle.lock_machine.proofs.Turning.{clocks_shown}
@@ -57,11 +57,11 @@ object_past w i n clock call turns is past terms s (arises, h) =
     too_far : (n m : ℕ) → n < limit.OBJECTS → m ≡ limit.OBJECTS → m ≤ n → ⊥
     too_far n m few e past = omega arith
 
-no_attempt_event : (w : Whole) (i : ℕ) → has_turn (clocks_of w.threads) i ≡ false → Attempts false i w w
+pub no_attempt_event : (w : Whole) (i : ℕ) → has_turn (clocks_of w.threads) i ≡ false → Attempts false i w w
 no_attempt_event w i late terms s (arises, h) = let a = attempt_waits terms w s i h (ap (λ cs. has_turn cs i) (clocks_shown terms w s h) ∙ late) in (a.0, a.1, refl)
 
 -- threads in other phases want no lock
-abbrev Idles : Phase → Type 0
+abbrev pub Idles : Phase → Type 0
 Idles phase.Working = Unit {0}
 Idles (phase.WantsTable call turns) = ⊥
 Idles (phase.WantsObject call turns clock object) = ⊥
@@ -83,7 +83,7 @@ idles_wants terms i rows t u (phase.Recorded o) idles h = ap wants h.1.0
 idles_wants terms i rows t u (phase.Blocked call turns) idles h = ap wants h
 idles_wants terms i rows t u phase.Ended idles h = ap wants h
 
-idle_event : (w : Whole) (i : ℕ) → Idles (thread_at w i).phase → Attempts false i w w
+pub idle_event : (w : Whole) (i : ℕ) → Idles (thread_at w i).phase → Attempts false i w w
 idle_event w i idles terms s (arises, h) =
     let a = attempt_idle terms w s i h (idles_wants terms i s.rows (thread_at w i) (thread_of s i) (thread_at w i).phase idles (h.threads i).phase) in (a.0, a.1, refl)
 
@@ -98,7 +98,7 @@ try_done w ts cs ds i call turns x v l later rows r h agree turn is tried =
     let new = parts (timed v (clock_at ds i)) l later rows in
     let P : Bool → Type 0 = λ made. Tries w.patience made i (parts (timed x (clock_at cs i)) w.lock w.table w.rows) new in
     let Q : Bool → Type 0 = λ made. Attempts made i z (record w { threads = joined (set ts i v) ds; lock = l; table = later; rows = rows }) in
-    if_ok r P Q (λ made a.
+    IfOk-weaker r P Q (λ made a.
     let R : Thread → Type 0 = λ t. Tries w.patience made i (parts t w.lock w.table w.rows) new in
     let T : List Thread → Type 0 = λ us. Attempts made i z (record w { threads = us; lock = l; table = later; rows = rows }) in
     subst T (sym (joined-kept ts cs ds i x v h.clocked h.kept))
@@ -129,7 +129,7 @@ reach_done w ts cs ds i n x v l before own later rows r h agree turn wanting bef
     let found = wants_phase x.phase n wanting in
     let P : Bool → Type 0 = λ made. Reaches w.patience made i before own (parts (timed x (clock_at cs i)) w.lock w.table w.rows) new in
     let Q : Bool → Type 0 = λ made. Attempts made i z (record w { threads = joined (set ts i v) ds; lock = l; objects = set w.objects n own; table = later; rows = rows }) in
-    if_ok r P Q (λ made a.
+    IfOk-weaker r P Q (λ made a.
     let R : Thread → Type 0 = λ t. Reaches w.patience made i (get_or w.objects n new_lock) own (parts t w.lock w.table w.rows) new in
     let K : DetLock → Type 0 = λ k. Reaches w.patience made i k own (parts (timed x (clock_at cs i)) w.lock w.table w.rows) new in
     let T : List Thread → Type 0 = λ us. Attempts made i z (record w { threads = us; lock = l; objects = set w.objects n own; table = later; rows = rows }) in
@@ -139,28 +139,8 @@ reach_done w ts cs ds i n x v l before own later rows r h agree turn wanting bef
 
 -- ## Where nothing is done
 
-idling : (p : Phase) → ((call : Call) (turns : ℕ) → p ≡ phase.WantsTable call turns → ⊥) → ((call : Call) (turns clock object : ℕ) → p ≡ phase.WantsObject call turns clock object → ⊥) → Idles p
-idling phase.Working tables objects = tt
-idling (phase.WantsTable call turns) tables objects = tables call turns refl
-idling (phase.WantsObject call turns clock object) tables objects = objects call turns clock object refl
-idling (phase.Granted place object e) tables objects = tt
-idling (phase.ToOutside o) tables objects = tt
-idling (phase.Outside o) tables objects = tt
-idling (phase.Recorded o) tables objects = tt
-idling (phase.Blocked call turns) tables objects = tt
-idling phase.Ended tables objects = tt
-
-pub idle_done : (w : Whole) (ts : List declared.Thread) (cs : List ThreadClock) (i : ℕ) (x : declared.Thread) → i < length ts → x ≡ get_or ts i x
-    → ((call : Call) (turns : ℕ) → x.phase ≡ phase.WantsTable call turns → ⊥) → ((call : Call) (turns clock object : ℕ) → x.phase ≡ phase.WantsObject call turns clock object → ⊥)
-    → Attempts false i (run_at w ts cs) (run_at w ts cs)
-idle_done w ts cs i x inside at no_table no_object =
-    idle_event (run_at w ts cs) i (subst Idles (sym (item_phase ts cs i x x.phase inside (item_is ts i x no_item inside at) refl)) (idling x.phase no_table no_object))
-
 pub reach_none : (w : Whole) (ts : List declared.Thread) (cs : List ThreadClock) (i n : ℕ) → i < length ts → (let t : declared.Thread = item_at ts i in WantsIn t.phase n) → length w.objects ≤ n → Attempts false i (run_at w ts cs) (run_at w ts cs)
 reach_none w ts cs i n inside wanting past =
     let x = item_at ts i in
     let found = wants_phase x.phase n wanting in
     object_past (run_at w ts cs) i n found.2 found.0 found.1 (item_phase ts cs i x (phase.WantsObject found.0 found.1 found.2 n) inside refl found.3) past
-
-pub no_turn : (w : Whole) (ts : List declared.Thread) (cs : List ThreadClock) (i : ℕ) → Agree ts cs → has_turn (live_clocks cs) i ≡ false → Attempts false i (run_at w ts cs) (run_at w ts cs)
-no_turn w ts cs i agree late = no_attempt_event (run_at w ts cs) i (turn_shown ts cs i false agree late)

@@ -2,7 +2,8 @@
 use Rattle.std.proofs.Common.{◌≡◌, ℕ, zero, suc, ◌<◌, ◌≤◌, List, length, set, get_or, Option, Some, None, Bool, true, false, sym, refl, ap, ap₂, ◌∙◌, subst, arith}
 use Rattle.std.proofs.lemmas.List.{length-map}
 use Rattle.std.proofs.lemmas.Option.{none-some, same_Some}
-use Rattle.std.specs.Prelude.{IfOk, Result, Ok, Err}
+use Rattle.std.proofs.lemmas.Result.{IfOk-weaker}
+use Rattle.std.specs.Prelude.{IfOk, Result}
 use Rattle.std.specs.declared.alloc.AllocError.{AllocError}
 use Rattle.posix_terms.specs.declared.call.Call.{Call}
 use Rattle.posix_terms.specs.declared.limits.TheConstants.Limits as limit
@@ -98,10 +99,6 @@ answer_past w i place n e is past terms s (arises, h) =
 
 -- ## By the item and the clock that the code changes
 
-pub if_ok : {A E : Type 0} (r : Result A E) (P Q : A → Type 0) → ((a : A) → P a → Q a) → IfOk r P → IfOk r Q
-if_ok (Ok a) P Q f h = f a h
-if_ok (Err e) P Q f h = tt
-
 -- threads with clocks, of which item x is that of thread i, and what the event leaves: item v and these clocks
 pub record Item (ts : List declared.Thread) (cs : List ThreadClock) (i : ℕ) (x v : declared.Thread) (ds : List ThreadClock) : Type 0 where
   pub inside : i < length ts
@@ -135,7 +132,7 @@ ask_done w ts cs ds i x t v r h works asked =
     let z = run_at w ts cs in
     let P : Bool → Type 0 = λ moved. Asks moved x (timed t (clock_at cs i)) (timed v (clock_at ds i)) in
     let Q : Bool → Type 0 = λ moved. AsksFor moved i x z (run_at w (set ts i v) ds) in
-    if_ok r P Q (λ moved a.
+    IfOk-weaker r P Q (λ moved a.
     let R : Thread → Type 0 = λ y. Asks moved x y (timed v (clock_at ds i)) in
     let T : List Thread → Type 0 = λ l. AsksFor moved i x z (record w { threads = l }) in
     subst T (sym (joined-kept ts cs ds i t v h.clocked h.kept))
@@ -147,7 +144,7 @@ pub asked_want : (r : Result Bool AllocError) (clock : ℕ) (x : Step) (call : C
 asked_want r clock x call old new is h =
     let P : Bool → Type 0 = λ moved. (moved ≡ true) × ((n : ℕ) → timed new n ≡ after_want call (timed old n)) in
     let Q : Bool → Type 0 = λ moved. Asks moved x (timed old clock) (timed new clock) in
-    if_ok r P Q (λ moved a. let R : Step → Type 0 = λ y. Asks moved y (timed old clock) (timed new clock) in subst R (sym is) (a.0, a.1 clock)) h
+    IfOk-weaker r P Q (λ moved a. let R : Step → Type 0 = λ y. Asks moved y (timed old clock) (timed new clock) in subst R (sym is) (a.0, a.1 clock)) h
 
 abbrev pub GrantedPhase : Phase → ℕ → Option ℕ → Type 0
 GrantedPhase p place object = (e : TurnEnd) × (p ≡ phase.Granted place object e)
@@ -172,7 +169,7 @@ answer_done w ts cs ds rows_now i place object x v own l r h is own_is answered 
     let found = granted_phase x.phase place object is in
     let P : Option posix.Answer → Type 0 = λ told. (table : Stored) → Answers told i place (parts (timed x (clock_at cs i)) own table w.rows) (parts (timed v (clock_at ds i)) l table rows_now) in
     let Q : Option posix.Answer → Type 0 = λ told. Tells told i z (with_lock z object l (joined (set ts i v) ds) rows_now) in
-    if_ok r P Q (λ told a.
+    IfOk-weaker r P Q (λ told a.
     let R : Thread → Type 0 = λ t. Answers told i place (parts t (lock_held z object) w.table w.rows) (parts (timed v (clock_at ds i)) l w.table rows_now) in
     let K : DetLock → Type 0 = λ k. Answers told i place (parts (timed x (clock_at cs i)) k w.table w.rows) (parts (timed v (clock_at ds i)) l w.table rows_now) in
     let T : List Thread → Type 0 = λ us. Tells told i z (with_lock z object l us rows_now) in
@@ -231,7 +228,7 @@ record_done w ts cs i o g x v rows log r h is records =
     let clock = clock_at cs i in
     let P : Progress → Type 0 = λ made. (clock : ℕ) → Records made i o g (logged_parts (timed x clock) w.rows w.log) (logged_parts (timed v clock) rows log) in
     let Q : Progress → Type 0 = λ made. RecordsGiven made i g z (record w { threads = joined (set ts i v) cs; rows = rows; log = log }) in
-    if_ok r P Q (λ made a.
+    IfOk-weaker r P Q (λ made a.
     let R : Thread → Type 0 = λ t. Records made i o g (logged_parts t w.rows w.log) (logged_parts (timed v clock) rows log) in
     let T : List Thread → Type 0 = λ us. RecordsGiven made i g z (record w { threads = us; rows = rows; log = log }) in
     subst T (sym (joined-kept ts cs cs i x v h.clocked h.kept))
@@ -246,7 +243,7 @@ conclude_done w ts cs ds i n o x v before own l later rows r h is object_is befo
     let new = outside_parts (timed v (clock_at ds i)) own l later rows in
     let P : Option posix.Answer → Type 0 = λ told. AnswersOutside w.patience told i o (outside_parts (timed x (clock_at cs i)) before w.lock w.table w.rows) new in
     let Q : Option posix.Answer → Type 0 = λ told. Tells told i z (record w { threads = joined (set ts i v) ds; lock = l; objects = set w.objects n own; table = later; rows = rows }) in
-    if_ok r P Q (λ told a.
+    IfOk-weaker r P Q (λ told a.
     let K : DetLock → Type 0 = λ k. AnswersOutside w.patience told i o (outside_parts (timed x (clock_at cs i)) k w.lock w.table w.rows) new in
     let R : Thread → Type 0 = λ t. AnswersOutside w.patience told i o (outside_parts t (get_or w.objects n new_lock) w.lock w.table w.rows) new in
     let T : List Thread → Type 0 = λ us. Tells told i z (record w { threads = us; lock = l; objects = set w.objects n own; table = later; rows = rows }) in

@@ -12,4 +12,5 @@ pub mod Granting
 pub mod Turning
 pub mod EventShows
 pub mod AttemptEvents
+pub mod Refusing
 pub mod Parting

@@ -11,3 +11,4 @@ pub mod Outings
 pub mod Strays
 pub mod Shows
 pub mod Starting
+pub mod Refusals

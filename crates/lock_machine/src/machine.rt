@@ -1,5 +1,5 @@
 ghost use Rattle.std.specs.Prelude.{◌≡◌, ◌<◌, IfOk, IfSome, length, map};
-ghost use Rattle.logical_clocks.specs.TurnOrder.{turn_holder};
+ghost use Rattle.logical_clocks.specs.TurnOrder.{has_turn, turn_holder};
 ghost use Rattle.lock_machine.specs.Lives.{Agree};
 ghost use Rattle.lock_machine.specs.Threads.{Thread as Seen};
 ghost use Rattle.lock_machine.specs.Views.{clocks_of};
@@ -95,6 +95,14 @@ impl LockMachine {
         ensures inside { IfSome result (λ i. i < length self.now.threads) }
     {
         self.clocks.turn_holder()
+    }
+
+    /// Whether thread i has the turn. An attempt without it is refused.
+    pub fn has_turn(&self, i: usize) -> bool
+        requires { i < length self.now.threads }
+        ensures { result ≡ has_turn (clocks_of self.now.threads) i }
+    {
+        self.clocks.is_turn(i)
     }
 
     /// What is left of the machine when it is over.

@@ -1,20 +1,22 @@
 ghost use Rattle.std.specs.Prelude.{◌≡◌, ◌<◌, true, IfOk, length};
 ghost use Rattle.logical_clocks.specs.TurnOrder.{has_turn};
 ghost use Rattle.lock_machine.specs.Shows.{AdvancesQuietly, AsksFor, Attempts, IsAt, IsBlockedAt, IsGrantedAt, RecordsGiven, Tells, WantsAt};
+ghost use Rattle.lock_machine.specs.Refusals.{wants_table};
 ghost use Rattle.lock_machine.specs.Views.{clocks_of};
+ghost use Rattle.lock_machine.specs.Whole.{thread_at};
 ghost use Rattle.lock_machine.specs.declared.thread.Phase.TheVariants as phase;
 
 use crate::events::{answer, try_object, try_table};
 use crate::machine::LockMachine;
 use crate::outside::{Progress, answer_outside, begin_outside, record};
-use crate::thread::{Outing, Phase};
+use crate::thread::Outing;
 use posix_terms::{Answer, Given, Limits};
 use std::alloc::{AllocError, Global};
 use thread_scripts::Step;
 
 impl LockMachine {
-    /// Thread i, which works, asks this step; and tells whether its clock has room for that.
-    pub fn ask(&mut self, i: usize, step: Step) -> Result<bool, AllocError>
+    // Thread i, which works, asks this step; and tells whether its clock has room for that.
+    pub(crate) fn ask_working(&mut self, i: usize, step: Step) -> Result<bool, AllocError>
         requires inside { i < length self.old.threads }
         requires working { IsAt self.old i phase.Working }
         ensures event { IfOk result (λ moved. AsksFor moved i step self.old self.new) }
@@ -23,8 +25,8 @@ impl LockMachine {
         self.threads[i].ask(&mut self.clocks, i, step)
     }
 
-    /// Thread i, which was granted a call that it goes outside with, does so; and tells whether it could.
-    pub fn begin_outside(&mut self, i: usize, outing: Outing) -> bool
+    // Thread i, which was granted a call that it goes outside with, does so; and tells whether it could.
+    pub(crate) fn go_outside(&mut self, i: usize, outing: Outing) -> bool
         requires inside { i < length self.old.threads }
         requires granted { IsAt self.old i (phase.ToOutside outing) }
         ensures event { AdvancesQuietly result i self.old self.new }
@@ -39,8 +41,8 @@ impl LockMachine {
         )
     }
 
-    /// Thread i, which is blocked, makes its call again; and tells whether it could.
-    pub fn again(&mut self, i: usize) -> bool
+    // Thread i, which is blocked, makes its call again; and tells whether it could.
+    pub(crate) fn go_again(&mut self, i: usize) -> bool
         requires inside { i < length self.old.threads }
         requires blocked { IsBlockedAt self.old i }
         ensures event { AdvancesQuietly result i self.old self.new }
@@ -49,8 +51,8 @@ impl LockMachine {
         self.threads[i].again()
     }
 
-    /// This outcome comes for thread i, which is outside.
-    pub fn record(
+    // This outcome comes for thread i, which is outside.
+    pub(crate) fn take_outcome(
         &mut self,
         alloc: Global,
         i: usize,
@@ -77,8 +79,12 @@ impl LockMachine {
         )
     }
 
-    /// The call of thread i, whose outcome came, has its answer; this is told, where it could be given.
-    pub fn answer_outside(&mut self, i: usize, outing: Outing) -> Result<Option<Answer>, AllocError>
+    // The call of thread i, whose outcome came, has its answer; this is told, where it could be given.
+    pub(crate) fn answer_recorded(
+        &mut self,
+        i: usize,
+        outing: Outing,
+    ) -> Result<Option<Answer>, AllocError>
         requires inside { i < length self.old.threads }
         requires recorded { IsAt self.old i (phase.Recorded outing) }
         ensures event { IfOk result (λ told. Tells told i self.old self.new) }
@@ -101,9 +107,9 @@ impl LockMachine {
         )
     }
 
-    /// The call of thread i, which was granted with this object and asks nothing outside, has its answer; this is told,
-    /// where it could be given.
-    pub fn answer(
+    // The call of thread i, which was granted with this object and asks nothing outside, has its answer; this is told,
+    // where it could be given.
+    pub(crate) fn answer_granted(
         &mut self,
         i: usize,
         row: usize,
@@ -139,31 +145,31 @@ impl LockMachine {
         }
     }
 
-    /// Thread i attempts the lock that it wants, where it has the turn, and tells whether it could.
-    pub fn attempt(&mut self, alloc: Global, i: usize) -> Result<bool, AllocError>
-        requires { i < length self.old.threads }
+    // Thread i, which wants the table and has the turn, attempts its lock, and tells whether it could.
+    pub(crate) fn attempt_table(&mut self, alloc: Global, i: usize) -> Result<bool, AllocError>
+        requires inside { i < length self.old.threads }
+        requires turn { has_turn (clocks_of self.old.threads) i ≡ true }
+        requires wants { wants_table (thread_at self.old i).phase ≡ true }
         ensures event { IfOk result (λ made. Attempts made i self.old self.new) }
         ensures count { length self.new.threads ≡ length self.old.threads }
     {
-        if !self.clocks.is_turn(i) {
-            return Ok(false);
-        }
-        match self.threads[i].phase {
-            Phase::WantsTable { .. } => try_table(
-                alloc,
-                self.patience,
-                i,
-                &mut self.threads[i],
-                &mut self.clocks,
-                &mut self.shared,
-            ),
-            Phase::WantsObject { object, .. } => self.attempt_object(alloc, i, object),
-            _ => Ok(false),
-        }
+        try_table(
+            alloc,
+            self.patience,
+            i,
+            &mut self.threads[i],
+            &mut self.clocks,
+            &mut self.shared,
+        )
     }
 
-    // Thread i, which wants this object, attempts its lock.
-    fn attempt_object(&mut self, alloc: Global, i: usize, object: usize) -> Result<bool, AllocError>
+    // Thread i, which wants this object and has the turn, attempts its lock, and tells whether it could.
+    pub(crate) fn attempt_object(
+        &mut self,
+        alloc: Global,
+        i: usize,
+        object: usize,
+    ) -> Result<bool, AllocError>
         requires inside { i < length self.old.threads }
         requires turn { has_turn (clocks_of self.old.threads) i ≡ true }
         requires wants { WantsAt self.old i object }

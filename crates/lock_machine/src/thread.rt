@@ -1,3 +1,6 @@
+ghost use Rattle.std.specs.Prelude.{◌≡◌};
+ghost use Rattle.lock_machine.specs.Refusals.{is_blocked, wants_object, wants_table, works};
+
 use crate::steps::Steps;
 use descriptor_table::Errand;
 use object_store::TurnEnd;
@@ -49,6 +52,32 @@ pub enum Phase {
         turns: u32,
     },
     Ended,
+}
+
+impl Phase {
+    pub(crate) fn is_working(&self) -> bool
+        ensures { result ≡ works self.now }
+    {
+        matches!(self, Phase::Working)
+    }
+
+    pub(crate) fn wants_table(&self) -> bool
+        ensures { result ≡ wants_table self.now }
+    {
+        matches!(self, Phase::WantsTable { .. })
+    }
+
+    pub(crate) fn wants_object(&self) -> bool
+        ensures { result ≡ wants_object self.now }
+    {
+        matches!(self, Phase::WantsObject { .. })
+    }
+
+    pub(crate) fn is_blocked(&self) -> bool
+        ensures { result ≡ is_blocked self.now }
+    {
+        matches!(self, Phase::Blocked { .. })
+    }
 }
 
 // A thread of a run: the steps that it asked, and how many outcomes came for it from outside.

@@ -1,6 +1,8 @@
-//! The tests of runs and replays. They stand in a crate of their own since a crate with tests is proved twice.
+//! The tests of the lock machine's events, of runs and of replays. They stand in a crate of their own since a crate with tests is proved twice.
 #![tactic(auto)]
 
+#[cfg(test)]
+mod lock_machines;
 #[cfg(test)]
 mod machine_runs;
 #[cfg(test)]

@@ -1,60 +1,38 @@
-use Rattle.std.proofs.Common.{◌≡◌, true, sym, refl, ◌∙◌, subst}
-use Rattle.call_machine.specs.Playing.{Makes, Played, played_of}
+use Rattle.std.proofs.Common.{◌≡◌, Bool, true, is_some, sym, refl, ap, ◌∙◌, subst}
+use Rattle.lock_machine.specs.Refusals.{goes_outside, is_blocked, phase_at}
+use Rattle.lock_machine.specs.Shows.{AdvancesQuietly}
 use Rattle.lock_machine.specs.declared.outside.Progress.{Progress}
 use Rattle.lock_machine.specs.declared.thread.Phase.{Phase}
 use Rattle.lock_machine.specs.declared.thread.Phase.TheVariants as phase
-use Rattle.call_machine.specs.Playing.{hears}
-use Rattle.call_machine.proofs.Playing.{idle_made, is_idle, moves_made, tells_made}
+use Rattle.call_machine.specs.Playing.{Makes, played_of}
+use Rattle.call_machine.proofs.Coming.{comes_told}
+use Rattle.call_machine.proofs.Playing.{idle_made, is_idle, moves_made}
 use Rattle.call_machine.proofs.Seats.{idle_else}
 use Rattle.call_machine.proofs.driver.Driver.advance.Goals as goal
 
-pub returns-in_ok-told-in-Granted-clause-event : goal.returns-in_ok-told-in-Granted-clause-event
-returns-in_ok-told-in-Granted-clause-event c =
-    let d = c.args.self.now in
-    let p = played_of d in
-    let i = c.args.i in
-    let told = c.in_ok-told-in-Granted.told in
-    let w = c.answer.new.self in
-    let q : Phase = phase.Granted c.in-Granted.row c.in-Granted.object c.in-Granted.ends in
-    let is = sym c.phase.ensures ∙ c.in-Granted.is in
-    let P : Played → Type 0 = λ x. Makes c.hear.result i p x in
-    let Q : Progress → Type 0 = λ b. Makes b i p (hears told i (record p { whole = w })) in
-    subst P (sym c.hear.ensures.heard) (subst Q (sym c.hear.ensures.progress) (tells_made p i w q told c.requires is refl c.in_ok-told-in-Granted.ensures.event))
-
-pub returns-in_ok-told-in-Recorded-clause-event : goal.returns-in_ok-told-in-Recorded-clause-event
-returns-in_ok-told-in-Recorded-clause-event c =
-    let d = c.args.self.now in
-    let p = played_of d in
-    let i = c.args.i in
-    let told = c.in_ok-told-in-Recorded.told in
-    let w = c.answer_outside.new.self in
-    let q : Phase = phase.Recorded c.in-Recorded.outing in
-    let is = sym c.phase.ensures ∙ c.in-Recorded.is in
-    let P : Played → Type 0 = λ x. Makes c.hear-in-Recorded.result i p x in
-    let Q : Progress → Type 0 = λ b. Makes b i p (hears told i (record p { whole = w })) in
-    subst P (sym c.hear-in-Recorded.ensures.heard) (subst Q (sym c.hear-in-Recorded.ensures.progress) (tells_made p i w q told c.requires is refl c.in_ok-told-in-Recorded.ensures.event))
-
-pub returns-in-ToOutside-clause-event : goal.returns-in-ToOutside-clause-event
-returns-in-ToOutside-clause-event c =
-    let d = c.args.self.now in
-    let p = played_of d in
+pub returns-in_ok-begun-in-ToOutside-clause-event : goal.returns-in_ok-begun-in-ToOutside-clause-event
+returns-in_ok-begun-in-ToOutside-clause-event c =
+    let p = played_of c.args.self.now in
     let i = c.args.i in
     let w = c.begin_outside.new.self in
-    let q : Phase = phase.ToOutside c.in-ToOutside.outing in
-    let is = sym c.phase.ensures ∙ c.in-ToOutside.is in
+    let q : Phase = phase.ToOutside c.in-ToOutside.field-0 in
+    let is : phase_at p.whole i ≡ q = sym c.phase.ensures ∙ c.in-ToOutside.is in
+    let R : Bool → Type 0 = λ b. AdvancesQuietly b i p.whole w in
+    let event = comes_told (goes_outside (phase_at p.whole i)) c.begin_outside.result c.in_ok-begun-in-ToOutside.begun p.whole w (λ y. R (is_some y)) (ap goes_outside is) c.begin_outside.ensures.event c.in_ok-begun-in-ToOutside.ensures in
     let Q : Progress → Type 0 = λ b. Makes b i p (record p { whole = w }) in
-    subst Q (sym c.progress.ensures) (moves_made p i w q c.begin_outside.result c.requires is refl refl c.begin_outside.ensures.event)
+    subst Q (sym c.progress.ensures) (moves_made p i w q c.is_some.result c.requires is refl refl (subst R (sym c.is_some.ensures) event))
 
-pub returns-in-Blocked-clause-event : goal.returns-in-Blocked-clause-event
-returns-in-Blocked-clause-event c =
-    let d = c.args.self.now in
-    let p = played_of d in
+pub returns-in_ok-wanted-in-Blocked-clause-event : goal.returns-in_ok-wanted-in-Blocked-clause-event
+returns-in_ok-wanted-in-Blocked-clause-event c =
+    let p = played_of c.args.self.now in
     let i = c.args.i in
     let w = c.again.new.self in
     let q : Phase = phase.Blocked c.in-Blocked.call c.in-Blocked.turns in
-    let is = sym c.phase.ensures ∙ c.in-Blocked.is in
+    let is : phase_at p.whole i ≡ q = sym c.phase.ensures ∙ c.in-Blocked.is in
+    let R : Bool → Type 0 = λ b. AdvancesQuietly b i p.whole w in
+    let event = comes_told (is_blocked (phase_at p.whole i)) c.again.result c.in_ok-wanted-in-Blocked.wanted p.whole w (λ y. R (is_some y)) (ap is_blocked is) c.again.ensures.event c.in_ok-wanted-in-Blocked.ensures in
     let Q : Progress → Type 0 = λ b. Makes b i p (record p { whole = w }) in
-    subst Q (sym c.progress-in-Blocked.ensures) (moves_made p i w q c.again.result c.requires is refl refl c.again.ensures.event)
+    subst Q (sym c.progress-in-Blocked.ensures) (moves_made p i w q c.is_some-in-Blocked.result c.requires is refl refl (subst R (sym c.is_some-in-Blocked.ensures) event))
 
 pub returns-in_default-clause-event : goal.returns-in_default-clause-event
 returns-in_default-clause-event c =

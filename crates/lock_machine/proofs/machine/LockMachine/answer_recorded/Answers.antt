@@ -8,7 +8,7 @@ use Rattle.lock_machine.proofs.EventShows.{conclude_done, conclude_lost, conclud
 use Rattle.std.proofs.Common.{◌≡◌, ℕ, ◌≤◌, length, get_or, sym, ◌∙◌, subst, rules, IfOk, None, refl, ◌<◌, set}
 use Rattle.lock_machine.proofs.Parting.{same_some}
 use Rattle.det_mutex.specs.Attempt.{new_lock}
-use Rattle.lock_machine.proofs.machine.LockMachine.answer_outside.Goals as goal
+use Rattle.lock_machine.proofs.machine.LockMachine.answer_recorded.Goals as goal
 
 pub returns-in_default-clause-event : goal.returns-in_default-clause-event
 returns-in_default-clause-event c = conclude_lost c.args.self.now c.args.i c.args.outing c.requires.recorded (λ n is. c.in_default.not-Some n is)

@@ -6,7 +6,7 @@ use Rattle.lock_machine.specs.Whole.{Whole}
 use Rattle.lock_machine.specs.Shows.{AsksFor}
 use Rattle.lock_machine.specs.declared.thread.Phase.TheVariants as phase
 use Rattle.lock_machine.proofs.EventShows.{ask_done, item_agrees, item_of, phase_at}
-use Rattle.lock_machine.proofs.machine.LockMachine.ask.Goals as goal
+use Rattle.lock_machine.proofs.machine.LockMachine.ask_working.Goals as goal
 
 pub invariant_of-self-inside : goal.invariant_of-self-inside
 invariant_of-self-inside c =

@@ -6,7 +6,7 @@ use Rattle.lock_machine.specs.Whole.{Whole}
 use Rattle.lock_machine.specs.Shows.{RecordsGiven}
 use Rattle.lock_machine.specs.declared.thread.Phase.TheVariants as phase
 use Rattle.lock_machine.proofs.EventShows.{item_agrees, item_recorded, phase_at, record_done}
-use Rattle.lock_machine.proofs.machine.LockMachine.record.Goals as goal
+use Rattle.lock_machine.proofs.machine.LockMachine.take_outcome.Goals as goal
 
 pub invariant_of-self-inside : goal.invariant_of-self-inside
 invariant_of-self-inside c =

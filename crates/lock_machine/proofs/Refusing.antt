@@ -1,0 +1,80 @@
+-- Which phase a thread is at, by the tests that an event makes; and what its event is, refused or not.
+use Rattle.std.proofs.Common.{◌≡◌, ◌⊎◌, ℕ, Bool, true, false, ◌&&◌, Option, Some, None, is_some, inl, inr, sym, refl, ap, subst, ⊎_elim}
+use Rattle.std.proofs.lemmas.Bool.{false≢true, true≢false}
+use Rattle.std.specs.Prelude.{Result, Ok, Err, IfErr, is_ok, ok_or}
+use Rattle.posix_terms.specs.declared.call.Call.{Call}
+use Rattle.logical_clocks.specs.TurnOrder.{has_turn}
+use Rattle.lock_machine.specs.Refusals.{Comes, Tried, phase_at, wants_object, wants_table}
+use Rattle.lock_machine.specs.Shows.{Attempts}
+use Rattle.lock_machine.specs.Views.{clocks_of}
+use Rattle.lock_machine.specs.Whole.{Whole}
+use Rattle.lock_machine.specs.declared.refused.Refused.{Refused}
+use Rattle.lock_machine.specs.declared.refused.Refused.TheVariants as refused
+use Rattle.lock_machine.specs.declared.thread.Phase.{Phase}
+use Rattle.lock_machine.specs.declared.thread.Phase.TheVariants as phase
+use Rattle.lock_machine.proofs.AttemptEvents.{Idles, idle_event, no_attempt_event}
+
+-- ## Phases
+
+abbrev pub IsTable : Phase → Type 0
+IsTable p = (call : Call) × (turns : ℕ) × (p ≡ phase.WantsTable call turns)
+
+pub table_phase : (p : Phase) → wants_table p ≡ true → IsTable p
+table_phase (phase.WantsTable call turns) h = (call, turns, refl)
+table_phase p h = absurd (false≢true h)
+
+idles_by : (p : Phase) → wants_table p ≡ false → wants_object p ≡ false → Idles p
+idles_by (phase.WantsTable call turns) table object = absurd (true≢false table)
+idles_by (phase.WantsObject call turns clock n) table object = absurd (true≢false object)
+idles_by p table object = tt
+
+-- ## What an event gives
+
+abbrev is_full : Refused → Bool
+is_full refused.ClockFull = true
+is_full refused.WrongPhase = false
+is_full refused.Memory = false
+
+-- made or not, where it has its phase
+pub comes_moved : {A : Type 0} (right moved : Bool) (r : Result A Refused) (old new : Whole) (P : Bool → Type 0) → right ≡ true → is_ok r ≡ moved → IfErr r (λ e. e ≡ refused.ClockFull) → P moved → Comes right r old new (λ (o : Option A). P (is_some o))
+comes_moved right moved (Ok a) old new P there made full h = (there, subst P (sym made) h)
+comes_moved right moved (Err refused.ClockFull) old new P there made full h = (there, subst P (sym made) h)
+comes_moved right moved (Err refused.WrongPhase) old new P there made full h = absurd (false≢true (ap is_full full))
+comes_moved right moved (Err refused.Memory) old new P there made full h = tt
+
+-- it gives something, or a number forbids it
+pub comes_given : {A : Type 0} (right : Bool) (o : Option A) (old new : Whole) (made : Option A → Type 0) → right ≡ true → made o → Comes right (ok_or o refused.ClockFull) old new made
+comes_given right (Some a) old new made there h = (there, h)
+comes_given right None old new made there h = (there, h)
+
+-- ## Attempts
+
+and_false : (a b : Bool) → a ≡ true → (a && b) ≡ false → b ≡ false
+and_false true b h e = e
+and_false false b h e = absurd (false≢true h)
+
+or_false : (a b : Bool) → (a && b) ≡ false → (a ≡ false) ⊎ (b ≡ false)
+or_false true b e = inr e
+or_false false b e = inl refl
+
+stays_put : (i : ℕ) (old new : Whole) → Attempts false i old old → new ≡ old → Attempts false i old new
+stays_put i old new h same = subst (λ (w : Whole). Attempts false i old w) (sym same) h
+
+pub tried_table : {A : Type 0} (i : ℕ) (old new : Whole) (r : Result A Refused) → wants_table (phase_at old i) ≡ true → Comes (wants_table (phase_at old i) && has_turn (clocks_of old.threads) i) r old new (λ (o : Option A). Attempts (is_some o) i old new)
+    → Tried r (λ made. Attempts made i old new)
+tried_table i old new (Ok a) wants h = h.1
+tried_table i old new (Err refused.WrongPhase) wants h = stays_put i old new (no_attempt_event old i (and_false (wants_table (phase_at old i)) (has_turn (clocks_of old.threads) i) wants h.0)) h.1
+tried_table i old new (Err refused.ClockFull) wants h = h.1
+tried_table i old new (Err refused.Memory) wants h = tt
+
+pub tried_node : {A : Type 0} (i : ℕ) (old new : Whole) (r : Result A Refused) → wants_table (phase_at old i) ≡ false → Comes (wants_object (phase_at old i) && has_turn (clocks_of old.threads) i) r old new (λ (o : Option A). Attempts (is_some o) i old new)
+    → Tried r (λ made. Attempts made i old new)
+tried_node i old new (Ok a) table h = h.1
+tried_node i old new (Err refused.WrongPhase) table h =
+    stays_put i old new
+    (⊎_elim
+    (λ (object : wants_object (phase_at old i) ≡ false). idle_event old i (idles_by (phase_at old i) table object))
+    (λ (late : has_turn (clocks_of old.threads) i ≡ false). no_attempt_event old i late)
+    (or_false (wants_object (phase_at old i)) (has_turn (clocks_of old.threads) i) h.0)) h.1
+tried_node i old new (Err refused.ClockFull) table h = h.1
+tried_node i old new (Err refused.Memory) table h = tt

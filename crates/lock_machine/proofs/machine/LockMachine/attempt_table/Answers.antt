@@ -1,0 +1,63 @@
+use Rattle.std.proofs.Common.{◌≡◌, true, rules, IfOk, subst, refl, ℕ, ◌<◌, length, set, sym}
+use Rattle.std.proofs.lemmas.List.{length-set}
+use Rattle.lock_machine.specs.Refusals.{wants_table}
+use Rattle.lock_machine.specs.Shows.{Attempts}
+use Rattle.lock_machine.specs.Threads.{joined}
+use Rattle.lock_machine.specs.Whole.{Whole}
+use Rattle.lock_machine.specs.declared.thread.Phase.{Phase}
+use Rattle.lock_machine.proofs.AttemptEvents.{try_done}
+use Rattle.lock_machine.proofs.EventShows.{item_agrees, item_of}
+use Rattle.lock_machine.proofs.Inside.{clock_inside, count_kept, inside_of, item_in, phase_in, turn_of, whole_by}
+use Rattle.lock_machine.proofs.Refusing.{table_phase}
+use Rattle.lock_machine.proofs.machine.LockMachine.attempt_table.Goals as goal
+
+pub invariant_of-self-inside : goal.invariant_of-self-inside
+invariant_of-self-inside c =
+    let m = c.self.inside in
+    let v : Whole = whole_by m.patience m.door_cost m.log m.threads.items m.clocks m.shared.lock m.objects.items m.shared.store m.shared.rows.items in
+    let view : v ≡ c.args.self.now = c.self.view_is in
+    let inside = inside_of m.threads.items m.clocks v c.args.self.now c.args.i refl view c.requires.inside in
+    let x = c.index_mut.result.now in
+    let item = item_of m.threads.items m.clocks c.args.i x c.try_table.new.thread c.try_table.new.clocks m.agree inside c.index_mut.ensures.value c.try_table.ensures.others in
+    (item_agrees m.threads.items m.clocks c.args.i x c.try_table.new.thread c.try_table.new.clocks m.agree item, tt)
+
+pub returns-clause-event : goal.returns-clause-event
+returns-clause-event c =
+    let m = c.self.inside in
+    let v : Whole = whole_by m.patience m.door_cost m.log m.threads.items m.clocks m.shared.lock m.objects.items m.shared.store m.shared.rows.items in
+    let view : v ≡ c.args.self.now = c.self.view_is in
+    let inside = inside_of m.threads.items m.clocks v c.args.self.now c.args.i refl view c.requires.inside in
+    let x = c.index_mut.result.now in
+    let P : Phase → Type 0 = λ p. wants_table p ≡ true in
+    let wants = item_in P m.threads.items m.clocks v c.args.self.now c.args.i refl view inside c.requires.wants in
+    let table = table_phase x.phase (phase_in P m.threads.items c.args.i x inside c.index_mut.ensures.value wants) in
+    let turn = turn_of m.threads.items m.clocks v c.args.self.now c.args.i m.agree refl view c.requires.turn in
+    subst (λ (w : Whole). IfOk c.try_table.result (λ made. Attempts made c.args.i w (record v { threads = joined (set m.threads.items c.args.i c.try_table.new.thread) c.try_table.new.clocks; lock = c.try_table.new.shared.lock; table = c.try_table.new.shared.store; rows = c.try_table.new.shared.rows.items }))) view
+    (try_done v m.threads.items m.clocks c.try_table.new.clocks c.args.i table.0 table.1 x c.try_table.new.thread c.try_table.new.shared.lock c.try_table.new.shared.store c.try_table.new.shared.rows.items c.try_table.result
+    (item_of m.threads.items m.clocks c.args.i x c.try_table.new.thread c.try_table.new.clocks m.agree inside c.index_mut.ensures.value c.try_table.ensures.others)
+    m.agree turn table.2 c.try_table.ensures.event)
+
+pub index_mut-requires : goal.index_mut-requires
+index_mut-requires c =
+    let m = c.self.inside in
+    let v : Whole = whole_by m.patience m.door_cost m.log m.threads.items m.clocks m.shared.lock m.objects.items m.shared.store m.shared.rows.items in
+    let view : v ≡ c.args.self.now = c.self.view_is in
+    let inside = inside_of m.threads.items m.clocks v c.args.self.now c.args.i refl view c.requires.inside in
+    let size : m.threads.len ≡ length m.threads.items = search rules in
+    subst (λ (n : ℕ). c.args.i < n) (sym size) inside
+
+pub try_table-requires : goal.try_table-requires
+try_table-requires c =
+    let m = c.self.inside in
+    let v : Whole = whole_by m.patience m.door_cost m.log m.threads.items m.clocks m.shared.lock m.objects.items m.shared.store m.shared.rows.items in
+    let view : v ≡ c.args.self.now = c.self.view_is in
+    let inside = inside_of m.threads.items m.clocks v c.args.self.now c.args.i refl view c.requires.inside in
+    clock_inside m.threads.items m.clocks c.args.i m.agree inside
+
+pub returns-clause-count : goal.returns-clause-count
+returns-clause-count c =
+    let m = c.self.inside in
+    let v : Whole = whole_by m.patience m.door_cost m.log m.threads.items m.clocks m.shared.lock m.objects.items m.shared.store m.shared.rows.items in
+    let view : v ≡ c.args.self.now = c.self.view_is in
+    let inside = inside_of m.threads.items m.clocks v c.args.self.now c.args.i refl view c.requires.inside in
+    count_kept m.threads.items (set m.threads.items c.args.i c.try_table.new.thread) m.clocks c.try_table.new.clocks v c.args.self.now refl view (length-set m.threads.items c.args.i c.try_table.new.thread)

@@ -1,0 +1,175 @@
+ghost use Rattle.std.specs.Prelude.{◌≡◌, ◌<◌, ◌&&◌, not, Bool, true, false, Err, IfErr, IfOk, is_ok, is_some, length, unwrap_or};
+ghost use Rattle.logical_clocks.specs.TurnOrder.{has_turn};
+ghost use Rattle.lock_machine.specs.Refusals.{Comes, Tried, attempted, goes_outside, has_answer, is_blocked, is_end, is_outside, phase_at, wants_object, wants_table, works};
+ghost use Rattle.lock_machine.specs.Shows.{AdvancesQuietly, AsksFor, Attempts, RecordsGiven, Tells};
+ghost use Rattle.lock_machine.specs.Views.{clocks_of};
+ghost use Rattle.lock_machine.specs.declared.outside.Progress.TheVariants as progress;
+ghost use Rattle.lock_machine.specs.declared.refused.Refused.TheVariants as refused;
+ghost use Rattle.thread_scripts.specs.declared.actor.Step.TheVariants as step;
+
+use crate::machine::LockMachine;
+use crate::outside::Progress;
+use crate::refused::{Attempt, Refused};
+use crate::thread::Phase;
+use posix_terms::{Answer, Given};
+use std::alloc::Global;
+use thread_scripts::Step;
+
+// The events as a driver makes them: each looks at the phase of its thread first, and is refused where that is not its own.
+impl LockMachine {
+    /// Thread i, which works, asks this step: it works on for so long, or wants a call made. Its end is [`LockMachine::end`].
+    pub fn ask(&mut self, i: usize, step: Step) -> Result<(), Refused>
+        requires { i < length self.old.threads }
+        ensures event { Comes (works (phase_at self.old i) && not (is_end step)) result self.old self.new (λ o. AsksFor (is_some o) i step self.old self.new) }
+        ensures count { length self.new.threads ≡ length self.old.threads }
+    {
+        if !self.phase(i).is_working() || is_end(&step) {
+            return Err(Refused::WrongPhase);
+        }
+        moved(self.ask_working(i, step)?)
+    }
+
+    /// Thread i, which works, ends.
+    pub fn end(&mut self, i: usize) -> Result<(), Refused>
+        requires { i < length self.old.threads }
+        ensures event { Comes (works (phase_at self.old i)) result self.old self.new (λ o. AsksFor (is_some o) i step.End self.old self.new) }
+        ensures count { length self.new.threads ≡ length self.old.threads }
+    {
+        if !self.phase(i).is_working() {
+            return Err(Refused::WrongPhase);
+        }
+        moved(self.ask_working(i, Step::End)?)
+    }
+
+    /// Thread i, which wants the table and has the turn, attempts its lock. It costs 1 either way.
+    pub fn try_table(&mut self, alloc: Global, i: usize) -> Result<Attempt, Refused>
+        requires { i < length self.old.threads }
+        ensures event { Comes (wants_table (phase_at self.old i) && has_turn (clocks_of self.old.threads) i) result self.old self.new (λ o. Attempts (is_some o) i self.old self.new) }
+        ensures got { IfOk result (λ a. a ≡ attempted (wants_table (phase_at self.new i))) }
+        ensures count { length self.new.threads ≡ length self.old.threads }
+    {
+        if !self.phase(i).wants_table() || !self.has_turn(i) {
+            return Err(Refused::WrongPhase);
+        }
+        if !self.attempt_table(alloc, i)? {
+            return Err(Refused::ClockFull);
+        }
+        Ok(attempted(self.phase(i).wants_table()))
+    }
+
+    /// Thread i, which wants an object and has the turn, attempts its lock. It costs 1 either way, and 1 more where it has
+    /// it and frees the table.
+    pub fn try_node(&mut self, alloc: Global, i: usize) -> Result<Attempt, Refused>
+        requires { i < length self.old.threads }
+        ensures event { Comes (wants_object (phase_at self.old i) && has_turn (clocks_of self.old.threads) i) result self.old self.new (λ o. Attempts (is_some o) i self.old self.new) }
+        ensures got { IfOk result (λ a. a ≡ attempted (wants_object (phase_at self.new i))) }
+        ensures count { length self.new.threads ≡ length self.old.threads }
+    {
+        let Phase::WantsObject { object, .. } = *self.phase(i) else {
+            return Err(Refused::WrongPhase);
+        };
+        if !self.has_turn(i) {
+            return Err(Refused::WrongPhase);
+        }
+        if !self.attempt_object(alloc, i, object)? {
+            return Err(Refused::ClockFull);
+        }
+        Ok(attempted(self.phase(i).wants_object()))
+    }
+
+    /// Thread i attempts the lock that it wants, that of the table or that of an object.
+    pub fn attempt(&mut self, alloc: Global, i: usize) -> Result<Attempt, Refused>
+        requires { i < length self.old.threads }
+        ensures event { Tried result (λ made. Attempts made i self.old self.new) }
+        ensures count { length self.new.threads ≡ length self.old.threads }
+    {
+        if self.phase(i).wants_table() {
+            self.try_table(alloc, i)
+        } else {
+            self.try_node(alloc, i)
+        }
+    }
+
+    /// Thread i, which was granted a call that it goes outside with, does so.
+    pub fn begin_outside(&mut self, i: usize) -> Result<(), Refused>
+        requires { i < length self.old.threads }
+        ensures event { Comes (goes_outside (phase_at self.old i)) result self.old self.new (λ o. AdvancesQuietly (is_some o) i self.old self.new) }
+        ensures count { length self.new.threads ≡ length self.old.threads }
+    {
+        let Phase::ToOutside(outing) = *self.phase(i) else {
+            return Err(Refused::WrongPhase);
+        };
+        moved(self.go_outside(i, outing))
+    }
+
+    /// This outcome comes for thread i, which is outside. Where it does not answer what was asked, that is told, and nothing changes.
+    pub fn record(&mut self, alloc: Global, i: usize, given: &Given) -> Result<Progress, Refused>
+        requires { i < length self.old.threads }
+        ensures event { Comes (is_outside (phase_at self.old i)) result self.old self.new (λ o. RecordsGiven (unwrap_or o progress.Stays) i given.now self.old self.new) }
+        ensures count { length self.new.threads ≡ length self.old.threads }
+    {
+        let Phase::Outside(outing) = *self.phase(i) else {
+            return Err(Refused::WrongPhase);
+        };
+        match self.take_outcome(alloc, i, outing, given)? {
+            Progress::Stays => Err(Refused::ClockFull),
+            made => Ok(made),
+        }
+    }
+
+    /// The call of thread i, which was granted or whose outcome came, has its answer.
+    pub fn answer(&mut self, i: usize) -> Result<Answer, Refused>
+        requires { i < length self.old.threads }
+        ensures event { Comes (has_answer (phase_at self.old i)) result self.old self.new (λ told. Tells told i self.old self.new) }
+        ensures count { length self.new.threads ≡ length self.old.threads }
+    {
+        match *self.phase(i) {
+            Phase::Granted { row, object, .. } => self
+                .answer_granted(i, row, object)?
+                .ok_or(Refused::ClockFull),
+            Phase::Recorded(outing) => self.answer_recorded(i, outing)?.ok_or(Refused::ClockFull),
+            _ => Err(Refused::WrongPhase),
+        }
+    }
+
+    /// Thread i, which is blocked, makes its call again.
+    pub fn again(&mut self, i: usize) -> Result<(), Refused>
+        requires { i < length self.old.threads }
+        ensures event { Comes (is_blocked (phase_at self.old i)) result self.old self.new (λ o. AdvancesQuietly (is_some o) i self.old self.new) }
+        ensures count { length self.new.threads ≡ length self.old.threads }
+    {
+        if !self.phase(i).is_blocked() {
+            return Err(Refused::WrongPhase);
+        }
+        moved(self.go_again(i))
+    }
+}
+
+// An event that has its phase, and was made or not.
+fn moved(moved: bool) -> Result<(), Refused>
+    ensures made { is_ok result ≡ moved }
+    ensures full { IfErr result (λ e. e ≡ refused.ClockFull) }
+{
+    if moved {
+        Ok(())
+    } else {
+        Err(Refused::ClockFull)
+    }
+}
+
+// What came of an attempt, by whether the lock is still wanted.
+fn attempted(wanted: bool) -> Attempt
+    ensures { result ≡ attempted wanted }
+{
+    if wanted {
+        Attempt::Failed
+    } else {
+        Attempt::Got
+    }
+}
+
+fn is_end(step: &Step) -> bool
+    ensures { result ≡ is_end step.now }
+{
+    matches!(step, Step::End)
+}
