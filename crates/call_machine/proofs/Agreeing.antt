@@ -3,10 +3,9 @@ use Rattle.std.proofs.Common.{◌≡◌, ◌⊎◌, ℕ, zero, suc, ◌+◌, ◌
 use Rattle.std.proofs.lemmas.List.{append-nil}
 use Rattle.input_log.specs.Format.{text_of}
 use Rattle.input_log.specs.declared.log.Record.{Record}
-use Rattle.lock_model.proofs.Ends.{plain_run-suc}
 use Rattle.lock_model.specs.Machine.{Event, Setup}
 use Rattle.lock_model.specs.Rows.{shown}
-use Rattle.lock_model.specs.Schedule.{IsOver, after_event, next_event, plain, plain_run}
+use Rattle.lock_model.specs.Schedule.{IsOver, after_event, next_event, plain_run}
 use Rattle.lock_model.specs.State as lock
 use Rattle.lock_model.specs.State.{State}
 use Rattle.call_machine.specs.History.{transcripts_of}
@@ -15,6 +14,7 @@ use Rattle.call_machine.specs.Plain.{IsPlainRun, OnePlainRun, all_true, has_ende
 use Rattle.call_machine.specs.Setup.{Inputs, first_state, setup_of}
 use Rattle.call_machine.specs.Strays.{diverging}
 use Rattle.call_machine.specs.declared.plain.Plain.{Plain}
+use Rattle.call_machine.proofs.Scheduling.{run_next}
 
 -- ## Sums
 
@@ -30,11 +30,10 @@ one_more k n = omega arith
 -- ## Behind a run that is over
 
 no_event : (setup : Setup) (first : State) (n k : ℕ) → IsOver setup (plain_run setup n first) → plain_run setup (k + n) first ≡ plain_run setup n first
-unfolding plain
 no_event setup first n zero over = ap (λ (m : ℕ). plain_run setup m first) (none_more n)
 no_event setup first n (suc k) over =
     let last = plain_run setup n first in
-    ap (λ (m : ℕ). plain_run setup m first) (one_more k n) ∙ plain_run-suc setup (k + n) first ∙ ap (λ (s : State). after_event setup s (next_event setup s)) (no_event setup first n k over) ∙ ap (after_event setup last) over
+    ap (λ (m : ℕ). plain_run setup m first) (one_more k n) ∙ run_next setup (k + n) first ∙ ap (λ (s : State). after_event setup s (next_event setup s)) (no_event setup first n k over) ∙ ap (after_event setup last) over
 
 no_record : (setup : Setup) (first : State) (n k : ℕ) → IsOver setup (plain_run setup n first) → plain_records setup (k + n) first ≡ plain_records setup n first
 unfolding plain_records

@@ -16,7 +16,7 @@ use Rattle.call_machine.proofs.Playing.{is_calling}
 pub comes_told : {A : Type 0} (right : Bool) (r : Result A Refused) (o : Option A) (old new : Whole) (made : Option A → Type 0) → right ≡ true → Comes right r old new made → IsTold r o → made o
 comes_told right (Ok a) o old new made there h told = subst made (sym told) h.1
 comes_told right (Err refused.WrongPhase) o old new made there h told = absurd (false≢true (sym h.0 ∙ there))
-comes_told right (Err refused.ClockFull) o old new made there h told = subst made (sym told) h.1
+comes_told right (Err refused.ClockFull) o old new made there h told = subst made (sym told) h.2
 comes_told right (Err refused.Memory) o old new made there h told = absurd told
 
 pub tried_told : {A : Type 0} (r : Result A Refused) (o : Option A) (made : Bool → Type 0) → Tried r made → IsTold r o → made (is_some o)

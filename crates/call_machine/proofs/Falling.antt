@@ -1,26 +1,23 @@
 -- Each event lowers what the scripts of a run can still do with its threads.
-use Rattle.std.proofs.Common.{◌≡◌, ◌⊎◌, ℕ, zero, suc, ◌+◌, ◌-◌, ◌*◌, ◌<◌, ◌≤◌, ◌^◌, List, [], ◌∷◌, length, get_or, Option, Some, Bool, true, false, if◌then◌else◌, inl, inr, sym, refl, ap, ap₂, ◌∙◌, subst, arith}
+use Rattle.std.proofs.Common.{◌≡◌, ◌⊎◌, ℕ, zero, suc, ◌+◌, ◌-◌, ◌*◌, ◌<◌, ◌≤◌, ◌^◌, List, [], ◌∷◌, length, get_or, Option, Bool, true, false, if◌then◌else◌, inl, inr, sym, refl, ap, ap₂, ◌∙◌, subst, arith}
 use Rattle.std.proofs.lemmas.Bool.{false≢true}
-use Rattle.std.specs.Prelude.{nat_le, not, ◌||◌}
+use Rattle.std.specs.Prelude.{not, ◌||◌}
 use Rattle.posix_terms.specs.declared.call.Call.{Call}
 use Rattle.posix_terms.specs.declared.reply.Reply.{Reply}
-use Rattle.thread_scripts.proofs.Ending.{next_ends}
+use Rattle.thread_scripts.specs.Laws.{RunsEnd}
 use Rattle.thread_scripts.specs.Meaning.{lines_left, next_of}
 use Rattle.thread_scripts.specs.declared.actor.ScriptState.{ScriptState}
 use Rattle.thread_scripts.specs.declared.actor.Step.{Step}
 use Rattle.thread_scripts.specs.declared.actor.Step.TheVariants as step
 use Rattle.lock_model.specs.CallTable.{Answer, CallTable, has_object, keeps_table}
 use Rattle.lock_model.specs.CallTable.Answer.{Again, Gives}
-use Rattle.lock_model.specs.Machine.{Moved, after_step, answer, answered, attempt, can_attempt, moves, one_if, wants}
+use Rattle.lock_model.specs.Events.{EventLaws, IsIn, IsMoved}
+use Rattle.lock_model.specs.Events.IsMoved.{AnswersGranted, AnswersRecorded, AsksStep, GetsOutcome, GoesOut, MakesAgain}
+use Rattle.lock_model.specs.Machine.{advance, after_step, answer, answered, attempt, can_advance, can_attempt, one_if, wants}
+use Rattle.lock_model.specs.Machine.Event.{Advances, Attempts}
 use Rattle.lock_model.specs.State as lock
 use Rattle.lock_model.specs.State.{Job, Row, State, thread_of}
 use Rattle.lock_model.specs.State.Phase.{Blocked, Ended, Granted, Outside, Recorded, ToOutside, WantsObject, WantsTable, Working}
-use Rattle.lock_model.proofs.Attempt.{attempt_can, can_out}
-use Rattle.lock_model.proofs.Ends.{attempt_clock}
-use Rattle.lock_model.proofs.Follows.{IsIn, attempt_tried}
-use Rattle.lock_model.proofs.Growth.{at_moves}
-use Rattle.lock_model.proofs.Turn.{moves_out}
-use Rattle.std.proofs.lemmas.Bool.{leb-true}
 use Rattle.call_machine.specs.Playing.{no_player}
 use Rattle.lock_machine.specs.Conditions.{Conditions, setup_under}
 use Rattle.lock_machine.specs.Shows.{PhaseShows, ThreadShows}
@@ -59,7 +56,7 @@ left_shown terms i rows t u (phase.Granted place object ends) stuck lines h = sy
 left_shown terms i rows t u (phase.ToOutside outing) stuck lines h = sym (ap (λ (q : lock.Phase). left_at q stuck lines) h.1.0)
 left_shown terms i rows t u (phase.Outside outing) stuck lines h = sym (ap (λ (q : lock.Phase). left_at q stuck lines) h.1.0)
 left_shown terms i rows t u (phase.Recorded outing) stuck lines h = sym (ap (λ (q : lock.Phase). left_at q stuck lines) h.1.0)
-left_shown terms i rows t u (phase.Blocked call turns) stuck lines h = sym (ap (λ (q : lock.Phase). left_at q stuck lines) h)
+left_shown terms i rows t u (phase.Blocked turns) stuck lines h = sym (ap (λ (q : lock.Phase). left_at q stuck lines) h.1)
 left_shown terms i rows t u phase.Ended stuck lines h = sym (ap (λ (q : lock.Phase). left_at q stuck lines) h)
 
 -- a thread weighs what the one weighs that it stands for
@@ -102,9 +99,9 @@ step_falls calls u x n m works less = subst (λ (p : lock.Phase). weight_at (aft
     by_step step.End e = still_falls u.clock 0 (2 * m + 1) (omega arith)
 
 -- a script's next step leaves it less to do
-pub asked_falls : (calls : CallTable) (u : lock.Thread) (last : Option Reply) (actor : ScriptState) → u.phase ≡ Working
+pub asked_falls : RunsEnd → (calls : CallTable) (u : lock.Thread) (last : Option Reply) (actor : ScriptState) → u.phase ≡ Working
     → (let next = next_of last actor in weight_at (after_step calls u next.0) false (lines_left next.1) < weight_at u false (lines_left actor))
-asked_falls calls u last actor works = let next = next_of last actor in step_falls calls u next.0 (lines_left next.1) (lines_left actor) works (next_ends last actor)
+asked_falls ends calls u last actor works = let next = next_of last actor in step_falls calls u next.0 (lines_left next.1) (lines_left actor) works (ends last actor)
 
 -- an answer costs
 answer_cost : (x y : Bool) (clock : ℕ) → clock < clock + one_if x + one_if (not x || y)
@@ -132,27 +129,31 @@ answer_falls calls u job lines left room more =
     enough : (x lines left : ℕ) → x ≤ 2 * lines + 3 → 2 * lines + 2 ≤ left → x ≤ left + 3
     enough x lines left h more = omega arith
 
--- in a call each event leaves less to do
-call_falls : (terms : Conditions) (i : ℕ) (u : lock.Thread) (m : Moved) (lines : ℕ) → IsIn u.phase ≡ true → moves (setup_under terms) i u ≡ Some m → weight_at m.thread false lines < load u.clock (left_at u.phase false lines)
+-- from one phase to another
+by_phases : (u v : lock.Thread) (lines : ℕ) {p : lock.Phase} {w : lock.Thread} → u.phase ≡ p → v ≡ w → weight_at w false lines < load u.clock (left_at p false lines) → weight_at v false lines < weight_at u false lines
 unfolding weight_at
-call_falls terms i u m lines inside h =
-    let setup = setup_under terms in
-    let more : 2 * lines + 2 ≤ 2 * lines + 2 = omega arith in
-    let more_still : 2 * lines + 2 ≤ 2 * lines + 3 = omega arith in
-    at_moves setup i u (λ p n. IsIn p ≡ true → n.thread.clock ≤ 2 ^ 62 → weight_at n.thread false lines < load u.clock (left_at p false lines)) m
-    (record {
-      steps = λ x q e room. absurd (false≢true e);
-      begins = λ job e room. on_falls u.clock setup.limits.door_cost (2 * lines + 4) (2 * lines + 5) (omega arith);
-      records = λ job o q f e room. still_falls u.clock (2 * lines + 3) (2 * lines + 4) (omega arith);
-      grants = λ job e room. answer_falls setup.calls u job lines (2 * lines + 2) room more;
-      answers = λ job e room. answer_falls setup.calls u job lines (2 * lines + 3) room more_still;
-      agains = λ c b e room. still_falls u.clock (2 * lines + 2) (2 * lines + 3) (omega arith);
-    })
-    h inside (moves_out setup i u m h).1
+by_phases u v lines {p} {w} phase is less =
+    subst (λ (q : lock.Phase). weight_at v false lines < load u.clock (left_at q false lines)) (sym phase) (subst (λ (t : lock.Thread). weight_at t false lines < load u.clock (left_at p false lines)) (sym is) less)
 
-pub move_falls : (terms : Conditions) (i : ℕ) (u : lock.Thread) (m : Moved) (lines : ℕ) → IsIn u.phase ≡ true → moves (setup_under terms) i u ≡ Some m → weight_at m.thread false lines < weight_at u false lines
+-- in a call each event leaves less to do
+moved_falls : (terms : Conditions) (i : ℕ) (u v : lock.Thread) (lines : ℕ) → IsIn u.phase ≡ true → v.clock ≤ 2 ^ 62 → IsMoved (setup_under terms) i u v → weight_at v false lines < weight_at u false lines
 unfolding weight_at
-move_falls terms i u m lines inside h = call_falls terms i u m lines inside h
+moved_falls terms i u v lines inside room (AsksStep x phase next is) = absurd (false≢true (sym (ap IsIn phase) ∙ inside))
+moved_falls terms i u v lines inside room (GoesOut job phase is) = by_phases u v lines phase is (on_falls u.clock (setup_under terms).limits.door_cost (2 * lines + 4) (2 * lines + 5) (omega arith))
+moved_falls terms i u v lines inside room (GetsOutcome job o phase next fits is) = by_phases u v lines phase is (still_falls u.clock (2 * lines + 3) (2 * lines + 4) (omega arith))
+moved_falls terms i u v lines inside room (AnswersGranted job phase is) =
+    let more : 2 * lines + 2 ≤ 2 * lines + 2 = omega arith in
+    by_phases u v lines phase is (answer_falls (setup_under terms).calls u job lines (2 * lines + 2) (subst (λ (t : lock.Thread). t.clock ≤ 2 ^ 62) is room) more)
+moved_falls terms i u v lines inside room (AnswersRecorded job phase is) =
+    let more : 2 * lines + 2 ≤ 2 * lines + 3 = omega arith in
+    by_phases u v lines phase is (answer_falls (setup_under terms).calls u job lines (2 * lines + 3) (subst (λ (t : lock.Thread). t.clock ≤ 2 ^ 62) is room) more)
+moved_falls terms i u v lines inside room (MakesAgain c b phase is) = by_phases u v lines phase is (still_falls u.clock (2 * lines + 2) (2 * lines + 3) (omega arith))
+
+pub advance_falls : EventLaws → (terms : Conditions) (i : ℕ) (s : State) (lines : ℕ) → IsIn (thread_of s i).phase ≡ true → can_advance (setup_under terms) s i ≡ true
+    → weight_at (thread_of (advance (setup_under terms) i s) i) false lines < weight_at (thread_of s i) false lines
+advance_falls laws terms i s lines inside can =
+    let setup = setup_under terms in
+    moved_falls terms i (thread_of s i) (thread_of (advance setup i s) i) lines inside (laws.room setup s (Advances i) can) (laws.moved setup s i can)
 
 -- ## Attempts
 
@@ -172,16 +173,15 @@ call_left (Outside job) lines h = omega arith
 call_left (Recorded job) lines h = omega arith
 call_left (Blocked c b) lines h = omega arith
 
-pub attempt_falls : (terms : Conditions) (i : ℕ) (s : State) (lines : ℕ) → can_attempt (setup_under terms) s i ≡ true → weight_at (thread_of (attempt (setup_under terms) i s) i) false lines < weight_at (thread_of s i) false lines
+pub attempt_falls : EventLaws → (terms : Conditions) (i : ℕ) (s : State) (lines : ℕ) → can_attempt (setup_under terms) s i ≡ true → weight_at (thread_of (attempt (setup_under terms) i s) i) false lines < weight_at (thread_of s i) false lines
 unfolding weight_at
-attempt_falls terms i s lines can =
+attempt_falls laws terms i s lines can =
     let setup = setup_under terms in
     let u = thread_of s i in
     let v = thread_of (attempt setup i s) i in
-    let room : v.clock ≤ 2 ^ 62 = leb-true v.clock (2 ^ 62) (ap (λ (z : State). nat_le (thread_of z i).clock (2 ^ 62)) (attempt_can setup i s can) ∙ (can_out setup s i can).room) in
-    let before : left_at u.phase false lines ≡ 2 * lines + 2 = wanting_left u.phase lines (can_out setup s i can).wanting in
-    let after : left_at v.phase false lines ≤ 2 * lines + 5 = call_left v.phase lines (attempt_tried setup s i can).after in
-    cost_falls u.clock v.clock (left_at v.phase false lines) (left_at u.phase false lines) (attempt_clock setup s i can).1 room (enough (left_at v.phase false lines) (left_at u.phase false lines) lines before after)
+    let before : left_at u.phase false lines ≡ 2 * lines + 2 = wanting_left u.phase lines (laws.wanting setup s i can) in
+    let after : left_at v.phase false lines ≤ 2 * lines + 5 = call_left v.phase lines (laws.tried setup s i can).after in
+    cost_falls u.clock v.clock (left_at v.phase false lines) (left_at u.phase false lines) (laws.costs setup s i can) (laws.room setup s (Attempts i) can) (enough (left_at v.phase false lines) (left_at u.phase false lines) lines before after)
   where
     enough : (x y lines : ℕ) → y ≡ 2 * lines + 2 → x ≤ 2 * lines + 5 → x ≤ y + 3
     enough x y lines e h = omega arith

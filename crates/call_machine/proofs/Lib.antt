@@ -1,5 +1,7 @@
 pub mod Quiet
+pub mod Recording
 pub mod Falling
+pub mod ScriptProgress
 pub mod Playing
 pub mod Coming
 pub mod Seats

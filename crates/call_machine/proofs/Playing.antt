@@ -1,6 +1,6 @@
 -- Scripts play the threads of a run: what the machine's events make of both.
 use Rattle.std.proofs.Common.{◌≡◌, ◌⊎◌, ℕ, suc, ◌+◌, ◌<◌, ◌≤◌, List, [], ◌∷◌, ◌++◌, length, get_or, set, slice_get, Option, Some, None, Bool, true, false, is_some, not, if◌then◌else◌, inl, inr, sym, refl, ap, ap₂, ◌∙◌, subst, arith, ⊎_elim}
-use Rattle.std.proofs.lemmas.Bool.{cases_Bool, cases_eq, false≢true, true≢false}
+use Rattle.std.proofs.lemmas.Bool.{cases_eq, false≢true, true≢false}
 use Rattle.std.proofs.lemmas.List.{get_or-set_other, get_or-set_same, length-append, length-set, set-get_or}
 use Rattle.std.proofs.lemmas.Option.{same_Some}
 use Rattle.std.specs.Prelude.{slice_index_or}
@@ -9,26 +9,22 @@ use Rattle.posix_terms.specs.declared.outcome.Given.{Given}
 use Rattle.posix_terms.specs.declared.reply.Answer as posix
 use Rattle.posix_terms.specs.declared.reply.Answer.TheVariants as answer
 use Rattle.posix_terms.specs.declared.reply.Reply.{Reply}
+use Rattle.thread_scripts.specs.Laws.{RunsEnd}
 use Rattle.thread_scripts.specs.Meaning.{lines_left, next_of}
 use Rattle.thread_scripts.specs.declared.actor.Step.{Step}
 use Rattle.thread_scripts.specs.declared.actor.Step.TheVariants as step
 use Rattle.lock_model.specs.CallTable.{Answer, CallTable}
 use Rattle.lock_model.specs.CallTable.Answer.{Again, Gives}
-use Rattle.lock_model.specs.Machine.{Moved, Setup, advance, after_step, answered, attempt, can_advance, can_attempt, move, moves, moves_in, record_outcome, within}
+use Rattle.lock_model.specs.Events.{EventLaws, IsIn, IsMoved, thread_in}
+use Rattle.lock_model.specs.Events.IsMoved.{AnswersGranted, AnswersRecorded, AsksStep, GetsOutcome, GoesOut, MakesAgain}
+use Rattle.lock_model.specs.Machine.{Event, Setup, advance, after_step, answer, answered, attempt, can_advance, can_attempt, happens, moves, moves_in, record_outcome, within}
 use Rattle.lock_model.specs.Machine.Event.{Advances, Attempts}
 use Rattle.lock_model.specs.Runs.{calls_in}
 use Rattle.lock_model.specs.ScriptPrograms.{Reached, at_start, next_at, reached_after}
 use Rattle.lock_model.specs.State as lock
 use Rattle.lock_model.specs.State.{Job, Row, State, thread_of}
 use Rattle.lock_model.specs.State.Phase.{Blocked, Ended, Granted, Outside, Recorded, ToOutside, WantsObject, WantsTable, Working}
-use Rattle.lock_model.proofs.Attempt.{attempt_other, move_of}
-use Rattle.lock_model.proofs.Commute.{advance_move, thread_advance}
-use Rattle.lock_model.proofs.Diamond.{not_allowed}
-use Rattle.lock_model.proofs.Ends.{attempt_clock}
-use Rattle.lock_model.proofs.Follows.{IsIn, attempt_tried, calls_push}
-use Rattle.lock_model.proofs.Growth.{at_moves}
-use Rattle.lock_model.proofs.ScriptProgress.{past, reached_call, reached_work}
-use Rattle.lock_machine.specs.Logs.{came_between}
+use Rattle.call_machine.specs.Logs.{Written, came_between, log_with, record_of}
 use Rattle.call_machine.specs.Playing as playing
 use Rattle.call_machine.specs.Playing.{Attempted, IsBetween, IsInCall, IsPlayed, Made, Makes, Pauses, Played, Plays, PlaysIn, heard, hears, no_player, player_at}
 use Rattle.lock_machine.specs.Conditions.{Conditions, setup_under}
@@ -46,8 +42,9 @@ use Rattle.call_machine.specs.declared.players.Player.{Player}
 use Rattle.lock_machine.specs.declared.thread.Outing.{Outing}
 use Rattle.lock_machine.specs.declared.thread.Phase.{Phase}
 use Rattle.lock_machine.specs.declared.thread.Phase.TheVariants as phase
-use Rattle.call_machine.proofs.Falling.{asked_falls, attempt_falls, move_falls, stuck_weighs, total_falls, total_stays, weight_at, weight_shown}
-use Rattle.call_machine.proofs.Quiet.{is_outside, logs_none, moved_thread, none_between, quiet_came, quiet_strays}
+use Rattle.call_machine.proofs.Falling.{advance_falls, asked_falls, attempt_falls, stuck_weighs, total_falls, total_stays, weight_at, weight_shown}
+use Rattle.call_machine.proofs.Quiet.{is_outside, logs_none, logs_with, none_between, quiet_came, quiet_strays}
+use Rattle.call_machine.proofs.ScriptProgress.{past, reached_call, reached_work}
 
 -- ## What an event leaves
 
@@ -56,30 +53,15 @@ record Leaves (s z : State) (i : ℕ) : Type 0 where
   count : length z.threads ≡ length s.threads
   others : (k : ℕ) → (i ≡ k → ⊥) → thread_of z k ≡ thread_of s k
 
-advance_leaves : (setup : Setup) (s : State) (i : ℕ) → Leaves s (advance setup i s) i
-advance_leaves setup s i = record { count = ap (λ (z : State). length z.threads) (advance_move setup i s) ∙ by_move (moves setup i (thread_of s i)); others = λ k apart. thread_advance setup i k s apart }
-  where
-    by_move : (o : Option Moved) → length (move i o s).threads ≡ length s.threads
-    by_move None = refl
-    by_move (Some m) = length-set s.threads i m.thread
-
-attempt_leaves : (setup : Setup) (s : State) (i : ℕ) → Leaves s (attempt setup i s) i
-attempt_leaves setup s i =
-    record {
-      count =
-          ⊎_elim
-          (λ (can : can_attempt setup s i ≡ true). (attempt_clock setup s i can).0)
-          (λ (off : can_attempt setup s i ≡ false). ap (λ (z : State). length z.threads) (not_allowed setup (Attempts i) s off))
-          (cases_Bool (can_attempt setup s i));
-      others = λ k apart. attempt_other setup i k s apart;
-    }
+event_leaves : EventLaws → (setup : Setup) (s : State) (e : Event) → Leaves s (happens setup e s) (thread_in e)
+event_leaves laws setup s e = record { count = laws.count setup s e; others = laws.others setup s e }
 
 -- a run in which the script of thread i has come so far, and its data are these
 abbrev pub turned : Played → ℕ → Player → Whole → Played
-turned p i q w = record { whole = w; players = set p.players i q; outcomes = p.outcomes }
+turned p i q w = record { whole = w; players = set p.players i q; outcomes = p.outcomes; log = p.log }
 
 pub same_players : (p : Played) (i : ℕ) (w : Whole) → turned p i (player_at p i) w ≡ record p { whole = w }
-same_players p i w k = record { whole = w; players = set-get_or p.players i no_player k; outcomes = p.outcomes }
+same_players p i w k = record { whole = w; players = set-get_or p.players i no_player k; outcomes = p.outcomes; log = p.log }
 
 -- an event of thread i, from one state to another
 record Turning (input : Inputs) (p : Played) (i : ℕ) (q : Player) (w : Whole) (s z : State) : Type 0 where
@@ -172,31 +154,36 @@ answered_goes : (u : lock.Thread) (c : Call) (n : ℕ) (a : Answer) → Within u
 answered_goes u c n (Gives r) = inr (record { reply = r; asked = refl; replies = refl; works = refl })
 answered_goes u c n (Again b) = inl (record { asked = refl; replies = refl; inside = refl })
 
-call_goes : (setup : Setup) (i : ℕ) (u : lock.Thread) (m : Moved) → IsIn u.phase ≡ true → moves setup i u ≡ Some m → Within u m.thread ⊎ Replied u m.thread
-call_goes setup i u m inside h =
-    at_moves setup i u (λ p n. IsIn p ≡ true → Within u n.thread ⊎ Replied u n.thread) m
-    (record {
-      steps = λ x q e. absurd (false≢true e);
-      begins = λ job e. inl (record { asked = refl; replies = refl; inside = refl });
-      records = λ job o q f e. inl (record { asked = refl; replies = refl; inside = refl });
-      grants = λ job e. answered_goes u job.call _ (setup.calls.answer job.found job.call job.outcome job.carried);
-      answers = λ job e. answered_goes u job.call _ (setup.calls.answer job.found job.call job.outcome job.carried);
-      agains = λ c b e. inl (record { asked = refl; replies = refl; inside = refl });
-    })
-    h inside
+call_goes : (setup : Setup) (i : ℕ) (u v : lock.Thread) → IsIn u.phase ≡ true → IsMoved setup i u v → Within u v ⊎ Replied u v
+call_goes setup i u v inside h = by_event h
+  where
+    stays : (w : lock.Thread) → v ≡ w → Within u w ⊎ Replied u w → Within u v ⊎ Replied u v
+    stays w is h = subst (λ (t : lock.Thread). Within u t ⊎ Replied u t) (sym is) h
 
-call_stays : (setup : Setup) (i : ℕ) (u : lock.Thread) (m : Moved) → IsIn u.phase ≡ true → gives u.phase ≡ false → moves setup i u ≡ Some m → Within u m.thread
-call_stays setup i u m inside quiet h =
-    at_moves setup i u (λ p n. IsIn p ≡ true → gives p ≡ false → Within u n.thread) m
-    (record {
-      steps = λ x q e f. absurd (false≢true e);
-      begins = λ job e f. record { asked = refl; replies = refl; inside = refl };
-      records = λ job o q g e f. record { asked = refl; replies = refl; inside = refl };
-      grants = λ job e f. absurd (true≢false f);
-      answers = λ job e f. absurd (true≢false f);
-      agains = λ c b e f. record { asked = refl; replies = refl; inside = refl };
-    })
-    h inside quiet
+    answers : (job : Job) → v ≡ (answer setup.calls u job).thread → Within u v ⊎ Replied u v
+    answers job is = stays (answer setup.calls u job).thread is (answered_goes u job.call _ (setup.calls.answer job.found job.call job.outcome job.carried))
+
+    by_event : IsMoved setup i u v → Within u v ⊎ Replied u v
+    by_event (AsksStep x phase next is) = absurd (false≢true (sym (ap IsIn phase) ∙ inside))
+    by_event (GoesOut job phase is) = stays _ is (inl (record { asked = refl; replies = refl; inside = refl }))
+    by_event (GetsOutcome job o phase next fits is) = stays _ is (inl (record { asked = refl; replies = refl; inside = refl }))
+    by_event (AnswersGranted job phase is) = answers job is
+    by_event (AnswersRecorded job phase is) = answers job is
+    by_event (MakesAgain c b phase is) = stays _ is (inl (record { asked = refl; replies = refl; inside = refl }))
+
+call_stays : (setup : Setup) (i : ℕ) (u v : lock.Thread) → IsIn u.phase ≡ true → gives u.phase ≡ false → IsMoved setup i u v → Within u v
+call_stays setup i u v inside quiet h = by_event h
+  where
+    stays : (w : lock.Thread) → v ≡ w → Within u w → Within u v
+    stays w is h = subst (Within u) (sym is) h
+
+    by_event : IsMoved setup i u v → Within u v
+    by_event (AsksStep x phase next is) = absurd (false≢true (sym (ap IsIn phase) ∙ inside))
+    by_event (GoesOut job phase is) = stays _ is (record { asked = refl; replies = refl; inside = refl })
+    by_event (GetsOutcome job o phase next fits is) = stays _ is (record { asked = refl; replies = refl; inside = refl })
+    by_event (AnswersGranted job phase is) = absurd (true≢false (sym (ap gives phase) ∙ quiet))
+    by_event (AnswersRecorded job phase is) = absurd (true≢false (sym (ap gives phase) ∙ quiet))
+    by_event (MakesAgain c b phase is) = stays _ is (record { asked = refl; replies = refl; inside = refl })
 
 in_call : (input : Inputs) (i : ℕ) (p : Player) (u : lock.Thread) → IsIn u.phase ≡ true → Plays input i p u → IsInCall input i p u
 in_call input i p u inside h = by_phase u.phase inside h
@@ -275,7 +262,7 @@ calling terms i rows t u (phase.WantsObject call turns clock object) is (way, h)
 calling terms i rows t u (phase.Granted row object ends) is (job, h) = calling_by u.phase (Granted job) (phase.Granted row object ends) h.0 (record { inside = refl; quiet = refl; gives_is = refl })
 calling terms i rows t u (phase.ToOutside outing) is (job, h) = calling_by u.phase (ToOutside job) (phase.ToOutside outing) h.0 (record { inside = refl; quiet = refl; gives_is = refl })
 calling terms i rows t u (phase.Recorded outing) is (job, h) = calling_by u.phase (Recorded job) (phase.Recorded outing) h.0 (record { inside = refl; quiet = refl; gives_is = refl })
-calling terms i rows t u (phase.Blocked call turns) is h = calling_by u.phase (Blocked call turns) (phase.Blocked call turns) h (record { inside = refl; quiet = refl; gives_is = refl })
+calling terms i rows t u (phase.Blocked turns) is (call, h) = calling_by u.phase (Blocked call turns) (phase.Blocked turns) h (record { inside = refl; quiet = refl; gives_is = refl })
 
 calling_at : (input : Inputs) (p : Played) (s : State) (i : ℕ) (q : Phase) → Shows (conditions_of input) p.whole s → (thread_at p.whole i).phase ≡ q → is_calling q ≡ true → Calling (thread_of s i).phase q
 calling_at input p s i q h is calls =
@@ -288,15 +275,15 @@ abbrev pub went : Bool → Progress
 went moved = if moved then progress.Moves else progress.Stays
 
 -- nothing came, and nothing strays
-quiet_made : (input : Inputs) (s : State) (i : ℕ) (p new : Played) (moved : Bool) → Quietly moved i p.whole new.whole (conditions_of input) s → is_outside (thread_of s i).phase ≡ false
+quiet_made : EventLaws → (input : Inputs) (s : State) (i : ℕ) (p new : Played) (moved : Bool) → Quietly moved i new.whole (conditions_of input) s → new.log ≡ p.log → is_outside (thread_of s i).phase ≡ false
     → IsPlayed input new (advance (setup_of input) i s) → Falls moved p.whole.threads p.players new.whole.threads new.players → Made (went moved) i p new input s
-quiet_made input s i p new moved h quiet played falls =
+quiet_made laws input s i p new moved h same quiet played falls =
     let setup = setup_of input in
     record {
       can = h.can ∙ sym (moved_by moved);
       strays = quiet_strays setup s i quiet ∙ sym (strays_by moved);
       plays = played;
-      log = logs_none (came_between i s (advance setup i s)) p.whole.log new.whole.log (none_between i s (advance setup i s) (quiet_came setup s i quiet)) h.log;
+      log = logs_none (came_between i s (advance setup i s)) p.log new.log (none_between i s (advance setup i s) (quiet_came laws setup s (Advances i) quiet)) same;
       falls = subst (λ (b : Bool). Falls b p.whole.threads p.players new.whole.threads new.players) (sym (moved_by moved)) falls;
     }
   where
@@ -313,15 +300,15 @@ record Telling (input : Inputs) (p : Played) (i : ℕ) (w : Whole) (s : State) (
   inside : i < length p.players
   played : IsPlayed input p s
   calls : IsIn (thread_of s i).phase ≡ true
-  made : Quietly (is_some told) i p.whole w (conditions_of input) s
+  made : Quietly (is_some told) i w (conditions_of input) s
   replies : (thread_of (advance (setup_of input) i s) i).replies ≡ replied told (thread_of s i).replies
 
 -- what the script plays then
-told_plays : (input : Inputs) (p : Played) (i : ℕ) (w : Whole) (s : State) (told : Option posix.Answer) → Telling input p i w s told → Plays input i (heard told (player_at p i)) (thread_of (advance (setup_of input) i s) i)
-told_plays input p i w s None h =
+told_plays : EventLaws → (input : Inputs) (p : Played) (i : ℕ) (w : Whole) (s : State) (told : Option posix.Answer) → Telling input p i w s told → Plays input i (heard told (player_at p i)) (thread_of (advance (setup_of input) i s) i)
+told_plays laws input p i w s None h =
     let P : State → Type 0 = λ z. Plays input i (player_at p i) (thread_of z i) in
-    subst P (sym (not_allowed (setup_of input) (Advances i) s h.made.can)) (h.played.plays i)
-told_plays input p i w s (Some a) h = by_goes a h.replies (subst (λ (v : lock.Thread). Within u v ⊎ Replied u v) (sym (moved_thread setup s i m.0 m.1)) (call_goes setup i u m.0 h.calls m.1))
+    subst P (sym (laws.not_allowed (setup_of input) (Advances i) s h.made.can)) (h.played.plays i)
+told_plays laws input p i w s (Some a) h = by_goes a h.replies (call_goes setup i u v h.calls (laws.moved setup s i h.made.can))
   where
     setup : Setup
     setup = setup_of input
@@ -334,9 +321,6 @@ told_plays input p i w s (Some a) h = by_goes a h.replies (subst (λ (v : lock.T
 
     call : IsInCall input i (player_at p i) u
     call = in_call input i (player_at p i) u h.calls (h.played.plays i)
-
-    m : (n : Moved) × (moves setup i u ≡ Some n)
-    m = move_of setup s i h.made.can
 
     by_goes : (a : posix.Answer) → v.replies ≡ replied (Some a) u.replies → Within u v ⊎ Replied u v → Plays input i (heard (Some a) (player_at p i)) v
     by_goes (answer.Reply r) same (inl g) = absurd (longer u.replies r (sym g.replies ∙ same))
@@ -361,21 +345,18 @@ heard_weighs : (told : Option posix.Answer) (p : Player) (u : lock.Thread) → w
 heard_weighs told p u = ap₂ (weight_at u) (heard_stuck told p) (heard_actor told p)
 
 -- an event in a call leaves less to do
-call_weighs : (input : Inputs) (s : State) (i : ℕ) (p : Player) → IsIn (thread_of s i).phase ≡ true → p.stuck ≡ false → can_advance (setup_of input) s i ≡ true → weighed (thread_of (advance (setup_of input) i s) i) p < weighed (thread_of s i) p
-call_weighs input s i p calls free can =
-    let setup = setup_of input in
-    let u = thread_of s i in
+call_weighs : EventLaws → (input : Inputs) (s : State) (i : ℕ) (p : Player) → IsIn (thread_of s i).phase ≡ true → p.stuck ≡ false → can_advance (setup_of input) s i ≡ true
+    → weighed (thread_of (advance (setup_of input) i s) i) p < weighed (thread_of s i) p
+call_weighs laws input s i p calls free can =
     let lines = lines_left p.actor in
-    let m = move_of setup s i can in
-    subst (λ (b : Bool). weight_at (thread_of (advance setup i s) i) b lines < weight_at u b lines) (sym free)
-    (subst (λ (v : lock.Thread). weight_at v false lines < weight_at u false lines) (sym (moved_thread setup s i m.0 m.1)) (move_falls (conditions_of input) i u m.0 lines calls m.1))
+    subst (λ (b : Bool). weight_at (thread_of (advance (setup_of input) i s) i) b lines < weight_at (thread_of s i) b lines) (sym free) (advance_falls laws (conditions_of input) i s lines calls can)
 
 -- one that is not made leaves what there was
-same_weighs : (input : Inputs) (s : State) (i : ℕ) (p : Player) → can_advance (setup_of input) s i ≡ false → weighed (thread_of (advance (setup_of input) i s) i) p ≤ weighed (thread_of s i) p
-same_weighs input s i p off = subst (λ (z : State). weighed (thread_of z i) p ≤ weighed (thread_of s i) p) (sym (not_allowed (setup_of input) (Advances i) s off)) (same_le (weighed (thread_of s i) p))
+same_weighs : EventLaws → (input : Inputs) (s : State) (i : ℕ) (p : Player) → can_advance (setup_of input) s i ≡ false → weighed (thread_of (advance (setup_of input) i s) i) p ≤ weighed (thread_of s i) p
+same_weighs laws input s i p off = subst (λ (z : State). weighed (thread_of z i) p ≤ weighed (thread_of s i) p) (sym (laws.not_allowed (setup_of input) (Advances i) s off)) (same_le (weighed (thread_of s i) p))
 
-told_falls : (input : Inputs) (p : Played) (i : ℕ) (w : Whole) (s : State) (told : Option posix.Answer) → Telling input p i w s told → Falls (is_some told) p.whole.threads p.players w.threads (set p.players i (heard told (player_at p i)))
-told_falls input p i w s told h = by_test told (is_some told) refl
+told_falls : EventLaws → (input : Inputs) (p : Played) (i : ℕ) (w : Whole) (s : State) (told : Option posix.Answer) → Telling input p i w s told → Falls (is_some told) p.whole.threads p.players w.threads (set p.players i (heard told (player_at p i)))
+told_falls laws input p i w s told h = by_test told (is_some told) refl
   where
     setup : Setup
     setup = setup_of input
@@ -384,34 +365,34 @@ told_falls input p i w s told h = by_test told (is_some told) refl
     x = player_at p i
 
     turning : Turning input p i (heard told x) w s (advance setup i s)
-    turning = record { inside = h.inside; played = h.played; leaves = advance_leaves setup s i; shows = h.made.shows }
+    turning = record { inside = h.inside; played = h.played; leaves = event_leaves laws setup s (Advances i); shows = h.made.shows }
 
     by_test : (o : Option posix.Answer) (b : Bool) → is_some told ≡ b → Falls b p.whole.threads p.players w.threads (set p.players i (heard told x))
     by_test o true e =
         let call = in_call input i x (thread_of s i) h.calls (h.played.plays i) in
         falls_on input p i (heard told x) w s (advance setup i s) turning
-        (subst (λ (n : ℕ). n < weighed (thread_of s i) x) (sym (heard_weighs told x (thread_of (advance setup i s) i))) (call_weighs input s i x h.calls call.free (h.made.can ∙ e)))
+        (subst (λ (n : ℕ). n < weighed (thread_of s i) x) (sym (heard_weighs told x (thread_of (advance setup i s) i))) (call_weighs laws input s i x h.calls call.free (h.made.can ∙ e)))
     by_test o false e =
         stays_on input p i (heard told x) w s (advance setup i s) turning
-        (subst (λ (n : ℕ). n ≤ weighed (thread_of s i) x) (sym (heard_weighs told x (thread_of (advance setup i s) i))) (same_weighs input s i x (h.made.can ∙ e)))
+        (subst (λ (n : ℕ). n ≤ weighed (thread_of s i) x) (sym (heard_weighs told x (thread_of (advance setup i s) i))) (same_weighs laws input s i x (h.made.can ∙ e)))
 
-told_made : (input : Inputs) (p : Played) (i : ℕ) (w : Whole) (s : State) (told : Option posix.Answer) → Telling input p i w s told → is_outside (thread_of s i).phase ≡ false → Made (went (is_some told)) i p (turned p i (heard told (player_at p i)) w) input s
-told_made input p i w s told h quiet =
+told_made : EventLaws → (input : Inputs) (p : Played) (i : ℕ) (w : Whole) (s : State) (told : Option posix.Answer) → Telling input p i w s told → is_outside (thread_of s i).phase ≡ false → Made (went (is_some told)) i p (turned p i (heard told (player_at p i)) w) input s
+told_made laws input p i w s told h quiet =
     let setup = setup_of input in
     let q = heard told (player_at p i) in
-    let turning : Turning input p i q w s (advance setup i s) = record { inside = h.inside; played = h.played; leaves = advance_leaves setup s i; shows = h.made.shows } in
-    quiet_made input s i p (turned p i q w) (is_some told) h.made quiet (plays_on input p i q w s (advance setup i s) turning (told_plays input p i w s told h)) (told_falls input p i w s told h)
+    let turning : Turning input p i q w s (advance setup i s) = record { inside = h.inside; played = h.played; leaves = event_leaves laws setup s (Advances i); shows = h.made.shows } in
+    quiet_made laws input s i p (turned p i q w) (is_some told) h.made refl quiet (plays_on input p i q w s (advance setup i s) turning (told_plays laws input p i w s told h)) (told_falls laws input p i w s told h)
 
 -- a call has its answer, and its script hears it
-pub tells_made : (p : Played) (i : ℕ) (w : Whole) (q : Phase) (told : Option posix.Answer) → i < length p.players → (thread_at p.whole i).phase ≡ q → is_calling q ≡ true → Tells told i p.whole w → Makes (went (is_some told)) i p (hears told i (record p { whole = w }))
-tells_made p i w q told inside is calls h input s at =
+pub tells_made : EventLaws → (p : Played) (i : ℕ) (w : Whole) (q : Phase) (told : Option posix.Answer) → i < length p.players → (thread_at p.whole i).phase ≡ q → is_calling q ≡ true → Tells told i p.whole w → Makes (went (is_some told)) i p (hears told i (record p { whole = w }))
+tells_made laws p i w q told inside is calls h input s at =
     let a = h (conditions_of input) s (at.0, at.1.shows) in
     let c = calling_at input p s i q at.1.shows is calls in
-    told_made input p i w s told (record { inside = inside; played = at.1; calls = c.inside; made = a.0; replies = a.1 }) c.quiet
+    told_made laws input p i w s told (record { inside = inside; played = at.1; calls = c.inside; made = a.0; replies = a.1 }) c.quiet
 
 -- an event that brings nothing
-pub moves_made : (p : Played) (i : ℕ) (w : Whole) (q : Phase) (moved : Bool) → i < length p.players → (thread_at p.whole i).phase ≡ q → is_calling q ≡ true → is_giving q ≡ false → AdvancesQuietly moved i p.whole w → Makes (went moved) i p (record p { whole = w })
-moves_made p i w q moved inside is calls silent h input s at = by_test moved (h (conditions_of input) s (at.0, at.1.shows))
+pub moves_made : EventLaws → (p : Played) (i : ℕ) (w : Whole) (q : Phase) (moved : Bool) → i < length p.players → (thread_at p.whole i).phase ≡ q → is_calling q ≡ true → is_giving q ≡ false → AdvancesQuietly moved i p.whole w → Makes (went moved) i p (record p { whole = w })
+moves_made laws p i w q moved inside is calls silent h input s at = by_test moved (h (conditions_of input) s (at.0, at.1.shows))
   where
     setup : Setup
     setup = setup_of input
@@ -421,41 +402,39 @@ moves_made p i w q moved inside is calls silent h input s at = by_test moved (h 
 
     -- no reply comes
     silently : can_advance setup s i ≡ true → (thread_of (advance setup i s) i).replies ≡ (thread_of s i).replies
-    silently can =
-        let m = move_of setup s i can in
-        ap (λ (v : lock.Thread). v.replies) (moved_thread setup s i m.0 m.1) ∙ (call_stays setup i (thread_of s i) m.0 c.inside (c.gives_is ∙ silent) m.1).replies
+    silently can = (call_stays setup i (thread_of s i) (thread_of (advance setup i s) i) c.inside (c.gives_is ∙ silent) (laws.moved setup s i can)).replies
 
-    by_test : (b : Bool) → Quietly b i p.whole w (conditions_of input) s → Made (went b) i p (record p { whole = w }) input s
+    by_test : (b : Bool) → Quietly b i w (conditions_of input) s → Made (went b) i p (record p { whole = w }) input s
     by_test true a =
         subst (λ (x : Played). Made progress.Moves i p x input s) (same_players p i w)
-        (told_made input p i w s (Some answer.Again) (record { inside = inside; played = at.1; calls = c.inside; made = a; replies = silently a.can }) c.quiet)
+        (told_made laws input p i w s (Some answer.Again) (record { inside = inside; played = at.1; calls = c.inside; made = a; replies = silently a.can }) c.quiet)
     by_test false a =
         subst (λ (x : Played). Made progress.Stays i p x input s) (same_players p i w)
-        (told_made input p i w s None (record { inside = inside; played = at.1; calls = c.inside; made = a; replies = ap (λ (z : State). (thread_of z i).replies) (not_allowed setup (Advances i) s a.can) }) c.quiet)
+        (told_made laws input p i w s None (record { inside = inside; played = at.1; calls = c.inside; made = a; replies = ap (λ (z : State). (thread_of z i).replies) (laws.not_allowed setup (Advances i) s a.can) }) c.quiet)
 
 -- ## No event
 
 -- thread i can't make one, and does not stray
-stays_made : (input : Inputs) (p : Played) (s : State) (i : ℕ) (q : Player) (w : Whole) → i < length p.players → IsPlayed input p s → moves (setup_of input) i (thread_of s i) ≡ None → is_stray (setup_of input) s i ≡ false → Shows (conditions_of input) w s → w.log ≡ p.whole.log
+stays_made : EventLaws → (input : Inputs) (p : Played) (s : State) (i : ℕ) (q : Player) (w : Whole) → i < length p.players → IsPlayed input p s → moves (setup_of input) i (thread_of s i) ≡ None → is_stray (setup_of input) s i ≡ false → Shows (conditions_of input) w s
     → Plays input i q (thread_of s i) → weighed (thread_of s i) q ≤ weighed (thread_of s i) (player_at p i) → Made progress.Stays i p (turned p i q w) input s
-stays_made input p s i q w inside played none quiet h log own less =
+stays_made laws input p s i q w inside played none quiet h own less =
     let setup = setup_of input in
     let off : can_advance setup s i ≡ false = ap is_some none in
-    let same : advance setup i s ≡ s = not_allowed setup (Advances i) s off in
+    let same : advance setup i s ≡ s = laws.not_allowed setup (Advances i) s off in
     let turning : Turning input p i q w s s = record { inside = inside; played = played; leaves = record { count = refl; others = λ k apart. refl }; shows = h } in
     let P : State → Type 0 = IsPlayed input (turned p i q w) in
     record {
       can = off;
       strays = quiet;
       plays = subst P (sym same) (plays_on input p i q w s s turning own);
-      log = logs_none (came_between i s (advance setup i s)) p.whole.log w.log (none_between i s (advance setup i s) (ap (λ (z : State). (thread_of z i).came) same)) log;
+      log = logs_none (came_between i s (advance setup i s)) p.log p.log (none_between i s (advance setup i s) (ap (λ (z : State). (thread_of z i).came) same)) refl;
       falls = stays_on input p i q w s s turning less;
     }
 
-still_made : (input : Inputs) (p : Played) (s : State) (i : ℕ) → i < length p.players → IsPlayed input p s → moves (setup_of input) i (thread_of s i) ≡ None → is_stray (setup_of input) s i ≡ false → Made progress.Stays i p p input s
-still_made input p s i inside played none quiet =
+still_made : EventLaws → (input : Inputs) (p : Played) (s : State) (i : ℕ) → i < length p.players → IsPlayed input p s → moves (setup_of input) i (thread_of s i) ≡ None → is_stray (setup_of input) s i ≡ false → Made progress.Stays i p p input s
+still_made laws input p s i inside played none quiet =
     subst (λ (x : Played). Made progress.Stays i p x input s) (same_players p i p.whole)
-    (stays_made input p s i (player_at p i) p.whole inside played none quiet played.shows refl (played.plays i) (same_le (weighed (thread_of s i) (player_at p i))))
+    (stays_made laws input p s i (player_at p i) p.whole inside played none quiet played.shows (played.plays i) (same_le (weighed (thread_of s i) (player_at p i))))
 
 moves_none : (setup : Setup) (i : ℕ) (u : lock.Thread) (p : lock.Phase) → u.phase ≡ p → moves_in setup i u p ≡ None → moves setup i u ≡ None
 unfolding moves
@@ -474,11 +453,11 @@ idle_moves terms i rows t u (phase.WantsObject call turns clock object) is (way,
 idle_moves terms i rows t u phase.Ended is h = (moves_none (setup_under terms) i u Ended h refl, ap is_outside h)
 idle_moves terms i rows t u p is h = absurd (false≢true is)
 
-pub idle_made : (p : Played) (i : ℕ) → i < length p.players → is_idle (thread_at p.whole i).phase ≡ true → Makes progress.Stays i p p
-idle_made p i inside idle input s at =
+pub idle_made : EventLaws → (p : Played) (i : ℕ) → i < length p.players → is_idle (thread_at p.whole i).phase ≡ true → Makes progress.Stays i p p
+idle_made laws p i inside idle input s at =
     let terms = conditions_of input in
     let a = idle_moves terms i s.rows (thread_at p.whole i) (thread_of s i) (thread_at p.whole i).phase idle (at.1.shows.threads i).phase in
-    still_made input p s i inside at.1 a.0 (quiet_strays (setup_of input) s i a.1)
+    still_made laws input p s i inside at.1 a.0 (quiet_strays (setup_of input) s i a.1)
 
 -- ## A script is asked for its next step
 
@@ -492,55 +471,53 @@ pausing input i p u stuck works is h =
     subst Q is (subst P works h)
 
 -- one that has no room for it stays so
-pub stuck_made : (p : Played) (i : ℕ) → i < length p.players → (thread_at p.whole i).phase ≡ phase.Working → (player_at p i).stuck ≡ true → Makes progress.Stays i p p
-stuck_made p i inside is stuck input s at =
+pub stuck_made : EventLaws → (p : Played) (i : ℕ) → i < length p.players → (thread_at p.whole i).phase ≡ phase.Working → (player_at p i).stuck ≡ true → Makes progress.Stays i p p
+stuck_made laws p i inside is stuck input s at =
     let works = working_at input p s i at.1.shows is in
-    still_made input p s i inside at.1 (pausing input i (player_at p i) (thread_of s i) true works stuck (at.1.plays i)) (quiet_strays (setup_of input) s i (ap is_outside works))
+    still_made laws input p s i inside at.1 (pausing input i (player_at p i) (thread_of s i) true works stuck (at.1.plays i)) (quiet_strays (setup_of input) s i (ap is_outside works))
 
 -- a script past its next step
 abbrev pub stepped : Player → Bool → Player
 stepped p stuck = record { actor = (next_of p.last p.actor).1; last = None; stuck = stuck }
 
-asked_plays : (input : Inputs) (calls : CallTable) (i : ℕ) (p : Player) (u : lock.Thread) (x : Step) → IsBetween input i p u → Plays input i (stepped p false) (after_step calls u x)
-asked_plays input calls i p u (step.Work n) h =
+asked_plays : EventLaws → (input : Inputs) (calls : CallTable) (i : ℕ) (p : Player) (u : lock.Thread) (x : Step) → IsBetween input i p u → Plays input i (stepped p false) (after_step calls u x)
+asked_plays laws input calls i p u (step.Work n) h =
     record {
-      even = h.even ∙ sym (calls_push u.asked (step.Work n) ∙ no_more (calls_in u.asked));
+      even = h.even ∙ sym (laws.calls u.asked (step.Work n) ∙ no_more (calls_in u.asked));
       reached = reached_work (at_start (script_of input i)) u.asked u.replies n ∙ ap (past None) h.reached;
     }
   where
     no_more : (n : ℕ) → n + 0 ≡ n
     no_more n = omega arith
-asked_plays input calls i p u (step.Call call) h =
+asked_plays laws input calls i p u (step.Call call) h =
     record {
-      even = one_more (length u.replies) (calls_in u.asked) (calls_in (u.asked ++ step.Call call ∷ [])) h.even (calls_push u.asked (step.Call call));
+      even = one_more (length u.replies) (calls_in u.asked) (calls_in (u.asked ++ step.Call call ∷ [])) h.even (laws.calls u.asked (step.Call call));
       reached = λ r. reached_call (at_start (script_of input i)) u.asked u.replies call r h.even ∙ ap (past (Some r)) h.reached;
       free = refl;
     }
   where
     one_more : (a b c : ℕ) → a ≡ b → c ≡ b + 1 → suc a ≡ c
     one_more a b c e f = omega arith
-asked_plays input calls i p u step.End h = tt
+asked_plays laws input calls i p u step.End h = tt
 
 abbrev is_working : lock.Phase → Bool
 is_working Working = true
 is_working p = false
 
 -- the thread that asks this step is so behind it
-asked_thread : (setup : Setup) (s : State) (i : ℕ) (x : Step) → (thread_of s i).phase ≡ Working → (let u : lock.Thread = thread_of s i in setup.supply.next i u.asked u.replies ≡ Some x) → can_advance setup s i ≡ true → thread_of (advance setup i s) i ≡ after_step setup.calls (thread_of s i) x
-asked_thread setup s i x works next can =
-    let u = thread_of s i in
-    let m = move_of setup s i can in
-    moved_thread setup s i m.0 m.1
-    ∙ at_moves setup i u (λ p n. is_working p ≡ true → n.thread ≡ after_step setup.calls u x) m.0
-    (record {
-      steps = λ y q e. ap (after_step setup.calls u) (same_Some y x (sym q ∙ next));
-      begins = λ job e. absurd (false≢true e);
-      records = λ job o q f e. absurd (false≢true e);
-      grants = λ job e. absurd (false≢true e);
-      answers = λ job e. absurd (false≢true e);
-      agains = λ c b e. absurd (false≢true e);
-    })
-    m.1 (ap is_working works)
+asked_thread : (setup : Setup) (i : ℕ) (u v : lock.Thread) (x : Step) → u.phase ≡ Working → setup.supply.next i u.asked u.replies ≡ Some x → IsMoved setup i u v → v ≡ after_step setup.calls u x
+asked_thread setup i u v x works next h = by_event h
+  where
+    other : {p : lock.Phase} → u.phase ≡ p → is_working p ≡ false → v ≡ after_step setup.calls u x
+    other phase off = absurd (false≢true (sym off ∙ sym (ap is_working phase) ∙ ap is_working works))
+
+    by_event : IsMoved setup i u v → v ≡ after_step setup.calls u x
+    by_event (AsksStep y phase q is) = is ∙ ap (after_step setup.calls u) (same_Some y x (sym q ∙ next))
+    by_event (GoesOut job phase is) = other phase refl
+    by_event (GetsOutcome job o phase q fits is) = other phase refl
+    by_event (AnswersGranted job phase is) = other phase refl
+    by_event (AnswersRecorded job phase is) = other phase refl
+    by_event (MakesAgain c b phase is) = other phase refl
 
 -- a script that works, and is asked
 record Asking (input : Inputs) (p : Played) (i : ℕ) (s : State) (x : Step) : Type 0 where
@@ -552,24 +529,24 @@ record Asking (input : Inputs) (p : Played) (i : ℕ) (s : State) (x : Step) : T
   next : (let u : lock.Thread = thread_of s i in (setup_of input).supply.next i u.asked u.replies) ≡ Some x
   between : IsBetween input i (player_at p i) (thread_of s i)
 
-asked_yes : (input : Inputs) (p : Played) (i : ℕ) (s : State) (x : Step) (w : Whole) → Asking input p i s x → Quietly true i p.whole w (conditions_of input) s → Made progress.Moves i p (turned p i (stepped (player_at p i) false) w) input s
-asked_yes input p i s x w h a =
+asked_yes : EventLaws → RunsEnd → (input : Inputs) (p : Played) (i : ℕ) (s : State) (x : Step) (w : Whole) → Asking input p i s x → Quietly true i w (conditions_of input) s → Made progress.Moves i p (turned p i (stepped (player_at p i) false) w) input s
+asked_yes laws ends input p i s x w h a =
     let setup = setup_of input in
     let u = thread_of s i in
     let y = player_at p i in
     let q = stepped y false in
-    let there : thread_of (advance setup i s) i ≡ after_step setup.calls u x = asked_thread setup s i x h.works h.next a.can in
+    let there : thread_of (advance setup i s) i ≡ after_step setup.calls u x = asked_thread setup i u (thread_of (advance setup i s) i) x h.works h.next (laws.moved setup s i a.can) in
     let P : lock.Thread → Type 0 = Plays input i q in
-    let turning : Turning input p i q w s (advance setup i s) = record { inside = h.inside; played = h.played; leaves = advance_leaves setup s i; shows = a.shows } in
-    let own : Plays input i q (thread_of (advance setup i s) i) = subst P (sym there) (asked_plays input setup.calls i y u x h.between) in
+    let turning : Turning input p i q w s (advance setup i s) = record { inside = h.inside; played = h.played; leaves = event_leaves laws setup s (Advances i); shows = a.shows } in
+    let own : Plays input i q (thread_of (advance setup i s) i) = subst P (sym there) (asked_plays laws input setup.calls i y u x h.between) in
     let lines = lines_left y.actor in
-    let less : weighed (after_step setup.calls u x) q < weight_at u false lines = subst (λ (z : Step). weighed (after_step setup.calls u z) q < weight_at u false lines) (sym h.step_is) (asked_falls setup.calls u y.last y.actor h.works) in
-    quiet_made input s i p (turned p i q w) true a (ap is_outside h.works) (plays_on input p i q w s (advance setup i s) turning own)
+    let less : weighed (after_step setup.calls u x) q < weight_at u false lines = subst (λ (z : Step). weighed (after_step setup.calls u z) q < weight_at u false lines) (sym h.step_is) (asked_falls ends setup.calls u y.last y.actor h.works) in
+    quiet_made laws input s i p (turned p i q w) true a refl (ap is_outside h.works) (plays_on input p i q w s (advance setup i s) turning own)
     (falls_on input p i q w s (advance setup i s) turning
     (subst (λ (b : Bool). weighed (thread_of (advance setup i s) i) q < weight_at u b lines) (sym h.free) (subst (λ (v : lock.Thread). weighed v q < weight_at u false lines) (sym there) less)))
 
-asked_no : (input : Inputs) (p : Played) (i : ℕ) (s : State) (x : Step) (w : Whole) → Asking input p i s x → Quietly false i p.whole w (conditions_of input) s → Made progress.Stays i p (turned p i (stepped (player_at p i) true) w) input s
-asked_no input p i s x w h a =
+asked_no : EventLaws → (input : Inputs) (p : Played) (i : ℕ) (s : State) (x : Step) (w : Whole) → Asking input p i s x → Quietly false i w (conditions_of input) s → Made progress.Stays i p (turned p i (stepped (player_at p i) true) w) input s
+asked_no laws input p i s x w h a =
     let setup = setup_of input in
     let u = thread_of s i in
     let y = player_at p i in
@@ -577,7 +554,7 @@ asked_no input p i s x w h a =
     let none : moves setup i u ≡ None = none_by (moves setup i u) a.can in
     let P : lock.Phase → Type 0 = λ z. PlaysIn z input i q u in
     let Q : State → Type 0 = Shows (conditions_of input) w in
-    stays_made input p s i q w h.inside h.played none (quiet_strays setup s i (ap is_outside h.works)) (subst Q (not_allowed setup (Advances i) s a.can) a.shows) a.log
+    stays_made laws input p s i q w h.inside h.played none (quiet_strays setup s i (ap is_outside h.works)) (subst Q (laws.not_allowed setup (Advances i) s a.can) a.shows)
     (subst P (sym h.works) none)
     (subst (λ (b : Bool). weighed u q ≤ weight_at u b (lines_left y.actor)) (sym h.free) (stuck_weighs u (lines_left q.actor) (lines_left y.actor) h.works))
   where
@@ -585,9 +562,9 @@ asked_no input p i s x w h a =
     none_by None h = refl
     none_by (Some x) h = absurd (true≢false h)
 
-pub asks_made : (p : Played) (i : ℕ) (w : Whole) (x : Step) (moved : Bool) → i < length p.players → (thread_at p.whole i).phase ≡ phase.Working → (player_at p i).stuck ≡ false → x ≡ (next_of (player_at p i).last (player_at p i).actor).0 → AsksFor moved i x p.whole w
+pub asks_made : EventLaws → RunsEnd → (p : Played) (i : ℕ) (w : Whole) (x : Step) (moved : Bool) → i < length p.players → (thread_at p.whole i).phase ≡ phase.Working → (player_at p i).stuck ≡ false → x ≡ (next_of (player_at p i).last (player_at p i).actor).0 → AsksFor moved i x p.whole w
     → Makes (went moved) i p (turned p i (stepped (player_at p i) (not moved)) w)
-asks_made p i w x moved inside is free step_is h input s at =
+asks_made laws ends p i w x moved inside is free step_is h input s at =
     let terms = conditions_of input in
     let u = thread_of s i in
     let works = working_at input p s i at.1.shows is in
@@ -595,9 +572,9 @@ asks_made p i w x moved inside is free step_is h input s at =
     let next : terms.supply.next i u.asked u.replies ≡ Some x = ap (λ (r : Reached). Some (next_at r)) between.reached ∙ ap (λ (z : Step). Some z) (sym step_is) in
     by_test moved (record { inside = inside; played = at.1; works = works; free = free; step_is = step_is; next = next; between = between }) (h terms s (at.0, at.1.shows) next)
   where
-    by_test : (b : Bool) → Asking input p i s x → Quietly b i p.whole w (conditions_of input) s → Made (went b) i p (turned p i (stepped (player_at p i) (not b)) w) input s
-    by_test true a q = asked_yes input p i s x w a q
-    by_test false a q = asked_no input p i s x w a q
+    by_test : (b : Bool) → Asking input p i s x → Quietly b i w (conditions_of input) s → Made (went b) i p (turned p i (stepped (player_at p i) (not b)) w) input s
+    by_test true a q = asked_yes laws ends input p i s x w a q
+    by_test false a q = asked_no laws input p i s x w a q
 
 -- ## An outcome comes
 
@@ -614,19 +591,25 @@ given_next : (input : Inputs) (p : Played) (s : State) (i : ℕ) → IsPlayed in
 given_next input p s i h = ap₂ (λ (os : List (List Given)) (n : ℕ). slice_get (slice_index_or os i []) n) h.outcomes (h.shows.threads i).came
 
 -- none is there
-pub awaits_made : (p : Played) (i : ℕ) (o : Outing) → i < length p.players → (thread_at p.whole i).phase ≡ phase.Outside o → next_given p i ≡ None → Makes progress.Stays i p p
-awaits_made p i o inside is none input s at =
+pub awaits_made : EventLaws → (p : Played) (i : ℕ) (o : Outing) → i < length p.players → (thread_at p.whole i).phase ≡ phase.Outside o → next_given p i ≡ None → Makes progress.Stays i p p
+awaits_made laws p i o inside is none input s at =
     let setup = setup_of input in
     let u = thread_of s i in
     let (job, out) = (outside_at input p s i o at.1.shows is) in
     let given : slice_get (outcomes_of input i) (length u.came) ≡ None = given_next input p s i at.1 ∙ none in
-    still_made input p s i inside at.1 (moves_none setup i u (Outside job) out (ap (record_outcome setup.calls u job) given))
+    still_made laws input p s i inside at.1 (moves_none setup i u (Outside job) out (ap (record_outcome setup.calls u job) given))
     (ap₂ (stray_in setup) out given)
 
-pub records_made : (p : Played) (i : ℕ) (w : Whole) (o : Outing) (g : Given) (made : Progress) → i < length p.players → (thread_at p.whole i).phase ≡ phase.Outside o → next_given p i ≡ Some g → RecordsGiven made i g p.whole w → Makes made i p (record p { whole = w })
-records_made p i w o g made inside is there h input s at =
-    subst (λ (y : Played). Made made i p y input s) (same_players p i w)
-    (record { can = a.can; strays = a.strays; plays = plays_on input p i x w s (advance setup i s) turning (own (can_advance setup s i) refl); log = a.log; falls = falls (has_moved made) refl })
+-- a run that is played is so with any log
+with_log : (input : Inputs) (p : Played) (s : State) (l : Written) → IsPlayed input p s → IsPlayed input (record p { log = l }) s
+with_log input p s l h = record { shows = h.shows; outcomes = h.outcomes; count = h.count; plays = h.plays }
+
+pub records_made : EventLaws → (p : Played) (i : ℕ) (w : Whole) (o : Outing) (g : Given) (made : Progress) → i < length p.players → (thread_at p.whole i).phase ≡ phase.Outside o → next_given p i ≡ Some g → RecordsGiven made i g p.whole w
+    → Makes made i p (record p { whole = w; log = log_with made (record_of i (thread_at p.whole i).came g) p.log })
+records_made laws p i w o g made inside is there h input s at =
+    let l = log_with made (record_of i (thread_at p.whole i).came g) p.log in
+    subst (λ (y : Played). Made made i p (record y { log = l }) input s) (same_players p i w)
+    (record { can = a.can; strays = a.strays; plays = with_log input (turned p i x w) (advance setup i s) l (plays_on input p i x w s (advance setup i s) turning (own (can_advance setup s i) refl)); log = logs_with i s (advance setup i s) made g (thread_at p.whole i).came p.log a.came (at.1.shows.threads i).came; falls = falls (has_moved made) refl })
   where
     setup : Setup
     setup = setup_of input
@@ -637,7 +620,7 @@ records_made p i w o g made inside is there h input s at =
     u : lock.Thread
     u = thread_of s i
 
-    a : Advanced made i p.whole w (conditions_of input) s
+    a : Advanced made i g w (conditions_of input) s
     a = h (conditions_of input) s (at.0, at.1.shows) (given_next input p s i at.1 ∙ there)
 
     out : (job : Job) × (u.phase ≡ Outside job)
@@ -650,25 +633,22 @@ records_made p i w o g made inside is there h input s at =
     call = in_call input i x u calls (at.1.plays i)
 
     turning : Turning input p i x w s (advance setup i s)
-    turning = record { inside = inside; played = at.1; leaves = advance_leaves setup s i; shows = a.shows }
+    turning = record { inside = inside; played = at.1; leaves = event_leaves laws setup s (Advances i); shows = a.shows }
 
     own : (b : Bool) → can_advance setup s i ≡ b → Plays input i x (thread_of (advance setup i s) i)
-    own true can =
-        let m = move_of setup s i can in
-        let P : lock.Thread → Type 0 = Plays input i x in
-        subst P (sym (moved_thread setup s i m.0 m.1)) (within_plays input i x u m.0.thread call (call_stays setup i u m.0 calls (ap gives out.1) m.1))
-    own false off = let P : State → Type 0 = λ z. Plays input i x (thread_of z i) in subst P (sym (not_allowed setup (Advances i) s off)) (at.1.plays i)
+    own true can = within_plays input i x u (thread_of (advance setup i s) i) call (call_stays setup i u (thread_of (advance setup i s) i) calls (ap gives out.1) (laws.moved setup s i can))
+    own false off = let P : State → Type 0 = λ z. Plays input i x (thread_of z i) in subst P (sym (laws.not_allowed setup (Advances i) s off)) (at.1.plays i)
 
     falls : (b : Bool) → has_moved made ≡ b → Falls b p.whole.threads p.players w.threads (set p.players i x)
-    falls true e = falls_on input p i x w s (advance setup i s) turning (call_weighs input s i x calls call.free (a.can ∙ e))
-    falls false e = stays_on input p i x w s (advance setup i s) turning (same_weighs input s i x (a.can ∙ e))
+    falls true e = falls_on input p i x w s (advance setup i s) turning (call_weighs laws input s i x calls call.free (a.can ∙ e))
+    falls false e = stays_on input p i x w s (advance setup i s) turning (same_weighs laws input s i x (a.can ∙ e))
 
 -- ## Attempts
 
-pub attempts_made : (p : Played) (i : ℕ) (w : Whole) (made : Bool) → i < length p.players → shows.Attempts made i p.whole w → Attempted made i p (record p { whole = w })
-attempts_made p i w made inside h input s at =
+pub attempts_made : EventLaws → (p : Played) (i : ℕ) (w : Whole) (made : Bool) → i < length p.players → shows.Attempts made i p.whole w → Attempted made i p (record p { whole = w })
+attempts_made laws p i w made inside h input s at =
     subst (λ (y : Played). playing.Tried made i p y input s) (same_players p i w)
-    (record { can = a.0; plays = plays_on input p i x w s (attempt setup i s) turning (own (can_attempt setup s i) refl); log = a.2; falls = falls made refl })
+    (record { can = a.0; plays = plays_on input p i x w s (attempt setup i s) turning (own (can_attempt setup s i) refl); log = refl; falls = falls made refl })
   where
     setup : Setup
     setup = setup_of input
@@ -682,25 +662,25 @@ attempts_made p i w made inside h input s at =
     v : lock.Thread
     v = thread_of (attempt setup i s) i
 
-    a : (can_attempt setup s i ≡ made) × Shows (conditions_of input) w (attempt setup i s) × (w.log ≡ p.whole.log)
+    a : (can_attempt setup s i ≡ made) × Shows (conditions_of input) w (attempt setup i s)
     a = h (conditions_of input) s (at.0, at.1.shows)
 
     turning : Turning input p i x w s (attempt setup i s)
-    turning = record { inside = inside; played = at.1; leaves = attempt_leaves setup s i; shows = a.1 }
+    turning = record { inside = inside; played = at.1; leaves = event_leaves laws setup s (Attempts i); shows = a.1 }
 
     in_attempt : can_attempt setup s i ≡ true → IsInCall input i x u
-    in_attempt can = in_call input i x u (attempt_tried setup s i can).before (at.1.plays i)
+    in_attempt can = in_call input i x u (laws.tried setup s i can).before (at.1.plays i)
 
     own : (b : Bool) → can_attempt setup s i ≡ b → Plays input i x v
-    own true can = let g = attempt_tried setup s i can in within_plays input i x u v (in_attempt can) (record { asked = g.asked; replies = g.replies; inside = g.after })
-    own false off = let P : State → Type 0 = λ z. Plays input i x (thread_of z i) in subst P (sym (not_allowed setup (Attempts i) s off)) (at.1.plays i)
+    own true can = let g = laws.tried setup s i can in within_plays input i x u v (in_attempt can) (record { asked = g.asked; replies = g.replies; inside = g.after })
+    own false off = let P : State → Type 0 = λ z. Plays input i x (thread_of z i) in subst P (sym (laws.not_allowed setup (Attempts i) s off)) (at.1.plays i)
 
     falls : (b : Bool) → made ≡ b → Falls b p.whole.threads p.players w.threads (set p.players i x)
     falls true e =
         let can = a.0 ∙ e in
         let call = in_attempt can in
         let lines = lines_left x.actor in
-        falls_on input p i x w s (attempt setup i s) turning (subst (λ (b : Bool). weight_at v b lines < weight_at u b lines) (sym call.free) (attempt_falls (conditions_of input) i s lines can))
+        falls_on input p i x w s (attempt setup i s) turning (subst (λ (b : Bool). weight_at v b lines < weight_at u b lines) (sym call.free) (attempt_falls laws (conditions_of input) i s lines can))
     falls false e =
         stays_on input p i x w s (attempt setup i s) turning
-        (subst (λ (z : State). weighed (thread_of z i) x ≤ weighed u x) (sym (not_allowed setup (Attempts i) s (a.0 ∙ e))) (same_le (weighed u x)))
+        (subst (λ (z : State). weighed (thread_of z i) x ≤ weighed u x) (sym (laws.not_allowed setup (Attempts i) s (a.0 ∙ e))) (same_le (weighed u x)))

@@ -7,31 +7,28 @@ use Rattle.std.proofs.lemmas.Option.{none-some}
 use Rattle.input_log.specs.Format.{record_text, records_text}
 use Rattle.input_log.specs.declared.log.Record.{Record}
 use Rattle.posix_terms.specs.declared.limits.TheConstants.Limits as limit
-use Rattle.lock_model.specs.Machine.{Event, advance, attempt, can_advance, can_attempt, happens}
+use Rattle.lock_model.specs.Events.{EventLaws}
+use Rattle.lock_model.specs.Laws.{ArisesAtStart, ArisesByEvent}
+use Rattle.lock_model.specs.Machine.{Event, Setup, advance, attempt, can_advance, can_attempt, happens}
 use Rattle.lock_model.specs.Numbers.{first_world}
 use Rattle.lock_model.specs.Machine.Event.{Advances, Attempts}
-use Rattle.lock_model.specs.Schedule.{advance_by, attempt_by, next_event, plain_run}
+use Rattle.lock_model.specs.Schedule.{advance_by, after_event, attempt_by, next_event, plain, plain_run}
 use Rattle.lock_model.specs.State.{State, live_clocks, thread_of}
-use Rattle.logical_clocks.specs.TurnOrder.{first_below, first_or, turn_holder}
-use Rattle.logical_clocks.proofs.TurnLemmas.{first_below_found}
-use Rattle.lock_model.proofs.Arising.{arises_event, arises_start}
-use Rattle.lock_model.proofs.Ends.{one_more}
-use Rattle.lock_model.proofs.Diamond.{not_allowed}
+use Rattle.logical_clocks.specs.TurnOrder.{LeastIsFound, first_below, first_or, turn_holder}
 use Rattle.call_machine.specs.Driven.{Begins, ComesTo, Ends, IsLogged, Plainly, StaysAt, first_log}
-use Rattle.lock_machine.specs.Logs.{Written, came_between}
+use Rattle.call_machine.specs.Logs.{LogsMore, Written, came_between}
 use Rattle.call_machine.specs.Logs.{plain_records, recorded_by, recorded_next}
 use Rattle.call_machine.specs.Plain.{GoesTo}
 use Rattle.call_machine.specs.Playing.{Attempted, ComesAt, IsPlayed, Makes, Played}
 use Rattle.call_machine.specs.Setup.{Inputs, conditions_of, first_state, setup_of}
-use Rattle.lock_machine.specs.Shows.{LogsMore}
 use Rattle.call_machine.specs.Strays.{diverging, if_stray}
+use Rattle.lock_machine.specs.Shows.{ClocksShown}
 use Rattle.lock_machine.specs.Strays.{is_stray}
 use Rattle.lock_machine.specs.Views.{clocks_of}
 use Rattle.call_machine.specs.Weights.{Falls, total}
 use Rattle.call_machine.specs.declared.drive.Went.TheVariants as went
 use Rattle.lock_machine.specs.declared.outside.Progress.TheVariants as progress
 use Rattle.call_machine.proofs.Quiet.{attempt_came, logs_none, none_between}
-use Rattle.lock_machine.proofs.Turning.{clocks_shown}
 
 -- ## Strays and advances together
 
@@ -60,7 +57,7 @@ none_of_both (suc n) p q h = by_first (first_below n (λ i. p i || q i)) (p n ||
 pub record StaysSo (input : Inputs) (s : State) (n : ℕ) (old now : Played) : Type 0 where
   pub none : first_below n (stops_at input s) ≡ None
   pub plays : IsPlayed input now s
-  pub log : now.whole.log ≡ old.whole.log
+  pub log : now.log ≡ old.log
   pub falls : Falls false old.whole.threads old.players now.whole.threads now.players
 
 pub record NoneMoves (n : ℕ) (old now : Played) : Type 0 where
@@ -72,20 +69,20 @@ unfolding first_below
 none_at_first p = record { count = refl; holds = λ input s at. record { none = refl; plays = at.1; log = refl; falls = omega arith } }
 
 -- the log of an event that was not made is as it was
-unlogged : (input : Inputs) (s : State) (i : ℕ) (now new : Played) → can_advance (setup_of input) s i ≡ false → LogsMore (came_between i s (advance (setup_of input) i s)) now.whole.log new.whole.log → new.whole.log ≡ now.whole.log
-unlogged input s i now new stays log =
-    let same : advance (setup_of input) i s ≡ s = not_allowed (setup_of input) (Advances i) s stays in
+unlogged : EventLaws → (input : Inputs) (s : State) (i : ℕ) (now new : Played) → can_advance (setup_of input) s i ≡ false → LogsMore (came_between i s (advance (setup_of input) i s)) now.log new.log → new.log ≡ now.log
+unlogged laws input s i now new stays log =
+    let same : advance (setup_of input) i s ≡ s = laws.not_allowed (setup_of input) (Advances i) s stays in
     let none : came_between i s (advance (setup_of input) i s) ≡ [] = none_between i s (advance (setup_of input) i s) (ap (λ (z : State). (thread_of z i).came) same) in
-    let P : List Record → Type 0 = λ rs. LogsMore rs now.whole.log new.whole.log in
-    let h : LogsMore [] now.whole.log new.whole.log = subst P none log in
-    λ k. record { text = (h.0 ∙ append-nil now.whole.log.text) k; records = (h.1 ∙ no_more now.whole.log.records) k }
+    let P : List Record → Type 0 = λ rs. LogsMore rs now.log new.log in
+    let h : LogsMore [] now.log new.log = subst P none log in
+    λ k. record { text = (h.0 ∙ append-nil now.log.text) k; records = (h.1 ∙ no_more now.log.records) k }
   where
     no_more : (n : ℕ) → n + 0 ≡ n
     no_more n = omega arith
 
-pub one_more_none : (n : ℕ) (old now new : Played) → NoneMoves n old now → length new.players ≡ length now.players → Makes progress.Stays n now new → NoneMoves (n + 1) old new
+pub one_more_none : EventLaws → (n : ℕ) (old now new : Played) → NoneMoves n old now → length new.players ≡ length now.players → Makes progress.Stays n now new → NoneMoves (n + 1) old new
 unfolding first_below
-one_more_none n old now new h same still =
+one_more_none laws n old now new h same still =
     record {
       count = same ∙ h.count;
       holds = λ input s at.
@@ -95,8 +92,8 @@ one_more_none n old now new h same still =
           let stays : stops_at input s n ≡ false = ap₂ (λ (a b : Bool). a || b) next.can next.strays in
           record {
             none = ap (λ (k : ℕ). first_below k (stops_at input s)) (add_one n) ∙ ap (λ (o : Option ℕ). first_or o (stops_at input s n) n) so_far.none ∙ ap (λ (b : Bool). first_or None b n) stays;
-            plays = subst P (not_allowed (setup_of input) (Advances n) s next.can) next.plays;
-            log = unlogged input s n now new next.can next.log ∙ so_far.log;
+            plays = subst P (laws.not_allowed (setup_of input) (Advances n) s next.can) next.plays;
+            log = unlogged laws input s n now new next.can next.log ∙ so_far.log;
             falls = no_higher (total new.whole.threads new.players) (total now.whole.threads now.players) (total old.whole.threads old.players) next.falls so_far.falls;
           };
     }
@@ -117,35 +114,35 @@ lower a b c h g = omega arith
 seat_of : (input : Inputs) (p : Played) (s : State) → IsPlayed input p s → length p.players ≡ length s.threads
 seat_of input p s h = h.count ∙ sym h.shows.count
 
-pub advanced_next : (i : ℕ) (old now new : Played) → i < length old.players → NoneMoves i old now → Makes progress.Moves i now new → Plainly went.On old new
+pub advanced_next : LeastIsFound → (i : ℕ) (old now new : Played) → i < length old.players → NoneMoves i old now → Makes progress.Moves i now new → Plainly went.On old new
 unfolding next_event diverging
-advanced_next i old now new inside h moved input s at =
+advanced_next found i old now new inside h moved input s at =
     let so_far = h.holds input s at in
     let next = moved input s (at.0, so_far.plays) in
     let within : i < length s.threads = subst (λ (n : ℕ). i < n) (seat_of input old s at.1) inside in
     let stops : stops_at input s i ≡ true = ap₂ (λ (a b : Bool). a || b) next.can next.strays in
     record {
-      straight = ap (if_stray (setup_of input) s) (first_below_found (length s.threads) i (stops_at input s) within so_far.none stops) ∙ cond-false (is_stray (setup_of input) s i) (Some i) None next.strays;
+      straight = ap (if_stray (setup_of input) s) (found (length s.threads) i (stops_at input s) within so_far.none stops) ∙ cond-false (is_stray (setup_of input) s i) (Some i) None next.strays;
       event = Advances i;
-      next = ap (advance_by (setup_of input) s) (first_below_found (length s.threads) i (can_advance (setup_of input) s) within (none_of_both i (can_advance (setup_of input) s) (is_stray (setup_of input) s) so_far.none) next.can);
+      next = ap (advance_by (setup_of input) s) (found (length s.threads) i (can_advance (setup_of input) s) within (none_of_both i (can_advance (setup_of input) s) (is_stray (setup_of input) s) so_far.none) next.can);
       plays = next.plays;
-      log = relogged (came_between i s (advance (setup_of input) i s)) old.whole.log now.whole.log new.whole.log so_far.log next.log;
+      log = relogged (came_between i s (advance (setup_of input) i s)) old.log now.log new.log so_far.log next.log;
       falls = lower (total new.whole.threads new.players) (total now.whole.threads now.players) (total old.whole.threads old.players) next.falls so_far.falls;
     }
 
-pub strayed_next : (i : ℕ) (old now new : Played) → i < length old.players → NoneMoves i old now → Makes progress.Strays i now new → Plainly (went.Strays i) old new
+pub strayed_next : EventLaws → LeastIsFound → (i : ℕ) (old now new : Played) → i < length old.players → NoneMoves i old now → Makes progress.Strays i now new → Plainly (went.Strays i) old new
 unfolding diverging
-strayed_next i old now new inside h strayed input s at =
+strayed_next laws found i old now new inside h strayed input s at =
     let so_far = h.holds input s at in
     let next = strayed input s (at.0, so_far.plays) in
     let within : i < length s.threads = subst (λ (n : ℕ). i < n) (seat_of input old s at.1) inside in
     let stops : stops_at input s i ≡ true = ap₂ (λ (a b : Bool). a || b) next.can next.strays in
     let P : State → Type 0 = IsPlayed input new in
     record {
-      strays = ap (if_stray (setup_of input) s) (first_below_found (length s.threads) i (stops_at input s) within so_far.none stops) ∙ cond-true (is_stray (setup_of input) s i) (Some i) None next.strays;
+      strays = ap (if_stray (setup_of input) s) (found (length s.threads) i (stops_at input s) within so_far.none stops) ∙ cond-true (is_stray (setup_of input) s i) (Some i) None next.strays;
       over = λ none. absurd (none-some i (sym none));
-      plays = subst P (not_allowed (setup_of input) (Advances i) s next.can) next.plays;
-      log = unlogged input s i now new next.can next.log ∙ so_far.log;
+      plays = subst P (laws.not_allowed (setup_of input) (Advances i) s next.can) next.plays;
+      log = unlogged laws input s i now new next.can next.log ∙ so_far.log;
     }
 
 -- no thread makes an event without the turn
@@ -153,7 +150,7 @@ record Quiet (input : Inputs) (s : State) (old now : Played) : Type 0 where
   straight : diverging (setup_of input) s ≡ None
   next : next_event (setup_of input) s ≡ attempt_by (setup_of input) s (turn_holder (live_clocks s))
   plays : IsPlayed input now s
-  log : now.whole.log ≡ old.whole.log
+  log : now.log ≡ old.log
   falls : Falls false old.whole.threads old.players now.whole.threads now.players
 
 none_advances : (n : ℕ) (old now : Played) → n ≡ length old.players → NoneMoves n old now → (input : Inputs) (s : State) → ComesAt old input s → Quiet input s old now
@@ -169,62 +166,68 @@ none_advances n old now whole h input s at =
       falls = so_far.falls;
     }
 
-holder_is : (input : Inputs) (p : Played) (s : State) (o : Option ℕ) → IsPlayed input p s → turn_holder (clocks_of p.whole.threads) ≡ o → attempt_by (setup_of input) s (turn_holder (live_clocks s)) ≡ attempt_by (setup_of input) s o
-holder_is input p s o h e = ap (attempt_by (setup_of input) s) (ap turn_holder (clocks_shown (conditions_of input) p.whole s h.shows) ∙ e)
+holder_is : ClocksShown → (input : Inputs) (p : Played) (s : State) (o : Option ℕ) → IsPlayed input p s → turn_holder (clocks_of p.whole.threads) ≡ o → attempt_by (setup_of input) s (turn_holder (live_clocks s)) ≡ attempt_by (setup_of input) s o
+holder_is clocks input p s o h e = ap (attempt_by (setup_of input) s) (ap turn_holder (clocks (conditions_of input) p.whole s h.shows) ∙ e)
 
-pub over_next : (n : ℕ) (old now : Played) → n ≡ length old.players → NoneMoves n old now → turn_holder (clocks_of now.whole.threads) ≡ None → Plainly went.Over old now
-over_next n old now whole h none input s at =
+pub over_next : ClocksShown → (n : ℕ) (old now : Played) → n ≡ length old.players → NoneMoves n old now → turn_holder (clocks_of now.whole.threads) ≡ None → Plainly went.Over old now
+over_next clocks n old now whole h none input s at =
     let q = none_advances n old now whole h input s at in
-    record { strays = q.straight; over = λ _. q.next ∙ holder_is input now s None q.plays none; plays = q.plays; log = q.log }
+    record { strays = q.straight; over = λ _. q.next ∙ holder_is clocks input now s None q.plays none; plays = q.plays; log = q.log }
 
-pub attempted_next : (n i : ℕ) (old now new : Played) → n ≡ length old.players → NoneMoves n old now → turn_holder (clocks_of now.whole.threads) ≡ Some i → Attempted true i now new → Plainly went.On old new
-attempted_next n i old now new whole h holder made input s at =
+pub attempted_next : EventLaws → ClocksShown → (n i : ℕ) (old now new : Played) → n ≡ length old.players → NoneMoves n old now → turn_holder (clocks_of now.whole.threads) ≡ Some i → Attempted true i now new → Plainly went.On old new
+attempted_next laws clocks n i old now new whole h holder made input s at =
     let q = none_advances n old now whole h input s at in
     let tried = made input s (at.0, q.plays) in
-    let none : came_between i s (attempt (setup_of input) i s) ≡ [] = none_between i s (attempt (setup_of input) i s) (attempt_came (setup_of input) s i) in
+    let none : came_between i s (attempt (setup_of input) i s) ≡ [] = none_between i s (attempt (setup_of input) i s) (attempt_came laws (setup_of input) s i) in
     record {
       straight = q.straight;
       event = Attempts i;
-      next = q.next ∙ holder_is input now s (Some i) q.plays holder ∙ cond-true (can_attempt (setup_of input) s i) (Some (Attempts i)) None tried.can;
+      next = q.next ∙ holder_is clocks input now s (Some i) q.plays holder ∙ cond-true (can_attempt (setup_of input) s i) (Some (Attempts i)) None tried.can;
       plays = tried.plays;
-      log = logs_none (came_between i s (attempt (setup_of input) i s)) old.whole.log new.whole.log none (tried.log ∙ q.log);
+      log = logs_none (came_between i s (attempt (setup_of input) i s)) old.log new.log none (tried.log ∙ q.log);
       falls = lower (total new.whole.threads new.players) (total now.whole.threads now.players) (total old.whole.threads old.players) tried.falls q.falls;
     }
 
-pub refused_next : (n i : ℕ) (old now new : Played) → n ≡ length old.players → NoneMoves n old now → turn_holder (clocks_of now.whole.threads) ≡ Some i → Attempted false i now new → Plainly went.Over old new
-refused_next n i old now new whole h holder made input s at =
+pub refused_next : EventLaws → ClocksShown → (n i : ℕ) (old now new : Played) → n ≡ length old.players → NoneMoves n old now → turn_holder (clocks_of now.whole.threads) ≡ Some i → Attempted false i now new → Plainly went.Over old new
+refused_next laws clocks n i old now new whole h holder made input s at =
     let q = none_advances n old now whole h input s at in
     let tried = made input s (at.0, q.plays) in
     let P : State → Type 0 = IsPlayed input new in
     record {
       strays = q.straight;
-      over = λ _. q.next ∙ holder_is input now s (Some i) q.plays holder ∙ cond-false (can_attempt (setup_of input) s i) (Some (Attempts i)) None tried.can;
-      plays = subst P (not_allowed (setup_of input) (Attempts i) s tried.can) tried.plays;
+      over = λ _. q.next ∙ holder_is clocks input now s (Some i) q.plays holder ∙ cond-false (can_attempt (setup_of input) s i) (Some (Attempts i)) None tried.can;
+      plays = subst P (laws.not_allowed (setup_of input) (Attempts i) s tried.can) tried.plays;
       log = tried.log ∙ q.log;
     }
 
 -- ## The run
 
-pub at_the_start : (input : Inputs) (p : Played) → Begins input p → ComesTo input p
+-- one event of the plain run more
+pub run_next : (setup : Setup) (n : ℕ) (first : State) → plain_run setup (suc n) first ≡ (let s = plain_run setup n first in after_event setup s (next_event setup s))
+unfolding plain_run plain
+run_next setup zero first = refl
+run_next setup (suc n) first = run_next setup n (plain setup first)
+
+pub at_the_start : ArisesAtStart → (input : Inputs) (p : Played) → Begins input p → ComesTo input p
 unfolding plain_run plain_records
-at_the_start input p h =
+at_the_start starts input p h =
     record {
       state = first_state input;
       count = 0;
       goes = record { reached = refl; straight = λ k less. absurd (no_less k less) };
-      arises = arises_start (setup_of input) (length input.scripts) limit.OBJECTS first_world;
+      arises = starts (setup_of input) (length input.scripts) limit.OBJECTS first_world;
       plays = h.plays;
-      log = logs_none [] (first_log input) p.whole.log refl h.log;
+      log = logs_none [] (first_log input) p.log refl h.log;
     }
   where
     no_less : (k : ℕ) → k < 0 → ⊥
     no_less k less = omega arith
 
--- one event more
+-- so the run goes on
 goes_on_by : (input : Inputs) (count : ℕ) (s : State) (e : Event) → GoesTo (setup_of input) (first_state input) count s → diverging (setup_of input) s ≡ None → next_event (setup_of input) s ≡ Some e → GoesTo (setup_of input) (first_state input) (suc count) (happens (setup_of input) e s)
 goes_on_by input count s e goes straight next =
     record {
-      reached = one_more (setup_of input) (first_state input) s count e goes.reached next;
+      reached = run_next (setup_of input) count (first_state input) ∙ ap (λ (z : State). after_event (setup_of input) z (next_event (setup_of input) z)) goes.reached ∙ ap (after_event (setup_of input) s) next;
       straight = λ k less. by_place k less (cases_eq k count);
     }
   where
@@ -251,17 +254,17 @@ logged_on input count s e old new reached next before more =
     sums : (a b : ℕ) → 0 + a + b ≡ 0 + (a + b)
     sums a b = omega arith
 
-pub comes_on : (input : Inputs) (old new : Played) → ComesTo input old → Plainly went.On old new → ComesTo input new
-comes_on input old new h next =
+pub comes_on : ArisesByEvent → (input : Inputs) (old new : Played) → ComesTo input old → Plainly went.On old new → ComesTo input new
+comes_on by_event input old new h next =
     let setup = setup_of input in
     let now = next input h.state (h.arises, h.plays) in
     record {
       state = happens setup now.event h.state;
       count = suc h.count;
       goes = goes_on_by input h.count h.state now.event h.goes now.straight now.next;
-      arises = arises_event setup (first_state input) h.state now.event h.arises;
+      arises = by_event setup (first_state input) h.state now.event h.arises;
       plays = now.plays;
-      log = logged_on input h.count h.state now.event old.whole.log new.whole.log h.goes.reached now.next h.log now.log;
+      log = logged_on input h.count h.state now.event old.log new.log h.goes.reached now.next h.log now.log;
     }
 
 -- which lowers what the scripts can still do

@@ -1,11 +1,9 @@
 -- The thread and the script of a driver's seat, as the code reads them.
 use Rattle.std.proofs.Common.{◌≡◌, ℕ, zero, suc, ◌<◌, ◌≤◌, List, [], ◌∷◌, length, get_or, set, slice_get, Option, Some, None, Bool, true, sym, refl, ap, ap₂, ◌∙◌, subst, arith}
 use Rattle.std.proofs.lemmas.Bool.Decides.{nat_tests}
-use Rattle.std.proofs.lemmas.List.{get_or_past, get_or-set_same, length-set}
+use Rattle.std.proofs.lemmas.List.{get_or_default, get_or_past, get_or-set_same, length-set}
 use Rattle.std.proofs.lemmas.Option.{slice_get_past, slice_get_read}
 use Rattle.std.specs.Prelude.{nat_lt}
-use Rattle.object_store.proofs.Lists.{item_is}
-use Rattle.posix_terms.specs.declared.call.Call.{Call}
 use Rattle.posix_terms.specs.declared.outcome.Given.{Given}
 use Rattle.thread_scripts.specs.Meaning.{next_of}
 use Rattle.object_store.specs.declared.patience.TurnEnd.{TurnEnd}
@@ -28,10 +26,14 @@ got_at xs i x inside is = slice_get_read xs (length xs) i x refl (lt-true inside
 pub seated : (d : Driver) (i : ℕ) → i < length d.players.items → i < length d.machine.threads
 seated d i inside = subst (λ (n : ℕ). i < n) d.seats inside
 
+-- an element that was found is there whatever stands past the last
+item_is : {A : Type 0} (xs : List A) (i : ℕ) (x d : A) → i < length xs → x ≡ get_or xs i x → get_or xs i d ≡ x
+item_is xs i x d inside h = get_or_default xs i d x inside ∙ sym h
+
 -- ## The thread
 
 pub idle_else : (p : Phase) → (p ≡ phase.Working → ⊥) → ((row : ℕ) (object : Option ℕ) (ends : TurnEnd) → p ≡ phase.Granted row object ends → ⊥) → ((o : Outing) → p ≡ phase.ToOutside o → ⊥) → ((o : Outing) → p ≡ phase.Outside o → ⊥) → ((o : Outing) → p ≡ phase.Recorded o → ⊥)
-    → ((call : Call) (turns : ℕ) → p ≡ phase.Blocked call turns → ⊥) → is_idle p ≡ true
+    → ((turns : ℕ) → p ≡ phase.Blocked turns → ⊥) → is_idle p ≡ true
 idle_else phase.Working works grants goes comes records blocks = absurd (works refl)
 idle_else (phase.WantsTable call turns) works grants goes comes records blocks = refl
 idle_else (phase.WantsObject call turns clock object) works grants goes comes records blocks = refl
@@ -39,7 +41,7 @@ idle_else (phase.Granted row object ends) works grants goes comes records blocks
 idle_else (phase.ToOutside o) works grants goes comes records blocks = absurd (goes o refl)
 idle_else (phase.Outside o) works grants goes comes records blocks = absurd (comes o refl)
 idle_else (phase.Recorded o) works grants goes comes records blocks = absurd (records o refl)
-idle_else (phase.Blocked call turns) works grants goes comes records blocks = absurd (blocks call turns refl)
+idle_else (phase.Blocked turns) works grants goes comes records blocks = absurd (blocks turns refl)
 idle_else phase.Ended works grants goes comes records blocks = refl
 
 -- ## The script

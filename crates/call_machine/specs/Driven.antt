@@ -5,12 +5,10 @@ use Rattle.lock_model.specs.Machine.{Event, happens}
 use Rattle.lock_model.specs.Runs.{Arises}
 use Rattle.lock_model.specs.Schedule.{IsOver, next_event}
 use Rattle.lock_model.specs.State.{State}
-use Rattle.lock_machine.specs.Logs.{Written}
-use Rattle.call_machine.specs.Logs.{plain_records, recorded_by}
+use Rattle.call_machine.specs.Logs.{LogsMore, Written, plain_records, recorded_by}
 use Rattle.call_machine.specs.Plain.{GoesTo, header_of}
 use Rattle.call_machine.specs.Setup.{Inputs, first_state, setup_of}
 use Rattle.call_machine.specs.Playing.{ComesAt, IsPlayed, Played}
-use Rattle.lock_machine.specs.Shows.{LogsMore}
 use Rattle.lock_machine.specs.declared.refused.Refused.{Refused}
 use Rattle.lock_machine.specs.declared.refused.Refused.TheVariants as refused
 use Rattle.call_machine.specs.Weights.{Falls}
@@ -24,7 +22,7 @@ pub record GoesOn (input : Inputs) (s : State) (old new : Played) : Type 0 where
   pub event : Event
   pub next : next_event (setup_of input) s ≡ Some event
   pub plays : IsPlayed input new (happens (setup_of input) event s)
-  pub log : LogsMore (recorded_by (setup_of input) s event) old.whole.log new.whole.log
+  pub log : LogsMore (recorded_by (setup_of input) s event) old.log new.log
   pub falls : Falls true old.whole.threads old.players new.whole.threads new.players
 
 -- the run stays where it is: it diverges at this thread, or no event is next
@@ -32,7 +30,7 @@ pub record StaysAt (input : Inputs) (s : State) (strayed : Option ℕ) (old new 
   pub strays : diverging (setup_of input) s ≡ strayed
   pub over : strayed ≡ None → IsOver (setup_of input) s
   pub plays : IsPlayed input new s
-  pub log : new.whole.log ≡ old.whole.log
+  pub log : new.log ≡ old.log
 
 abbrev pub WentSo : Went → Inputs → State → Played → Played → Type 0
 WentSo went.On input s old new = GoesOn input s old new
@@ -56,7 +54,7 @@ pub record ComesTo (input : Inputs) (p : Played) : Type 0 where
   pub goes : GoesTo (setup_of input) (first_state input) count state
   pub arises : Arises (setup_of input) (first_state input) state
   pub plays : IsPlayed input p state
-  pub log : IsLogged input count p.whole.log
+  pub log : IsLogged input count p.log
 
 -- the plain run has come to its end, or diverges at this thread
 pub record Ends (input : Inputs) (strayed : Option ℕ) (p : Played) : Type 0 where
@@ -67,12 +65,12 @@ pub record Ends (input : Inputs) (strayed : Option ℕ) (p : Played) : Type 0 wh
   pub over : strayed ≡ None → IsOver (setup_of input) last
   pub arises : Arises (setup_of input) (first_state input) last
   pub plays : IsPlayed input p last
-  pub log : IsLogged input count p.whole.log
+  pub log : IsLogged input count p.log
 
 -- from a run at its start
 pub record Begins (input : Inputs) (p : Played) : Type 0 where
   pub plays : IsPlayed input p (first_state input)
-  pub log : p.whole.log ≡ first_log input
+  pub log : p.log ≡ first_log input
 
 -- what an event of the machine gave, if it was made
 abbrev pub IsTold : {A : Type 0} → Result A Refused → Option A → Type 0

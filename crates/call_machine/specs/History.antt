@@ -1,39 +1,16 @@
 -- The history of a run, and what each thread saw of it.
-use Rattle.std.specs.Prelude.{◌≡◌, ℕ, zero, suc, List, [], ◌∷◌, ◌++◌, Option, Some, None, true, if◌then◌else◌, ◌==◌}
-use Rattle.posix_terms.specs.declared.reply.Answer.{Answer}
-use Rattle.posix_terms.specs.declared.reply.Answer.TheVariants as answer
+use Rattle.std.specs.Prelude.{ℕ, zero, suc, List, [], ◌∷◌, ◌++◌}
 use Rattle.posix_terms.specs.declared.transcript.HistoryRow.{HistoryRow}
 use Rattle.posix_terms.specs.declared.transcript.Row.{Row}
-use Rattle.posix_terms.specs.declared.transcript.Turn.{Turn}
 use Rattle.thread_scripts.specs.declared.actor.Step.{Step}
-use Rattle.logical_clocks.specs.TurnOrder.{is_before}
+pub use Rattle.logged_machine.specs.History.{AreRising, IsBeforeAll, reply_before, transcript_of}
 
 -- the granted turns in their order, and the steps that each thread asked
 pub record Past : Type 0 where
   pub rows : List HistoryRow
   pub asked : List (List Step)
 
--- what a row replied, before what the rows behind it did
-abbrev pub reply_before : HistoryRow → Option Answer → List Row → List Row
-reply_before row (Some (answer.Reply reply)) rows = record { call = row.call; turn = row.turn; reply = reply } ∷ rows
-reply_before row (Some answer.Again) rows = rows
-reply_before row None rows = rows
-
--- the rows of a thread that were answered with a reply
-abbrev pub transcript_of : ℕ → List HistoryRow → List Row
-transcript_of thread [] = []
-transcript_of thread (row ∷ rows) = if row.turn.thread == thread then reply_before row row.answer (transcript_of thread rows) else transcript_of thread rows
-
 -- those of the first threads, so many
 abbrev pub transcripts_of : ℕ → List HistoryRow → List (List Row)
 transcripts_of zero rows = []
 transcripts_of (suc n) rows = transcripts_of n rows ++ transcript_of n rows ∷ []
-
-abbrev pub IsBeforeAll : Turn → List HistoryRow → Type 0
-IsBeforeAll turn [] = Unit {0}
-IsBeforeAll turn (row ∷ rows) = (is_before turn row.turn ≡ true) × IsBeforeAll turn rows
-
--- each turn comes before all later ones
-abbrev pub AreRising : List HistoryRow → Type 0
-AreRising [] = Unit {0}
-AreRising (row ∷ rows) = IsBeforeAll row.turn rows × AreRising rows

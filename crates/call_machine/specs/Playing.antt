@@ -11,9 +11,9 @@ use Rattle.lock_model.specs.ScriptPrograms.{at_start, reached_after}
 use Rattle.lock_model.specs.State as lock
 use Rattle.lock_model.specs.State.{State, thread_of}
 use Rattle.lock_model.specs.State.Phase.{Ended, Working}
-use Rattle.lock_machine.specs.Logs.{came_between}
+use Rattle.call_machine.specs.Logs.{LogsMore, Written, came_between}
 use Rattle.call_machine.specs.Setup.{Inputs, conditions_of, first_state, script_of, setup_of}
-use Rattle.lock_machine.specs.Shows.{LogsMore, Shows, has_moved, has_strayed}
+use Rattle.lock_machine.specs.Shows.{Shows, has_moved, has_strayed}
 use Rattle.lock_machine.specs.Whole.{Whole}
 use Rattle.lock_machine.specs.Strays.{is_stray}
 use Rattle.call_machine.specs.Weights.{Falls}
@@ -26,9 +26,10 @@ pub record Played : Type 0 where
   pub whole : Whole
   pub players : List Player
   pub outcomes : List (List Given)
+  pub log : Written
 
 abbrev pub played_of : Driver → Played
-played_of d = record { whole = d.machine; players = d.players.items; outcomes = d.outcomes.items }
+played_of d = record { whole = d.machine; players = d.players.items; outcomes = d.outcomes.items; log = d.log }
 
 -- past the last thread
 abbrev pub no_player : Player
@@ -92,7 +93,7 @@ pub record Made (made : Progress) (i : ℕ) (old new : Played) (input : Inputs) 
   pub can : can_advance (setup_of input) s i ≡ has_moved made
   pub strays : is_stray (setup_of input) s i ≡ has_strayed made
   pub plays : IsPlayed input new (advance (setup_of input) i s)
-  pub log : LogsMore (came_between i s (advance (setup_of input) i s)) old.whole.log new.whole.log
+  pub log : LogsMore (came_between i s (advance (setup_of input) i s)) old.log new.log
   pub falls : Falls (has_moved made) old.whole.threads old.players new.whole.threads new.players
 
 abbrev pub Makes : Progress → ℕ → Played → Played → Type 0
@@ -102,7 +103,7 @@ Makes made i old new = (input : Inputs) (s : State) → ComesAt old input s → 
 pub record Tried (made : Bool) (i : ℕ) (old new : Played) (input : Inputs) (s : State) : Type 0 where
   pub can : can_attempt (setup_of input) s i ≡ made
   pub plays : IsPlayed input new (attempt (setup_of input) i s)
-  pub log : new.whole.log ≡ old.whole.log
+  pub log : new.log ≡ old.log
   pub falls : Falls made old.whole.threads old.players new.whole.threads new.players
 
 abbrev pub Attempted : Bool → ℕ → Played → Played → Type 0

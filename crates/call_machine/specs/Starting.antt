@@ -1,19 +1,21 @@
 -- A run at its start, and what it comes to.
 use Rattle.std.specs.Prelude.{ℕ, List, ◌++◌, get_or, length, map, Option, Some, None, Bool, true, false}
-use Rattle.input_log.specs.Format.{closing}
+use Rattle.input_log.specs.Format.{closing, header_text}
 use Rattle.input_log.specs.declared.log.Header.{Header}
 use Rattle.thread_scripts.specs.Meaning.{start_of}
 use Rattle.thread_scripts.specs.declared.line.Line.{Line}
 use Rattle.call_machine.specs.History.{transcripts_of}
 use Rattle.call_machine.specs.Plain.{all_true}
+use Rattle.call_machine.specs.Logs.{Written}
 use Rattle.call_machine.specs.Playing.{Played}
 use Rattle.lock_machine.specs.Starting.{first_whole}
 use Rattle.lock_machine.specs.Whole.{Whole}
 use Rattle.lock_machine.specs.Views.{clocks_of, no_thread}
-use Rattle.call_machine.specs.declared.fault.Stop.{Stop}
-use Rattle.call_machine.specs.declared.fault.Stop.TheVariants as stop
+use Rattle.logged_machine.specs.declared.stop.Stop.{Stop}
+use Rattle.logged_machine.specs.declared.stop.Stop.TheVariants as stop
 use Rattle.logical_clocks.specs.TurnOrder.{turn_holder}
 use Rattle.posix_terms.specs.declared.outcome.Given.{Given}
+use Rattle.posix_terms.specs.declared.transcript.Settings.{Settings}
 use Rattle.call_machine.specs.declared.players.Player.{Player}
 use Rattle.call_machine.specs.declared.plain.Plain.{Plain}
 use Rattle.lock_machine.specs.declared.thread.Phase.{Phase}
@@ -24,8 +26,17 @@ use Rattle.lock_machine.specs.Threads.{Thread}
 abbrev pub first_player : List Line → Player
 first_player script = record { actor = start_of script; last = None; stuck = false }
 
+abbrev pub settings_of : Header → Settings
+settings_of header = record { patience = header.patience; door_cost = header.door_cost }
+
 abbrev pub first_played : Header → List (List Line) → List (List Given) → Played
-first_played header scripts outcomes = record { whole = first_whole header (length scripts); players = map first_player scripts; outcomes = outcomes }
+first_played header scripts outcomes =
+    record {
+      whole = first_whole (settings_of header) (length scripts);
+      players = map first_player scripts;
+      outcomes = outcomes;
+      log = record { text = header_text header; records = 0 };
+    }
 
 abbrev pub is_ended : Phase → Bool
 is_ended phase.Ended = true
@@ -46,12 +57,12 @@ stop_told threads (Some i) = let t : Thread = get_or threads i no_thread in Some
 stop_told threads None = stop_for threads (turn_holder (clocks_of threads))
 
 -- what a run tells that has come to its end, or diverged at this thread
-abbrev pub told : Option ℕ → Whole → Plain
-told strayed w =
+abbrev pub told : Option ℕ → Whole → Written → Plain
+told strayed w log =
     let ended = map (λ (t : Thread). is_ended t.phase) w.threads in
     record {
       transcripts = transcripts_of (length w.threads) w.rows;
       history = record { rows = w.rows; asked = map (λ (t : Thread). t.asked) w.threads };
-      log = w.log.text ++ closing (all_true ended) w.log.records;
+      log = log.text ++ closing (all_true ended) log.records;
       stop = stop_told w.threads strayed;
     }

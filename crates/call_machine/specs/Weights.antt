@@ -15,7 +15,7 @@ left_in (phase.Granted row object ends) stuck lines = 2 * lines + 2
 left_in (phase.ToOutside outing) stuck lines = 2 * lines + 5
 left_in (phase.Outside outing) stuck lines = 2 * lines + 4
 left_in (phase.Recorded outing) stuck lines = 2 * lines + 3
-left_in (phase.Blocked call turns) stuck lines = 2 * lines + 3
+left_in (phase.Blocked turns) stuck lines = 2 * lines + 3
 left_in phase.Ended stuck lines = 0
 
 unfoldable pub weight : Thread → Player → ℕ

@@ -4,17 +4,24 @@ ghost use Rattle.call_machine.specs.Driven.{Begins, Ends, IsTold, Plainly};
 ghost use Rattle.call_machine.specs.Playing.{Attempted, Makes, hears, played_of};
 ghost use Rattle.call_machine.specs.Setup.{Inputs};
 ghost use Rattle.lock_machine.specs.Refusals.{Comes, has_answer, is_outside, phase_at, works};
-ghost use Rattle.lock_machine.specs.Shows.{AsksFor};
-ghost use Rattle.call_machine.specs.Starting.{first_played};
+ghost use Rattle.lock_machine.specs.Shows.{AsksFor, ClocksShown};
+ghost use Rattle.lock_model.specs.Events.{EventLaws};
+ghost use Rattle.lock_model.specs.Laws.{ArisesAtStart, ArisesByEvent};
+ghost use Rattle.logical_clocks.specs.TurnOrder.{LeastIsFound};
+ghost use Rattle.thread_scripts.specs.Laws.{RunsEnd};
+ghost use Rattle.call_machine.specs.Starting.{first_played, settings_of};
 ghost use Rattle.lock_machine.specs.declared.outside.Progress.TheVariants as progress;
 
 use crate::driver::Driver;
+use crate::log::Log;
 use crate::players::first_players;
-use input_log::Header;
-use lock_machine::{LockMachine, Phase, Progress, Refused};
-use posix_terms::{Answer, Outcomes};
+use input_log::{Header, Record};
+use lock_machine::{LockMachine, Phase, Progress, Refused, clocks_are_shown};
+use lock_model::{arising_states, one_event};
+use logical_clocks::least_is_found;
+use posix_terms::{Answer, Given, Outcomes, Settings};
 use std::alloc::{AllocError, Global};
-use thread_scripts::{Script, Step};
+use thread_scripts::{Script, Step, runs_end};
 
 // How a run went on.
 #[derive(Clone, Copy)]
@@ -40,9 +47,10 @@ impl Driver {
         ensures { IfOk result (λ driver. played_of driver ≡ first_played header scripts.items outcomes.items) }
     {
         Ok(Driver {
-            machine: LockMachine::new(alloc, scripts.len(), header)?,
+            machine: LockMachine::new(alloc, scripts.len(), settings_of(header))?,
             players: first_players(alloc, scripts)?,
             outcomes,
+            log: Log::new(alloc, header)?,
         })
     }
 
@@ -52,6 +60,7 @@ impl Driver {
         requires { (input : Inputs) × Begins input (played_of self.old) }
         ensures { IfOk result (λ strayed. (input : Inputs) → Begins input (played_of self.old) → Ends input strayed (played_of self.new)) }
     {
+        laws();
         loop {
             match self.step(alloc)? {
                 Went::On => {}
@@ -67,6 +76,7 @@ impl Driver {
     fn step(&mut self, alloc: Global) -> Result<Went, AllocError>
         ensures { IfOk result (λ went. Plainly went (played_of self.old) (played_of self.new)) }
     {
+        laws();
         for i in 0..self.players.len() {
             match self.advance(alloc, i)? {
                 Progress::Moves => return Ok(Went::On),
@@ -77,7 +87,7 @@ impl Driver {
         let Some(i) = self.machine.turn_holder() else {
             return Ok(Went::Over);
         };
-        if self.attempt(alloc, i)? {
+        if self.attempt(i)? {
             Ok(Went::On)
         } else {
             Ok(Went::Over)
@@ -90,6 +100,7 @@ impl Driver {
         ensures event { IfOk result (λ made. Makes made i (played_of self.old) (played_of self.new)) }
         ensures count { length self.new.players.items ≡ length self.old.players.items }
     {
+        laws();
         match self.machine.phase(i) {
             Phase::Working => self.ask(i),
             Phase::Granted { .. } => self.answer(i),
@@ -114,6 +125,7 @@ impl Driver {
         ensures event { IfOk result (λ made. Makes made i (played_of self.old) (played_of self.new)) }
         ensures count { length self.new.players.items ≡ length self.old.players.items }
     {
+        laws();
         if self.players[i].stuck {
             return Ok(Progress::Stays);
         }
@@ -123,33 +135,50 @@ impl Driver {
         Ok(progress(moved))
     }
 
-    // The next outcome of thread i, which is outside, comes.
+    // The next outcome of thread i, which is outside, comes: it goes into the log, and then to the machine.
     fn record(&mut self, alloc: Global, i: usize) -> Result<Progress, AllocError>
         requires inside { i < length self.old.players.items }
         requires outside { is_outside (phase_at self.old.machine i) ≡ true }
         ensures event { IfOk result (λ made. Makes made i (played_of self.old) (played_of self.new)) }
         ensures count { length self.new.players.items ≡ length self.old.players.items }
     {
-        let came = self.machine.came(i) as usize;
+        laws();
+        let number = self.machine.came(i);
         let Some(outcomes) = self.outcomes.get(i) else {
             return Ok(Progress::Stays);
         };
-        match outcomes.as_slice().get(came) {
-            Some(given) => {
-                let made = told(self.machine.record(alloc, i, given))?;
-                Ok(made.unwrap_or(Progress::Stays))
-            }
-            None => Ok(Progress::Stays),
+        let Some(given) = outcomes.as_slice().get(number as usize) else {
+            return Ok(Progress::Stays);
+        };
+        match self.machine.outlook(i, given) {
+            Progress::Moves => {}
+            other => return Ok(other),
         }
+        // No machine has more threads than a record can name.
+        let _ = self.machine.len();
+        let item = Record {
+            thread: i as u16,
+            number,
+            kind: given.kind,
+            outcome: given.outcome.try_clone()?,
+        };
+        self.log.append(alloc, &item)?;
+        let given = Given {
+            kind: item.kind,
+            outcome: item.outcome,
+        };
+        let made = told(self.machine.record(i, given))?;
+        Ok(made.unwrap_or(Progress::Stays))
     }
 
     // Thread i attempts the lock that it wants, where it has the turn, and tells whether it could.
-    fn attempt(&mut self, alloc: Global, i: usize) -> Result<bool, AllocError>
+    fn attempt(&mut self, i: usize) -> Result<bool, AllocError>
         requires { i < length self.old.players.items }
         ensures event { IfOk result (λ made. Attempted made i (played_of self.old) (played_of self.new)) }
         ensures count { length self.new.players.items ≡ length self.old.players.items }
     {
-        Ok(told(self.machine.attempt(alloc, i))?.is_some())
+        laws();
+        Ok(told(self.machine.attempt(i))?.is_some())
     }
 
     // The call of thread i has its answer, and the script hears it.
@@ -159,6 +188,7 @@ impl Driver {
         ensures event { IfOk result (λ made. Makes made i (played_of self.old) (played_of self.new)) }
         ensures count { length self.new.players.items ≡ length self.old.players.items }
     {
+        laws();
         let told = told(self.machine.answer(i))?;
         Ok(self.hear(i, told))
     }
@@ -208,4 +238,30 @@ fn progress(moved: bool) -> Progress
     } else {
         Progress::Stays
     }
+}
+
+// The settings that a header tells.
+fn settings_of(header: Header) -> Settings
+    ensures { result ≡ settings_of header }
+{
+    Settings {
+        patience: header.patience,
+        door_cost: header.door_cost,
+    }
+}
+
+// What each event keeps to, and a run of events.
+fn laws()
+    ensures events { EventLaws }
+    ensures scripts { RunsEnd }
+    ensures least { LeastIsFound }
+    ensures clocks { ClocksShown }
+    ensures starts { ArisesAtStart }
+    ensures arises { ArisesByEvent }
+{
+    one_event();
+    runs_end();
+    least_is_found();
+    clocks_are_shown();
+    arising_states();
 }

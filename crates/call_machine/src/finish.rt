@@ -6,27 +6,28 @@ ghost use Rattle.lock_machine.specs.Threads.{Thread};
 ghost use Rattle.lock_machine.specs.Whole.{thread_at};
 
 use crate::driver::Driver;
-use crate::fault::Stop;
 use crate::history::History;
 use crate::plain::Plain;
 use lock_machine::Phase;
+use logged_machine::Stop;
 use posix_terms::{Answer, HistoryRow, Row, Transcript, Transcripts};
 use std::alloc::{AllocError, Global};
 
 impl Driver {
     // What a run tells that has come to its end, or diverged at this thread.
     pub fn finish(self, alloc: Global, strayed: Option<usize>) -> Result<Plain, AllocError>
-        ensures { IfOk result (λ plain. plain ≡ told strayed self.machine) }
+        ensures { IfOk result (λ plain. plain ≡ told strayed self.machine self.log) }
     {
         let stop = self.stop(strayed);
         let ended = self.have_ended();
         let threads = self.machine.len();
-        let left = self.machine.finish(alloc)?;
+        let Driver { machine, log, .. } = self;
+        let left = machine.finish();
         let transcripts = transcripts(alloc, threads, left.rows.as_slice())?;
         Ok(Plain {
             transcripts: Transcripts::from_vec(transcripts),
             history: History::new(left.rows, left.asked),
-            log: left.log.finish(ended)?,
+            log: log.finish(ended)?,
             stop,
         })
     }

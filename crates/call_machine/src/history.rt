@@ -2,7 +2,7 @@ ghost use Rattle.std.specs.Prelude.{◌≡◌};
 ghost use Rattle.posix_terms.specs.declared.transcript.HistoryRow.{HistoryRow};
 ghost use Rattle.call_machine.specs.History.{Past};
 
-use lock_machine::Steps;
+use lock_machine::Asked;
 use posix_terms::HistoryRow;
 use std::marker::Model;
 
@@ -11,19 +11,19 @@ use std::marker::Model;
 #[derive(Debug, Drop)]
 pub struct History {
     rows: Vec<HistoryRow>,
-    asked: Vec<Steps>,
+    asked: Asked,
 }
 
 impl Model for History {
     ghost Value = { Past };
 
-    ghost view = { λ h. record { rows = h.rows.items; asked = h.asked.items } };
+    ghost view = { λ h. record { rows = h.rows.items; asked = h.asked } };
 }
 
 impl History {
     /// The history with these rows and, for each thread, these steps. It takes no memory.
-    pub fn new(rows: Vec<HistoryRow>, asked: Vec<Steps>) -> History
-        ensures { result ≡ record { rows = rows.items; asked = asked.items } }
+    pub fn new(rows: Vec<HistoryRow>, asked: Asked) -> History
+        ensures { result ≡ record { rows = rows.items; asked = asked } }
     {
         History { rows, asked }
     }
@@ -36,9 +36,9 @@ impl History {
     }
 
     /// The steps that each thread asked, by thread.
-    pub fn asked(&self) -> &[Steps]
+    pub fn asked(&self) -> &Asked
         ensures { result.now ≡ self.now.asked }
     {
-        self.asked.as_slice()
+        &self.asked
     }
 }

@@ -1,14 +1,21 @@
 ghost use Rattle.call_machine.specs.Covered.{HasSpelling, NoneStrays, RecordsCame};
 ghost use Rattle.call_machine.specs.Plain.{OnePlainRun};
 
+use lock_machine::requests_are_little;
+use lock_model::{one_event, outcomes_that_came};
+
 /// The log of a plain run, after any number of events. By thread the outcomes of its records are those that came, in order
 /// (`came`); it is a log, which has a spelling (`spelled`); and a plain run under just those outcomes never
-/// diverges (`straight`). So the log of a run leads to that run again. The body is empty: the contract is the law.
+/// diverges (`straight`). So the log of a run leads to that run again. The contract is the law.
 pub fn logs_of_plain_runs()
     ensures came { RecordsCame }
     ensures spelled { HasSpelling }
     ensures straight { NoneStrays }
-{}
+{
+    one_event();
+    outcomes_that_came();
+    requests_are_little();
+}
 
 /// There is one plain run of given scripts, outcomes and settings: whatever is one has the same transcripts, history,
 /// log and stop. The body is empty: the contract is the law.

@@ -1,13 +1,21 @@
 ghost use Rattle.std.specs.Prelude.{◌≡◌, IfOk};
 ghost use Rattle.posix_terms.specs.Legal.{IsLegal};
-ghost use Rattle.call_machine.specs.Covered.{IsCovered};
+ghost use Rattle.lock_machine.specs.Shows.{ClocksShown};
+ghost use Rattle.lock_machine.specs.Starting.{ShowsAtStart};
+ghost use Rattle.lock_model.specs.Came.{CameIsRows};
+ghost use Rattle.lock_model.specs.Laws.{RisingOfArisen};
+ghost use Rattle.lock_model.specs.RealLaws.{RealLegalOfArisen};
+ghost use Rattle.call_machine.specs.Covered.{HasSpelling, IsCovered, RecordsCame};
 ghost use Rattle.call_machine.specs.History.{AreRising};
 ghost use Rattle.call_machine.specs.Plain.{Runs, are_settings, counts_fit, header_of};
 
 use crate::driver::Driver;
 use crate::fault::PlainFault;
+use crate::laws::logs_of_plain_runs;
 use crate::plain::Plain;
 use input_log::Header;
+use lock_machine::{clocks_are_shown, machines_begin};
+use lock_model::{arising_states, outcomes_that_came, real_runs};
 use posix_terms::{Limits, Outcomes, Settings};
 use std::alloc::Global;
 use thread_scripts::Script;
@@ -42,6 +50,7 @@ pub fn plain_run(
     if !are_in_range(settings) {
         return Err(PlainFault::Settings);
     }
+    laws();
     let header = Header {
         threads: scripts.len() as u16,
         patience: settings.patience,
@@ -64,4 +73,22 @@ fn are_in_range(settings: Settings) -> bool
     1 <= settings.patience
         && settings.patience <= Limits::PATIENCE
         && (1 <= settings.door_cost && settings.door_cost <= Limits::DOOR_COST)
+}
+
+// What holds of each plain run.
+fn laws()
+    ensures starts { ShowsAtStart }
+    ensures clocks { ClocksShown }
+    ensures legal { RealLegalOfArisen }
+    ensures rising { RisingOfArisen }
+    ensures rows { CameIsRows }
+    ensures came { RecordsCame }
+    ensures spelled { HasSpelling }
+{
+    machines_begin();
+    clocks_are_shown();
+    real_runs();
+    arising_states();
+    outcomes_that_came();
+    logs_of_plain_runs();
 }

@@ -9,7 +9,7 @@ use Rattle.thread_scripts.specs.Grammar.{script_of}
 use Rattle.thread_scripts.specs.declared.line.Line.{Line}
 use Rattle.call_machine.specs.Plain.{IsPlainRun, are_settings, counts_fit}
 use Rattle.call_machine.specs.Setup.{Inputs}
-use Rattle.call_machine.specs.declared.fault.Stop.{Stop}
+use Rattle.logged_machine.specs.declared.stop.Stop.{Stop}
 use Rattle.call_machine.specs.declared.plain.Plain.{Plain}
 use Rattle.commands.specs.Transcripts.{◌+++◌, transcripts_text, end_text, end_status}
 use Rattle.commands.specs.declared.printed.Printed.{Printed}

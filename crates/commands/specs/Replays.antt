@@ -2,7 +2,7 @@
 use Rattle.std.specs.Prelude.{◌≡◌, ℕ, ◌⊎◌, Bool, true, false, List, ◌∷◌, length, Option, Some, None, Result, Ok, Err, codes}
 use Rattle.std.specs.Fmt.{decimal}
 use Rattle.call_machine.specs.Plain.{counts_fit}
-use Rattle.call_machine.specs.declared.fault.Stop.TheVariants as stop
+use Rattle.logged_machine.specs.declared.stop.Stop.TheVariants as stop
 use Rattle.input_log.specs.Faults.{bad_magic, bad_record, bad_version, torn}
 use Rattle.input_log.specs.Fronts.{IsFront}
 use Rattle.input_log.specs.declared.fault.LogFault.{LogFault}

@@ -1,4 +1,4 @@
--- Each call locks an object that is there, or the one that a new file becomes.
+-- Each call locks an object that is there, or the one that a new file becomes, and reads no more bytes than it may.
 use Rattle.std.proofs.Common.{◌≡◌, ℕ, zero, suc, ◌+◌, ◌<◌, inl, inr, List, [], length, Option, Some, None, is_some, Result, Ok, Err, Bool, true, false, not, ◌&&◌, ◌==◌, ◌≤◌, subst, refl, sym, ap, ◌∙◌, arith, if◌then◌else◌}
 use Rattle.std.proofs.lemmas.Bool.Decides.{nat_tests}
 use Rattle.std.specs.FinMap as fin
@@ -33,7 +33,7 @@ use Rattle.posix_terms.specs.declared.reply.Reply.TheVariants as reply
 use Rattle.file_descriptions.specs.Descriptions.{ContainsKey, description_at}
 use Rattle.file_descriptions.specs.declared.description.Description.{Description}
 use Rattle.descriptor_table.proofs.SoundLemmas.{known_of, named_at, none_past, ok_same, used_of, used-named}
-use Rattle.descriptor_table.specs.Plans.{IsKnownNumber, IsThere, LocksKnown, MovesKnown, act_or_ask, addable, answered, close_plan, dup2_plan, dup_from_plan, dup_plan, ends_a_door, errand, fstat_plan, ftruncate_plan, getfl_plan, host_open_plan, leads_outside, link_plan, lseek_plan, mkdir_plan, moves, not_listener, of_file, of_listener, open_new, open_node, open_plan, open_there, opens_plan, plan_of, planned, pread_plan, pwrite_plan, read_plan, release, replaced, rmdir_plan, seekable, seen, setfl_plan, shut_act, shutdown_plan, stat_by, stat_plan, tcp_accept_plan, tcp_connect_plan, tcp_listen_plan, two_ends_plan, unlink_plan, write_plan}
+use Rattle.descriptor_table.specs.Plans.{IsKnownNumber, IsThere, LocksKnown, MovesKnown, act_or_ask, addable, answered, bytes_of_kind, close_plan, dup2_plan, dup_from_plan, dup_plan, ends_a_door, errand, fstat_plan, ftruncate_plan, getfl_plan, host_open_plan, leads_outside, link_plan, lseek_plan, mkdir_plan, moves, not_listener, of_file, of_listener, open_new, open_node, open_plan, open_there, opens_plan, or_none, plan_of, planned, pread_plan, pwrite_plan, read_count, read_plan, release, replaced, reply_bytes, rmdir_plan, seekable, seen, setfl_plan, shut_act, shutdown_plan, stat_by, stat_plan, tcp_accept_plan, tcp_connect_plan, tcp_listen_plan, two_ends_plan, unlink_plan, write_plan}
 use Rattle.descriptor_table.specs.Table.{TableState, IsSound, described, free_object, is_last_name, is_used, key_at, lowest_free, lowest_from, two_numbers}
 use Rattle.descriptor_table.specs.declared.plan.Op.{Op}
 use Rattle.descriptor_table.specs.declared.plan.Op.TheVariants as op
@@ -118,137 +118,148 @@ found_key t descriptor found sound is = by_key (key_at t descriptor) refl is
 
 -- ## Each call
 
-through : (t : TableState) {A : Type 0} (r : Result A Errno) (f : A → Result Plan Errno) → ((x : A) → r ≡ Ok x → IfOk (f x) (LocksKnown t)) → IfOk (r >>= f) (LocksKnown t)
-through t (Ok x) f each = each x refl
-through t (Err e) f each = tt
+through : (t : TableState) (most : ℕ) {A : Type 0} (r : Result A Errno) (f : A → Result Plan Errno) → ((x : A) → r ≡ Ok x → IfOk (f x) (LocksKnown t most)) → IfOk (r >>= f) (LocksKnown t most)
+through t most (Ok x) f each = each x refl
+through t most (Err e) f each = tt
 
 pub was_some : (o : Option ℕ) (e : Errno) (n : ℕ) → some_or o e ≡ Ok n → o ≡ Some n
 was_some None e n is = cc
 was_some (Some m) e n is = cc
 
-known-act : (t : TableState) (d : Description) (act ask : Op) → MovesKnown t act → MovesKnown t ask → MovesKnown t (act_or_ask d act ask)
-known-act t d act ask acts asks = by_test (leads_outside d.«end»)
+-- what brings no bytes brings no more than any bound
+none_within : (most : ℕ) → 0 ≤ most
+none_within most = omega arith
+
+-- a count that is taken is the bound of its call
+taken_within : (count : Result ℕ Errno) (n : ℕ) → count ≡ Ok n → n ≤ or_none count
+taken_within (Ok m) n is =
+    let same : m ≡ n = cc in
+    omega arith
+taken_within (Err e) n is = cc
+
+known-act : (t : TableState) (most : ℕ) (d : Description) (act ask : Op) → MovesKnown t most act → MovesKnown t most ask → MovesKnown t most (act_or_ask d act ask)
+known-act t most d act ask acts asks = by_test (leads_outside d.«end»)
   where
-    by_test : (b : Bool) → MovesKnown t (if b then ask else act)
+    by_test : (b : Bool) → MovesKnown t most (if b then ask else act)
     by_test true = asks
     by_test false = acts
 
-known-release : (t : TableState) (d : Description) (r : Reply) → IsSound t → is_used t d.node ≡ true → LocksKnown t (release d r)
-known-release t d r sound used = by_test (d.holders == 1) (known-act t d op.Release (errand d out.Close 0 false) tt used)
+known-release : (t : TableState) (most : ℕ) (d : Description) (r : Reply) → reply_bytes r ≤ most → IsSound t → is_used t d.node ≡ true → LocksKnown t most (release d r)
+known-release t most d r few sound used = by_test (d.holders == 1) (known-act t most d op.Release (errand d out.Close 0 false) tt (used, none_within most))
   where
-    by_test : (b : Bool) → MovesKnown t (act_or_ask d op.Release (errand d out.Close 0 false)) → LocksKnown t (if b then plan.Node d.node (act_or_ask d op.Release (errand d out.Close 0 false)) false else plan.Reply r)
+    by_test : (b : Bool) → MovesKnown t most (act_or_ask d op.Release (errand d out.Close 0 false)) → LocksKnown t most (if b then plan.Node d.node (act_or_ask d op.Release (errand d out.Close 0 false)) false else plan.Reply r)
     by_test true moved = (used_known t d.node sound used, moved)
-    by_test false moved = tt
+    by_test false moved = few
 
-known-moves : (t : TableState) (d : Description) (count : ℕ) (none : Reply) (act : Op) → IsKnownNumber t d.node → MovesKnown t act → LocksKnown t (moves d count none act)
-known-moves t d count none act known moved = by_test ((count == 0) && not (is_end d.«end» part.Only))
+known-moves : (t : TableState) (most : ℕ) (d : Description) (count : ℕ) (none : Reply) (act : Op) → reply_bytes none ≤ most → IsKnownNumber t d.node → MovesKnown t most act → LocksKnown t most (moves d count none act)
+known-moves t most d count none act few known moved = by_test ((count == 0) && not (is_end d.«end» part.Only))
   where
-    by_test : (b : Bool) → LocksKnown t (if b then plan.Reply none else plan.Node d.node act false)
-    by_test true = tt
+    by_test : (b : Bool) → LocksKnown t most (if b then plan.Reply none else plan.Node d.node act false)
+    by_test true = few
     by_test false = (known, moved)
 
-known-stat : (t : TableState) (d : Description) (links : ℕ) (told : Option (ObjectKind × ℕ)) → IsKnownNumber t d.node → LocksKnown t (stat_plan d links told)
-known-stat t d links None known = (known, tt)
-known-stat t d links (Some (k, number)) known = tt
+known-stat : (t : TableState) (most : ℕ) (d : Description) (links : ℕ) (told : Option (ObjectKind × ℕ)) → IsKnownNumber t d.node → LocksKnown t most (stat_plan d links told)
+known-stat t most d links None known = (known, tt)
+known-stat t most d links (Some (k, number)) known = none_within most
 
-known-there : (t : TableState) (node : Node) (flags : OpenFlags) → ((n : ℕ) → node ≡ FileNode n → IsKnownNumber t n) → IfOk (open_there t node flags) (LocksKnown t)
-known-there t Directory flags known = tt
-known-there t (FileNode node) flags known = through t (some_or (lowest_free t 0) EMFILE) _ (λ n is. (known node refl, tt))
+known-there : (t : TableState) (most : ℕ) (node : Node) (flags : OpenFlags) → ((n : ℕ) → node ≡ FileNode n → IsKnownNumber t n) → IfOk (open_there t node flags) (LocksKnown t most)
+known-there t most Directory flags known = tt
+known-there t most (FileNode node) flags known = through t most (some_or (lowest_free t 0) EMFILE) _ (λ n is. (known node refl, tt))
 
-known-new : (t : TableState) (flags : OpenFlags) → IfOk (open_new t flags) (LocksKnown t)
-known-new t flags =
-    through t (refuse_if (not flags.create) ENOENT) _ (λ a x. through t (refuse_if (nat_le 64 (fin.len t.paths)) ENOSPC) _ (λ b y.
-    through t (some_or (free_object t) ENOSPC) _ (λ node is. through t (some_or (lowest_free t 0) EMFILE) _ (λ n z. (free_known t node (was_some (free_object t) ENOSPC node is), tt)))))
+known-new : (t : TableState) (most : ℕ) (flags : OpenFlags) → IfOk (open_new t flags) (LocksKnown t most)
+known-new t most flags =
+    through t most (refuse_if (not flags.create) ENOENT) _ (λ a x. through t most (refuse_if (nat_le 64 (fin.len t.paths)) ENOSPC) _ (λ b y.
+    through t most (some_or (free_object t) ENOSPC) _ (λ node is. through t most (some_or (lowest_free t 0) EMFILE) _ (λ n z. (free_known t node (was_some (free_object t) ENOSPC node is), tt)))))
 
-known-two_ends : (t : TableState) (act : Op) → MovesKnown t act → IfOk (two_ends_plan t act) (LocksKnown t)
-known-two_ends t act moved =
-    through t (two_numbers t) _ (λ two x. through t (some_or (free_object t) ENFILE) _ (λ node is. (free_known t node (was_some (free_object t) ENFILE node is), moved)))
+known-two_ends : (t : TableState) (most : ℕ) (act : Op) → MovesKnown t most act → IfOk (two_ends_plan t act) (LocksKnown t most)
+known-two_ends t most act moved =
+    through t most (two_numbers t) _ (λ two x. through t most (some_or (free_object t) ENFILE) _ (λ node is. (free_known t node (was_some (free_object t) ENFILE node is), moved)))
 
-known-shut : (t : TableState) (d : Description) (how : ShutdownHow) (e : End) (act : Op) → is_used t d.node ≡ true → shut_act d how e ≡ Ok act → MovesKnown t act
-known-shut t d how part.Only act used is = cc
-known-shut t d how part.Read act used is = cc
-known-shut t d how part.Write act used is = cc
-known-shut t d how (part.Socket side) act used is = subst (MovesKnown t) (ok_same (op.Shutdown side how) act is) tt
-known-shut t d how (part.Door door.HostFile) act used is = cc
-known-shut t d how (part.Door (door.Listener port)) act used is = cc
-known-shut t d how (part.Door door.Stream) act used is = subst (MovesKnown t) (ok_same (errand d out.Shutdown 0 false) act is) used
+known-shut : (t : TableState) (most : ℕ) (d : Description) (how : ShutdownHow) (e : End) (act : Op) → is_used t d.node ≡ true → shut_act d how e ≡ Ok act → MovesKnown t most act
+known-shut t most d how part.Only act used is = cc
+known-shut t most d how part.Read act used is = cc
+known-shut t most d how part.Write act used is = cc
+known-shut t most d how (part.Socket side) act used is = subst (MovesKnown t most) (ok_same (op.Shutdown side how) act is) tt
+known-shut t most d how (part.Door door.HostFile) act used is = cc
+known-shut t most d how (part.Door (door.Listener port)) act used is = cc
+known-shut t most d how (part.Door door.Stream) act used is = subst (MovesKnown t most) (ok_same (errand d out.Shutdown 0 false) act is) (used, none_within most)
 
-known-shutdown : (t : TableState) (descriptor : ℤ) (how : ShutdownHow) → IsSound t → IfOk (shutdown_plan t descriptor how) (LocksKnown t)
+known-shutdown : (t : TableState) (most : ℕ) (descriptor : ℤ) (how : ShutdownHow) → IsSound t → IfOk (shutdown_plan t descriptor how) (LocksKnown t most)
 unfolding shutdown_plan
-known-shutdown t descriptor how sound =
-    through t (described t descriptor) _ (λ found is. through t (shut_act found.1 how found.1.«end») _ (λ act x. (found_known t descriptor found sound is, known-shut t found.1 how found.1.«end» act (found_used t descriptor found sound is) x)))
+known-shutdown t most descriptor how sound =
+    through t most (described t descriptor) _ (λ found is. through t most (shut_act found.1 how found.1.«end») _ (λ act x. (found_known t descriptor found sound is, known-shut t most found.1 how found.1.«end» act (found_used t descriptor found sound is) x)))
 
-known-opens : (t : TableState) (k : OutKind) (asked : ℕ) (waits : Bool) (listener : Option ℕ) → IsThere t listener → IfOk (opens_plan t k asked waits listener) (LocksKnown t)
-known-opens t k asked waits listener there =
-    through t (some_or (lowest_free t 0) EMFILE) _ (λ n x. through t (some_or (free_object t) ENFILE) _ (λ node is. (free_known t node (was_some (free_object t) ENFILE node is), there)))
+known-opens : (t : TableState) (most : ℕ) (k : OutKind) (asked : ℕ) (waits : Bool) (listener : Option ℕ) → IsThere t listener → bytes_of_kind k asked ≤ most → IfOk (opens_plan t k asked waits listener) (LocksKnown t most)
+known-opens t most k asked waits listener there within =
+    through t most (some_or (lowest_free t 0) EMFILE) _ (λ n x. through t most (some_or (free_object t) ENFILE) _ (λ node is. (free_known t node (was_some (free_object t) ENFILE node is), (there, within))))
 
-known-host_open : (t : TableState) (path : List ℕ) (access : Access) (flags : OpenFlags) → IfOk (host_open_plan t path access flags) (LocksKnown t)
+known-host_open : (t : TableState) (most : ℕ) (path : List ℕ) (access : Access) (flags : OpenFlags) → IfOk (host_open_plan t path access flags) (LocksKnown t most)
 unfolding host_open_plan
-known-host_open t path access flags =
-    through t (refuse_if (flags.truncate && not (can_write access)) EINVAL) _ (λ a x. through t (host_path path) _ (λ b y. known-opens t out.Open 0 false None tt))
+known-host_open t most path access flags =
+    through t most (refuse_if (flags.truncate && not (can_write access)) EINVAL) _ (λ a x. through t most (host_path path) _ (λ b y. known-opens t most out.Open 0 false None tt (none_within most)))
 
-known-listen : (t : TableState) (port : ℤ) → IfOk (tcp_listen_plan t port) (LocksKnown t)
+known-listen : (t : TableState) (most : ℕ) (port : ℤ) → IfOk (tcp_listen_plan t port) (LocksKnown t most)
 unfolding tcp_listen_plan
-known-listen t port = through t (port_of 0 port) _ (λ asked x. known-opens t out.Listen asked false None tt)
+known-listen t most port = through t most (port_of 0 port) _ (λ asked x. known-opens t most out.Listen asked false None tt (none_within most))
 
-known-connect : (t : TableState) (port : ℤ) → IfOk (tcp_connect_plan t port) (LocksKnown t)
+known-connect : (t : TableState) (most : ℕ) (port : ℤ) → IfOk (tcp_connect_plan t port) (LocksKnown t most)
 unfolding tcp_connect_plan
-known-connect t port = through t (port_of 1 port) _ (λ asked x. known-opens t out.Connect asked false None tt)
+known-connect t most port = through t most (port_of 1 port) _ (λ asked x. known-opens t most out.Connect asked false None tt (none_within most))
 
-known-accept : (t : TableState) (descriptor : ℤ) → IsSound t → IfOk (tcp_accept_plan t descriptor) (LocksKnown t)
+known-accept : (t : TableState) (most : ℕ) (descriptor : ℤ) → IsSound t → IfOk (tcp_accept_plan t descriptor) (LocksKnown t most)
 unfolding tcp_accept_plan
-known-accept t descriptor sound =
-    through t (described t descriptor) _ (λ found is. through t (of_listener found.1.«end») _ (λ a x. known-opens t out.Accept 0 (not found.1.flags.nonblock) (Some found.1.node) (found_used t descriptor found sound is)))
+known-accept t most descriptor sound =
+    through t most (described t descriptor) _ (λ found is. through t most (of_listener found.1.«end») _ (λ a x. known-opens t most out.Accept 0 (not found.1.flags.nonblock) (Some found.1.node) (found_used t descriptor found sound is) (none_within most)))
 
-known-node : (t : TableState) (node : Option Node) (flags : OpenFlags) → ((n : ℕ) → node ≡ Some (FileNode n) → IsKnownNumber t n) → IfOk (open_node t node flags) (LocksKnown t)
-known-node t None flags known = known-new t flags
-known-node t (Some node) flags known = through t (refuse_if (flags.create && flags.exclusive) EEXIST) _ (λ a x. known-there t node flags (λ n is. known n (ap (λ (m : Node). Some m) is)))
+known-node : (t : TableState) (most : ℕ) (node : Option Node) (flags : OpenFlags) → ((n : ℕ) → node ≡ Some (FileNode n) → IsKnownNumber t n) → IfOk (open_node t node flags) (LocksKnown t most)
+known-node t most None flags known = known-new t most flags
+known-node t most (Some node) flags known = through t most (refuse_if (flags.create && flags.exclusive) EEXIST) _ (λ a x. known-there t most node flags (λ n is. known n (ap (λ (m : Node). Some m) is)))
 
-known-open : (t : TableState) (path : List ℕ) (access : Access) (flags : OpenFlags) → IsSound t → IfOk (open_plan t path access flags) (LocksKnown t)
+known-open : (t : TableState) (most : ℕ) (path : List ℕ) (access : Access) (flags : OpenFlags) → IsSound t → IfOk (open_plan t path access flags) (LocksKnown t most)
 unfolding open_plan
-known-open t path access flags sound =
-    through t (refuse_if (flags.truncate && not (can_write access)) EINVAL) _ (λ a x. through t (resolved t.paths path) _ (λ components y.
-    known-node t (node_at t.paths components) flags (λ n is. used_known t n sound (named_at t components n sound is))))
+known-open t most path access flags sound =
+    through t most (refuse_if (flags.truncate && not (can_write access)) EINVAL) _ (λ a x. through t most (resolved t.paths path) _ (λ components y.
+    known-node t most (node_at t.paths components) flags (λ n is. used_known t n sound (named_at t components n sound is))))
 
-known-close : (t : TableState) (descriptor : ℤ) → IsSound t → IfOk (close_plan t descriptor) (LocksKnown t)
+known-close : (t : TableState) (most : ℕ) (descriptor : ℤ) → IsSound t → IfOk (close_plan t descriptor) (LocksKnown t most)
 unfolding close_plan
-known-close t descriptor sound = through t (described t descriptor) _ (λ found is. known-release t found.1 reply.Done sound (found_used t descriptor found sound is))
+known-close t most descriptor sound = through t most (described t descriptor) _ (λ found is. known-release t most found.1 reply.Done (none_within most) sound (found_used t descriptor found sound is))
 
-known-read : (t : TableState) (descriptor count : ℤ) → IsSound t → IfOk (read_plan t descriptor count) (LocksKnown t)
+known-read : (t : TableState) (most : ℕ) (descriptor count : ℤ) → ((n : ℕ) → count_of count ≡ Ok n → n ≤ most) → IsSound t → IfOk (read_plan t descriptor count) (LocksKnown t most)
 unfolding read_plan
-known-read t descriptor count sound =
-    through t (described t descriptor) _ (λ found is. through t (not_listener found.1.«end») _ (λ l w. through t (refuse_if (not (can_read found.1.access)) EBADF) _ (λ a x.
-    through t (count_of count) _ (λ n y.
+known-read t most descriptor count within sound =
+    through t most (described t descriptor) _ (λ found is. through t most (not_listener found.1.«end») _ (λ l w. through t most (refuse_if (not (can_read found.1.access)) EBADF) _ (λ a x.
+    through t most (count_of count) _ (λ n y.
     let act : Op = op.Read (seen found.0 found.1) n in
     let ask : Op = errand found.1 out.Read n (not found.1.flags.nonblock) in
-    known-moves t found.1 n (reply.Data []) (act_or_ask found.1 act ask) (found_known t descriptor found sound is) (known-act t found.1 act ask (found_key t descriptor found sound is) (found_used t descriptor found sound is))))))
+    known-moves t most found.1 n (reply.Data []) (act_or_ask found.1 act ask) (none_within most) (found_known t descriptor found sound is) (known-act t most found.1 act ask (found_key t descriptor found sound is, within n y) (found_used t descriptor found sound is, within n y))))))
 
-known-write : (t : TableState) (descriptor : ℤ) (count : ℕ) → IsSound t → IfOk (write_plan t descriptor count) (LocksKnown t)
+known-write : (t : TableState) (most : ℕ) (descriptor : ℤ) (count : ℕ) → IsSound t → IfOk (write_plan t descriptor count) (LocksKnown t most)
 unfolding write_plan
-known-write t descriptor count sound =
-    through t (described t descriptor) _ (λ found is. through t (not_listener found.1.«end») _ (λ l w. through t (refuse_if (not (can_write found.1.access)) EBADF) _ (λ a x.
-    through t (refuse_if (nat_lt 32767 count) EINVAL) _ (λ b y.
+known-write t most descriptor count sound =
+    through t most (described t descriptor) _ (λ found is. through t most (not_listener found.1.«end») _ (λ l w. through t most (refuse_if (not (can_write found.1.access)) EBADF) _ (λ a x.
+    through t most (refuse_if (nat_lt 32767 count) EINVAL) _ (λ b y.
     let act : Op = op.Write (seen found.0 found.1) in
     let ask : Op = errand found.1 out.Write count (not found.1.flags.nonblock) in
-    known-moves t found.1 count (reply.Count 0) (act_or_ask found.1 act ask) (found_known t descriptor found sound is) (known-act t found.1 act ask (found_key t descriptor found sound is) (found_used t descriptor found sound is))))))
+    known-moves t most found.1 count (reply.Count 0) (act_or_ask found.1 act ask) (none_within most) (found_known t descriptor found sound is) (known-act t most found.1 act ask (found_key t descriptor found sound is) (found_used t descriptor found sound is, none_within most))))))
 
-known-pread : (t : TableState) (descriptor count position : ℤ) → IsSound t → IfOk (pread_plan t descriptor count position) (LocksKnown t)
+known-pread : (t : TableState) (most : ℕ) (descriptor count position : ℤ) → ((n : ℕ) → count_of count ≡ Ok n → n ≤ most) → IsSound t → IfOk (pread_plan t descriptor count position) (LocksKnown t most)
 unfolding pread_plan
-known-pread t descriptor count position sound =
-    through t (described t descriptor) _ (λ found is. through t (of_file found.1 ESPIPE) _ (λ f w. through t (refuse_if (not (can_read found.1.access)) EBADF) _ (λ a x.
-    through t (count_of count) _ (λ n y. through t (position_of position) _ (λ p z. (found_known t descriptor found sound is, tt))))))
+known-pread t most descriptor count position within sound =
+    through t most (described t descriptor) _ (λ found is. through t most (of_file found.1 ESPIPE) _ (λ f w. through t most (refuse_if (not (can_read found.1.access)) EBADF) _ (λ a x.
+    through t most (count_of count) _ (λ n y. through t most (position_of position) _ (λ p z. (found_known t descriptor found sound is, within n y))))))
 
-known-pwrite : (t : TableState) (descriptor : ℤ) (count : ℕ) (position : ℤ) → IsSound t → IfOk (pwrite_plan t descriptor count position) (LocksKnown t)
+known-pwrite : (t : TableState) (most : ℕ) (descriptor : ℤ) (count : ℕ) (position : ℤ) → IsSound t → IfOk (pwrite_plan t descriptor count position) (LocksKnown t most)
 unfolding pwrite_plan
-known-pwrite t descriptor count position sound =
-    through t (described t descriptor) _ (λ found is. through t (of_file found.1 ESPIPE) _ (λ f w. through t (refuse_if (not (can_write found.1.access)) EBADF) _ (λ a x.
-    through t (refuse_if (nat_lt 32767 count) EINVAL) _ (λ b y. through t (position_of position) _ (λ p z. (found_known t descriptor found sound is, tt))))))
+known-pwrite t most descriptor count position sound =
+    through t most (described t descriptor) _ (λ found is. through t most (of_file found.1 ESPIPE) _ (λ f w. through t most (refuse_if (not (can_write found.1.access)) EBADF) _ (λ a x.
+    through t most (refuse_if (nat_lt 32767 count) EINVAL) _ (λ b y. through t most (position_of position) _ (λ p z. (found_known t descriptor found sound is, tt))))))
 
-known-lseek : (t : TableState) (descriptor offset : ℤ) (whence : Whence) → IsSound t → IfOk (lseek_plan t descriptor offset whence) (LocksKnown t)
+known-lseek : (t : TableState) (most : ℕ) (descriptor offset : ℤ) (whence : Whence) → IsSound t → IfOk (lseek_plan t descriptor offset whence) (LocksKnown t most)
 unfolding lseek_plan
-known-lseek t descriptor offset whence sound =
-    through t (described t descriptor) _ (λ found is. through t (seekable found.1.«end» offset whence) _ (λ f w.
-    (found_known t descriptor found sound is, known-act t found.1 (op.Lseek (seen found.0 found.1)) (errand found.1 out.Seek 0 false) (found_key t descriptor found sound is) (found_used t descriptor found sound is))))
+known-lseek t most descriptor offset whence sound =
+    through t most (described t descriptor) _ (λ found is. through t most (seekable found.1.«end» offset whence) _ (λ f w.
+    (found_known t descriptor found sound is, known-act t most found.1 (op.Lseek (seen found.0 found.1)) (errand found.1 out.Seek 0 false) (found_key t descriptor found sound is) (found_used t descriptor found sound is, none_within most))))
 
 -- a size that is taken is one that a file may have
 small_size : (size : ℤ) (n : ℕ) → size_of size ≡ Ok n → n ≤ limit.FILE_BYTES
@@ -262,100 +273,100 @@ small_size (pos n) m is = by_size (nat_lt limit.FILE_BYTES n) refl is
         subst (λ (k : ℕ). k ≤ limit.FILE_BYTES) same fits
 small_size (negsuc n) m is = cc
 
-known-ftruncate : (t : TableState) (descriptor size : ℤ) → IsSound t → IfOk (ftruncate_plan t descriptor size) (LocksKnown t)
+known-ftruncate : (t : TableState) (most : ℕ) (descriptor size : ℤ) → IsSound t → IfOk (ftruncate_plan t descriptor size) (LocksKnown t most)
 unfolding ftruncate_plan
-known-ftruncate t descriptor size sound =
-    through t (described t descriptor) _ (λ found is. through t (refuse_if (not (can_write found.1.access)) EINVAL) _ (λ a x.
-    through t (of_file found.1 EINVAL) _ (λ f w. through t (size_of size) _ (λ n y. (found_known t descriptor found sound is, small_size size n y)))))
+known-ftruncate t most descriptor size sound =
+    through t most (described t descriptor) _ (λ found is. through t most (refuse_if (not (can_write found.1.access)) EINVAL) _ (λ a x.
+    through t most (of_file found.1 EINVAL) _ (λ f w. through t most (size_of size) _ (λ n y. (found_known t descriptor found sound is, small_size size n y)))))
 
-known-fstat : (t : TableState) (descriptor : ℤ) → IsSound t → IfOk (fstat_plan t descriptor) (LocksKnown t)
+known-fstat : (t : TableState) (most : ℕ) (descriptor : ℤ) → IsSound t → IfOk (fstat_plan t descriptor) (LocksKnown t most)
 unfolding fstat_plan
-known-fstat t descriptor sound = through t (described t descriptor) _ (λ found is. known-stat t found.1 (links_of t.paths found.1.node) (stat_by found.1.«end») (found_known t descriptor found sound is))
+known-fstat t most descriptor sound = through t most (described t descriptor) _ (λ found is. known-stat t most found.1 (links_of t.paths found.1.node) (stat_by found.1.«end») (found_known t descriptor found sound is))
 
-known-dup : (t : TableState) (descriptor : ℤ) → IfOk (dup_plan t descriptor) (LocksKnown t)
+known-dup : (t : TableState) (most : ℕ) (descriptor : ℤ) → IfOk (dup_plan t descriptor) (LocksKnown t most)
 unfolding dup_plan
-known-dup t descriptor = through t (described t descriptor) _ (λ found is. through t (some_or (lowest_free t 0) EMFILE) _ (λ n x. tt))
+known-dup t most descriptor = through t most (described t descriptor) _ (λ found is. through t most (some_or (lowest_free t 0) EMFILE) _ (λ n x. none_within most))
 
-known-dup_from : (t : TableState) (descriptor least : ℤ) → IfOk (dup_from_plan t descriptor least) (LocksKnown t)
+known-dup_from : (t : TableState) (most : ℕ) (descriptor least : ℤ) → IfOk (dup_from_plan t descriptor least) (LocksKnown t most)
 unfolding dup_from_plan
-known-dup_from t descriptor least =
-    through t (described t descriptor) _ (λ found is. through t (descriptor_number least EINVAL) _ (λ first x.
-    through t (some_or (lowest_free t first) EMFILE) _ (λ n y. tt)))
+known-dup_from t most descriptor least =
+    through t most (described t descriptor) _ (λ found is. through t most (descriptor_number least EINVAL) _ (λ first x.
+    through t most (some_or (lowest_free t first) EMFILE) _ (λ n y. none_within most)))
 
-known-replaced : (t : TableState) (found : Result (ℕ × Description) Errno) (r : Reply) → IsSound t → ((x : ℕ × Description) → found ≡ Ok x → is_used t x.1.node ≡ true) → LocksKnown t (replaced found r)
-known-replaced t (Ok x) r sound used = known-release t x.1 r sound (used x refl)
-known-replaced t (Err e) r sound used = tt
+known-replaced : (t : TableState) (most : ℕ) (found : Result (ℕ × Description) Errno) (r : Reply) → reply_bytes r ≤ most → IsSound t → ((x : ℕ × Description) → found ≡ Ok x → is_used t x.1.node ≡ true) → LocksKnown t most (replaced found r)
+known-replaced t most (Ok x) r few sound used = known-release t most x.1 r few sound (used x refl)
+known-replaced t most (Err e) r few sound used = few
 
-known-dup2 : (t : TableState) (descriptor target : ℤ) → IsSound t → IfOk (dup2_plan t descriptor target) (LocksKnown t)
+known-dup2 : (t : TableState) (most : ℕ) (descriptor target : ℤ) → IsSound t → IfOk (dup2_plan t descriptor target) (LocksKnown t most)
 unfolding dup2_plan
-known-dup2 t descriptor target sound =
-    through t (described t descriptor) _ (λ found is. through t (descriptor_number target EBADF) _ (λ n x.
-    through t (refuse_if (not (int_eq descriptor target) && ends_a_door (described t target)) EBUSY) _ (λ a y. by_test (int_eq descriptor target))))
+known-dup2 t most descriptor target sound =
+    through t most (described t descriptor) _ (λ found is. through t most (descriptor_number target EBADF) _ (λ n x.
+    through t most (refuse_if (not (int_eq descriptor target) && ends_a_door (described t target)) EBUSY) _ (λ a y. by_test (int_eq descriptor target))))
   where
-    by_test : (b : Bool) → LocksKnown t (if b then plan.Reply (reply.Number target) else replaced (described t target) (reply.Number target))
-    by_test true = tt
-    by_test false = known-replaced t (described t target) (reply.Number target) sound (λ x is. found_used t target x sound is)
+    by_test : (b : Bool) → LocksKnown t most (if b then plan.Reply (reply.Number target) else replaced (described t target) (reply.Number target))
+    by_test true = none_within most
+    by_test false = known-replaced t most (described t target) (reply.Number target) (none_within most) sound (λ x is. found_used t target x sound is)
 
-known-getfl : (t : TableState) (descriptor : ℤ) → IfOk (getfl_plan t descriptor) (LocksKnown t)
+known-getfl : (t : TableState) (most : ℕ) (descriptor : ℤ) → IfOk (getfl_plan t descriptor) (LocksKnown t most)
 unfolding getfl_plan
-known-getfl t descriptor = through t (described t descriptor) _ (λ found is. tt)
+known-getfl t most descriptor = through t most (described t descriptor) _ (λ found is. none_within most)
 
-known-setfl : (t : TableState) (descriptor : ℤ) → IfOk (setfl_plan t descriptor) (LocksKnown t)
+known-setfl : (t : TableState) (most : ℕ) (descriptor : ℤ) → IfOk (setfl_plan t descriptor) (LocksKnown t most)
 unfolding setfl_plan
-known-setfl t descriptor = through t (described t descriptor) _ (λ found is. tt)
+known-setfl t most descriptor = through t most (described t descriptor) _ (λ found is. none_within most)
 
-known-link : (t : TableState) (old_path new_path : List ℕ) → IfOk (link_plan t old_path new_path) (LocksKnown t)
+known-link : (t : TableState) (most : ℕ) (old_path new_path : List ℕ) → IfOk (link_plan t old_path new_path) (LocksKnown t most)
 unfolding link_plan
-known-link t old_path new_path = through t (file_named t.paths old_path) _ (λ node is. through t (addable t.paths new_path) _ (λ a x. tt))
+known-link t most old_path new_path = through t most (file_named t.paths old_path) _ (λ node is. through t most (addable t.paths new_path) _ (λ a x. none_within most))
 
-known-unlink : (t : TableState) (path : List ℕ) → IsSound t → IfOk (unlink_plan t path) (LocksKnown t)
+known-unlink : (t : TableState) (most : ℕ) (path : List ℕ) → IsSound t → IfOk (unlink_plan t path) (LocksKnown t most)
 unfolding unlink_plan
-known-unlink t path sound = through t (file_named t.paths path) _ (λ node is. by_test node (used_known t node sound (used-named t path node is sound)) (is_last_name t node))
+known-unlink t most path sound = through t most (file_named t.paths path) _ (λ node is. by_test node (used_known t node sound (used-named t path node is sound)) (is_last_name t node))
   where
-    by_test : (node : ℕ) → IsKnownNumber t node → (b : Bool) → LocksKnown t (if b then plan.Node node op.Release false else plan.Reply reply.Done)
+    by_test : (node : ℕ) → IsKnownNumber t node → (b : Bool) → LocksKnown t most (if b then plan.Node node op.Release false else plan.Reply reply.Done)
     by_test node known true = (known, tt)
-    by_test node known false = tt
+    by_test node known false = none_within most
 
-known-mkdir : (t : TableState) (path : List ℕ) → IfOk (mkdir_plan t path) (LocksKnown t)
+known-mkdir : (t : TableState) (most : ℕ) (path : List ℕ) → IfOk (mkdir_plan t path) (LocksKnown t most)
 unfolding mkdir_plan
-known-mkdir t path = through t (addable t.paths path) _ (λ a x. tt)
+known-mkdir t most path = through t most (addable t.paths path) _ (λ a x. none_within most)
 
-known-rmdir : (t : TableState) (path : List ℕ) → IfOk (rmdir_plan t path) (LocksKnown t)
+known-rmdir : (t : TableState) (most : ℕ) (path : List ℕ) → IfOk (rmdir_plan t path) (LocksKnown t most)
 unfolding rmdir_plan
-known-rmdir t path = through t (removed_dir t.paths path) _ (λ a x. tt)
+known-rmdir t most path = through t most (removed_dir t.paths path) _ (λ a x. none_within most)
 
-known-call : (t : TableState) (c : Call) → IsSound t → IfOk (plan_of t c) (LocksKnown t)
-known-call t (call.Open path access flags) sound = known-open t path access flags sound
-known-call t (call.Close descriptor) sound = known-close t descriptor sound
-known-call t (call.Read descriptor count) sound = known-read t descriptor count sound
-known-call t (call.Write descriptor bytes) sound = known-write t descriptor (length bytes) sound
-known-call t (call.Pread descriptor count position) sound = known-pread t descriptor count position sound
-known-call t (call.Pwrite descriptor bytes position) sound = known-pwrite t descriptor (length bytes) position sound
-known-call t (call.Lseek descriptor offset whence) sound = known-lseek t descriptor offset whence sound
-known-call t (call.Ftruncate descriptor size) sound = known-ftruncate t descriptor size sound
-known-call t (call.Fstat descriptor) sound = known-fstat t descriptor sound
-known-call t (call.Dup descriptor) sound = known-dup t descriptor
-known-call t (call.DupFrom descriptor least) sound = known-dup_from t descriptor least
-known-call t (call.Dup2 descriptor target) sound = known-dup2 t descriptor target sound
-known-call t (call.Getfl descriptor) sound = known-getfl t descriptor
-known-call t (call.Setfl descriptor append nonblock) sound = known-setfl t descriptor
-known-call t (call.Link old_path new_path) sound = known-link t old_path new_path
-known-call t (call.Unlink path) sound = known-unlink t path sound
-known-call t (call.Mkdir path) sound = known-mkdir t path
-known-call t (call.Rmdir path) sound = known-rmdir t path
-known-call t call.Pipe sound = known-two_ends t op.Pipe tt
-known-call t call.Socketpair sound = known-two_ends t op.Socketpair tt
-known-call t (call.Shutdown descriptor how) sound = known-shutdown t descriptor how sound
-known-call t (call.HostOpen path access flags) sound = known-host_open t path access flags
-known-call t (call.TcpListen port) sound = known-listen t port
-known-call t (call.TcpConnect port) sound = known-connect t port
-known-call t (call.TcpAccept descriptor) sound = known-accept t descriptor sound
+known-call : (t : TableState) (c : Call) → IsSound t → IfOk (plan_of t c) (LocksKnown t (read_count c))
+known-call t (call.Open path access flags) sound = known-open t 0 path access flags sound
+known-call t (call.Close descriptor) sound = known-close t 0 descriptor sound
+known-call t (call.Read descriptor count) sound = known-read t (or_none (count_of count)) descriptor count (taken_within (count_of count)) sound
+known-call t (call.Write descriptor bytes) sound = known-write t 0 descriptor (length bytes) sound
+known-call t (call.Pread descriptor count position) sound = known-pread t (or_none (count_of count)) descriptor count position (taken_within (count_of count)) sound
+known-call t (call.Pwrite descriptor bytes position) sound = known-pwrite t 0 descriptor (length bytes) position sound
+known-call t (call.Lseek descriptor offset whence) sound = known-lseek t 0 descriptor offset whence sound
+known-call t (call.Ftruncate descriptor size) sound = known-ftruncate t 0 descriptor size sound
+known-call t (call.Fstat descriptor) sound = known-fstat t 0 descriptor sound
+known-call t (call.Dup descriptor) sound = known-dup t 0 descriptor
+known-call t (call.DupFrom descriptor least) sound = known-dup_from t 0 descriptor least
+known-call t (call.Dup2 descriptor target) sound = known-dup2 t 0 descriptor target sound
+known-call t (call.Getfl descriptor) sound = known-getfl t 0 descriptor
+known-call t (call.Setfl descriptor append nonblock) sound = known-setfl t 0 descriptor
+known-call t (call.Link old_path new_path) sound = known-link t 0 old_path new_path
+known-call t (call.Unlink path) sound = known-unlink t 0 path sound
+known-call t (call.Mkdir path) sound = known-mkdir t 0 path
+known-call t (call.Rmdir path) sound = known-rmdir t 0 path
+known-call t call.Pipe sound = known-two_ends t 0 op.Pipe tt
+known-call t call.Socketpair sound = known-two_ends t 0 op.Socketpair tt
+known-call t (call.Shutdown descriptor how) sound = known-shutdown t 0 descriptor how sound
+known-call t (call.HostOpen path access flags) sound = known-host_open t 0 path access flags
+known-call t (call.TcpListen port) sound = known-listen t 0 port
+known-call t (call.TcpConnect port) sound = known-connect t 0 port
+known-call t (call.TcpAccept descriptor) sound = known-accept t 0 descriptor sound
 
-known-answered : (t : TableState) (r : Result Plan Errno) → IfOk r (LocksKnown t) → LocksKnown t (answered r)
-known-answered t (Ok p) known = known
-known-answered t (Err e) known = tt
+known-answered : (t : TableState) (most : ℕ) (r : Result Plan Errno) → IfOk r (LocksKnown t most) → LocksKnown t most (answered r)
+known-answered t most (Ok p) known = known
+known-answered t most (Err e) known = none_within most
 
-pub known-planned : (t : TableState) (c : Call) → IsSound t → LocksKnown t (planned t c)
-known-planned t c sound = known-answered t (plan_of t c) (known-call t c sound)
+pub known-planned : (t : TableState) (c : Call) → IsSound t → LocksKnown t (read_count c) (planned t c)
+known-planned t c sound = known-answered t (read_count c) (plan_of t c) (known-call t c sound)
 
 pub ruleset known = (known-planned)

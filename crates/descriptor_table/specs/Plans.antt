@@ -24,7 +24,6 @@ use Rattle.posix_terms.specs.declared.limits.TheConstants.Limits as limit
 use Rattle.posix_terms.specs.declared.object.Door.TheVariants as door
 use Rattle.posix_terms.specs.declared.object.End.{End}
 use Rattle.posix_terms.specs.declared.object.End.TheVariants as part
-use Rattle.posix_terms.specs.declared.object.Side.{Side}
 use Rattle.posix_terms.specs.declared.outcome.OutKind.{OutKind}
 use Rattle.posix_terms.specs.declared.outcome.OutKind.TheVariants as out
 use Rattle.posix_terms.specs.declared.reply.ObjectKind.{ObjectKind}
@@ -363,15 +362,45 @@ abbrev pub IsThere : TableState → Option ℕ → Type 0
 IsThere t None = Unit {0}
 IsThere t (Some node) = is_used t node ≡ true
 
--- the description whose offset an act reads or moves is there
-abbrev pub MovesKnown : TableState → Op → Type 0
-MovesKnown t (op.Read from count) = ContainsKey t.descriptions from.key
-MovesKnown t (op.Write to) = ContainsKey t.descriptions to.key
-MovesKnown t (op.Lseek at) = ContainsKey t.descriptions at.key
-MovesKnown t (op.Ftruncate size) = size ≤ limit.FILE_BYTES
-MovesKnown t (op.Ask errand) = IsThere t errand.door
-MovesKnown t _ = Unit {0}
+-- ## How many bytes calls read
 
-abbrev pub LocksKnown : TableState → Plan → Type 0
-LocksKnown t (plan.Reply r) = Unit {0}
-LocksKnown t (plan.Node node act keep_table) = IsKnownNumber t node × MovesKnown t act
+-- none where the count is refused
+abbrev pub or_none : Result ℕ Errno → ℕ
+or_none (Ok n) = n
+or_none (Err e) = 0
+
+-- how many bytes a call reads at most
+abbrev pub read_count : Call → ℕ
+read_count (call.Read descriptor count) = or_none (count_of count)
+read_count (call.Pread descriptor count position) = or_none (count_of count)
+read_count c = 0
+
+-- only a read brings bytes from outside, and no more than it asks
+abbrev pub bytes_of_kind : OutKind → ℕ → ℕ
+bytes_of_kind out.Read asked = asked
+bytes_of_kind k asked = 0
+
+-- how many bytes an errand brings at most
+abbrev pub bytes_asked : Errand → ℕ
+bytes_asked e = bytes_of_kind e.kind e.asked
+
+-- how many bytes a reply brings
+abbrev pub reply_bytes : Reply → ℕ
+reply_bytes (reply.Data bytes) = length bytes
+reply_bytes r = 0
+
+-- ## What is there for an act
+
+-- the description whose offset an act reads or moves is there, and it reads no more bytes than this
+abbrev pub MovesKnown : TableState → ℕ → Op → Type 0
+MovesKnown t most (op.Read from count) = ContainsKey t.descriptions from.key × (count ≤ most)
+MovesKnown t most (op.Write to) = ContainsKey t.descriptions to.key
+MovesKnown t most (op.Pread count position) = count ≤ most
+MovesKnown t most (op.Lseek at) = ContainsKey t.descriptions at.key
+MovesKnown t most (op.Ftruncate size) = size ≤ limit.FILE_BYTES
+MovesKnown t most (op.Ask errand) = IsThere t errand.door × (bytes_asked errand ≤ most)
+MovesKnown t most _ = Unit {0}
+
+abbrev pub LocksKnown : TableState → ℕ → Plan → Type 0
+LocksKnown t most (plan.Reply r) = reply_bytes r ≤ most
+LocksKnown t most (plan.Node node act keep_table) = IsKnownNumber t node × MovesKnown t most act

@@ -10,5 +10,6 @@ mod slots;
 mod table;
 
 pub use laws::opens_as_planned;
+pub use numbers::read_count;
 pub use plan::{Errand, NewNumbers, Op, Opened, Plan};
 pub use table::Table;

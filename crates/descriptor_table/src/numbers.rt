@@ -4,8 +4,9 @@ ghost use Rattle.posix_terms.specs.Doors.{host_path, port_of};
 ghost use Rattle.posix_terms.specs.Duplicates.{descriptor_number};
 ghost use Rattle.posix_terms.specs.Refusals.{count_of, position_of};
 ghost use Rattle.posix_terms.specs.Transfers.{size_of};
+ghost use Rattle.descriptor_table.specs.Plans.{or_none, read_count};
 
-use posix_terms::{Errno, Limits};
+use posix_terms::{Call, Errno, Limits};
 
 // How many bytes a read asks for.
 pub fn count_of(count: i64) -> Result<usize, Errno>
@@ -14,6 +15,27 @@ pub fn count_of(count: i64) -> Result<usize, Errno>
     match usize::try_from(count) {
         Ok(count) if count <= Limits::COUNT => Ok(count),
         _ => Err(Errno::EINVAL),
+    }
+}
+
+/// How many bytes a call reads at most: as many as it asks for, where that is a legal count, and none where it
+/// is not or where the call reads nothing. Whoever makes the call needs room for so many.
+pub fn read_count(call: &Call) -> usize
+    ensures { result ≡ read_count call.now }
+{
+    match call {
+        Call::Read { count, .. } | Call::Pread { count, .. } => or_none(count_of(*count)),
+        _ => 0,
+    }
+}
+
+// None where the count is refused.
+fn or_none(count: Result<usize, Errno>) -> usize
+    ensures { result ≡ or_none count }
+{
+    match count {
+        Ok(count) => count,
+        Err(_) => 0,
     }
 }
 

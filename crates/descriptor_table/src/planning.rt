@@ -3,7 +3,7 @@ ghost use Rattle.descriptor_table.specs.Acts.{ActsAsStep, StaysAsStep};
 ghost use Rattle.descriptor_table.specs.Agreement.{PlansAsStep};
 ghost use Rattle.descriptor_table.specs.Table.{is_used};
 ghost use Rattle.posix_terms.specs.Names.{file_named};
-ghost use Rattle.descriptor_table.specs.Plans.{LocksKnown, addable, open_plan, close_plan, read_plan, write_plan, pread_plan, pwrite_plan, lseek_plan, ftruncate_plan, fstat_plan, dup_plan, dup_from_plan, dup2_plan, status_number, getfl_plan, setfl_plan, shutdown_plan, stat_by, two_ends_plan, act_or_ask, errand, host_open_plan, leads_outside, not_listener, of_listener, opens_plan, seekable, shut_act, tcp_accept_plan, tcp_connect_plan, tcp_listen_plan, link_plan, unlink_plan, mkdir_plan, rmdir_plan, plan_of, planned, locks, seen, release, open_there, open_new, open_node};
+ghost use Rattle.descriptor_table.specs.Plans.{LocksKnown, addable, open_plan, close_plan, read_count, read_plan, write_plan, pread_plan, pwrite_plan, lseek_plan, ftruncate_plan, fstat_plan, dup_plan, dup_from_plan, dup2_plan, status_number, getfl_plan, setfl_plan, shutdown_plan, stat_by, two_ends_plan, act_or_ask, errand, host_open_plan, leads_outside, not_listener, of_listener, opens_plan, seekable, shut_act, tcp_accept_plan, tcp_connect_plan, tcp_listen_plan, link_plan, unlink_plan, mkdir_plan, rmdir_plan, plan_of, planned, locks, seen, release, open_there, open_new, open_node};
 ghost use Rattle.directories.specs.Entries.{node_of};
 ghost use Rattle.std.specs.Prelude.{not};
 ghost use Rattle.posix_terms.specs.Ends.{is_end};
@@ -24,15 +24,16 @@ impl Table {
     /// What the table makes of a call: its reply, exactly where the call takes no object's lock. Otherwise
     /// the object, and what the call does there with the description, its end, its flags and the number of
     /// names as they are now. That object is there, or it is the one that the call makes, and a description
-    /// whose offset the call reads or moves is there, and so is an object whose door is taken along
-    /// (`object`). The reply, the object, what is asked outside and whether the call keeps the table are those
-    /// of the sequential object, of which the table shows all but contents and offsets (`step`). What
-    /// the call does with the object's content and the offset, and whether it has to wait, is what the step
-    /// does (`acts`), and the step leaves other objects and other offsets as they are (`others`).
+    /// whose offset the call reads or moves is there, and so is an object whose door is taken along; and no
+    /// more bytes are read, nor in the reply, than the `read_count` of the call (`object`). The reply, the
+    /// object, what is asked outside and whether the call keeps the table are those of the sequential object,
+    /// of which the table shows all but contents and offsets (`step`). What the call does with the object's
+    /// content and the offset, and whether it has to wait, is what the step does (`acts`), and the step leaves
+    /// other objects and other offsets as they are (`others`).
     #[tactic(auto, using(crate::proofs::KnownLemmas::known))]
     pub fn plan(&self, call: &Call) -> Plan
         ensures plan { result ≡ planned self.now call.now }
-        ensures object { LocksKnown self.now result }
+        ensures object { LocksKnown self.now (read_count call.now) result }
         ensures step { PlansAsStep self.now call.now result }
         ensures acts { ActsAsStep self.now call.now result }
         ensures others { StaysAsStep self.now call.now result }

@@ -235,9 +235,9 @@ next_le c h = omega arith
 
 -- the thread works, or makes its call again
 thread_answered : (terms : Conditions) (i : ℕ) (rows : List Row) (t : Thread) (u : lock.Thread) (c : Call) (e : TurnEnd) → u.clock ≡ t.clock → t.clock < 2 ^ 62 → u.asked ≡ t.asked → length u.came ≡ t.came
-    → ThreadShows terms i rows (record t { phase = phase_behind c e; clock = t.clock + 1 }) (answered u c (u.clock + 1) (ended e))
+    → ThreadShows terms i rows (record t { phase = phase_behind e; clock = t.clock + 1 }) (answered u c (u.clock + 1) (ended e))
 thread_answered terms i rows t u c (end.Reply reply) clock room asked came = record { clock = ap (λ (n : ℕ). n + 1) clock; in_time = next_le t.clock room; asked = asked; came = came; phase = refl }
-thread_answered terms i rows t u c (end.Blocked turns) clock room asked came = record { clock = ap (λ (n : ℕ). n + 1) clock; in_time = next_le t.clock room; asked = asked; came = came; phase = refl }
+thread_answered terms i rows t u c (end.Blocked turns) clock room asked came = record { clock = ap (λ (n : ℕ). n + 1) clock; in_time = next_le t.clock room; asked = asked; came = came; phase = (c, refl) }
 
 thread_now : (terms : Conditions) (w : Whole) (s : State) (i place : ℕ) (object : Option ℕ) (e : TurnEnd) (job : Job) (a : Answering terms w s i place object e job) (rows : List Row) → (thread_at w i).clock < 2 ^ 62
     → ThreadShows terms i rows (row_answered (parts_at w i object) place e (shown (row_of job))).thread (freeing object (thread_of s i) job.call (ended e)).thread

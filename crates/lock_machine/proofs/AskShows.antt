@@ -4,12 +4,13 @@ use Rattle.std.proofs.lemmas.Bool.{cond-true, cond-false, le-leb, lt-leb}
 use Rattle.posix_terms.specs.declared.call.Call.{Call}
 use Rattle.thread_scripts.specs.declared.actor.Step.{Step}
 use Rattle.thread_scripts.specs.declared.actor.Step.TheVariants as step
+use Rattle.lock_model.specs.Held.{HasAsked, call_in, has_end, last_call}
 use Rattle.lock_model.specs.Machine.{Moved, after_step, again, ask, moves, moves_in, quietly, within}
 use Rattle.lock_model.specs.RealCalls.{real_calls}
 use Rattle.lock_model.specs.State as lock
 use Rattle.lock_model.specs.State.{Row}
 use Rattle.lock_model.specs.State.Phase.{Blocked, Working}
-use Rattle.lock_machine.specs.Asking.{Asks, GoesAgain, GoesAgainIn, worked}
+use Rattle.lock_machine.specs.Asking.{Asks, EndsIf, GoesAgain, GoesAgainIn, GoesAgainWith, worked}
 use Rattle.lock_machine.specs.Conditions.{Conditions, setup_under}
 use Rattle.lock_machine.specs.Shows.{PhaseShows, ThreadShows}
 use Rattle.lock_machine.specs.declared.thread.Phase.{Phase}
@@ -32,6 +33,7 @@ record Next (terms : Conditions) (i : ℕ) (t : Thread) (u : lock.Thread) (x : S
   works : t.phase ≡ phase.Working
   moves_is : moves (setup_under terms) i u ≡ within (2 ^ 62) (Some (quietly (after_step (real_calls terms.settings) u x)))
   working : u.phase ≡ Working
+  unended : has_end t.asked ≡ false
 
 moves_at : (terms : Conditions) (i : ℕ) (u : lock.Thread) (x : Step) → u.phase ≡ Working → terms.supply.next i u.asked u.replies ≡ Some x
     → moves (setup_under terms) i u ≡ within (2 ^ 62) (Some (quietly (after_step (real_calls terms.settings) u x)))
@@ -71,30 +73,35 @@ step_moves terms i rows moved t v u (step.Call call) h (moved_is, v_is) =
         subst P (sym v_is) (record { clock = h.clock; in_time = h.in_time; asked = ap (λ (a : List Step). a ++ step.Call call ∷ []) h.asked; came = h.came; phase = refl }),
       ),
     )
-step_moves terms i rows moved t v u step.End h (moved_is, v_is) =
+step_moves terms i rows moved t v u step.End h ends =
+    let E : Bool → Type 0 = λ b. EndsIf b moved t v in
+    let (moved_is, v_is) = (subst E h.unended ends) in
     let m : Moved = quietly (after_step (real_calls terms.settings) u step.End) in
     let fits : u.clock ≤ 2 ^ 62 = subst (λ (c : ℕ). c ≤ 2 ^ 62) (sym h.clock) h.in_time in
     let P : Thread → Type 0 = λ y. ThreadShows terms i rows y m.thread in
     let Q : Bool → Type 0 = λ b. Moving terms i rows b v u in
     subst Q (sym moved_is) (m, (h.moves_is ∙ within_yes (2 ^ 62) m fits, refl, subst P (sym v_is) (record { clock = h.clock; in_time = h.in_time; asked = ap (λ (a : List Step). a ++ step.End ∷ []) h.asked; came = h.came; phase = refl })))
 
-pub ask_moves : (terms : Conditions) (i : ℕ) (rows : List Row) (moved : Bool) (x : Step) (t v : Thread) (u : lock.Thread) → t.phase ≡ phase.Working → ThreadShows terms i rows t u → terms.supply.next i u.asked u.replies ≡ Some x → Asks moved x t v → Moving terms i rows moved v u
-ask_moves terms i rows moved x t v u works h next asks =
+pub ask_moves : (terms : Conditions) (i : ℕ) (rows : List Row) (moved : Bool) (x : Step) (t v : Thread) (u : lock.Thread) → t.phase ≡ phase.Working → ThreadShows terms i rows t u → HasAsked u → terms.supply.next i u.asked u.replies ≡ Some x → Asks moved x t v → Moving terms i rows moved v u
+ask_moves terms i rows moved x t v u works h asked next asks =
     let P : Phase → Type 0 = λ p. PhaseShows terms i rows t u p in
     let now : u.phase ≡ Working = subst P works h.phase in
-    step_moves terms i rows moved t v u x (record { clock = h.clock; in_time = h.in_time; asked = h.asked; came = h.came; works = works; moves_is = moves_at terms i u x now next; working = now }) asks
+    let unended : has_end t.asked ≡ false = ap has_end (sym h.asked) ∙ asked.works now in
+    step_moves terms i rows moved t v u x (record { clock = h.clock; in_time = h.in_time; asked = h.asked; came = h.came; works = works; moves_is = moves_at terms i u x now next; working = now; unended = unended }) asks
 
 moves_again : (terms : Conditions) (i : ℕ) (u : lock.Thread) (call : Call) (turns : ℕ) → u.phase ≡ Blocked call turns → moves (setup_under terms) i u ≡ within (2 ^ 62) (Some (again u call turns))
 unfolding moves
 moves_again terms i u call turns e = ap (λ (p : lock.Phase). within (2 ^ 62) (moves_in (setup_under terms) i u p)) e
 
--- a blocked call wants the table again
-pub again_moves : (terms : Conditions) (i : ℕ) (rows : List Row) (moved : Bool) (t v : Thread) (u : lock.Thread) (call : Call) (turns : ℕ) → t.phase ≡ phase.Blocked call turns → ThreadShows terms i rows t u → GoesAgain moved t v → Moving terms i rows moved v u
-again_moves terms i rows moved t v u call turns is h goes =
+-- a blocked call, which is the last that its thread asked, wants the table again
+pub again_moves : (terms : Conditions) (i : ℕ) (rows : List Row) (moved : Bool) (t v : Thread) (u : lock.Thread) (turns : ℕ) → t.phase ≡ phase.Blocked turns → ThreadShows terms i rows t u → HasAsked u → GoesAgain moved t v → Moving terms i rows moved v u
+again_moves terms i rows moved t v u turns is h asked goes =
     let P : Phase → Type 0 = λ p. PhaseShows terms i rows t u p in
-    let now : u.phase ≡ Blocked call turns = subst P is h.phase in
+    let (call, now) = (subst P is h.phase) in
+    let last : last_call t.asked ≡ Some call = ap last_call (sym h.asked) ∙ asked.call call (ap call_in now) in
     let G : Phase → Type 0 = λ p. GoesAgainIn p moved t v in
-    let went : (moved ≡ true) × (v ≡ record t { phase = phase.WantsTable call turns }) = subst G is goes in
+    let W : Option Call → Type 0 = λ o. GoesAgainWith o turns moved t v in
+    let went : (moved ≡ true) × (v ≡ record t { phase = phase.WantsTable call turns }) = subst W last (subst G is goes) in
     let m : Moved = again u call turns in
     let fits : u.clock ≤ 2 ^ 62 = subst (λ (c : ℕ). c ≤ 2 ^ 62) (sym h.clock) h.in_time in
     let Q : Bool → Type 0 = λ b. Moving terms i rows b v u in

@@ -38,14 +38,14 @@ use Rattle.lock_machine.proofs.Turning.{clocks_shown}
 table_event : (w : Whole) (i : ℕ) (call : Call) (turns : ℕ) (made : Bool) (new : Parts) → i < length w.threads → has_turn (clocks_of w.threads) i ≡ true → (thread_at w i).phase ≡ phase.WantsTable call turns
     → Tries w.patience made i (table_parts w i) new → Attempts made i w (table_tried w i new)
 table_event w i call turns made new inside turn is tries terms s (arises, h) =
-    let a = attempt_whole terms w s i call turns made new inside h (ap (λ cs. has_turn cs i) (clocks_shown terms w s h) ∙ turn) is tries in (a.0, a.1, refl)
+    let a = attempt_whole terms w s i call turns made new inside h (ap (λ cs. has_turn cs i) (clocks_shown terms w s h) ∙ turn) is tries in (a.0, a.1)
 
 object_event : (w : Whole) (i n clock : ℕ) (call : Call) (turns : ℕ) (made : Bool) (now : DetLock) (new : Parts) → i < length w.threads → has_turn (clocks_of w.threads) i ≡ true
     → (thread_at w i).phase ≡ phase.WantsObject call turns clock n
     → Reaches w.patience made i (lock_at w n) now (table_parts w i) new → Attempts made i w (object_tried w i n now new)
 object_event w i n clock call turns made now new inside turn is tries terms s (arises, h) =
     let plans = plans_arisen (setup_under terms) terms.threads limit.OBJECTS first_world s arises in
-    let a = reach_whole terms w s i n clock call turns made now new inside h plans (ap (λ cs. has_turn cs i) (clocks_shown terms w s h) ∙ turn) is tries in (a.0, a.1, refl)
+    let a = reach_whole terms w s i n clock call turns made now new inside h plans (ap (λ cs. has_turn cs i) (clocks_shown terms w s h) ∙ turn) is tries in (a.0, a.1)
 
 -- a call whose object is past the last number is in no run
 object_past : (w : Whole) (i n clock : ℕ) (call : Call) (turns : ℕ) → (thread_at w i).phase ≡ phase.WantsObject call turns clock n → length w.objects ≤ n → Attempts false i w w
@@ -58,7 +58,7 @@ object_past w i n clock call turns is past terms s (arises, h) =
     too_far n m few e past = omega arith
 
 pub no_attempt_event : (w : Whole) (i : ℕ) → has_turn (clocks_of w.threads) i ≡ false → Attempts false i w w
-no_attempt_event w i late terms s (arises, h) = let a = attempt_waits terms w s i h (ap (λ cs. has_turn cs i) (clocks_shown terms w s h) ∙ late) in (a.0, a.1, refl)
+no_attempt_event w i late terms s (arises, h) = let a = attempt_waits terms w s i h (ap (λ cs. has_turn cs i) (clocks_shown terms w s h) ∙ late) in (a.0, a.1)
 
 -- threads in other phases want no lock
 abbrev pub Idles : Phase → Type 0
@@ -69,7 +69,7 @@ Idles (phase.Granted place object e) = Unit {0}
 Idles (phase.ToOutside o) = Unit {0}
 Idles (phase.Outside o) = Unit {0}
 Idles (phase.Recorded o) = Unit {0}
-Idles (phase.Blocked call turns) = Unit {0}
+Idles (phase.Blocked turns) = Unit {0}
 Idles phase.Ended = Unit {0}
 
 idles_wants : (terms : Conditions) (i : ℕ) (rows : List Row) (t : Thread) (u : lock.Thread) (p : Phase) → Idles p → PhaseShows terms i rows t u p → wants u.phase ≡ false
@@ -80,12 +80,12 @@ idles_wants terms i rows t u (phase.Granted place object e) idles h = ap wants h
 idles_wants terms i rows t u (phase.ToOutside o) idles h = ap wants h.1.0
 idles_wants terms i rows t u (phase.Outside o) idles h = ap wants h.1.0
 idles_wants terms i rows t u (phase.Recorded o) idles h = ap wants h.1.0
-idles_wants terms i rows t u (phase.Blocked call turns) idles h = ap wants h
+idles_wants terms i rows t u (phase.Blocked turns) idles h = ap wants h.1
 idles_wants terms i rows t u phase.Ended idles h = ap wants h
 
 pub idle_event : (w : Whole) (i : ℕ) → Idles (thread_at w i).phase → Attempts false i w w
 idle_event w i idles terms s (arises, h) =
-    let a = attempt_idle terms w s i h (idles_wants terms i s.rows (thread_at w i) (thread_of s i) (thread_at w i).phase idles (h.threads i).phase) in (a.0, a.1, refl)
+    let a = attempt_idle terms w s i h (idles_wants terms i s.rows (thread_at w i) (thread_of s i) (thread_at w i).phase idles (h.threads i).phase) in (a.0, a.1)
 
 -- ## By the item and the clock that the code changes
 
@@ -116,7 +116,7 @@ wants_phase (phase.Granted place object e) n h = absurd h
 wants_phase (phase.ToOutside o) n h = absurd h
 wants_phase (phase.Outside o) n h = absurd h
 wants_phase (phase.Recorded o) n h = absurd h
-wants_phase (phase.Blocked call turns) n h = absurd h
+wants_phase (phase.Blocked turns) n h = absurd h
 wants_phase phase.Ended n h = absurd h
 
 pub reach_done : (w : Whole) (ts : List declared.Thread) (cs ds : List ThreadClock) (i n : ℕ) (x v : declared.Thread) (l before own : DetLock) (later : Stored) (rows : List HistoryRow) (r : Result Bool AllocError)

@@ -15,6 +15,7 @@ use Rattle.det_mutex.specs.declared.lock.DetLock.{DetLock}
 use Rattle.logical_clocks.specs.ThreadClocks.{clock_at, live_clock, live_clocks}
 use Rattle.logical_clocks.specs.TurnOrder.{first_below, first_or, has_turn, turn_holder}
 use Rattle.logical_clocks.specs.declared.clocks.ThreadClock.{ThreadClock}
+use Rattle.lock_model.specs.Laws.{StepsOfArisen}
 use Rattle.lock_model.specs.Numbers.{first_world}
 use Rattle.lock_model.specs.State.{thread_of}
 use Rattle.lock_model.proofs.OwnPlans.{plans_arisen}
@@ -24,8 +25,7 @@ use Rattle.thread_scripts.specs.declared.actor.Step.TheVariants as step
 use Rattle.lock_machine.specs.Asking.{Asks, GoesAgain, after_want}
 use Rattle.lock_machine.specs.Events.{Answers, parts}
 use Rattle.lock_machine.specs.Lives.{Agree, is_live}
-use Rattle.lock_machine.specs.Logs.{Written}
-use Rattle.lock_machine.specs.Outings.{AnswersOutside, Begins, LoggedParts, OutsideParts, Records, logged_parts, outside_parts}
+use Rattle.lock_machine.specs.Outings.{AnswersOutside, Begins, OutsideParts, RecordedParts, Records, outside_parts, recorded_parts}
 use Rattle.lock_machine.specs.Conditions.{setup_under}
 use Rattle.lock_machine.specs.declared.outside.Progress.{Progress}
 use Rattle.lock_machine.specs.declared.thread.Outing.{Outing}
@@ -41,25 +41,27 @@ use Rattle.lock_machine.specs.declared.thread.Thread as declared
 use Rattle.lock_machine.proofs.AnswerShows.{answer_whole, lock_held, with_lock}
 use Rattle.lock_machine.proofs.AskShows.{again_moves, ask_moves}
 use Rattle.lock_machine.proofs.ClockLemmas.{kept_still}
-use Rattle.lock_machine.proofs.OutsideShows.{begin_moves, conclude_whole, concluded_whole, logged_at, outside_at, record_whole, recorded_whole}
+use Rattle.lock_machine.proofs.OutsideShows.{begin_moves, conclude_whole, concluded_whole, outside_at, record_whole, recorded_at, recorded_whole}
 use Rattle.lock_machine.proofs.Joining.{agree-kept, agree_length, get-joined, joined-kept, length-joined, live-joined}
 use Rattle.object_store.proofs.Lists.{item_is}
 use Rattle.lock_machine.proofs.ShownThreads.{whole_quiet}
 
-pub ask_event : (w : Whole) (i : ℕ) (moved : Bool) (x : Step) (v : Thread) → i < length w.threads → (thread_at w i).phase ≡ phase.Working → Asks moved x (thread_at w i) v → AsksFor moved i x w (record w { threads = set w.threads i v })
-ask_event w i moved x v inside works asks terms s (arises, h) next =
-    let a = whole_quiet terms w s i moved v inside h (ask_moves terms i s.rows moved x (thread_at w i) v (thread_of s i) works (h.threads i) next asks) in record { can = a.0; shows = a.1; log = refl }
+pub ask_event : (w : Whole) (i : ℕ) (moved : Bool) (x : Step) (v : Thread) → StepsOfArisen → i < length w.threads → (thread_at w i).phase ≡ phase.Working → Asks moved x (thread_at w i) v → AsksFor moved i x w (record w { threads = set w.threads i v })
+ask_event w i moved x v law inside works asks terms s (arises, h) next =
+    let asked = law (setup_under terms) terms.threads limit.OBJECTS first_world s arises i in
+    let a = whole_quiet terms w s i moved v inside h (ask_moves terms i s.rows moved x (thread_at w i) v (thread_of s i) works (h.threads i) asked next asks) in record { can = a.0; shows = a.1 }
 
-pub again_event : (w : Whole) (i : ℕ) (call : Call) (turns : ℕ) (moved : Bool) (v : Thread) → i < length w.threads → (thread_at w i).phase ≡ phase.Blocked call turns → GoesAgain moved (thread_at w i) v → AdvancesQuietly moved i w (record w { threads = set w.threads i v })
-again_event w i call turns moved v inside is goes terms s (arises, h) =
-    let a = whole_quiet terms w s i moved v inside h (again_moves terms i s.rows moved (thread_at w i) v (thread_of s i) call turns is (h.threads i) goes) in record { can = a.0; shows = a.1; log = refl }
+pub again_event : (w : Whole) (i turns : ℕ) (moved : Bool) (v : Thread) → StepsOfArisen → i < length w.threads → (thread_at w i).phase ≡ phase.Blocked turns → GoesAgain moved (thread_at w i) v → AdvancesQuietly moved i w (record w { threads = set w.threads i v })
+again_event w i turns moved v law inside is goes terms s (arises, h) =
+    let asked = law (setup_under terms) terms.threads limit.OBJECTS first_world s arises i in
+    let a = whole_quiet terms w s i moved v inside h (again_moves terms i s.rows moved (thread_at w i) v (thread_of s i) turns is (h.threads i) asked goes) in record { can = a.0; shows = a.1 }
 
 pub begin_event : (w : Whole) (i : ℕ) (o : Outing) (moved : Bool) (v : Thread) → i < length w.threads → (thread_at w i).phase ≡ phase.ToOutside o → Begins w.door_cost o moved (thread_at w i) v → AdvancesQuietly moved i w (record w { threads = set w.threads i v })
 begin_event w i o moved v inside is begins terms s (arises, h) =
     let R : ℕ → Type 0 = λ cost. Begins cost o moved (thread_at w i) v in
-    let a = whole_quiet terms w s i moved v inside h (begin_moves terms i s.rows moved (thread_at w i) v (thread_of s i) o is (h.threads i) (subst R (sym h.door_cost) begins)) in record { can = a.0; shows = a.1; log = refl }
+    let a = whole_quiet terms w s i moved v inside h (begin_moves terms i s.rows moved (thread_at w i) v (thread_of s i) o is (h.threads i) (subst R (sym h.door_cost) begins)) in record { can = a.0; shows = a.1 }
 
-pub record_event : (w : Whole) (i : ℕ) (o : Outing) (g : Given) (made : Progress) (new : LoggedParts) → i < length w.threads → (thread_at w i).phase ≡ phase.Outside o → Records made i o g (logged_at w i) new → RecordsGiven made i g w (recorded_whole w i new)
+pub record_event : (w : Whole) (i : ℕ) (o : Outing) (g : Given) (made : Progress) (new : RecordedParts) → i < length w.threads → (thread_at w i).phase ≡ phase.Outside o → Records made o g (recorded_at w i) new → RecordsGiven made i g w (recorded_whole w i new)
 record_event w i o g made new inside is records terms s (arises, h) next =
     record_whole terms w s i o g made new inside h
     (rows_arisen (setup_under terms) terms.threads limit.OBJECTS first_world s arises)
@@ -72,11 +74,7 @@ conclude_event w i n o told new inside is object_is answers terms s (arises, h) 
     (held_arisen (setup_under terms) terms.threads limit.OBJECTS first_world s arises)
     (rows_arisen (setup_under terms) terms.threads limit.OBJECTS first_world s arises)
     (plans_arisen (setup_under terms) terms.threads limit.OBJECTS first_world s arises) is object_is answers in
-    (record { can = a.0; shows = a.1; log = refl }, a.2)
-
-with_lock_log : (w : Whole) (object : Option ℕ) (l : DetLock) (ts : List Thread) (rows : List HistoryRow) → (with_lock w object l ts rows).log ≡ w.log
-with_lock_log w None l ts rows = refl
-with_lock_log w (Some n) l ts rows = refl
+    (record { can = a.0; shows = a.1 }, a.2)
 
 pub answer_event : (w : Whole) (i place : ℕ) (object : Option ℕ) (e : TurnEnd) (told : Option posix.Answer) (v : Thread) (l : DetLock) (rows : List HistoryRow) → i < length w.threads → (thread_at w i).phase ≡ phase.Granted place object e
     → Answers told i place (parts (thread_at w i) (lock_held w object) w.table w.rows) (parts v l w.table rows) → Tells told i w (with_lock w object l (set w.threads i v) rows)
@@ -85,7 +83,7 @@ answer_event w i place object e told v l rows inside is answers terms s (arises,
     answer_whole terms w s i place object e told v l rows inside h
     (held_arisen (setup_under terms) terms.threads limit.OBJECTS first_world s arises)
     (rows_arisen (setup_under terms) terms.threads limit.OBJECTS first_world s arises) is answers in
-    (record { can = a.0; shows = a.1; log = with_lock_log w object l (set w.threads i v) rows }, a.2)
+    (record { can = a.0; shows = a.1 }, a.2)
 
 -- a call whose object is past the last number is in no run
 pub answer_past : (w : Whole) (i place n : ℕ) (e : TurnEnd) → (thread_at w i).phase ≡ phase.Granted place (Some n) e → length w.objects ≤ n → Tells None i w w
@@ -126,9 +124,9 @@ item_of ts cs i x v ds agree inside at kept =
 pub item_agrees : (ts : List declared.Thread) (cs : List ThreadClock) (i : ℕ) (x v : declared.Thread) (ds : List ThreadClock) → Agree ts cs → Item ts cs i x v ds → Agree (set ts i v) ds
 item_agrees ts cs i x v ds agree h = agree-kept ts cs ds i x v agree h.inside h.item h.kept
 
-pub ask_done : (w : Whole) (ts : List declared.Thread) (cs ds : List ThreadClock) (i : ℕ) (x : Step) (t v : declared.Thread) (r : Result Bool AllocError) → Item ts cs i t v ds → t.phase ≡ phase.Working
+pub ask_done : (w : Whole) (ts : List declared.Thread) (cs ds : List ThreadClock) (i : ℕ) (x : Step) (t v : declared.Thread) (r : Result Bool AllocError) → StepsOfArisen → Item ts cs i t v ds → t.phase ≡ phase.Working
     → IfOk r (λ moved. Asks moved x (timed t (clock_at cs i)) (timed v (clock_at ds i))) → IfOk r (λ moved. AsksFor moved i x (run_at w ts cs) (run_at w (set ts i v) ds))
-ask_done w ts cs ds i x t v r h works asked =
+ask_done w ts cs ds i x t v r law h works asked =
     let z = run_at w ts cs in
     let P : Bool → Type 0 = λ moved. Asks moved x (timed t (clock_at cs i)) (timed v (clock_at ds i)) in
     let Q : Bool → Type 0 = λ moved. AsksFor moved i x z (run_at w (set ts i v) ds) in
@@ -136,7 +134,7 @@ ask_done w ts cs ds i x t v r h works asked =
     let R : Thread → Type 0 = λ y. Asks moved x y (timed v (clock_at ds i)) in
     let T : List Thread → Type 0 = λ l. AsksFor moved i x z (record w { threads = l }) in
     subst T (sym (joined-kept ts cs ds i t v h.clocked h.kept))
-    (ask_event z i moved x (timed v (clock_at ds i)) (joined_inside ts cs i h.inside) (item_phase ts cs i t phase.Working h.inside h.item works) (subst R (sym (item_thread ts cs i t h.inside h.item)) a))) asked
+    (ask_event z i moved x (timed v (clock_at ds i)) law (joined_inside ts cs i h.inside) (item_phase ts cs i t phase.Working h.inside h.item works) (subst R (sym (item_thread ts cs i t h.inside h.item)) a))) asked
 
 -- a call is asked: its clock stands still
 pub asked_want : (r : Result Bool AllocError) (clock : ℕ) (x : Step) (call : Call) (old new : declared.Thread) → x ≡ step.Call call → IfOk r (λ moved. (moved ≡ true) × ((n : ℕ) → timed new n ≡ after_want call (timed old n)))
@@ -157,31 +155,28 @@ granted_phase (phase.Granted row n e) place object h = (e, ap₂ (λ (r : ℕ) (
 granted_phase (phase.ToOutside o) place object h = absurd h
 granted_phase (phase.Outside o) place object h = absurd h
 granted_phase (phase.Recorded o) place object h = absurd h
-granted_phase (phase.Blocked call turns) place object h = absurd h
+granted_phase (phase.Blocked turns) place object h = absurd h
 granted_phase phase.Ended place object h = absurd h
 
-pub answer_done : (w : Whole) (ts : List declared.Thread) (cs ds : List ThreadClock) (rows_now : List HistoryRow) (i place : ℕ) (object : Option ℕ) (x v : declared.Thread) (own l : DetLock) (r : Result (Option posix.Answer) AllocError)
+pub answer_done : (w : Whole) (ts : List declared.Thread) (cs ds : List ThreadClock) (rows_now : List HistoryRow) (i place : ℕ) (object : Option ℕ) (x v : declared.Thread) (own l : DetLock) (told : Option posix.Answer)
     → Item ts cs i x v ds → GrantedIn x.phase place object → own ≡ lock_held (run_at w ts cs) object
-    → IfOk r (λ told. (table : Stored) → Answers told i place (parts (timed x (clock_at cs i)) own table w.rows) (parts (timed v (clock_at ds i)) l table rows_now))
-    → IfOk r (λ told. Tells told i (run_at w ts cs) (with_lock (run_at w ts cs) object l (joined (set ts i v) ds) rows_now))
-answer_done w ts cs ds rows_now i place object x v own l r h is own_is answered =
+    → ((table : Stored) → Answers told i place (parts (timed x (clock_at cs i)) own table w.rows) (parts (timed v (clock_at ds i)) l table rows_now))
+    → Tells told i (run_at w ts cs) (with_lock (run_at w ts cs) object l (joined (set ts i v) ds) rows_now)
+answer_done w ts cs ds rows_now i place object x v own l told h is own_is answered =
     let z = run_at w ts cs in
     let found = granted_phase x.phase place object is in
-    let P : Option posix.Answer → Type 0 = λ told. (table : Stored) → Answers told i place (parts (timed x (clock_at cs i)) own table w.rows) (parts (timed v (clock_at ds i)) l table rows_now) in
-    let Q : Option posix.Answer → Type 0 = λ told. Tells told i z (with_lock z object l (joined (set ts i v) ds) rows_now) in
-    IfOk-weaker r P Q (λ told a.
     let R : Thread → Type 0 = λ t. Answers told i place (parts t (lock_held z object) w.table w.rows) (parts (timed v (clock_at ds i)) l w.table rows_now) in
     let K : DetLock → Type 0 = λ k. Answers told i place (parts (timed x (clock_at cs i)) k w.table w.rows) (parts (timed v (clock_at ds i)) l w.table rows_now) in
     let T : List Thread → Type 0 = λ us. Tells told i z (with_lock z object l us rows_now) in
     subst T (sym (joined-kept ts cs ds i x v h.clocked h.kept))
-    (answer_event z i place object found.0 told (timed v (clock_at ds i)) l rows_now (joined_inside ts cs i h.inside) (item_phase ts cs i x (phase.Granted place object found.0) h.inside h.item found.1) (subst R (sym (item_thread ts cs i x h.inside h.item)) (subst K own_is (a w.table))))) answered
+    (answer_event z i place object found.0 told (timed v (clock_at ds i)) l rows_now (joined_inside ts cs i h.inside) (item_phase ts cs i x (phase.Granted place object found.0) h.inside h.item found.1) (subst R (sym (item_thread ts cs i x h.inside h.item)) (subst K own_is (answered w.table))))
 
 -- an event that leaves the clocks as they are
 pub item_still : (ts : List declared.Thread) (cs : List ThreadClock) (i : ℕ) (x v : declared.Thread) → Agree ts cs → i < length ts → x ≡ get_or ts i x → is_live x.phase ≡ is_live v.phase → Item ts cs i x v cs
 item_still ts cs i x v agree inside at live = item_of ts cs i x v cs agree inside at (kept_still i x v cs cs (subst (λ (n : ℕ). i < n) (sym (agree_length ts cs agree)) inside) refl live)
 
 abbrev pub BlockedPhase : Phase → Type 0
-BlockedPhase p = (call : Call) × (turns : ℕ) × (p ≡ phase.Blocked call turns)
+BlockedPhase p = (turns : ℕ) × (p ≡ phase.Blocked turns)
 
 pub blocked_phase : (p : Phase) → BlockedIn p → BlockedPhase p
 blocked_phase phase.Working h = absurd h
@@ -191,20 +186,23 @@ blocked_phase (phase.Granted row n e) h = absurd h
 blocked_phase (phase.ToOutside o) h = absurd h
 blocked_phase (phase.Outside o) h = absurd h
 blocked_phase (phase.Recorded o) h = absurd h
-blocked_phase (phase.Blocked call turns) h = (call, turns, refl)
+blocked_phase (phase.Blocked turns) h = (turns, refl)
 blocked_phase phase.Ended h = absurd h
 
-pub again_done : (w : Whole) (ts : List declared.Thread) (cs : List ThreadClock) (i : ℕ) (x v : declared.Thread) (moved : Bool)
-    → Item ts cs i x v cs → BlockedIn x.phase → ((clock : ℕ) → GoesAgain moved (timed x clock) (timed v clock))
-    → AdvancesQuietly moved i (run_at w ts cs) (run_at w (set ts i v) cs)
-again_done w ts cs i x v moved h is goes =
+pub again_done : (w : Whole) (ts : List declared.Thread) (cs : List ThreadClock) (i : ℕ) (x v : declared.Thread) (r : Result Bool AllocError)
+    → StepsOfArisen → Item ts cs i x v cs → BlockedIn x.phase → IfOk r (λ moved. (clock : ℕ) → GoesAgain moved (timed x clock) (timed v clock))
+    → IfOk r (λ moved. AdvancesQuietly moved i (run_at w ts cs) (run_at w (set ts i v) cs))
+again_done w ts cs i x v r law h is went =
     let z = run_at w ts cs in
     let clock = clock_at cs i in
-    let (call, turns, at) = (blocked_phase x.phase is) in
+    let (turns, at) = (blocked_phase x.phase is) in
+    let P : Bool → Type 0 = λ moved. (n : ℕ) → GoesAgain moved (timed x n) (timed v n) in
+    let Q : Bool → Type 0 = λ moved. AdvancesQuietly moved i z (run_at w (set ts i v) cs) in
+    IfOk-weaker r P Q (λ moved goes.
     let R : Thread → Type 0 = λ t. GoesAgain moved t (timed v clock) in
     let T : List Thread → Type 0 = λ l. AdvancesQuietly moved i z (record w { threads = l }) in
     subst T (sym (joined-kept ts cs cs i x v h.clocked h.kept))
-    (again_event z i call turns moved (timed v clock) (joined_inside ts cs i h.inside) (item_phase ts cs i x (phase.Blocked call turns) h.inside h.item at) (subst R (sym (item_thread ts cs i x h.inside h.item)) (goes clock)))
+    (again_event z i turns moved (timed v clock) law (joined_inside ts cs i h.inside) (item_phase ts cs i x (phase.Blocked turns) h.inside h.item at) (subst R (sym (item_thread ts cs i x h.inside h.item)) (goes clock)))) went
 
 pub begin_done : (w : Whole) (ts : List declared.Thread) (cs ds : List ThreadClock) (i : ℕ) (o : Outing) (x v : declared.Thread) (moved : Bool)
     → Item ts cs i x v ds → x.phase ≡ phase.ToOutside o → Begins w.door_cost o moved (timed x (clock_at cs i)) (timed v (clock_at ds i))
@@ -219,36 +217,29 @@ begin_done w ts cs ds i o x v moved h is begins =
 pub item_recorded : (ts : List declared.Thread) (cs : List ThreadClock) (i : ℕ) (o : Outing) (x v : declared.Thread) → Agree ts cs → i < length ts → x ≡ get_or ts i x → x.phase ≡ phase.Outside o → (is_live x.phase ≡ true → is_live v.phase ≡ true) → Item ts cs i x v cs
 item_recorded ts cs i o x v agree inside at is live = let lives : is_live x.phase ≡ true = ap is_live is in item_still ts cs i x v agree inside at (lives ∙ sym (live lives))
 
-pub record_done : (w : Whole) (ts : List declared.Thread) (cs : List ThreadClock) (i : ℕ) (o : Outing) (g : Given) (x v : declared.Thread) (rows : List HistoryRow) (log : Written) (r : Result Progress AllocError)
-    → Item ts cs i x v cs → x.phase ≡ phase.Outside o
-    → IfOk r (λ made. (clock : ℕ) → Records made i o g (logged_parts (timed x clock) w.rows w.log) (logged_parts (timed v clock) rows log))
-    → IfOk r (λ made. RecordsGiven made i g (run_at w ts cs) (record w { threads = joined (set ts i v) cs; rows = rows; log = log }))
-record_done w ts cs i o g x v rows log r h is records =
+pub record_done : (w : Whole) (ts : List declared.Thread) (cs : List ThreadClock) (i : ℕ) (o : Outing) (g : Given) (x v : declared.Thread) (rows : List HistoryRow) (made : Progress) → Item ts cs i x v cs → x.phase ≡ phase.Outside o
+    → ((clock : ℕ) → Records made o g (recorded_parts (timed x clock) w.rows) (recorded_parts (timed v clock) rows))
+    → RecordsGiven made i g (run_at w ts cs) (record w { threads = joined (set ts i v) cs; rows = rows })
+record_done w ts cs i o g x v rows made h is records =
     let z = run_at w ts cs in
     let clock = clock_at cs i in
-    let P : Progress → Type 0 = λ made. (clock : ℕ) → Records made i o g (logged_parts (timed x clock) w.rows w.log) (logged_parts (timed v clock) rows log) in
-    let Q : Progress → Type 0 = λ made. RecordsGiven made i g z (record w { threads = joined (set ts i v) cs; rows = rows; log = log }) in
-    IfOk-weaker r P Q (λ made a.
-    let R : Thread → Type 0 = λ t. Records made i o g (logged_parts t w.rows w.log) (logged_parts (timed v clock) rows log) in
-    let T : List Thread → Type 0 = λ us. RecordsGiven made i g z (record w { threads = us; rows = rows; log = log }) in
+    let R : Thread → Type 0 = λ t. Records made o g (recorded_parts t w.rows) (recorded_parts (timed v clock) rows) in
+    let T : List Thread → Type 0 = λ us. RecordsGiven made i g z (record w { threads = us; rows = rows }) in
     subst T (sym (joined-kept ts cs cs i x v h.clocked h.kept))
-    (record_event z i o g made (logged_parts (timed v clock) rows log) (joined_inside ts cs i h.inside) (item_phase ts cs i x (phase.Outside o) h.inside h.item is) (subst R (sym (item_thread ts cs i x h.inside h.item)) (a clock)))) records
+    (record_event z i o g made (recorded_parts (timed v clock) rows) (joined_inside ts cs i h.inside) (item_phase ts cs i x (phase.Outside o) h.inside h.item is) (subst R (sym (item_thread ts cs i x h.inside h.item)) (records clock)))
 
-pub conclude_done : (w : Whole) (ts : List declared.Thread) (cs ds : List ThreadClock) (i n : ℕ) (o : Outing) (x v : declared.Thread) (before own l : DetLock) (later : Stored) (rows : List HistoryRow) (r : Result (Option posix.Answer) AllocError)
+pub conclude_done : (w : Whole) (ts : List declared.Thread) (cs ds : List ThreadClock) (i n : ℕ) (o : Outing) (x v : declared.Thread) (before own l : DetLock) (later : Stored) (rows : List HistoryRow) (told : Option posix.Answer)
     → Item ts cs i x v ds → x.phase ≡ phase.Recorded o → o.object ≡ Some n → before ≡ get_or w.objects n new_lock
-    → IfOk r (λ told. AnswersOutside w.patience told i o (outside_parts (timed x (clock_at cs i)) before w.lock w.table w.rows) (outside_parts (timed v (clock_at ds i)) own l later rows))
-    → IfOk r (λ told. Tells told i (run_at w ts cs) (record w { threads = joined (set ts i v) ds; lock = l; objects = set w.objects n own; table = later; rows = rows }))
-conclude_done w ts cs ds i n o x v before own l later rows r h is object_is before_is answered =
+    → AnswersOutside w.patience told i o (outside_parts (timed x (clock_at cs i)) before w.lock w.table w.rows) (outside_parts (timed v (clock_at ds i)) own l later rows)
+    → Tells told i (run_at w ts cs) (record w { threads = joined (set ts i v) ds; lock = l; objects = set w.objects n own; table = later; rows = rows })
+conclude_done w ts cs ds i n o x v before own l later rows told h is object_is before_is answered =
     let z = run_at w ts cs in
     let new = outside_parts (timed v (clock_at ds i)) own l later rows in
-    let P : Option posix.Answer → Type 0 = λ told. AnswersOutside w.patience told i o (outside_parts (timed x (clock_at cs i)) before w.lock w.table w.rows) new in
-    let Q : Option posix.Answer → Type 0 = λ told. Tells told i z (record w { threads = joined (set ts i v) ds; lock = l; objects = set w.objects n own; table = later; rows = rows }) in
-    IfOk-weaker r P Q (λ told a.
     let K : DetLock → Type 0 = λ k. AnswersOutside w.patience told i o (outside_parts (timed x (clock_at cs i)) k w.lock w.table w.rows) new in
     let R : Thread → Type 0 = λ t. AnswersOutside w.patience told i o (outside_parts t (get_or w.objects n new_lock) w.lock w.table w.rows) new in
     let T : List Thread → Type 0 = λ us. Tells told i z (record w { threads = us; lock = l; objects = set w.objects n own; table = later; rows = rows }) in
     subst T (sym (joined-kept ts cs ds i x v h.clocked h.kept))
-    (conclude_event z i n o told new (joined_inside ts cs i h.inside) (item_phase ts cs i x (phase.Recorded o) h.inside h.item is) object_is (subst R (sym (item_thread ts cs i x h.inside h.item)) (subst K before_is a)))) answered
+    (conclude_event z i n o told new (joined_inside ts cs i h.inside) (item_phase ts cs i x (phase.Recorded o) h.inside h.item is) object_is (subst R (sym (item_thread ts cs i x h.inside h.item)) (subst K before_is answered)))
 
 pub turn_shown : (ts : List declared.Thread) (cs : List ThreadClock) (i : ℕ) (b : Bool) → Agree ts cs → has_turn (live_clocks cs) i ≡ b → has_turn (clocks_of (joined ts cs)) i ≡ b
 turn_shown ts cs i b agree h = ap (λ (l : List (Option ℕ)). has_turn l i) (sym (live-joined ts cs agree)) ∙ h

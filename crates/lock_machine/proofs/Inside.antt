@@ -8,7 +8,6 @@ use Rattle.object_store.specs.Store.{Stored}
 use Rattle.posix_terms.specs.declared.transcript.HistoryRow.{HistoryRow}
 use Rattle.object_store.proofs.Lists.{item_is}
 use Rattle.lock_machine.specs.Lives.{Agree, is_live}
-use Rattle.lock_machine.specs.Logs.{Written}
 use Rattle.lock_machine.specs.Threads.{Thread, joined, timed}
 use Rattle.lock_machine.specs.Views.{clocks_of, item_at, no_item}
 use Rattle.lock_machine.specs.Whole.{Whole, thread_at}
@@ -18,8 +17,8 @@ use Rattle.lock_machine.specs.declared.thread.Phase.TheVariants as phase
 use Rattle.lock_machine.specs.declared.thread.Thread as declared
 use Rattle.lock_machine.proofs.Joining.{agree_length, get-joined, length-joined, live-joined}
 
-abbrev pub whole_by : ℕ → ℕ → Written → List declared.Thread → List ThreadClock → DetLock → List DetLock → Stored → List HistoryRow → Whole
-whole_by patience cost log ts cs lock objects table rows = record { patience = patience; door_cost = cost; log = log; threads = joined ts cs; lock = lock; objects = objects; table = table; rows = rows }
+abbrev pub whole_by : ℕ → ℕ → List declared.Thread → List ThreadClock → DetLock → List DetLock → Stored → List HistoryRow → Whole
+whole_by patience cost ts cs lock objects table rows = record { patience = patience; door_cost = cost; threads = joined ts cs; lock = lock; objects = objects; table = table; rows = rows }
 
 pub inside_of : (ts : List declared.Thread) (cs : List ThreadClock) (v w : Whole) (i : ℕ) → v.threads ≡ joined ts cs → v ≡ w → i < length w.threads → i < length ts
 inside_of ts cs v w i is view inside = subst (λ (n : ℕ). i < n) (ap (λ (x : Whole). length x.threads) (sym view) ∙ ap length is ∙ length-joined ts cs) inside
@@ -53,7 +52,7 @@ granted_lives (phase.Granted row n e) place object h = refl
 granted_lives (phase.ToOutside o) place object h = refl
 granted_lives (phase.Outside o) place object h = refl
 granted_lives (phase.Recorded o) place object h = refl
-granted_lives (phase.Blocked call turns) place object h = refl
+granted_lives (phase.Blocked turns) place object h = refl
 granted_lives phase.Ended place object h = absurd h
 
 -- an item that was looked at, by what holds of the phase in its place

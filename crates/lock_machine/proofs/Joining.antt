@@ -47,7 +47,7 @@ agree_parts b c t h = ap (λ (b : Bool). let o : Option ℕ = if b then Some c.c
     by_phase (phase.ToOutside outing) n = refl
     by_phase (phase.Outside outing) n = refl
     by_phase (phase.Recorded outing) n = refl
-    by_phase (phase.Blocked call turns) n = refl
+    by_phase (phase.Blocked turns) n = refl
     by_phase phase.Ended n = refl
 
 -- what turns are about is the same

@@ -1,4 +1,6 @@
 pub mod ClockLemmas
+pub mod Bearing
+pub mod RowRoom
 pub mod Joining
 pub mod Inside
 pub mod ShownThreads
@@ -13,4 +15,6 @@ pub mod Turning
 pub mod EventShows
 pub mod AttemptEvents
 pub mod Refusing
+pub mod Resting
 pub mod Parting
+pub mod Beginning

@@ -1,14 +1,12 @@
 -- A call that goes outside does what the lock machine's does.
-use Rattle.std.proofs.Common.{◌≡◌, ℕ, zero, suc, ◌+◌, ◌<◌, ◌≤◌, ◌^◌, List, [], ◌∷◌, ◌++◌, length, map, drop, get_or, set, slice_get, Option, Some, None, Bool, true, false, ◌==◌, ◌&&◌, ◌||◌, not, sym, refl, ap, ap₂, ◌∙◌, subst, arith}
+use Rattle.std.proofs.Common.{◌≡◌, ℕ, zero, suc, ◌+◌, ◌<◌, ◌≤◌, ◌^◌, List, [], ◌∷◌, length, map, get_or, set, slice_get, Option, Some, None, Bool, true, false, ◌==◌, ◌&&◌, ◌||◌, not, sym, refl, ap, ap₂, ◌∙◌, subst, arith}
 use Rattle.std.proofs.lemmas.Bool.{cond-true, cond-false, eq-eqb, leb-true, leb-false, le-leb, ne_eqb, and_parts}
 use Rattle.std.proofs.lemmas.Bool.Decides.{nat_tests}
-use Rattle.std.proofs.lemmas.List.{append-nil, get_or-set_same, map-set, length-append}
+use Rattle.std.proofs.lemmas.List.{get_or-set_same, map-set, length-append}
 use Rattle.std.proofs.lemmas.Option.{same_Some, none-some, slice_get-map}
 use Rattle.std.specs.Prelude.{is_some, nat_le, nat_lt, option_map}
 use Rattle.det_mutex.specs.Attempt.{freed, new_lock}
 use Rattle.det_mutex.specs.declared.lock.DetLock.{DetLock}
-use Rattle.input_log.specs.Format.{record_text}
-use Rattle.input_log.specs.declared.log.Record.{Record}
 use Rattle.lock_model.specs.CallTable.{Answer, Plan, has_object, keeps_table}
 use Rattle.lock_model.specs.CallTable.Answer.{Again, Gives}
 use Rattle.lock_model.specs.CallTable.Plan.{Object}
@@ -45,10 +43,9 @@ use Rattle.posix_terms.specs.declared.reply.Answer as posix_answer
 use Rattle.posix_terms.specs.declared.request.Request as posix
 use Rattle.posix_terms.specs.declared.transcript.HistoryRow.{HistoryRow}
 use Rattle.lock_machine.specs.Held.{told_as}
-use Rattle.lock_machine.specs.Logs.{Written, came_between, logged, record_of, records_of}
-use Rattle.lock_machine.specs.Outings.{AnswersOutside, Begins, BeginsIf, ConcludesHeld, ConcludesIf, ConcludesRow, ConcludesWith, EndsTurn, LoggedParts, OutsideParts, Records, RecordsIf, RecordsRow, answer_cost, answers_errand, logged_parts, outside_parts, row_concluded, row_recorded, table_freed, went_on}
+use Rattle.lock_machine.specs.Outings.{AnswersOutside, Begins, BeginsIf, ConcludesHeld, ConcludesIf, ConcludesRow, ConcludesWith, EndsTurn, OutsideParts, RecordedParts, Records, RecordsIf, RecordsRow, answer_cost, answers_errand, can_count, can_count, recorded_parts, outside_parts, row_concluded, row_recorded, table_freed, went_on}
 use Rattle.lock_machine.specs.Conditions.{Conditions, setup_under}
-use Rattle.lock_machine.specs.Shows.{Advanced, IsOut, LogsMore, PhaseShows, Shows, ThreadShows, has_moved, has_strayed, replied}
+use Rattle.lock_machine.specs.Shows.{Advanced, IsOut, PhaseShows, Shows, ThreadShows, replied}
 use Rattle.lock_machine.specs.Whole.{Whole, thread_at}
 use Rattle.lock_machine.specs.Strays.{is_stray, stray_in}
 use Rattle.lock_machine.specs.Threads.{Thread}
@@ -59,7 +56,8 @@ use Rattle.lock_machine.specs.declared.thread.Phase.{Phase}
 use Rattle.lock_machine.specs.declared.thread.Phase.TheVariants as phase
 use Rattle.lock_machine.proofs.AnswerShows.{answer_by, answered_clock, fill_one, late_none, locks_freed, open_row, replies_answered, replies_moved, replies_still, rows_answered}
 use Rattle.lock_machine.proofs.AskShows.{within_no, within_yes}
-use Rattle.lock_machine.proofs.Requests.{Little, asked_little, within_a_record}
+use Rattle.lock_machine.proofs.Requests.{asked_little, within_a_record}
+use Rattle.lock_machine.specs.Requests.{Little}
 use Rattle.lock_machine.proofs.ShownThreads.{Moving, lock_quiet, locks_quiet, whole_changed, whole_moved, whole_still, world_keeps}
 use Rattle.object_store.proofs.Lists.{set_same}
 
@@ -151,33 +149,6 @@ moves_record terms i u job e = ap (λ (p : lock.Phase). within (2 ^ 62) (moves_i
 stray_is : (terms : Conditions) (s : State) (i : ℕ) (job : Job) → (thread_of s i).phase ≡ Outside job → is_stray (setup_under terms) s i ≡ stray_in (setup_under terms) (Outside job) (slice_get (terms.supply.outcomes i) (length (thread_of s i).came))
 stray_is terms s i job e = ap (λ (p : lock.Phase). stray_in (setup_under terms) p (slice_get (terms.supply.outcomes i) (length (thread_of s i).came))) e
 
--- nothing came where the thread has what it had
-pub none_between : (i : ℕ) (s after : State) → (thread_of after i).came ≡ (thread_of s i).came → came_between i s after ≡ []
-none_between i s after same = ap (records_of i (length (thread_of s i).came)) same ∙ ap (map (record_of i (length (thread_of s i).came))) (nothing (thread_of s i).came)
-  where
-    nothing : (gs : List Given) → drop (length gs) gs ≡ []
-    nothing [] = refl
-    nothing (g ∷ gs) = nothing gs
-
-pub one_between : (i : ℕ) (s after : State) (g : Given) → (thread_of after i).came ≡ (thread_of s i).came ++ g ∷ [] → came_between i s after ≡ record_of i (length (thread_of s i).came) g ∷ []
-one_between i s after g more = ap (records_of i (length (thread_of s i).came)) more ∙ ap (map (record_of i (length (thread_of s i).came))) (the_last (thread_of s i).came)
-  where
-    the_last : (gs : List Given) → drop (length gs) (gs ++ g ∷ []) ≡ g ∷ []
-    the_last [] = refl
-    the_last (x ∷ gs) = the_last gs
-
-pub logs_none : (records : List Record) (old new : Written) → records ≡ [] → new ≡ old → LogsMore records old new
-logs_none records old new none same =
-    let P : List Record → Type 0 = λ rs. LogsMore rs old new in
-    let Q : Written → Type 0 = λ w. LogsMore [] old w in
-    subst P (sym none) (subst Q (sym same) (sym (append-nil old.text), plus_none old.records))
-  where
-    plus_none : (n : ℕ) → n ≡ n + 0
-    plus_none n = omega arith
-
-logs_one : (r : Record) (old : Written) → LogsMore (r ∷ []) old (logged old r)
-logs_one r old = (ap (λ (bs : List ℕ). old.text ++ bs) (sym (append-nil (record_text r))), refl)
-
 shown_recorded : (job : Job) (e : Effect) (g : Given) → job.outcome ≡ None → e.outcome ≡ Some g → e.answer ≡ None → shown (filled_by e (row_of job)) ≡ record (shown (row_of job)) { outcome = Some g.outcome }
 shown_recorded job e g none out ans k = record { call = job.call; turn = job.turn; outcome = ap outcome_in (ap₂ first_of none out) k; answer = ap (λ (a : Option Answer). (shown (record (row_of job) { answer = a })).answer) ans k }
 
@@ -190,11 +161,6 @@ rows_recorded i s w place job e g rows is mine at none out ans =
     ∙ map-set shown s.rows place (filled_by e (row_of job))
     ∙ ap₂ (λ (rs : List HistoryRow) (q : HistoryRow). set rs place q) is (shown_recorded job e g none out ans)
 
--- what stands for a state does so with any log
-shows_log : (terms : Conditions) (w : Whole) (s : State) (l : Written) → Shows terms w s → Shows terms (record w { log = l }) s
-shows_log terms w s l h =
-    record { patience = h.patience; door_cost = h.door_cost; count = h.count; threads = h.threads; table = h.table; objects = h.objects; object_count = h.object_count; world = h.world; rows = h.rows }
-
 -- a thread that is outside
 record Waiting (terms : Conditions) (w : Whole) (s : State) (i : ℕ) (o : Outing) (job : Job) : Type 0 where
   inside : i < length w.threads
@@ -205,40 +171,42 @@ record Waiting (terms : Conditions) (w : Whole) (s : State) (i : ℕ) (o : Outin
   few : (thread_at w i).came < limit.OUTCOMES
   none : job.outcome ≡ None
 
-abbrev pub logged_at : Whole → ℕ → LoggedParts
-logged_at w i = logged_parts (thread_at w i) w.rows w.log
+abbrev pub recorded_at : Whole → ℕ → RecordedParts
+recorded_at w i = recorded_parts (thread_at w i) w.rows
 
-abbrev pub recorded_whole : Whole → ℕ → LoggedParts → Whole
-recorded_whole w i p = record w { threads = set w.threads i p.thread; rows = p.rows; log = p.log }
+abbrev pub recorded_whole : Whole → ℕ → RecordedParts → Whole
+recorded_whole w i p = record w { threads = set w.threads i p.thread; rows = p.rows }
 
-abbrev Recording : Conditions → Whole → State → ℕ → Progress → LoggedParts → Type 0
-Recording terms w s i made p = Advanced made i w (recorded_whole w i p) terms s
+abbrev Recording : Conditions → Whole → State → ℕ → Progress → Given → RecordedParts → Type 0
+Recording terms w s i made g p = Advanced made i g (recorded_whole w i p) terms s
 
--- an event that cannot be made, at an outcome that is or is not there
-recorded_no : (terms : Conditions) (w : Whole) (s : State) (i : ℕ) (o : Outing) (job : Job) (made : Progress) (given : Option Given) (new : LoggedParts) → Waiting terms w s i o job → slice_get (terms.supply.outcomes i) (length (thread_of s i).came) ≡ given
-    → record_outcome (real_calls terms.settings) (thread_of s i) job given ≡ None → has_moved made ≡ false → stray_in (setup_under terms) (Outside job) given ≡ has_strayed made → new ≡ logged_at w i → Recording terms w s i made new
-recorded_no terms w s i o job made given new a given_is none still strays new_is =
+-- an outcome that does not answer
+recorded_no : (terms : Conditions) (w : Whole) (s : State) (i : ℕ) (o : Outing) (job : Job) (g : Given) (new : RecordedParts) → Waiting terms w s i o job → slice_get (terms.supply.outcomes i) (length (thread_of s i).came) ≡ Some g
+    → fits_job (real_calls terms.settings) job g ≡ false → new ≡ recorded_at w i → Recording terms w s i progress.Strays g new
+recorded_no terms w s i o job g new a given_is misfit new_is =
     let u = thread_of s i in
-    let is : moves (setup_under terms) i u ≡ None = moves_record terms i u job a.phase ∙ ap (within (2 ^ 62)) (ap (record_outcome (real_calls terms.settings) u job) given_is ∙ none) in
+    let calls = real_calls terms.settings in
+    let none : record_outcome calls u job (Some g) ≡ None = cond-false (fits_job calls job g) _ None misfit in
+    let is : moves (setup_under terms) i u ≡ None = moves_record terms i u job a.phase ∙ ap (within (2 ^ 62)) (ap (record_outcome calls u job) given_is ∙ none) in
     let next : advance (setup_under terms) i s ≡ s = advance_move (setup_under terms) i s ∙ ap (λ (m : Option Moved). machine.move i m s) is in
-    let P : LoggedParts → Type 0 = λ p. Recording terms w s i made p in
+    let P : RecordedParts → Type 0 = λ p. Recording terms w s i progress.Strays g p in
     let held = whole_still terms w s i (thread_at w i) a.inside a.shows is (a.shows.threads i) in
     subst P (sym new_is) (record {
-      can = held.0 ∙ sym still;
-      strays = stray_is terms s i job a.phase ∙ ap (stray_in (setup_under terms) (Outside job)) given_is ∙ strays;
+      can = held.0;
+      strays = stray_is terms s i job a.phase ∙ ap (stray_in (setup_under terms) (Outside job)) given_is ∙ ap not misfit;
       shows = held.1;
-      log = logs_none (came_between i s (advance (setup_under terms) i s)) w.log w.log (none_between i s (advance (setup_under terms) i s) (ap (λ (z : State). (thread_of z i).came) next)) refl;
+      came = ap (λ (z : State). (thread_of z i).came) next;
     })
 
 recorded_yes : (terms : Conditions) (w : Whole) (s : State) (i : ℕ) (o : Outing) (job : Job) (g : Given) → Waiting terms w s i o job → slice_get (terms.supply.outcomes i) (length (thread_of s i).came) ≡ Some g → fits_job (real_calls terms.settings) job g ≡ true
-    → Recording terms w s i progress.Moves (row_recorded i o g (shown (row_of job)) (logged_at w i))
+    → Recording terms w s i progress.Moves g (row_recorded o g (shown (row_of job)) (recorded_at w i))
 recorded_yes terms w s i o job g a given_is good =
     let u = thread_of s i in
     let t = thread_at w i in
     let h = a.shows.threads i in
     let calls = real_calls terms.settings in
     let m : Moved = with_outcome u job g in
-    let new = row_recorded i o g (shown (row_of job)) (logged_at w i) in
+    let new = row_recorded o g (shown (row_of job)) (recorded_at w i) in
     let fits_in : u.clock ≤ 2 ^ 62 = subst (λ (c : ℕ). c ≤ 2 ^ 62) (sym h.clock) h.in_time in
     let recorded : record_outcome calls u job (Some g) ≡ Some m = cond-true (fits_job calls job g) (Some m) None good in
     let is : moves (setup_under terms) i u ≡ Some m = moves_record terms i u job a.phase ∙ ap (within (2 ^ 62)) (ap (record_outcome calls u job) given_is ∙ recorded) ∙ within_yes (2 ^ 62) m fits_in in
@@ -249,13 +217,11 @@ recorded_yes terms w s i o job g a given_is good =
     (record { clock = h.clock; in_time = h.in_time; asked = h.asked; came = length-append u.came (g ∷ []) ∙ ap (λ (n : ℕ). n + 1) h.came; phase = (record job { outcome = Some g }, (refl, out_recorded m)) })
     (lock_quiet i s.table ∙ a.shows.table) (locks_quiet i s.objects ∙ a.shows.objects) refl
     (rows_recorded i s w.rows o.row job m.effect g a.rows a.shows.rows a.out.thread a.out.row a.none refl refl) in
-    let between : came_between i s (advance (setup_under terms) i s) ≡ record_of i t.came g ∷ [] = one_between i s (advance (setup_under terms) i s) g (ap (λ (x : lock.Thread). x.came) mine) ∙ ap (λ (n : ℕ). record_of i n g ∷ []) h.came in
-    let L : List Record → Type 0 = λ rs. LogsMore rs w.log new.log in
     record {
       can = moved.0;
       strays = stray_is terms s i job a.phase ∙ ap (stray_in (setup_under terms) (Outside job)) given_is ∙ ap not good;
-      shows = shows_log terms (record w { threads = set w.threads i new.thread; rows = new.rows }) (advance (setup_under terms) i s) new.log moved.1;
-      log = subst L (sym between) (logs_one (record_of i t.came g) w.log);
+      shows = moved.1;
+      came = ap (λ (x : lock.Thread). x.came) mine;
     }
   where
     slice_get_set : (rs : List Row) (k : ℕ) (x y : Row) → slice_get rs k ≡ Some y → slice_get (set rs k x) k ≡ Some x
@@ -287,23 +253,22 @@ recorded_yes terms w s i o job g a given_is good =
 room_for : (n : ℕ) → n < limit.OUTCOMES → nat_lt (n + 1) (2 ^ 32) ≡ true
 room_for n few = grind (arith, nat_tests)
 
-recorded_by : (terms : Conditions) (w : Whole) (s : State) (i : ℕ) (o : Outing) (job : Job) (made : Progress) (new : LoggedParts) (g : Given) → Waiting terms w s i o job → slice_get (terms.supply.outcomes i) (length (thread_of s i).came) ≡ Some g
-    → (b : Bool) → answers_errand o.errand g ≡ b → RecordsIf b made i o g (logged_at w i) new → Recording terms w s i made new
+recorded_by : (terms : Conditions) (w : Whole) (s : State) (i : ℕ) (o : Outing) (job : Job) (made : Progress) (new : RecordedParts) (g : Given) → Waiting terms w s i o job → slice_get (terms.supply.outcomes i) (length (thread_of s i).came) ≡ Some g
+    → (b : Bool) → answers_errand o.errand g ≡ b → RecordsIf b made o g (recorded_at w i) new → Recording terms w s i made g new
 recorded_by terms w s i o job made new g a at false e (made_is, new_is) =
-    let misfit : fits_job (real_calls terms.settings) job g ≡ false = sym (errand_fits terms s i o job g a.out) ∙ e in
-    let P : Progress → Type 0 = λ p. Recording terms w s i p new in
-    subst P (sym made_is) (recorded_no terms w s i o job progress.Strays (Some g) new a at (cond-false (fits_job (real_calls terms.settings) job g) _ None misfit) refl (ap not misfit) new_is)
+    let P : Progress → Type 0 = λ p. Recording terms w s i p g new in
+    subst P (sym made_is) (recorded_no terms w s i o job g new a at (sym (errand_fits terms s i o job g a.out) ∙ e) new_is)
 recorded_by terms w s i o job made new g a at true e h =
     let there : slice_get w.rows o.row ≡ Some (shown (row_of job)) = ap (λ (rs : List HistoryRow). slice_get rs o.row) (sym a.shows.rows) ∙ slice_get-map shown s.rows o.row ∙ ap (option_map shown) a.out.row in
-    let R : Option HistoryRow → Type 0 = λ q. RecordsRow q (nat_lt ((thread_at w i).came + 1) (2 ^ 32)) made i o g (logged_at w i) new in
-    let S : Bool → Type 0 = λ b. RecordsRow (Some (shown (row_of job))) b made i o g (logged_at w i) new in
-    let k : (made ≡ progress.Moves) × (new ≡ row_recorded i o g (shown (row_of job)) (logged_at w i)) = subst S (room_for (thread_at w i).came a.few) (subst R there h) in
-    let P : Progress → Type 0 = λ p. Recording terms w s i p new in
-    let Q : LoggedParts → Type 0 = λ p. Recording terms w s i progress.Moves p in
+    let R : Option HistoryRow → Type 0 = λ q. RecordsRow q (can_count (thread_at w i)) made o g (recorded_at w i) new in
+    let S : Bool → Type 0 = λ b. RecordsRow (Some (shown (row_of job))) b made o g (recorded_at w i) new in
+    let k : (made ≡ progress.Moves) × (new ≡ row_recorded o g (shown (row_of job)) (recorded_at w i)) = subst S (room_for (thread_at w i).came a.few) (subst R there h) in
+    let P : Progress → Type 0 = λ p. Recording terms w s i p g new in
+    let Q : RecordedParts → Type 0 = λ p. Recording terms w s i progress.Moves g p in
     subst P (sym k.0) (subst Q (sym k.1) (recorded_yes terms w s i o job g a at (sym (errand_fits terms s i o job g a.out) ∙ e)))
 
-pub record_whole : (terms : Conditions) (w : Whole) (s : State) (i : ℕ) (o : Outing) (g : Given) (made : Progress) (new : LoggedParts) → i < length w.threads → Shows terms w s → HaveRows s → HavePlans (real_calls terms.settings) s → (thread_at w i).phase ≡ phase.Outside o
-    → slice_get (terms.supply.outcomes i) (length (thread_of s i).came) ≡ Some g → Records made i o g (logged_at w i) new → Recording terms w s i made new
+pub record_whole : (terms : Conditions) (w : Whole) (s : State) (i : ℕ) (o : Outing) (g : Given) (made : Progress) (new : RecordedParts) → i < length w.threads → Shows terms w s → HaveRows s → HavePlans (real_calls terms.settings) s → (thread_at w i).phase ≡ phase.Outside o
+    → slice_get (terms.supply.outcomes i) (length (thread_of s i).came) ≡ Some g → Records made o g (recorded_at w i) new → Recording terms w s i made g new
 record_whole terms w s i o given made new inside h own plans is at records =
     let P : Phase → Type 0 = λ p. PhaseShows terms i s.rows (thread_at w i) (thread_of s i) p in
     let g = subst P is (h.threads i).phase in
@@ -433,11 +398,11 @@ module _ (terms : Conditions) (w : Whole) (s : State) (i : ℕ) (o : Outing) (jo
 
   -- the thread works, or makes its call again
   thread_concluded : (x : TurnEnd) (rows : List Row) → t.clock + answer_cost o.keeps_table ≤ 2 ^ 62
-      → ThreadShows terms i rows (went_on job.call x (record t { clock = t.clock + answer_cost o.keeps_table })) (answered u job.call (u.clock + answer_cost o.keeps_table) (ended x))
+      → ThreadShows terms i rows (went_on x (record t { clock = t.clock + answer_cost o.keeps_table })) (answered u job.call (u.clock + answer_cost o.keeps_table) (ended x))
   thread_concluded (end.Reply reply) rows room =
       let h = c.shows.threads i in record { clock = ap (λ (k : ℕ). k + answer_cost o.keeps_table) h.clock; in_time = room; asked = h.asked; came = h.came; phase = refl }
   thread_concluded (end.Blocked turns) rows room =
-      let h = c.shows.threads i in record { clock = ap (λ (k : ℕ). k + answer_cost o.keeps_table) h.clock; in_time = room; asked = h.asked; came = h.came; phase = refl }
+      let h = c.shows.threads i in record { clock = ap (λ (k : ℕ). k + answer_cost o.keeps_table) h.clock; in_time = room; asked = h.asked; came = h.came; phase = (job.call, refl) }
 
   table_after : (keeps : Bool) → o.keeps_table ≡ keeps → lock_after i (Some (u.clock + 1)) s.table ≡ table_freed keeps (t.clock + 1) w.lock
   table_after true keeps = lock_mine i (Some (u.clock + 1)) s.table (keeps_held ∙ keeps) ∙ ap (λ (k : ℕ). freed (k + 1)) (c.shows.threads i).clock

@@ -1,10 +1,10 @@
 -- Which phase a thread is at, by the tests that an event makes; and what its event is, refused or not.
 use Rattle.std.proofs.Common.{◌≡◌, ◌⊎◌, ℕ, Bool, true, false, ◌&&◌, Option, Some, None, is_some, inl, inr, sym, refl, ap, subst, ⊎_elim}
 use Rattle.std.proofs.lemmas.Bool.{false≢true, true≢false}
-use Rattle.std.specs.Prelude.{Result, Ok, Err, IfErr, is_ok, ok_or}
+use Rattle.std.specs.Prelude.{Result, Ok, Err, IfErr, OnErr, is_ok, ok_or}
 use Rattle.posix_terms.specs.declared.call.Call.{Call}
 use Rattle.logical_clocks.specs.TurnOrder.{has_turn}
-use Rattle.lock_machine.specs.Refusals.{Comes, Tried, phase_at, wants_object, wants_table}
+use Rattle.lock_machine.specs.Refusals.{Comes, Rests, Tried, WantsNone, phase_at, wants_object, wants_table}
 use Rattle.lock_machine.specs.Shows.{Attempts}
 use Rattle.lock_machine.specs.Views.{clocks_of}
 use Rattle.lock_machine.specs.Whole.{Whole}
@@ -36,16 +36,31 @@ is_full refused.WrongPhase = false
 is_full refused.Memory = false
 
 -- made or not, where it has its phase
-pub comes_moved : {A : Type 0} (right moved : Bool) (r : Result A Refused) (old new : Whole) (P : Bool → Type 0) → right ≡ true → is_ok r ≡ moved → IfErr r (λ e. e ≡ refused.ClockFull) → P moved → Comes right r old new (λ (o : Option A). P (is_some o))
-comes_moved right moved (Ok a) old new P there made full h = (there, subst P (sym made) h)
-comes_moved right moved (Err refused.ClockFull) old new P there made full h = (there, subst P (sym made) h)
-comes_moved right moved (Err refused.WrongPhase) old new P there made full h = absurd (false≢true (ap is_full full))
-comes_moved right moved (Err refused.Memory) old new P there made full h = tt
+pub comes_moved : {A : Type 0} (right moved : Bool) (r : Result A Refused) (old new : Whole) (P : Bool → Type 0) → right ≡ true → is_ok r ≡ moved → IfErr r (λ e. e ≡ refused.ClockFull) → Rests moved old new → P moved
+    → Comes right r old new (λ (o : Option A). P (is_some o))
+comes_moved right moved (Ok a) old new P there made full rests h = (there, subst P (sym made) h)
+comes_moved right moved (Err refused.ClockFull) old new P there made full rests h = let R : Bool → Type 0 = λ b. Rests b old new in (there, subst R (sym made) rests, subst P (sym made) h)
+comes_moved right moved (Err refused.WrongPhase) old new P there made full rests h = absurd (false≢true (ap is_full full))
+comes_moved right moved (Err refused.Memory) old new P there made full rests h = tt
+
+-- what is refused so leaves all as it was
+pub moved_rests : {A : Type 0} (moved : Bool) (r : Result A Refused) (old new : Whole) → is_ok r ≡ moved → Rests moved old new → OnErr r (new ≡ old)
+moved_rests moved (Ok a) old new made rests = tt
+moved_rests moved (Err e) old new made rests = let R : Bool → Type 0 = λ b. Rests b old new in subst R (sym made) rests
 
 -- it gives something, or a number forbids it
-pub comes_given : {A : Type 0} (right : Bool) (o : Option A) (old new : Whole) (made : Option A → Type 0) → right ≡ true → made o → Comes right (ok_or o refused.ClockFull) old new made
-comes_given right (Some a) old new made there h = (there, h)
-comes_given right None old new made there h = (there, h)
+pub comes_given : {A : Type 0} (right : Bool) (o : Option A) (old new : Whole) (made : Option A → Type 0) → right ≡ true → Rests (is_some o) old new → made o → Comes right (ok_or o refused.ClockFull) old new made
+comes_given right (Some a) old new made there rests h = (there, h)
+comes_given right None old new made there rests h = (there, rests, h)
+
+-- where a number forbids it, all is as it was
+pub given_rests : {A : Type 0} (o : Option A) (old new : Whole) → Rests (is_some o) old new → OnErr (ok_or o refused.ClockFull) (new ≡ old)
+given_rests (Some a) old new rests = tt
+given_rests None old new rests = rests
+
+pub given_wants_none : {A : Type 0} (o : Option A) → WantsNone (ok_or o refused.ClockFull)
+given_wants_none (Some a) = tt
+given_wants_none None = tt
 
 -- ## Attempts
 
@@ -64,7 +79,7 @@ pub tried_table : {A : Type 0} (i : ℕ) (old new : Whole) (r : Result A Refused
     → Tried r (λ made. Attempts made i old new)
 tried_table i old new (Ok a) wants h = h.1
 tried_table i old new (Err refused.WrongPhase) wants h = stays_put i old new (no_attempt_event old i (and_false (wants_table (phase_at old i)) (has_turn (clocks_of old.threads) i) wants h.0)) h.1
-tried_table i old new (Err refused.ClockFull) wants h = h.1
+tried_table i old new (Err refused.ClockFull) wants h = h.2
 tried_table i old new (Err refused.Memory) wants h = tt
 
 pub tried_node : {A : Type 0} (i : ℕ) (old new : Whole) (r : Result A Refused) → wants_table (phase_at old i) ≡ false → Comes (wants_object (phase_at old i) && has_turn (clocks_of old.threads) i) r old new (λ (o : Option A). Attempts (is_some o) i old new)
@@ -76,5 +91,5 @@ tried_node i old new (Err refused.WrongPhase) table h =
     (λ (object : wants_object (phase_at old i) ≡ false). idle_event old i (idles_by (phase_at old i) table object))
     (λ (late : has_turn (clocks_of old.threads) i ≡ false). no_attempt_event old i late)
     (or_false (wants_object (phase_at old i)) (has_turn (clocks_of old.threads) i) h.0)) h.1
-tried_node i old new (Err refused.ClockFull) table h = h.1
+tried_node i old new (Err refused.ClockFull) table h = h.2
 tried_node i old new (Err refused.Memory) table h = tt

@@ -44,7 +44,7 @@ phase_rows terms k rows more t u (phase.Granted place object e) keeps (job, h) =
 phase_rows terms k rows more t u (phase.ToOutside o) keeps (job, h) = (job, (h.0, out_rows terms k rows more o job keeps h.1))
 phase_rows terms k rows more t u (phase.Outside o) keeps (job, h) = (job, (h.0, out_rows terms k rows more o job keeps h.1, h.2))
 phase_rows terms k rows more t u (phase.Recorded o) keeps (job, h) = (job, (h.0, out_rows terms k rows more o job keeps h.1))
-phase_rows terms k rows more t u (phase.Blocked call turns) keeps h = h
+phase_rows terms k rows more t u (phase.Blocked turns) keeps h = h
 phase_rows terms k rows more t u phase.Ended keeps h = h
 
 pub thread_rows : (terms : Conditions) (k : ℕ) (rows more : List Row) (t : Thread) (u : lock.Thread) → KeepsRows k rows more → ThreadShows terms k rows t u → ThreadShows terms k more t u

@@ -1,9 +1,10 @@
 -- What a thread's next step makes of it, and what comes of a blocked call.
-use Rattle.std.specs.Prelude.{◌≡◌, ℕ, ◌+◌, ◌<◌, ◌≤◌, ◌^◌, [], ◌∷◌, ◌++◌, Bool, true, false}
+use Rattle.std.specs.Prelude.{◌≡◌, ℕ, ◌+◌, ◌<◌, ◌≤◌, ◌^◌, [], ◌∷◌, ◌++◌, Option, Some, None, Bool, true, false}
 use Rattle.posix_terms.specs.Step.{nothing_carried}
 use Rattle.posix_terms.specs.declared.call.Call.{Call}
 use Rattle.thread_scripts.specs.declared.actor.Step.{Step}
 use Rattle.thread_scripts.specs.declared.actor.Step.TheVariants as step
+use Rattle.lock_model.specs.Held.{has_end, last_call}
 use Rattle.lock_machine.specs.declared.thread.Phase.{Phase}
 use Rattle.lock_machine.specs.declared.thread.Phase.TheVariants as phase
 use Rattle.lock_machine.specs.Threads.{Thread}
@@ -21,15 +22,27 @@ after_want call t = record t { phase = phase.WantsTable call nothing_carried; as
 abbrev pub after_end : Thread → Thread
 after_end t = record t { phase = phase.Ended; asked = t.asked ++ step.End ∷ [] }
 
+-- a thread ends once
+abbrev pub EndsIf : Bool → Bool → Thread → Thread → Type 0
+EndsIf true moved old new = (moved ≡ false) × (new ≡ old)
+EndsIf false moved old new = (moved ≡ true) × (new ≡ after_end old)
+
+abbrev pub Ends : Bool → Thread → Thread → Type 0
+Ends moved old new = EndsIf (has_end old.asked) moved old new
+
 -- this step is asked, where the clock has room for it
 abbrev pub Asks : Bool → Step → Thread → Thread → Type 0
 Asks moved (step.Work n) old new = Works moved n old new
 Asks moved (step.Call call) old new = (moved ≡ true) × (new ≡ after_want call old)
-Asks moved step.End old new = (moved ≡ true) × (new ≡ after_end old)
+Asks moved step.End old new = Ends moved old new
 
--- a blocked call wants the table again
+-- a blocked call, which is the one that was asked last, wants the table again
+abbrev pub GoesAgainWith : Option Call → ℕ → Bool → Thread → Thread → Type 0
+GoesAgainWith (Some call) turns moved old new = (moved ≡ true) × (new ≡ record old { phase = phase.WantsTable call turns })
+GoesAgainWith None turns moved old new = (moved ≡ false) × (new ≡ old)
+
 abbrev pub GoesAgainIn : Phase → Bool → Thread → Thread → Type 0
-GoesAgainIn (phase.Blocked call turns) moved old new = (moved ≡ true) × (new ≡ record old { phase = phase.WantsTable call turns })
+GoesAgainIn (phase.Blocked turns) moved old new = GoesAgainWith (last_call old.asked) turns moved old new
 GoesAgainIn p moved old new = (moved ≡ false) × (new ≡ old)
 
 abbrev pub GoesAgain : Bool → Thread → Thread → Type 0

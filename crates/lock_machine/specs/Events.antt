@@ -40,7 +40,7 @@ later p cost = record p { thread = record p.thread { clock = p.thread.clock + co
 abbrev pub row_answered : Parts → ℕ → TurnEnd → HistoryRow → Parts
 row_answered p row e q =
     record {
-      thread = record p.thread { phase = phase_behind q.call e; clock = p.thread.clock + 1 };
+      thread = record p.thread { phase = phase_behind e; clock = p.thread.clock + 1 };
       lock = freed p.thread.clock;
       table = p.table;
       rows = slice_set p.rows row (record q { answer = Some (told_as e) });

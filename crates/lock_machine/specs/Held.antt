@@ -31,6 +31,6 @@ end_held (phase.Granted row object e) = Some e
 end_held p = None
 
 -- its phase once the call is answered
-abbrev pub phase_behind : Call → TurnEnd → Phase
-phase_behind call (end.Reply reply) = phase.Working
-phase_behind call (end.Blocked turns) = phase.Blocked call turns
+abbrev pub phase_behind : TurnEnd → Phase
+phase_behind (end.Reply reply) = phase.Working
+phase_behind (end.Blocked turns) = phase.Blocked turns

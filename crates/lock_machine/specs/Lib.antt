@@ -1,7 +1,9 @@
 pub mod Lives
+pub mod Rooms
+pub mod Births
+pub mod Waiting
 pub mod Threads
 pub mod Views
-pub mod Logs
 pub mod Whole
 pub mod Conditions
 pub mod Asking
@@ -12,3 +14,4 @@ pub mod Strays
 pub mod Shows
 pub mod Starting
 pub mod Refusals
+pub mod Requests

@@ -16,7 +16,6 @@ use Rattle.posix_terms.specs.declared.outcome.Outcome.{Outcome}
 use Rattle.posix_terms.specs.declared.reply.Answer as posix
 use Rattle.posix_terms.specs.declared.transcript.HistoryRow.{HistoryRow}
 use Rattle.lock_machine.specs.Held.{phase_behind, told_as}
-use Rattle.lock_machine.specs.Logs.{Written, logged, record_of}
 use Rattle.lock_machine.specs.Threads.{Thread}
 use Rattle.lock_machine.specs.declared.outside.Progress.{Progress}
 use Rattle.lock_machine.specs.declared.outside.Progress.TheVariants as progress
@@ -34,39 +33,47 @@ Begins cost o moved old new = BeginsIf (nat_lt old.came limit.OUTCOMES && nat_le
 
 -- ## `record`
 
--- a thread, with the rows and the log
-pub record LoggedParts : Type 0 where
+-- a thread, with the rows
+pub record RecordedParts : Type 0 where
   pub thread : Thread
   pub rows : List HistoryRow
-  pub log : Written
 
-abbrev pub logged_parts : Thread → List HistoryRow → Written → LoggedParts
-logged_parts thread rows log = record { thread = thread; rows = rows; log = log }
+abbrev pub recorded_parts : Thread → List HistoryRow → RecordedParts
+recorded_parts thread rows = record { thread = thread; rows = rows }
 
 -- what was given answers what was asked
 abbrev pub answers_errand : Errand → Given → Bool
 answers_errand e g = is_kind g.kind e.kind && (fits e.kind e.asked g.outcome && nat_le e.asked 65535)
 
-abbrev pub row_recorded : ℕ → Outing → Given → HistoryRow → LoggedParts → LoggedParts
-row_recorded i o g q p =
+-- what comes of an outcome, by whether it answers, the call's row, and whether its thread can have one more
+abbrev pub progress_by : Bool → Option HistoryRow → Bool → Progress
+progress_by true (Some q) true = progress.Moves
+progress_by true (Some q) false = progress.Stays
+progress_by true None room = progress.Stays
+progress_by false q room = progress.Strays
+
+abbrev pub can_count : Thread → Bool
+can_count t = nat_lt (t.came + 1) (2 ^ 32)
+
+abbrev pub row_recorded : Outing → Given → HistoryRow → RecordedParts → RecordedParts
+row_recorded o g q p =
     record {
       thread = record p.thread { phase = phase.Recorded o; came = p.thread.came + 1 };
       rows = slice_set p.rows o.row (record q { outcome = Some g.outcome });
-      log = logged p.log (record_of i p.thread.came g);
     }
 
-abbrev pub RecordsRow : Option HistoryRow → Bool → Progress → ℕ → Outing → Given → LoggedParts → LoggedParts → Type 0
-RecordsRow (Some q) true made i o g old new = (made ≡ progress.Moves) × (new ≡ row_recorded i o g q old)
-RecordsRow (Some q) false made i o g old new = (made ≡ progress.Stays) × (new ≡ old)
-RecordsRow None room made i o g old new = (made ≡ progress.Stays) × (new ≡ old)
+abbrev pub RecordsRow : Option HistoryRow → Bool → Progress → Outing → Given → RecordedParts → RecordedParts → Type 0
+RecordsRow (Some q) true made o g old new = (made ≡ progress.Moves) × (new ≡ row_recorded o g q old)
+RecordsRow (Some q) false made o g old new = (made ≡ progress.Stays) × (new ≡ old)
+RecordsRow None room made o g old new = (made ≡ progress.Stays) × (new ≡ old)
 
-abbrev pub RecordsIf : Bool → Progress → ℕ → Outing → Given → LoggedParts → LoggedParts → Type 0
-RecordsIf true made i o g old new = RecordsRow (slice_get old.rows o.row) (nat_lt (old.thread.came + 1) (2 ^ 32)) made i o g old new
-RecordsIf false made i o g old new = (made ≡ progress.Strays) × (new ≡ old)
+abbrev pub RecordsIf : Bool → Progress → Outing → Given → RecordedParts → RecordedParts → Type 0
+RecordsIf true made o g old new = RecordsRow (slice_get old.rows o.row) (can_count old.thread) made o g old new
+RecordsIf false made o g old new = (made ≡ progress.Strays) × (new ≡ old)
 
 -- this outcome comes, where it answers
-abbrev pub Records : Progress → ℕ → Outing → Given → LoggedParts → LoggedParts → Type 0
-Records made i o g old new = RecordsIf (answers_errand o.errand g) made i o g old new
+abbrev pub Records : Progress → Outing → Given → RecordedParts → RecordedParts → Type 0
+Records made o g old new = RecordsIf (answers_errand o.errand g) made o g old new
 
 -- ## `answer`
 
@@ -95,13 +102,13 @@ answer_cost true = 2
 answer_cost false = 1
 
 -- the thread goes on, and the row has its answer
-abbrev pub went_on : Call → TurnEnd → Thread → Thread
-went_on c e t = record t { phase = phase_behind c e }
+abbrev pub went_on : TurnEnd → Thread → Thread
+went_on e t = record t { phase = phase_behind e }
 
 abbrev pub row_concluded : Outing → HistoryRow → TurnEnd → Stored → OutsideParts → OutsideParts
 row_concluded o q e table p =
     record {
-      thread = went_on q.call e (record p.thread { clock = p.thread.clock + answer_cost o.keeps_table });
+      thread = went_on e (record p.thread { clock = p.thread.clock + answer_cost o.keeps_table });
       object = freed p.thread.clock;
       lock = table_freed o.keeps_table (p.thread.clock + 1) p.lock;
       table = table;

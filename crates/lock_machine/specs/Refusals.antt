@@ -1,8 +1,14 @@
 -- When the machine refuses an event.
-use Rattle.std.specs.Prelude.{◌≡◌, ℕ, Bool, true, false, Option, Some, None, Result, Ok, Err}
+use Rattle.std.specs.Prelude.{◌≡◌, ℕ, Bool, true, false, List, Option, Some, None, Result, Ok, Err, slice_get}
+use Rattle.posix_terms.specs.declared.outcome.Given.{Given}
+use Rattle.posix_terms.specs.declared.transcript.HistoryRow.{HistoryRow}
 use Rattle.thread_scripts.specs.declared.actor.Step.{Step}
 use Rattle.thread_scripts.specs.declared.actor.Step.TheVariants as step
+use Rattle.lock_machine.specs.Outings.{answers_errand, can_count, progress_by}
+use Rattle.lock_machine.specs.Threads.{Thread}
 use Rattle.lock_machine.specs.Whole.{Whole, thread_at}
+use Rattle.lock_machine.specs.declared.outside.Progress.{Progress}
+use Rattle.lock_machine.specs.declared.outside.Progress.TheVariants as progress
 use Rattle.lock_machine.specs.declared.refused.Attempt.{Attempt}
 use Rattle.lock_machine.specs.declared.refused.Attempt.TheVariants as attempt
 use Rattle.lock_machine.specs.declared.refused.Refused.{Refused}
@@ -48,7 +54,7 @@ has_answer p = false
 
 -- `again`
 abbrev pub is_blocked : Phase → Bool
-is_blocked (phase.Blocked call turns) = true
+is_blocked (phase.Blocked turns) = true
 is_blocked p = false
 
 -- a thread that works asks for its end by an event of its own
@@ -58,13 +64,44 @@ is_end x = false
 
 -- ## Refusals
 
--- an event comes where it has its phase: it is made, with what comes of it, or a number forbids it. Elsewhere it is refused, and changes
+-- an event that is not made changes nothing
+abbrev pub Rests : Bool → Whole → Whole → Type 0
+Rests true old new = Unit {0}
+Rests false old new = new ≡ old
+
+-- an event comes where it has its phase: it is made, with what comes of it, or a number forbids it. Where it is refused it changes
 -- nothing
 abbrev pub Comes : {A : Type 0} → Bool → Result A Refused → Whole → Whole → (Option A → Type 0) → Type 0
 Comes right (Ok a) old new made = (right ≡ true) × made (Some a)
 Comes right (Err refused.WrongPhase) old new made = (right ≡ false) × (new ≡ old)
-Comes right (Err refused.ClockFull) old new made = (right ≡ true) × made None
+Comes right (Err refused.ClockFull) old new made = (right ≡ true) × (new ≡ old) × made None
 Comes right (Err refused.Memory) old new made = Unit {0}
+
+-- ## Outcomes
+
+abbrev pub outlook_in : Phase → Thread → List HistoryRow → Given → Progress
+outlook_in (phase.Outside o) t rows g = progress_by (answers_errand o.errand g) (slice_get rows o.row) (can_count t)
+outlook_in p t rows g = progress.Stays
+
+-- what would come of this outcome for thread i
+abbrev pub outlook : Whole → ℕ → Given → Progress
+outlook w i g = let t = thread_at w i in outlook_in t.phase t w.rows g
+
+-- what `record` gives, by whether the thread is outside and the outlook of the outcome
+abbrev pub recorded_as : Bool → Progress → Result Progress Refused
+recorded_as true progress.Moves = Ok progress.Moves
+recorded_as true progress.Strays = Ok progress.Strays
+recorded_as true progress.Stays = Err refused.ClockFull
+recorded_as false p = Err refused.WrongPhase
+
+-- ## Attempts
+
+-- an event that wants no memory is not refused for the lack of it
+abbrev pub WantsNone : {A : Type 0} → Result A Refused → Type 0
+WantsNone (Ok a) = Unit {0}
+WantsNone (Err refused.WrongPhase) = Unit {0}
+WantsNone (Err refused.ClockFull) = Unit {0}
+WantsNone (Err refused.Memory) = ⊥
 
 -- an attempt was made, or was not
 abbrev pub Tried : {A : Type 0} → Result A Refused → (Bool → Type 0) → Type 0

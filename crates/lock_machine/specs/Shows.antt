@@ -1,11 +1,12 @@
 -- How the data of a run stand for a state of the lock machine.
-use Rattle.std.specs.Prelude.{◌≡◌, ℕ, ◌<◌, ◌≤◌, ◌^◌, List, [], ◌∷◌, ◌++◌, length, map, slice_get, is_some, Option, Some, None, IfSome, Bool, true, false, ◌+◌}
+use Rattle.std.specs.Prelude.{◌≡◌, ℕ, ◌<◌, ◌≤◌, ◌^◌, List, [], ◌∷◌, ◌++◌, length, map, slice_get, is_some, Option, Some, None, IfSome, Bool, true, false}
 use Rattle.descriptor_table.specs.Acts as acts
 use Rattle.descriptor_table.specs.Agreement.{request_of}
 use Rattle.descriptor_table.specs.declared.plan.NewNumbers.TheVariants as numbers
 use Rattle.descriptor_table.specs.declared.plan.Op.TheVariants as op
 use Rattle.posix_terms.specs.Locked.{keeps_table}
 use Rattle.posix_terms.specs.Step.{asks, step}
+use Rattle.posix_terms.specs.declared.call.Call.{Call}
 use Rattle.posix_terms.specs.declared.outcome.Given.{Given}
 use Rattle.posix_terms.specs.declared.outcome.Outcome.{Outcome}
 use Rattle.posix_terms.specs.declared.limits.TheConstants.Limits as limit
@@ -21,17 +22,14 @@ use Rattle.lock_model.specs.Machine.{advance, attempt, can_advance, can_attempt}
 use Rattle.lock_model.specs.RealCalls.{answer_in, numbered, outcome_in, plan_of, way_of}
 use Rattle.lock_model.specs.Runs.{Arises}
 use Rattle.lock_model.specs.State as lock
-use Rattle.lock_model.specs.State.{Job, Row, State, thread_of}
+use Rattle.lock_model.specs.State.{Job, Row, State, live_clocks, thread_of}
 use Rattle.lock_model.specs.State.Phase.{Working, WantsTable, WantsObject, Granted, ToOutside, Outside, Recorded, Blocked, Ended}
 use Rattle.lock_model.specs.Rows.{shown}
 use Rattle.lock_machine.specs.Conditions.{Conditions, setup_under, start_under}
 use Rattle.object_store.specs.Errands.{door_taken, waits_outside}
 use Rattle.object_store.specs.Patience.{ended}
 use Rattle.object_store.specs.Store.{Stands}
-use Rattle.lock_machine.specs.Logs.{Written, came_between}
 use Rattle.lock_machine.specs.Strays.{is_stray}
-use Rattle.input_log.specs.Format.{records_text}
-use Rattle.input_log.specs.declared.log.Record.{Record}
 use Rattle.lock_machine.specs.declared.outside.Progress.{Progress}
 use Rattle.lock_machine.specs.declared.outside.Progress.TheVariants as progress
 use Rattle.lock_machine.specs.declared.thread.Outing.{Outing}
@@ -39,6 +37,7 @@ use Rattle.object_store.specs.declared.patience.TurnEnd.{TurnEnd}
 use Rattle.lock_machine.specs.declared.thread.Phase.{Phase}
 use Rattle.lock_machine.specs.declared.thread.Phase.TheVariants as phase
 use Rattle.lock_machine.specs.Threads.{Thread}
+use Rattle.lock_machine.specs.Views.{clocks_of}
 use Rattle.lock_machine.specs.Whole.{Whole, thread_at}
 
 -- ## Threads
@@ -76,7 +75,7 @@ PhaseShows terms i rows t u (phase.Granted place object ends) = (job : Job) × (
 PhaseShows terms i rows t u (phase.ToOutside o) = (job : Job) × ((u.phase ≡ ToOutside job) × IsOut terms i rows o job)
 PhaseShows terms i rows t u (phase.Outside o) = (job : Job) × ((u.phase ≡ Outside job) × IsOut terms i rows o job × (t.came < limit.OUTCOMES))
 PhaseShows terms i rows t u (phase.Recorded o) = (job : Job) × ((u.phase ≡ Recorded job) × IsOut terms i rows o job)
-PhaseShows terms i rows t u (phase.Blocked call turns) = u.phase ≡ Blocked call turns
+PhaseShows terms i rows t u (phase.Blocked turns) = (call : Call) × (u.phase ≡ Blocked call turns)
 PhaseShows terms i rows t u phase.Ended = u.phase ≡ Ended
 
 pub record ThreadShows (terms : Conditions) (i : ℕ) (rows : List Row) (t : Thread) (u : lock.Thread) : Type 0 where
@@ -99,6 +98,10 @@ pub record Shows (terms : Conditions) (w : Whole) (s : State) : Type 0 where
   pub world : Stands w.table s.world
   pub rows : map shown s.rows ≡ w.rows
 
+-- by both the clocks of the live threads are the same
+abbrev pub ClocksShown : Type 0
+ClocksShown = (terms : Conditions) (w : Whole) (s : State) → Shows terms w s → live_clocks s ≡ clocks_of w.threads
+
 -- ## Phases
 
 -- thread i is in this phase
@@ -114,7 +117,7 @@ abbrev pub IsGrantedAt : Whole → ℕ → ℕ → Option ℕ → Type 0
 IsGrantedAt w i row object = GrantedIn (thread_at w i).phase row object
 
 abbrev pub BlockedIn : Phase → Type 0
-BlockedIn (phase.Blocked call turns) = Unit {0}
+BlockedIn (phase.Blocked turns) = Unit {0}
 BlockedIn p = ⊥
 
 -- thread i is in a call that is blocked
@@ -141,22 +144,22 @@ has_strayed progress.Strays = true
 has_strayed progress.Moves = false
 has_strayed progress.Stays = false
 
--- so many records more
-abbrev pub LogsMore : List Record → Written → Written → Type 0
-LogsMore records old new = (new.text ≡ old.text ++ records_text records) × (new.records ≡ old.records + length records)
+-- the outcomes of a thread behind what came of this one
+abbrev pub came_with : Progress → Given → List Given → List Given
+came_with progress.Moves g came = came ++ g ∷ []
+came_with p g came = came
 
--- thread i makes its event that needs no turn, just where it can, and strays just where what is there for it does not answer
-pub record Advanced (made : Progress) (i : ℕ) (old new : Whole) (terms : Conditions) (s : State) : Type 0 where
+-- this outcome comes for thread i, just where it can, and it strays just where the outcome does not answer
+pub record Advanced (made : Progress) (i : ℕ) (g : Given) (new : Whole) (terms : Conditions) (s : State) : Type 0 where
   pub can : can_advance (setup_under terms) s i ≡ has_moved made
   pub strays : is_stray (setup_under terms) s i ≡ has_strayed made
   pub shows : Shows terms new (advance (setup_under terms) i s)
-  pub log : LogsMore (came_between i s (advance (setup_under terms) i s)) old.log new.log
+  pub came : (thread_of (advance (setup_under terms) i s) i).came ≡ came_with made g (thread_of s i).came
 
--- it makes one in which no outcome comes, just where it can
-pub record Quietly (moved : Bool) (i : ℕ) (old new : Whole) (terms : Conditions) (s : State) : Type 0 where
+-- it makes an event in which no outcome comes, just where it can
+pub record Quietly (moved : Bool) (i : ℕ) (new : Whole) (terms : Conditions) (s : State) : Type 0 where
   pub can : can_advance (setup_under terms) s i ≡ moved
   pub shows : Shows terms new (advance (setup_under terms) i s)
-  pub log : new.log ≡ old.log
 
 -- the run has come to this state
 abbrev pub StandsAt : Whole → Conditions → State → Type 0
@@ -164,12 +167,12 @@ StandsAt w terms s = Arises (setup_under terms) (start_under terms) s × Shows t
 
 -- it goes outside, or makes a blocked call again
 abbrev pub AdvancesQuietly : Bool → ℕ → Whole → Whole → Type 0
-AdvancesQuietly moved i old new = (terms : Conditions) (s : State) → StandsAt old terms s → Quietly moved i old new terms s
+AdvancesQuietly moved i old new = (terms : Conditions) (s : State) → StandsAt old terms s → Quietly moved i new terms s
 
 -- it asks this step
 abbrev pub AsksFor : Bool → ℕ → Step → Whole → Whole → Type 0
 AsksFor moved i x old new =
-    (terms : Conditions) (s : State) → StandsAt old terms s → (let u : lock.Thread = thread_of s i in terms.supply.next i u.asked u.replies ≡ Some x) → Quietly moved i old new terms s
+    (terms : Conditions) (s : State) → StandsAt old terms s → (let u : lock.Thread = thread_of s i in terms.supply.next i u.asked u.replies ≡ Some x) → Quietly moved i new terms s
 
 -- the replies of a thread behind its answer, if it has one
 abbrev pub replied : Option posix.Answer → List Reply → List Reply
@@ -181,15 +184,15 @@ replied None rs = rs
 abbrev pub Tells : Option posix.Answer → ℕ → Whole → Whole → Type 0
 Tells told i old new =
     (terms : Conditions) (s : State) → StandsAt old terms s
-    → Quietly (is_some told) i old new terms s × ((thread_of (advance (setup_under terms) i s) i).replies ≡ replied told (thread_of s i).replies)
+    → Quietly (is_some told) i new terms s × ((thread_of (advance (setup_under terms) i s) i).replies ≡ replied told (thread_of s i).replies)
 
 -- this outcome comes
 abbrev pub RecordsGiven : Progress → ℕ → Given → Whole → Whole → Type 0
 RecordsGiven made i g old new =
-    (terms : Conditions) (s : State) → StandsAt old terms s → slice_get (terms.supply.outcomes i) (length (thread_of s i).came) ≡ Some g → Advanced made i old new terms s
+    (terms : Conditions) (s : State) → StandsAt old terms s → slice_get (terms.supply.outcomes i) (length (thread_of s i).came) ≡ Some g → Advanced made i g new terms s
 
 -- thread i makes its attempt, just where it can
 abbrev pub Attempts : Bool → ℕ → Whole → Whole → Type 0
 Attempts made i old new =
     (terms : Conditions) (s : State) → StandsAt old terms s
-    → (can_attempt (setup_under terms) s i ≡ made) × Shows terms new (attempt (setup_under terms) i s) × (new.log ≡ old.log)
+    → (can_attempt (setup_under terms) s i ≡ made) × Shows terms new (attempt (setup_under terms) i s)

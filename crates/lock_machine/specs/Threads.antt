@@ -1,6 +1,6 @@
 -- The threads of a run with their clocks.
-use Rattle.std.specs.Prelude.{◌≡◌, ℕ, List, [], ◌∷◌, slice_set}
-use Rattle.logical_clocks.specs.ThreadClocks.{thread_at}
+use Rattle.std.specs.Prelude.{◌≡◌, ℕ, ◌≤◌, List, [], ◌∷◌, slice_set}
+use Rattle.logical_clocks.specs.ThreadClocks.{clock_at, thread_at}
 use Rattle.logical_clocks.specs.declared.clocks.ThreadClock.{ThreadClock}
 use Rattle.thread_scripts.specs.declared.actor.Step.{Step}
 use Rattle.lock_machine.specs.Lives.{is_live}
@@ -22,7 +22,8 @@ joined [] clocks = []
 joined (t ∷ threads) [] = timed t 0 ∷ joined threads []
 joined (t ∷ threads) (c ∷ clocks) = timed t c.clock ∷ joined threads clocks
 
--- no clock but that of thread i has changed, and thread i is live as its phase says, if it was so before
+-- no clock but that of thread i has changed, and this never goes back; thread i is live as its phase says, if it was so before
 pub record KeepsOthers (i : ℕ) (old : declared.Thread) (clocks : List ThreadClock) (new : declared.Thread) (later : List ThreadClock) : Type 0 where
   pub others : later ≡ slice_set clocks i (thread_at later i)
+  pub forward : clock_at clocks i ≤ clock_at later i
   pub live : (let c : ThreadClock = thread_at clocks i in c.live) ≡ is_live old.phase → (let c : ThreadClock = thread_at later i in c.live) ≡ is_live new.phase

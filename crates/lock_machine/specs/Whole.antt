@@ -3,16 +3,14 @@ use Rattle.std.specs.Prelude.{ℕ, List, get_or}
 use Rattle.det_mutex.specs.declared.lock.DetLock.{DetLock}
 use Rattle.object_store.specs.Store.{Stored}
 use Rattle.posix_terms.specs.declared.transcript.HistoryRow.{HistoryRow}
-use Rattle.lock_machine.specs.Logs.{Written}
 use Rattle.lock_machine.specs.Threads.{Thread}
 use Rattle.lock_machine.specs.Views.{no_thread}
 
--- the patience of a run's calls and the cost of going outside, the log of what came from there, the threads, the locks of the table and of the
--- object numbers, what the table holds, and the rows
+-- the patience of a run's calls and the cost of going outside, the threads, the locks of the table and of the object numbers, what the table holds,
+-- and the rows
 pub record Whole : Type 0 where
   pub patience : ℕ
   pub door_cost : ℕ
-  pub log : Written
   pub threads : List Thread
   pub lock : DetLock
   pub objects : List DetLock

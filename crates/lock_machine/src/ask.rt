@@ -1,14 +1,15 @@
-ghost use Rattle.std.specs.Prelude.{◌≡◌, ◌<◌, ℕ, true, IfOk, length};
+ghost use Rattle.std.specs.Prelude.{◌≡◌, ◌<◌, ◌≤◌, ℕ, true, false, IfOk, OnErr, length};
 ghost use Rattle.logical_clocks.specs.ThreadClocks.{clock_at};
-ghost use Rattle.lock_machine.specs.Asking.{Asks, GoesAgain, Works, after_end, after_want};
+ghost use Rattle.lock_model.specs.Held.{last_call};
+ghost use Rattle.lock_machine.specs.Asking.{Asks, Ends, GoesAgain, Works, after_want};
 ghost use Rattle.lock_machine.specs.Lives.{is_live};
 ghost use Rattle.lock_machine.specs.Threads.{KeepsOthers, timed};
+ghost use Rattle.lock_machine.specs.Waiting.{HasRoom, KeepsRoom, is_call, rows_due};
 
 use crate::thread::{Phase, Thread};
 use logical_clocks::Clocks;
-use posix_terms::Call;
+use posix_terms::{Call, HistoryRow, Limits};
 use std::alloc::AllocError;
-use std::mem;
 use thread_scripts::Step;
 
 impl Thread {
@@ -17,12 +18,14 @@ impl Thread {
         requires inside { i < length clocks.old }
         requires live { is_live self.old.phase ≡ true }
         ensures event { IfOk result (λ moved. Asks moved step (timed self.old (clock_at clocks.old i)) (timed self.new (clock_at clocks.new i))) }
+        ensures err { OnErr result ((self.new ≡ self.old) × (clocks.new ≡ clocks.old)) }
         ensures others { KeepsOthers i self.old clocks.old self.new clocks.new }
+        ensures due { is_call step ≡ false → rows_due self.new.phase ≤ rows_due self.old.phase }
     {
         match step {
             Step::Work(amount) => self.work(clocks, i, amount),
             Step::Call(call) => self.want(call),
-            Step::End => self.end(clocks, i),
+            Step::End => Ok(self.end(clocks, i)),
         }
     }
 
@@ -30,50 +33,87 @@ impl Thread {
         requires inside { i < length clocks.old }
         requires live { is_live self.old.phase ≡ true }
         ensures event { IfOk result (λ moved. Works moved amount (timed self.old (clock_at clocks.old i)) (timed self.new (clock_at clocks.new i))) }
+        ensures err { OnErr result ((self.new ≡ self.old) × (clocks.new ≡ clocks.old)) }
         ensures others { KeepsOthers i self.old clocks.old self.new clocks.new }
+        ensures due { self.new.phase ≡ self.old.phase }
     {
-        if clocks.add(i, amount).is_err() {
+        if amount > Limits::CLOCK - clocks.clock(i) {
             return Ok(false);
         }
         self.asked.push(Step::Work(amount))?;
+        clocks.add(i, amount).unwrap();
         Ok(true)
     }
 
     fn want(&mut self, call: Call) -> Result<bool, AllocError>
         ensures event { IfOk result (λ moved. (moved ≡ true) × ((clock : ℕ) → timed self.new clock ≡ after_want call (timed self.old clock))) }
+        ensures err { OnErr result (self.new ≡ self.old) }
         ensures live { is_live self.old.phase ≡ true → is_live self.new.phase ≡ true }
     {
+        let room = self.room.for_call(&call)?;
         self.asked.push(Step::Call(call.try_clone()?))?;
+        self.room = room;
         self.phase = Phase::WantsTable { call, turns: 0 };
         Ok(true)
     }
 
-    fn end(&mut self, clocks: &mut Clocks, i: usize) -> Result<bool, AllocError>
+    // Thread i, which works, ends; and tells whether it had not asked its end before.
+    pub fn end(&mut self, clocks: &mut Clocks, i: usize) -> bool
         requires inside { i < length clocks.old }
         requires live { is_live self.old.phase ≡ true }
-        ensures event { IfOk result (λ moved. (moved ≡ true) × (timed self.new (clock_at clocks.new i) ≡ after_end (timed self.old (clock_at clocks.old i)))) }
+        ensures event { Ends result (timed self.old (clock_at clocks.old i)) (timed self.new (clock_at clocks.new i)) }
         ensures others { KeepsOthers i self.old clocks.old self.new clocks.new }
+        ensures due { rows_due self.new.phase ≤ rows_due self.old.phase }
     {
-        self.asked.push(Step::End)?;
+        if self.asked.has_end() {
+            return false;
+        }
+        self.asked.push_end();
         self.phase = Phase::Ended;
         clocks.end(i);
-        Ok(true)
+        true
     }
 
-    // Makes a blocked call again.
-    pub fn again(&mut self) -> bool
-        ensures event { (clock : ℕ) → GoesAgain result (timed self.old clock) (timed self.new clock) }
+    // Makes a blocked call again, which is the one that was asked last.
+    pub fn again(&mut self) -> Result<bool, AllocError>
+        ensures event { IfOk result (λ moved. (clock : ℕ) → GoesAgain moved (timed self.old clock) (timed self.new clock)) }
+        ensures err { OnErr result (self.new ≡ self.old) }
         ensures live { is_live self.old.phase ≡ is_live self.new.phase }
     {
-        match mem::replace(&mut self.phase, Phase::Working) {
-            Phase::Blocked { call, turns } => {
-                self.phase = Phase::WantsTable { call, turns };
-                true
-            }
-            phase => {
-                self.phase = phase;
-                false
-            }
-        }
+        let Phase::Blocked { turns } = self.phase else {
+            return Ok(false);
+        };
+        let Some(call) = last_call(self.asked.as_slice())? else {
+            return Ok(false);
+        };
+        self.room = self.room.for_call(&call)?;
+        self.phase = Phase::WantsTable { call, turns };
+        Ok(true)
+    }
+}
+
+// The call that was asked last, if the last step is one.
+fn last_call(asked: &[Step]) -> Result<Option<Call>, AllocError>
+    ensures { IfOk result (λ call. call ≡ last_call asked.now) }
+{
+    match asked.last() {
+        Some(Step::Call(call)) => Ok(Some(call.try_clone()?)),
+        _ => Ok(None),
+    }
+}
+
+// Where this step is a call, takes the room for a row of each thread: so many there are.
+pub fn reserve_rows(
+    step: &Step,
+    threads: usize,
+    rows: &mut Vec<HistoryRow>,
+) -> Result<(), AllocError>
+    ensures items { rows.new.items ≡ rows.old.items }
+    ensures kept { KeepsRoom 0 rows.old 0 rows.new }
+    ensures room { IfOk result (λ _. is_call step.now ≡ true → HasRoom threads rows.new) }
+{
+    match step {
+        Step::Call(_) => rows.reserve(threads),
+        _ => Ok(()),
     }
 }

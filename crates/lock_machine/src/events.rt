@@ -1,12 +1,17 @@
 ghost use Rattle.std.specs.Option.{option_map};
-ghost use Rattle.std.specs.Prelude.{◌≡◌, ◌<◌, ◌&&◌, ℕ, true, IfOk, IfSome, length};
+ghost use Rattle.std.specs.Prelude.{◌≡◌, ◌*◌, ◌<◌, ◌≤◌, ◌^◌, ◌&&◌, ℕ, true, IfOk, IfSome, length};
 ghost use Rattle.det_mutex.specs.Attempt.{takes};
 ghost use Rattle.lock_model.specs.Machine.{is_number};
 ghost use Rattle.logical_clocks.specs.ThreadClocks.{clock_at};
+ghost use Rattle.posix_terms.specs.declared.limits.TheConstants.Limits as limit;
+ghost use Rattle.lock_machine.specs.Births.{BearsInTime, BornWithin, time_of};
 ghost use Rattle.lock_machine.specs.Events.{Answers, Grants, wants_to_keep, GrantsObject, PlansTo, Reaches, Tries, object_taken, parts};
 ghost use Rattle.lock_machine.specs.Lives.{is_live};
 ghost use Rattle.lock_machine.specs.Held.{end_held, phase_behind, phase_started, told_as};
 ghost use Rattle.lock_machine.specs.Threads.{KeepsOthers, timed};
+ghost use Rattle.lock_machine.specs.Waiting.{HasRoom, KeepsRoom, rows_due};
+ghost use Rattle.object_store.specs.Patience.{turn_bytes};
+ghost use Rattle.object_store.specs.Space.{HasSpaceFor};
 ghost use Rattle.object_store.specs.Store.{Stored, number_locked};
 
 use crate::machine::Shared;
@@ -14,9 +19,8 @@ use crate::outside::keeps_table;
 use crate::thread::{Outing, Phase, Thread};
 use det_mutex::DetLock;
 use logical_clocks::Clocks;
-use object_store::{TurnEnd, TurnStart};
+use object_store::{Room, TurnEnd, TurnStart};
 use posix_terms::{Answer, Call, HistoryRow, Turn};
-use std::alloc::{AllocError, Global};
 use std::mem;
 
 // `answer`: the call of thread i, which has this row, has its reply, or is to be made again where it was blocked; this is
@@ -28,50 +32,53 @@ pub fn answer(
     row: usize,
     lock: &mut DetLock,
     rows: &mut Vec<HistoryRow>,
-) -> Result<Option<Answer>, AllocError>
+) -> Option<Answer>
     requires inside { i < length clocks.old }
     requires live { is_live thread.old.phase ≡ true }
-    ensures event { IfOk result (λ told. (table : Stored) → Answers told i row (parts (timed thread.old (clock_at clocks.old i)) lock.old table rows.old.items) (parts (timed thread.new (clock_at clocks.new i)) lock.new table rows.new.items)) }
+    ensures event { (table : Stored) → Answers result i row (parts (timed thread.old (clock_at clocks.old i)) lock.old table rows.old.items) (parts (timed thread.new (clock_at clocks.new i)) lock.new table rows.new.items) }
     ensures others { KeepsOthers i thread.old clocks.old thread.new clocks.new }
     ensures rows { length rows.new.items ≡ length rows.old.items }
+    ensures room { KeepsRoom (rows_due thread.old.phase) rows.old (rows_due thread.new.phase) rows.new }
 {
     if !holds(*lock, i) {
-        return Ok(None);
+        return None;
     }
     let Some(row) = rows.get_mut(row) else {
-        return Ok(None);
+        return None;
     };
-    let Some((answer, phase)) = answered(&thread.phase, &row.call)? else {
-        return Ok(None);
+    let Phase::Granted { ends, .. } = &thread.phase else {
+        return None;
     };
     let clock = clocks.clock(i);
     if clocks.add(i, 1).is_err() {
-        return Ok(None);
+        return None;
     }
-    row.answer = Some(answer);
+    row.answer = Some(answer_copied(ends, &mut thread.room));
     lock.free(i, clock);
-    Ok(told(mem::replace(&mut thread.phase, phase)))
+    let behind = phase_behind(ends);
+    told(mem::replace(&mut thread.phase, behind))
 }
 
-// The answer of a call whose thread is in this phase, and the phase behind it.
-fn answered(phase: &Phase, call: &Call) -> Result<Option<(Answer, Phase)>, AllocError>
-    ensures ends { IfOk result (λ found. found ≡ option_map (λ e. (told_as e, phase_behind call.now e)) (end_held phase.now)) }
-    ensures live { IfOk result (λ found. IfSome found (λ x. is_live x.1 ≡ true)) }
+// A turn that ended so, as the answer of its row, with its bytes in the room for them.
+pub fn answer_copied(end: &TurnEnd, room: &mut Room) -> Answer
+    requires { turn_bytes end.now ≤ room.old.row }
+    ensures { result ≡ told_as end.now }
 {
-    match phase {
-        Phase::Granted {
-            ends: TurnEnd::Reply(reply),
-            ..
-        } => Ok(Some((Answer::Reply(reply.try_clone()?), Phase::Working))),
-        Phase::Granted {
-            ends: TurnEnd::Blocked(turns),
-            ..
-        } => {
-            let call = call.try_clone()?;
-            let turns = *turns;
-            Ok(Some((Answer::Again, Phase::Blocked { call, turns })))
-        }
-        _ => Ok(None),
+    match end {
+        TurnEnd::Reply(reply) => Answer::Reply(room.copy(reply)),
+        TurnEnd::Blocked(_) => Answer::Again,
+    }
+}
+
+// The phase of a thread once its call is answered, whose turn ended so.
+pub fn phase_behind(end: &TurnEnd) -> Phase
+    ensures phase { result ≡ phase_behind end.now }
+    ensures live { is_live result ≡ true }
+    ensures due { rows_due result ≡ 0 }
+{
+    match end {
+        TurnEnd::Reply(_) => Phase::Working,
+        TurnEnd::Blocked(turns) => Phase::Blocked { turns: *turns },
     }
 }
 
@@ -85,7 +92,7 @@ fn told(phase: Phase) -> Option<Answer>
     }
 }
 
-// A turn that ended so, as the answer of its row.
+// A turn that ended so, as the answer that is told.
 pub fn told_as(end: TurnEnd) -> Answer
     ensures { result ≡ told_as end }
 {
@@ -108,54 +115,55 @@ pub fn holds(lock: DetLock, i: usize) -> bool
 // `try_table`, by a thread that has the turn: takes the table where it can, for 1 either way. A call that
 // takes no object is granted at once.
 pub fn try_table(
-    alloc: Global,
     patience: u32,
     i: usize,
     thread: &mut Thread,
     clocks: &mut Clocks,
     shared: &mut Shared,
-) -> Result<bool, AllocError>
-    requires { i < length clocks.old }
-    ensures event { IfOk result (λ made. Tries patience made i (parts (timed thread.old (clock_at clocks.old i)) shared.old.lock shared.old.store shared.old.rows.items) (parts (timed thread.new (clock_at clocks.new i)) shared.new.lock shared.new.store shared.new.rows.items)) }
+) -> bool
+    requires inside { i < length clocks.old }
+    requires few { length clocks.old ≤ limit.THREADS }
+    requires born { BornWithin (2 * time_of clocks.old) shared.old.store }
+    requires row { HasRoom (rows_due thread.old.phase) shared.old.rows }
+    ensures event { Tries patience result i (parts (timed thread.old (clock_at clocks.old i)) shared.old.lock shared.old.store shared.old.rows.items) (parts (timed thread.new (clock_at clocks.new i)) shared.new.lock shared.new.store shared.new.rows.items) }
     ensures others { KeepsOthers i thread.old clocks.old thread.new clocks.new }
+    ensures births { BearsInTime (clock_at clocks.old i) shared.old.store (clock_at clocks.new i) shared.new.store }
+    ensures room { KeepsRoom (rows_due thread.old.phase) shared.old.rows (rows_due thread.new.phase) shared.new.rows }
 {
     match mem::replace(&mut thread.phase, Phase::Working) {
         Phase::WantsTable { call, turns } => {
             let clock = clocks.clock(i);
             if clocks.add(i, 1).is_err() {
                 thread.phase = Phase::WantsTable { call, turns };
-                return Ok(false);
+                return false;
             }
             if shared.lock.attempt(i, clock) {
                 let turn = Turn { clock, thread: i };
-                plan(alloc, patience, turn, call, turns, thread, shared)?;
+                plan(patience, turn, call, turns, thread, shared);
             } else {
                 thread.phase = Phase::WantsTable { call, turns };
             }
-            Ok(true)
+            true
         }
         phase => {
             thread.phase = phase;
-            Ok(false)
+            false
         }
     }
 }
 
 // What a call takes beside the table: the lock of an object, or it is granted.
-fn plan(
-    alloc: Global,
-    patience: u32,
-    turn: Turn,
-    call: Call,
-    turns: u32,
-    thread: &mut Thread,
-    shared: &mut Shared,
-) -> Result<(), AllocError>
-    ensures event { IfOk result (λ _. (clock : ℕ) → PlansTo patience (number_locked shared.old.store call) turn call turns (parts (timed thread.old clock) shared.old.lock shared.old.store shared.old.rows.items) (parts (timed thread.new clock) shared.new.lock shared.new.store shared.new.rows.items)) }
+fn plan(patience: u32, turn: Turn, call: Call, turns: u32, thread: &mut Thread, shared: &mut Shared)
+    requires born { BornWithin (2 ^ 126) shared.old.store }
+    requires row { HasRoom 1 shared.old.rows }
+    requires room { HasSpaceFor call thread.old.room }
+    ensures event { (clock : ℕ) → PlansTo patience (number_locked shared.old.store call) turn call turns (parts (timed thread.old clock) shared.old.lock shared.old.store shared.old.rows.items) (parts (timed thread.new clock) shared.new.lock shared.new.store shared.new.rows.items) }
     ensures live { is_live thread.old.phase ≡ true → is_live thread.new.phase ≡ true }
+    ensures births { BearsInTime 0 shared.old.store 1 shared.new.store }
+    ensures room { KeepsRoom 1 shared.old.rows (rows_due thread.new.phase) shared.new.rows }
 {
     match shared.store.number_locked(&call) {
-        None => grant(alloc, patience, turn, call, turns, None, thread, shared),
+        None => grant(patience, turn, call, turns, None, thread, shared),
         Some(object) => {
             thread.phase = Phase::WantsObject {
                 call,
@@ -163,7 +171,6 @@ fn plan(
                 clock: turn.clock,
                 object,
             };
-            Ok(())
         }
     }
 }
@@ -171,37 +178,41 @@ fn plan(
 // `try_object`, by a thread that has the turn: takes the object where it can, for 1 either way. Then the call is
 // granted and, unless it keeps the table, this is free, for 1 more.
 pub fn try_object(
-    alloc: Global,
     patience: u32,
     i: usize,
     thread: &mut Thread,
     clocks: &mut Clocks,
     lock: &mut DetLock,
     shared: &mut Shared,
-) -> Result<bool, AllocError>
-    requires { i < length clocks.old }
-    ensures event { IfOk result (λ made. Reaches patience made i lock.old lock.new (parts (timed thread.old (clock_at clocks.old i)) shared.old.lock shared.old.store shared.old.rows.items) (parts (timed thread.new (clock_at clocks.new i)) shared.new.lock shared.new.store shared.new.rows.items)) }
+) -> bool
+    requires inside { i < length clocks.old }
+    requires few { length clocks.old ≤ limit.THREADS }
+    requires born { BornWithin (2 * time_of clocks.old) shared.old.store }
+    requires row { HasRoom (rows_due thread.old.phase) shared.old.rows }
+    ensures event { Reaches patience result i lock.old lock.new (parts (timed thread.old (clock_at clocks.old i)) shared.old.lock shared.old.store shared.old.rows.items) (parts (timed thread.new (clock_at clocks.new i)) shared.new.lock shared.new.store shared.new.rows.items) }
     ensures others { KeepsOthers i thread.old clocks.old thread.new clocks.new }
+    ensures births { BearsInTime (clock_at clocks.old i) shared.old.store (clock_at clocks.new i) shared.new.store }
+    ensures room { KeepsRoom (rows_due thread.old.phase) shared.old.rows (rows_due thread.new.phase) shared.new.rows }
 {
     let Phase::WantsObject { .. } = thread.phase else {
-        return Ok(false);
+        return false;
     };
     let now = clocks.clock(i);
     let keeps = wants_to_keep(&thread.phase);
     let taken = taken_object(shared.lock, *lock, i, now);
     let cost = if taken.is_some() && !keeps { 2 } else { 1 };
     if clocks.add(i, cost).is_err() {
-        return Ok(false);
+        return false;
     }
     let Some(taken) = taken else {
-        return Ok(true);
+        return true;
     };
     *lock = taken;
     if !keeps {
         shared.lock.free(i, now + 1);
     }
-    grant_object(alloc, patience, i, thread, shared)?;
-    Ok(true)
+    grant_object(patience, i, thread, shared);
+    true
 }
 
 // Whether the call that wants an object keeps the table to its answer.
@@ -215,15 +226,13 @@ fn wants_to_keep(phase: &Phase) -> bool
 }
 
 // Grants the call of thread i that wants an object.
-fn grant_object(
-    alloc: Global,
-    patience: u32,
-    i: usize,
-    thread: &mut Thread,
-    shared: &mut Shared,
-) -> Result<(), AllocError>
-    ensures event { IfOk result (λ _. (clock : ℕ) → GrantsObject patience thread.old.phase i (parts (timed thread.old clock) shared.old.lock shared.old.store shared.old.rows.items) (parts (timed thread.new clock) shared.new.lock shared.new.store shared.new.rows.items)) }
+fn grant_object(patience: u32, i: usize, thread: &mut Thread, shared: &mut Shared)
+    requires born { BornWithin (2 ^ 126) shared.old.store }
+    requires row { HasRoom 1 shared.old.rows }
+    ensures event { (clock : ℕ) → GrantsObject patience thread.old.phase i (parts (timed thread.old clock) shared.old.lock shared.old.store shared.old.rows.items) (parts (timed thread.new clock) shared.new.lock shared.new.store shared.new.rows.items) }
     ensures live { is_live thread.old.phase ≡ true → is_live thread.new.phase ≡ true }
+    ensures births { BearsInTime 0 shared.old.store 1 shared.new.store }
+    ensures room { KeepsRoom 1 shared.old.rows (rows_due thread.new.phase) shared.new.rows }
 {
     match mem::replace(&mut thread.phase, Phase::Working) {
         Phase::WantsObject {
@@ -232,7 +241,6 @@ fn grant_object(
             clock,
             object,
         } => grant(
-            alloc,
             patience,
             Turn { clock, thread: i },
             call,
@@ -241,10 +249,7 @@ fn grant_object(
             thread,
             shared,
         ),
-        phase => {
-            thread.phase = phase;
-            Ok(())
-        }
+        phase => thread.phase = phase,
     }
 }
 
@@ -263,7 +268,6 @@ fn taken_object(table: DetLock, object: DetLock, i: usize, clock: u64) -> Option
 
 // A call that was blocked for so many turns gets its turn and a row of the history, and is made.
 fn grant(
-    alloc: Global,
     patience: u32,
     turn: Turn,
     call: Call,
@@ -271,35 +275,31 @@ fn grant(
     object: Option<usize>,
     thread: &mut Thread,
     shared: &mut Shared,
-) -> Result<(), AllocError>
-    ensures event { IfOk result (λ _. (clock : ℕ) → Grants patience turn call turns object (parts (timed thread.old clock) shared.old.lock shared.old.store shared.old.rows.items) (parts (timed thread.new clock) shared.new.lock shared.new.store shared.new.rows.items)) }
+)
+    requires born { BornWithin (2 ^ 126) shared.old.store }
+    requires row { HasRoom 1 shared.old.rows }
+    requires room { HasSpaceFor call thread.old.room }
+    ensures event { (clock : ℕ) → Grants patience turn call turns object (parts (timed thread.old clock) shared.old.lock shared.old.store shared.old.rows.items) (parts (timed thread.new clock) shared.new.lock shared.new.store shared.new.rows.items) }
     ensures live { is_live thread.old.phase ≡ true → is_live thread.new.phase ≡ true }
+    ensures births { BearsInTime 0 shared.old.store 1 shared.new.store }
+    ensures room { KeepsRoom 1 shared.old.rows (rows_due thread.new.phase) shared.new.rows }
 {
-    shared.rows.reserve(1)?;
-    let (descriptions, objects) = shared.store.table.made();
-    // No run comes so far.
-    if descriptions >= 1 << 126 || objects >= 1 << 126 {
-        return Err(AllocError);
-    }
     let row = shared.rows.len();
-    let start = shared.store.make(alloc, &call, patience, turns)?;
+    let start = thread.room.make(&mut shared.store, &call, patience, turns);
     thread.phase = started(row, object, turns, &call, start);
-    shared
-        .rows
-        .push(HistoryRow {
-            call,
-            turn,
-            outcome: None,
-            answer: None,
-        })
-        .unwrap();
-    Ok(())
+    shared.rows.push_reserved(HistoryRow {
+        call,
+        turn,
+        outcome: None,
+        answer: None,
+    });
 }
 
 // The phase of a thread whose turn started so, which has this row.
 fn started(row: usize, object: Option<usize>, turns: u32, call: &Call, start: TurnStart) -> Phase
     ensures phase { result ≡ phase_started row object call.now turns start }
     ensures live { is_live result ≡ true }
+    ensures due { rows_due result ≡ 0 }
 {
     match start {
         TurnStart::Ended(ends) => Phase::Granted { row, object, ends },

@@ -3,8 +3,9 @@
 #![tactic(auto)]
 
 mod ask;
+mod asked;
 mod events;
-mod log;
+mod laws;
 mod machine;
 mod machine_events;
 mod outside;
@@ -14,9 +15,9 @@ mod start;
 mod steps;
 mod thread;
 
-pub use log::Log;
+pub use asked::Asked;
+pub use laws::{clocks_are_shown, machines_begin, requests_are_little, requests_have_kinds};
 pub use machine::{Left, LockMachine};
 pub use outside::Progress;
 pub use refused::{Attempt, Refused};
-pub use steps::Steps;
 pub use thread::{Outing, Phase};

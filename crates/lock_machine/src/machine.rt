@@ -1,20 +1,21 @@
-ghost use Rattle.std.specs.Prelude.{◌≡◌, ◌<◌, IfOk, IfSome, length, map};
+ghost use Rattle.std.specs.Prelude.{◌≡◌, ◌*◌, ◌<◌, ◌≤◌, IfSome, length, map};
+ghost use Rattle.posix_terms.specs.declared.limits.TheConstants.Limits as limit;
 ghost use Rattle.logical_clocks.specs.TurnOrder.{has_turn, turn_holder};
+ghost use Rattle.lock_machine.specs.Births.{BornWithin, time_of};
 ghost use Rattle.lock_machine.specs.Lives.{Agree};
 ghost use Rattle.lock_machine.specs.Threads.{Thread as Seen};
 ghost use Rattle.lock_machine.specs.Views.{clocks_of};
+ghost use Rattle.lock_machine.specs.Waiting.{HasRoom, waiting};
 ghost use Rattle.lock_machine.specs.Whole.{thread_at};
-ghost use Rattle.lock_machine.specs.declared.thread.Thread as declared;
 
-use crate::log::Log;
-use crate::steps::Steps;
+use crate::asked::Asked;
 use crate::thread::{Phase, Thread};
 use det_mutex::DetLock;
 use logical_clocks::Clocks;
 use object_store::Store;
-use posix_terms::HistoryRow;
-use std::alloc::{AllocError, Global};
+use posix_terms::{HistoryRow, Settings};
 use std::marker::Model;
+use thread_scripts::Step;
 
 // The table with its lock and the bodies of the objects, and the rows of what was granted so far.
 #[derive(Drop)]
@@ -32,8 +33,6 @@ pub struct LockMachine {
     pub(crate) patience: u32,
     // what a call that goes outside adds to its thread's clock
     pub(crate) door_cost: u32,
-    // the record of each outcome that came
-    pub(crate) log: Log,
     pub(crate) threads: Vec<Thread>,
     pub(crate) clocks: Clocks,
     pub(crate) shared: Shared,
@@ -42,6 +41,11 @@ pub struct LockMachine {
 
     // a thread is live in its clock just until its phase is that it has ended
     ghost agree: { Agree threads.items clocks },
+    ghost few: { length threads.items ≤ limit.THREADS },
+    // each grant and each answer moves a clock, and makes two at most
+    ghost births: { BornWithin (2 * time_of clocks) shared.store },
+    // a call that waits for a lock finds room for its row
+    ghost room: { HasRoom (waiting threads.items) shared.rows },
 }
 
 impl Model for LockMachine {
@@ -54,21 +58,21 @@ impl Model for LockMachine {
 
     ghost coded = { Prim.hlevel (codes, stored_code) };
 
-    ghost view = { λ m. record { patience = m.patience; door_cost = m.door_cost; log = m.log; threads = joined m.threads.items m.clocks; lock = m.shared.lock; objects = m.objects.items; table = m.shared.store; rows = m.shared.rows.items } };
+    ghost view = { λ m. record { patience = m.patience; door_cost = m.door_cost; threads = joined m.threads.items m.clocks; lock = m.shared.lock; objects = m.objects.items; table = m.shared.store; rows = m.shared.rows.items } };
 }
 
-/// What a machine leaves that is over: the rows of its history, the steps that each thread asked, and the log.
+/// What a machine leaves that is over: the rows of its history, and the steps that each thread asked.
 #[derive(Drop)]
 pub struct Left {
     pub rows: Vec<HistoryRow>,
-    pub asked: Vec<Steps>,
-    pub log: Log,
+    pub asked: Asked,
 }
 
 impl LockMachine {
     /// How many threads there are.
     pub fn len(&self) -> usize
-        ensures { result ≡ length self.now.threads }
+        ensures count { result ≡ length self.now.threads }
+        ensures within_limit { result ≤ limit.THREADS }
     {
         self.threads.len()
     }
@@ -105,32 +109,44 @@ impl LockMachine {
         self.clocks.is_turn(i)
     }
 
-    /// What is left of the machine when it is over.
-    pub fn finish(self, alloc: Global) -> Result<Left, AllocError>
-        ensures rows { IfOk result (λ left. left.rows.items ≡ self.rows) }
-        ensures asked { IfOk result (λ left. left.asked.items ≡ map (λ (t : Seen). t.asked) self.threads) }
-        ensures log { IfOk result (λ left. left.log ≡ self.log) }
+    /// The patience of its calls, and the cost of going outside.
+    pub fn settings(&self) -> Settings
+        ensures { result ≡ record { patience = self.now.patience; door_cost = self.now.door_cost } }
+    {
+        Settings {
+            patience: self.patience,
+            door_cost: self.door_cost,
+        }
+    }
+
+    /// The rows of what was granted so far.
+    pub fn rows(&self) -> &[HistoryRow]
+        ensures { result.now ≡ self.now.rows }
+    {
+        self.shared.rows.as_slice()
+    }
+
+    /// The steps that thread i asked so far.
+    pub fn asked(&self, i: usize) -> &[Step]
+        requires { i < length self.now.threads }
+        ensures { result.now ≡ (thread_at self.now i).asked }
+    {
+        self.threads[i].asked.as_slice()
+    }
+
+    /// What is left of the machine when it is over. It takes no memory.
+    pub fn finish(self) -> Left
+        ensures rows { result.rows.items ≡ self.rows }
+        ensures asked { result.asked ≡ map (λ (t : Seen). t.asked) self.threads }
     {
         let LockMachine {
             threads,
             shared,
-            log,
             ..
         } = self;
-        Ok(Left {
+        Left {
             rows: shared.rows,
-            asked: asked(alloc, threads)?,
-            log,
-        })
+            asked: Asked::new(threads),
+        }
     }
-}
-
-fn asked(alloc: Global, threads: Vec<Thread>) -> Result<Vec<Steps>, AllocError>
-    ensures { IfOk result (λ asked. asked.items ≡ map (λ (t : declared.Thread). t.asked) threads.items) }
-{
-    let mut asked = Vec::new(alloc);
-    for thread in threads {
-        asked.push(thread.asked)?;
-    }
-    Ok(asked)
 }

@@ -1,17 +1,20 @@
-ghost use Rattle.std.specs.Prelude.{◌≡◌, ◌<◌, true, IfOk, length};
+ghost use Rattle.std.specs.Prelude.{◌≡◌, ◌<◌, true, IfOk, OnErr, is_some, length};
 ghost use Rattle.logical_clocks.specs.TurnOrder.{has_turn};
-ghost use Rattle.lock_machine.specs.Shows.{AdvancesQuietly, AsksFor, Attempts, IsAt, IsBlockedAt, IsGrantedAt, RecordsGiven, Tells, WantsAt};
-ghost use Rattle.lock_machine.specs.Refusals.{wants_table};
+ghost use Rattle.lock_machine.specs.Shows.{AdvancesQuietly, AsksFor, Attempts, IsAt, IsBlockedAt, IsGrantedAt, RecordsGiven, Tells, WantsAt, has_moved};
+ghost use Rattle.lock_machine.specs.Refusals.{Rests, outlook, wants_table};
 ghost use Rattle.lock_machine.specs.Views.{clocks_of};
 ghost use Rattle.lock_machine.specs.Whole.{thread_at};
 ghost use Rattle.lock_machine.specs.declared.thread.Phase.TheVariants as phase;
+ghost use Rattle.thread_scripts.specs.declared.actor.Step.TheVariants as step;
 
+use crate::ask::reserve_rows;
 use crate::events::{answer, try_object, try_table};
 use crate::machine::LockMachine;
 use crate::outside::{Progress, answer_outside, begin_outside, record};
 use crate::thread::Outing;
-use posix_terms::{Answer, Given, Limits};
-use std::alloc::{AllocError, Global};
+use lock_model::arising_states;
+use posix_terms::{Answer, Given};
+use std::alloc::AllocError;
 use thread_scripts::Step;
 
 impl LockMachine {
@@ -20,9 +23,25 @@ impl LockMachine {
         requires inside { i < length self.old.threads }
         requires working { IsAt self.old i phase.Working }
         ensures event { IfOk result (λ moved. AsksFor moved i step self.old self.new) }
+        ensures rests { IfOk result (λ moved. Rests moved self.old self.new) }
+        ensures err { OnErr result (self.new ≡ self.old) }
         ensures count { length self.new.threads ≡ length self.old.threads }
     {
+        arising_states();
+        reserve_rows(&step, self.threads.len(), &mut self.shared.rows)?;
         self.threads[i].ask(&mut self.clocks, i, step)
+    }
+
+    // Thread i, which works, ends; and tells whether it could.
+    pub(crate) fn end_working(&mut self, i: usize) -> bool
+        requires inside { i < length self.old.threads }
+        requires working { IsAt self.old i phase.Working }
+        ensures event { AsksFor result i step.End self.old self.new }
+        ensures rests { Rests result self.old self.new }
+        ensures count { length self.new.threads ≡ length self.old.threads }
+    {
+        arising_states();
+        self.threads[i].end(&mut self.clocks, i)
     }
 
     // Thread i, which was granted a call that it goes outside with, does so; and tells whether it could.
@@ -30,6 +49,7 @@ impl LockMachine {
         requires inside { i < length self.old.threads }
         requires granted { IsAt self.old i (phase.ToOutside outing) }
         ensures event { AdvancesQuietly result i self.old self.new }
+        ensures rests { Rests result self.old self.new }
         ensures count { length self.new.threads ≡ length self.old.threads }
     {
         begin_outside(
@@ -42,59 +62,44 @@ impl LockMachine {
     }
 
     // Thread i, which is blocked, makes its call again; and tells whether it could.
-    pub(crate) fn go_again(&mut self, i: usize) -> bool
+    pub(crate) fn go_again(&mut self, i: usize) -> Result<bool, AllocError>
         requires inside { i < length self.old.threads }
         requires blocked { IsBlockedAt self.old i }
-        ensures event { AdvancesQuietly result i self.old self.new }
+        ensures event { IfOk result (λ moved. AdvancesQuietly moved i self.old self.new) }
+        ensures rests { IfOk result (λ moved. Rests moved self.old self.new) }
+        ensures err { OnErr result (self.new ≡ self.old) }
         ensures count { length self.new.threads ≡ length self.old.threads }
     {
+        arising_states();
+        self.shared.rows.reserve(self.threads.len())?;
         self.threads[i].again()
     }
 
     // This outcome comes for thread i, which is outside.
-    pub(crate) fn take_outcome(
-        &mut self,
-        alloc: Global,
-        i: usize,
-        outing: Outing,
-        given: &Given,
-    ) -> Result<Progress, AllocError>
+    pub(crate) fn take_outcome(&mut self, i: usize, outing: Outing, given: Given) -> Progress
         requires inside { i < length self.old.threads }
         requires outside { IsAt self.old i (phase.Outside outing) }
-        ensures event { IfOk result (λ made. RecordsGiven made i given.now self.old self.new) }
+        ensures event { RecordsGiven result i given self.old self.new }
+        ensures rests { Rests (has_moved result) self.old self.new }
+        ensures outlook { result ≡ outlook self.old i given }
         ensures count { length self.new.threads ≡ length self.old.threads }
     {
-        // No run has so many threads.
-        if i >= Limits::THREADS {
-            return Err(AllocError);
-        }
-        record(
-            alloc,
-            i,
-            outing,
-            given,
-            &mut self.threads[i],
-            &mut self.shared.rows,
-            &mut self.log,
-        )
+        record(outing, given, &mut self.threads[i], &mut self.shared.rows)
     }
 
     // The call of thread i, whose outcome came, has its answer; this is told, where it could be given.
-    pub(crate) fn answer_recorded(
-        &mut self,
-        i: usize,
-        outing: Outing,
-    ) -> Result<Option<Answer>, AllocError>
+    pub(crate) fn answer_recorded(&mut self, i: usize, outing: Outing) -> Option<Answer>
         requires inside { i < length self.old.threads }
         requires recorded { IsAt self.old i (phase.Recorded outing) }
-        ensures event { IfOk result (λ told. Tells told i self.old self.new) }
+        ensures event { Tells result i self.old self.new }
+        ensures rests { Rests (is_some result) self.old self.new }
         ensures count { length self.new.threads ≡ length self.old.threads }
     {
         let Some(object) = outing.object else {
-            return Ok(None);
+            return None;
         };
         let Some(lock) = self.objects.get_mut(object) else {
-            return Ok(None);
+            return None;
         };
         answer_outside(
             i,
@@ -114,10 +119,11 @@ impl LockMachine {
         i: usize,
         row: usize,
         object: Option<usize>,
-    ) -> Result<Option<Answer>, AllocError>
+    ) -> Option<Answer>
         requires inside { i < length self.old.threads }
         requires granted { IsGrantedAt self.old i row object }
-        ensures event { IfOk result (λ told. Tells told i self.old self.new) }
+        ensures event { Tells result i self.old self.new }
+        ensures rests { Rests (is_some result) self.old self.new }
         ensures count { length self.new.threads ≡ length self.old.threads }
     {
         match object {
@@ -131,7 +137,7 @@ impl LockMachine {
             ),
             Some(object) => {
                 let Some(lock) = self.objects.get_mut(object) else {
-                    return Ok(None);
+                    return None;
                 };
                 answer(
                     i,
@@ -146,15 +152,15 @@ impl LockMachine {
     }
 
     // Thread i, which wants the table and has the turn, attempts its lock, and tells whether it could.
-    pub(crate) fn attempt_table(&mut self, alloc: Global, i: usize) -> Result<bool, AllocError>
+    pub(crate) fn attempt_table(&mut self, i: usize) -> bool
         requires inside { i < length self.old.threads }
         requires turn { has_turn (clocks_of self.old.threads) i ≡ true }
         requires wants { wants_table (thread_at self.old i).phase ≡ true }
-        ensures event { IfOk result (λ made. Attempts made i self.old self.new) }
+        ensures event { Attempts result i self.old self.new }
+        ensures rests { Rests result self.old self.new }
         ensures count { length self.new.threads ≡ length self.old.threads }
     {
         try_table(
-            alloc,
             self.patience,
             i,
             &mut self.threads[i],
@@ -164,23 +170,18 @@ impl LockMachine {
     }
 
     // Thread i, which wants this object and has the turn, attempts its lock, and tells whether it could.
-    pub(crate) fn attempt_object(
-        &mut self,
-        alloc: Global,
-        i: usize,
-        object: usize,
-    ) -> Result<bool, AllocError>
+    pub(crate) fn attempt_object(&mut self, i: usize, object: usize) -> bool
         requires inside { i < length self.old.threads }
         requires turn { has_turn (clocks_of self.old.threads) i ≡ true }
         requires wants { WantsAt self.old i object }
-        ensures event { IfOk result (λ made. Attempts made i self.old self.new) }
+        ensures event { Attempts result i self.old self.new }
+        ensures rests { Rests result self.old self.new }
         ensures count { length self.new.threads ≡ length self.old.threads }
     {
         let Some(lock) = self.objects.get_mut(object) else {
-            return Ok(false);
+            return false;
         };
         try_object(
-            alloc,
             self.patience,
             i,
             &mut self.threads[i],

@@ -1,28 +1,30 @@
-ghost use Rattle.std.specs.Prelude.{◌≡◌, ◌<◌, ◌&&◌, ◌||◌, not, ℕ, true, Some, IfOk, length};
+ghost use Rattle.std.specs.Prelude.{◌≡◌, ◌+◌, ◌*◌, ◌<◌, ◌≤◌, ◌^◌, ◌&&◌, ◌||◌, not, ℕ, true, Some, length, nat_lt, slice_get};
 ghost use Rattle.lock_model.specs.Machine.{is_number};
 ghost use Rattle.logical_clocks.specs.ThreadClocks.{clock_at};
 ghost use Rattle.posix_terms.specs.Locked.{keeps_table};
+ghost use Rattle.posix_terms.specs.declared.limits.TheConstants.Limits as limit;
+ghost use Rattle.lock_machine.specs.Births.{BearsInTime, BornWithin, time_of};
 ghost use Rattle.lock_machine.specs.Lives.{is_live};
-ghost use Rattle.lock_machine.specs.Held.{told_as};
-ghost use Rattle.lock_machine.specs.Outings.{AnswersOutside, Begins, EndsTurn, Records, answer_cost, answers_errand, logged_parts, outside_parts, table_freed, went_on};
+ghost use Rattle.lock_machine.specs.Outings.{AnswersOutside, Begins, EndsTurn, Records, answer_cost, answers_errand, outside_parts, progress_by, recorded_parts, table_freed};
 ghost use Rattle.lock_machine.specs.Threads.{KeepsOthers, timed};
+ghost use Rattle.lock_machine.specs.declared.thread.Phase.TheVariants as phase;
+ghost use Rattle.descriptor_table.specs.Plans.{bytes_asked};
+ghost use Rattle.object_store.specs.Patience.{turn_bytes};
+ghost use Rattle.lock_machine.specs.Waiting.{KeepsRoom, rows_due};
 
-use crate::events::{holds, told_as};
-use crate::log::Log;
+use crate::events::{answer_copied, holds, phase_behind, told_as};
 use crate::machine::Shared;
 use crate::thread::{Outing, Phase, Thread};
 use descriptor_table::Errand;
 use det_mutex::DetLock;
-use input_log::Record;
 use logical_clocks::Clocks;
-use object_store::{Store, TurnEnd, end_outside};
+use object_store::{Room, Store, TurnEnd};
 use posix_terms::{Answer, Call, Given, HistoryRow, Limits, Outcome};
-use std::alloc::{AllocError, Global};
 
 /// How far an event comes that needs no turn.
 #[derive(Clone, Copy)]
 pub enum Progress {
-    /// it was made
+    /// it is made
     Moves,
     /// it cannot be made
     Stays,
@@ -52,9 +54,10 @@ pub fn begin_outside(
     clocks: &mut Clocks,
 ) -> bool
     requires inside { i < length clocks.old }
-    requires live { is_live thread.old.phase ≡ true }
+    requires granted { thread.old.phase ≡ phase.ToOutside outing }
     ensures event { Begins door_cost outing result (timed thread.old (clock_at clocks.old i)) (timed thread.new (clock_at clocks.new i)) }
     ensures others { KeepsOthers i thread.old clocks.old thread.new clocks.new }
+    ensures due { rows_due thread.new.phase ≤ rows_due thread.old.phase }
 {
     if thread.came >= Limits::OUTCOMES {
         return false;
@@ -75,40 +78,45 @@ fn answers(errand: Errand, given: &Given) -> bool
         && errand.asked <= 65_535
 }
 
-// `record`: this outcome of thread i, if it answers, goes into the log, and then into the call's row.
-pub fn record(
-    alloc: Global,
-    i: usize,
-    outing: Outing,
-    given: &Given,
-    thread: &mut Thread,
-    rows: &mut Vec<HistoryRow>,
-    log: &mut Log,
-) -> Result<Progress, AllocError>
-    requires thread { i < 8 }
-    ensures event { IfOk result (λ made. (clock : ℕ) → Records made i outing given.now (logged_parts (timed thread.old clock) rows.old.items log.old) (logged_parts (timed thread.new clock) rows.new.items log.new)) }
-    ensures live { is_live thread.old.phase ≡ true → is_live thread.new.phase ≡ true }
+// What comes of this outcome, for a thread that got so many.
+pub fn outlook(outing: Outing, given: &Given, came: u32, rows: &[HistoryRow]) -> Progress
+    ensures { result ≡ progress_by (answers_errand outing.errand given.now) (slice_get rows.now outing.row) (nat_lt (came + 1) (2 ^ 32)) }
 {
     if !answers(outing.errand, given) {
-        return Ok(Progress::Strays);
+        return Progress::Strays;
+    }
+    if outing.row < rows.len() && came < u32::MAX {
+        Progress::Moves
+    } else {
+        Progress::Stays
+    }
+}
+
+// `record`: this outcome, if it answers, goes into the call's row.
+pub fn record(
+    outing: Outing,
+    given: Given,
+    thread: &mut Thread,
+    rows: &mut Vec<HistoryRow>,
+) -> Progress
+    requires outside { thread.old.phase ≡ phase.Outside outing }
+    ensures event { (clock : ℕ) → Records result outing given (recorded_parts (timed thread.old clock) rows.old.items) (recorded_parts (timed thread.new clock) rows.new.items) }
+    ensures live { is_live thread.old.phase ≡ true → is_live thread.new.phase ≡ true }
+    ensures room { KeepsRoom (rows_due thread.old.phase) rows.old (rows_due thread.new.phase) rows.new }
+{
+    if !answers(outing.errand, &given) {
+        return Progress::Strays;
     }
     let Some(row) = rows.get_mut(outing.row) else {
-        return Ok(Progress::Stays);
+        return Progress::Stays;
     };
     let Some(came) = thread.came.checked_add(1) else {
-        return Ok(Progress::Stays);
+        return Progress::Stays;
     };
-    let item = Record {
-        thread: i as u16,
-        number: thread.came,
-        kind: given.kind,
-        outcome: given.outcome.try_clone()?,
-    };
-    log.append(alloc, &item)?;
-    row.outcome = Some(item.outcome);
+    row.outcome = Some(given.outcome);
     thread.came = came;
     thread.phase = Phase::Recorded(outing);
-    Ok(Progress::Moves)
+    Progress::Moves
 }
 
 // `answer` of a call that went outside, with the lock of its object: that is free then and, where the call kept the
@@ -121,30 +129,42 @@ pub fn answer_outside(
     clocks: &mut Clocks,
     lock: &mut DetLock,
     shared: &mut Shared,
-) -> Result<Option<Answer>, AllocError>
+) -> Option<Answer>
     requires inside { i < length clocks.old }
-    requires live { is_live thread.old.phase ≡ true }
-    ensures event { IfOk result (λ told. AnswersOutside patience told i outing (outside_parts (timed thread.old (clock_at clocks.old i)) lock.old shared.old.lock shared.old.store shared.old.rows.items) (outside_parts (timed thread.new (clock_at clocks.new i)) lock.new shared.new.lock shared.new.store shared.new.rows.items)) }
+    requires recorded { thread.old.phase ≡ phase.Recorded outing }
+    requires few { length clocks.old ≤ limit.THREADS }
+    requires born { BornWithin (2 * time_of clocks.old) shared.old.store }
+    ensures event { AnswersOutside patience result i outing (outside_parts (timed thread.old (clock_at clocks.old i)) lock.old shared.old.lock shared.old.store shared.old.rows.items) (outside_parts (timed thread.new (clock_at clocks.new i)) lock.new shared.new.lock shared.new.store shared.new.rows.items) }
     ensures others { KeepsOthers i thread.old clocks.old thread.new clocks.new }
+    ensures births { BearsInTime (clock_at clocks.old i) shared.old.store (clock_at clocks.new i) shared.new.store }
+    ensures room { KeepsRoom (rows_due thread.old.phase) shared.old.rows (rows_due thread.new.phase) shared.new.rows }
 {
     if !holds_locks(outing, i, *lock, shared.lock) {
-        return Ok(None);
+        return None;
     }
     let Some(row) = shared.rows.get_mut(outing.row) else {
-        return Ok(None);
+        return None;
     };
     let Some(outcome) = row.outcome.as_ref() else {
-        return Ok(None);
+        return None;
     };
     let now = clocks.clock(i);
     if clocks.add(i, answer_cost(outing.keeps_table)).is_err() {
-        return Ok(None);
+        return None;
     }
-    let end = end_turn(outing, &row.call, outcome, patience, &mut shared.store)?;
-    row.answer = Some(go_on(thread, &row.call, &end)?);
+    let end = end_turn(
+        outing,
+        &row.call,
+        outcome,
+        patience,
+        &mut shared.store,
+        &mut thread.room,
+    );
+    row.answer = Some(answer_copied(&end, &mut thread.room));
+    thread.phase = phase_behind(&end);
     lock.free(i, now);
     free_table(outing.keeps_table, i, now + 1, &mut shared.lock);
-    Ok(Some(told_as(end)))
+    Some(told_as(end))
 }
 
 // Whether thread i holds the lock of its object and, where its call kept the table, that of the table.
@@ -178,37 +198,17 @@ fn end_turn(
     outcome: &Outcome,
     patience: u32,
     store: &mut Store,
-) -> Result<TurnEnd, AllocError>
-    ensures { IfOk result (λ e. EndsTurn outing.keeps_table patience outing call.now outcome.now e store.old store.new) }
+    room: &mut Room,
+) -> TurnEnd
+    requires born { BornWithin (2 ^ 126) store.old }
+    requires asked { bytes_asked outing.errand ≤ room.old.told }
+    requires copy { room.old.told ≤ room.old.row }
+    ensures event { EndsTurn outing.keeps_table patience outing call.now outcome.now result store.old store.new }
+    ensures copy { turn_bytes result ≤ room.new.row }
+    ensures births { BearsInTime 0 store.old 1 store.new }
 {
     if !outing.keeps_table {
-        return end_outside(outing.errand, outcome, patience, outing.turns);
+        return room.end_outside(outing.errand, outcome, patience, outing.turns);
     }
-    let (descriptions, objects) = store.table.made();
-    // No run comes so far.
-    if descriptions >= 1 << 126 || objects >= 1 << 126 {
-        return Err(AllocError);
-    }
-    Ok(store.open_door(call, outcome, patience, outing.turns))
-}
-
-// The thread goes on behind a turn that ended so, whose answer is given.
-fn go_on(thread: &mut Thread, call: &Call, end: &TurnEnd) -> Result<Answer, AllocError>
-    ensures answer { IfOk result (λ answer. answer ≡ told_as end.now) }
-    ensures thread { IfOk result (λ _. (clock : ℕ) → timed thread.new clock ≡ went_on call.now end.now (timed thread.old clock)) }
-    ensures live { is_live thread.old.phase ≡ true → is_live thread.new.phase ≡ true }
-{
-    match end {
-        TurnEnd::Reply(reply) => {
-            let answer = Answer::Reply(reply.try_clone()?);
-            thread.phase = Phase::Working;
-            Ok(answer)
-        }
-        TurnEnd::Blocked(turns) => {
-            let call = call.try_clone()?;
-            let turns = *turns;
-            thread.phase = Phase::Blocked { call, turns };
-            Ok(Answer::Again)
-        }
-    }
+    store.open_door(call, outcome, patience, outing.turns)
 }

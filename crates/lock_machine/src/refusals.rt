@@ -1,18 +1,17 @@
-ghost use Rattle.std.specs.Prelude.{◌≡◌, ◌<◌, ◌&&◌, not, Bool, true, false, Err, IfErr, IfOk, is_ok, is_some, length, unwrap_or};
+ghost use Rattle.std.specs.Prelude.{◌≡◌, ◌<◌, ◌&&◌, not, Bool, true, false, Ok, Err, IfErr, IfOk, OnErr, is_ok, is_some, length, unwrap_or};
 ghost use Rattle.logical_clocks.specs.TurnOrder.{has_turn};
-ghost use Rattle.lock_machine.specs.Refusals.{Comes, Tried, attempted, goes_outside, has_answer, is_blocked, is_end, is_outside, phase_at, wants_object, wants_table, works};
-ghost use Rattle.lock_machine.specs.Shows.{AdvancesQuietly, AsksFor, Attempts, RecordsGiven, Tells};
+ghost use Rattle.lock_machine.specs.Refusals.{Comes, Tried, WantsNone, attempted, goes_outside, has_answer, is_blocked, is_end, is_outside, outlook, phase_at, recorded_as, wants_object, wants_table, works};
+ghost use Rattle.lock_machine.specs.Shows.{AdvancesQuietly, AsksFor, Attempts, RecordsGiven, Tells, has_moved};
 ghost use Rattle.lock_machine.specs.Views.{clocks_of};
 ghost use Rattle.lock_machine.specs.declared.outside.Progress.TheVariants as progress;
 ghost use Rattle.lock_machine.specs.declared.refused.Refused.TheVariants as refused;
 ghost use Rattle.thread_scripts.specs.declared.actor.Step.TheVariants as step;
 
 use crate::machine::LockMachine;
-use crate::outside::Progress;
+use crate::outside::{Progress, outlook};
 use crate::refused::{Attempt, Refused};
 use crate::thread::Phase;
 use posix_terms::{Answer, Given};
-use std::alloc::Global;
 use thread_scripts::Step;
 
 // The events as a driver makes them: each looks at the phase of its thread first, and is refused where that is not its own.
@@ -21,6 +20,7 @@ impl LockMachine {
     pub fn ask(&mut self, i: usize, step: Step) -> Result<(), Refused>
         requires { i < length self.old.threads }
         ensures event { Comes (works (phase_at self.old i) && not (is_end step)) result self.old self.new (λ o. AsksFor (is_some o) i step self.old self.new) }
+        ensures err { OnErr result (self.new ≡ self.old) }
         ensures count { length self.new.threads ≡ length self.old.threads }
     {
         if !self.phase(i).is_working() || is_end(&step) {
@@ -33,25 +33,28 @@ impl LockMachine {
     pub fn end(&mut self, i: usize) -> Result<(), Refused>
         requires { i < length self.old.threads }
         ensures event { Comes (works (phase_at self.old i)) result self.old self.new (λ o. AsksFor (is_some o) i step.End self.old self.new) }
+        ensures memory { WantsNone result }
+        ensures err { OnErr result (self.new ≡ self.old) }
         ensures count { length self.new.threads ≡ length self.old.threads }
     {
         if !self.phase(i).is_working() {
             return Err(Refused::WrongPhase);
         }
-        moved(self.ask_working(i, Step::End)?)
+        moved(self.end_working(i))
     }
 
     /// Thread i, which wants the table and has the turn, attempts its lock. It costs 1 either way.
-    pub fn try_table(&mut self, alloc: Global, i: usize) -> Result<Attempt, Refused>
+    pub fn try_table(&mut self, i: usize) -> Result<Attempt, Refused>
         requires { i < length self.old.threads }
         ensures event { Comes (wants_table (phase_at self.old i) && has_turn (clocks_of self.old.threads) i) result self.old self.new (λ o. Attempts (is_some o) i self.old self.new) }
         ensures got { IfOk result (λ a. a ≡ attempted (wants_table (phase_at self.new i))) }
+        ensures memory { WantsNone result }
         ensures count { length self.new.threads ≡ length self.old.threads }
     {
         if !self.phase(i).wants_table() || !self.has_turn(i) {
             return Err(Refused::WrongPhase);
         }
-        if !self.attempt_table(alloc, i)? {
+        if !self.attempt_table(i) {
             return Err(Refused::ClockFull);
         }
         Ok(attempted(self.phase(i).wants_table()))
@@ -59,10 +62,11 @@ impl LockMachine {
 
     /// Thread i, which wants an object and has the turn, attempts its lock. It costs 1 either way, and 1 more where it has
     /// it and frees the table.
-    pub fn try_node(&mut self, alloc: Global, i: usize) -> Result<Attempt, Refused>
+    pub fn try_node(&mut self, i: usize) -> Result<Attempt, Refused>
         requires { i < length self.old.threads }
         ensures event { Comes (wants_object (phase_at self.old i) && has_turn (clocks_of self.old.threads) i) result self.old self.new (λ o. Attempts (is_some o) i self.old self.new) }
         ensures got { IfOk result (λ a. a ≡ attempted (wants_object (phase_at self.new i))) }
+        ensures memory { WantsNone result }
         ensures count { length self.new.threads ≡ length self.old.threads }
     {
         let Phase::WantsObject { object, .. } = *self.phase(i) else {
@@ -71,22 +75,23 @@ impl LockMachine {
         if !self.has_turn(i) {
             return Err(Refused::WrongPhase);
         }
-        if !self.attempt_object(alloc, i, object)? {
+        if !self.attempt_object(i, object) {
             return Err(Refused::ClockFull);
         }
         Ok(attempted(self.phase(i).wants_object()))
     }
 
     /// Thread i attempts the lock that it wants, that of the table or that of an object.
-    pub fn attempt(&mut self, alloc: Global, i: usize) -> Result<Attempt, Refused>
+    pub fn attempt(&mut self, i: usize) -> Result<Attempt, Refused>
         requires { i < length self.old.threads }
         ensures event { Tried result (λ made. Attempts made i self.old self.new) }
+        ensures memory { WantsNone result }
         ensures count { length self.new.threads ≡ length self.old.threads }
     {
         if self.phase(i).wants_table() {
-            self.try_table(alloc, i)
+            self.try_table(i)
         } else {
-            self.try_node(alloc, i)
+            self.try_node(i)
         }
     }
 
@@ -94,6 +99,8 @@ impl LockMachine {
     pub fn begin_outside(&mut self, i: usize) -> Result<(), Refused>
         requires { i < length self.old.threads }
         ensures event { Comes (goes_outside (phase_at self.old i)) result self.old self.new (λ o. AdvancesQuietly (is_some o) i self.old self.new) }
+        ensures memory { WantsNone result }
+        ensures err { OnErr result (self.new ≡ self.old) }
         ensures count { length self.new.threads ≡ length self.old.threads }
     {
         let Phase::ToOutside(outing) = *self.phase(i) else {
@@ -102,16 +109,30 @@ impl LockMachine {
         moved(self.go_outside(i, outing))
     }
 
-    /// This outcome comes for thread i, which is outside. Where it does not answer what was asked, that is told, and nothing changes.
-    pub fn record(&mut self, alloc: Global, i: usize, given: &Given) -> Result<Progress, Refused>
+    /// What would come of this outcome for thread i: it would be taken, or does not answer what was asked, or none can be taken.
+    pub fn outlook(&self, i: usize, given: &Given) -> Progress
+        requires { i < length self.now.threads }
+        ensures value { result ≡ outlook self.now i given.now }
+        ensures event { is_outside (phase_at self.now i) ≡ true → has_moved result ≡ false → RecordsGiven result i given.now self.now self.now }
+    {
+        let Phase::Outside(outing) = *self.phase(i) else {
+            return Progress::Stays;
+        };
+        outlook(outing, given, self.came(i), self.shared.rows.as_slice())
+    }
+
+    /// This outcome comes for thread i, which is outside. Where it does not answer what was asked, that is told, and nothing changes:
+    /// [`LockMachine::outlook`] tells it before.
+    pub fn record(&mut self, i: usize, given: Given) -> Result<Progress, Refused>
         requires { i < length self.old.threads }
-        ensures event { Comes (is_outside (phase_at self.old i)) result self.old self.new (λ o. RecordsGiven (unwrap_or o progress.Stays) i given.now self.old self.new) }
+        ensures event { Comes (is_outside (phase_at self.old i)) result self.old self.new (λ o. RecordsGiven (unwrap_or o progress.Stays) i given self.old self.new) }
+        ensures value { result ≡ recorded_as (is_outside (phase_at self.old i)) (outlook self.old i given) }
         ensures count { length self.new.threads ≡ length self.old.threads }
     {
         let Phase::Outside(outing) = *self.phase(i) else {
             return Err(Refused::WrongPhase);
         };
-        match self.take_outcome(alloc, i, outing, given)? {
+        match self.take_outcome(i, outing, given) {
             Progress::Stays => Err(Refused::ClockFull),
             made => Ok(made),
         }
@@ -121,13 +142,15 @@ impl LockMachine {
     pub fn answer(&mut self, i: usize) -> Result<Answer, Refused>
         requires { i < length self.old.threads }
         ensures event { Comes (has_answer (phase_at self.old i)) result self.old self.new (λ told. Tells told i self.old self.new) }
+        ensures memory { WantsNone result }
+        ensures err { OnErr result (self.new ≡ self.old) }
         ensures count { length self.new.threads ≡ length self.old.threads }
     {
         match *self.phase(i) {
             Phase::Granted { row, object, .. } => self
-                .answer_granted(i, row, object)?
+                .answer_granted(i, row, object)
                 .ok_or(Refused::ClockFull),
-            Phase::Recorded(outing) => self.answer_recorded(i, outing)?.ok_or(Refused::ClockFull),
+            Phase::Recorded(outing) => self.answer_recorded(i, outing).ok_or(Refused::ClockFull),
             _ => Err(Refused::WrongPhase),
         }
     }
@@ -136,17 +159,19 @@ impl LockMachine {
     pub fn again(&mut self, i: usize) -> Result<(), Refused>
         requires { i < length self.old.threads }
         ensures event { Comes (is_blocked (phase_at self.old i)) result self.old self.new (λ o. AdvancesQuietly (is_some o) i self.old self.new) }
+        ensures err { OnErr result (self.new ≡ self.old) }
         ensures count { length self.new.threads ≡ length self.old.threads }
     {
         if !self.phase(i).is_blocked() {
             return Err(Refused::WrongPhase);
         }
-        moved(self.go_again(i))
+        moved(self.go_again(i)?)
     }
 }
 
 // An event that has its phase, and was made or not.
 fn moved(moved: bool) -> Result<(), Refused>
+    ensures memory { WantsNone result }
     ensures made { is_ok result ≡ moved }
     ensures full { IfErr result (λ e. e ≡ refused.ClockFull) }
 {

@@ -2,18 +2,14 @@ ghost use Rattle.std.specs.Prelude.{◌≡◌};
 ghost use Rattle.lock_machine.specs.declared.refused.Refused.TheVariants as refused;
 
 use std::alloc::AllocError;
-use thiserror::Error;
 
 /// Why the machine refused an event.
-#[derive(Clone, Copy, Debug, PartialEq, Eq, Error)]
+#[derive(Clone, Copy)]
 pub enum Refused {
     /// The thread is not at the phase of this event, or attempts a lock without the turn.
-    #[error("the thread has no such event now")]
     WrongPhase,
     /// The thread's clock has no room for the event, or the thread had all the outcomes that it can have.
-    #[error("the thread's clock or its count of outcomes is full")]
     ClockFull,
-    #[error("no memory")]
     Memory,
 }
 

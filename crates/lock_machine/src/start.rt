@@ -2,29 +2,26 @@ ghost use Rattle.std.specs.Prelude.{◌≡◌, ◌≤◌, IfOk, length, map, rep
 ghost use Rattle.posix_terms.specs.declared.limits.TheConstants.Limits as limit;
 ghost use Rattle.lock_machine.specs.Starting.{first_item, first_whole};
 
-use crate::log::Log;
 use crate::machine::{LockMachine, Shared};
 use crate::steps::Steps;
 use crate::thread::{Phase, Thread};
 use det_mutex::DetLock;
-use input_log::Header;
 use logical_clocks::Clocks;
-use object_store::Store;
-use posix_terms::Limits;
+use object_store::{Room, Store};
+use posix_terms::{Limits, Settings};
 use std::alloc::{AllocError, Global};
 
 impl LockMachine {
-    /// So many threads, over a table with nothing open and only the root. The header's settings are the run's.
-    pub fn new(alloc: Global, threads: usize, header: Header) -> Result<LockMachine, AllocError>
+    /// So many threads, over a table with nothing open and only the root.
+    pub fn new(alloc: Global, threads: usize, settings: Settings) -> Result<LockMachine, AllocError>
         requires some { 1 ≤ threads }
         requires within_limit { threads ≤ limit.THREADS }
-        ensures { IfOk result (λ machine. machine ≡ first_whole header threads) }
+        ensures { IfOk result (λ machine. machine ≡ first_whole settings threads) }
     {
         let clocks = Clocks::new(alloc, threads)?;
         Ok(LockMachine {
-            patience: header.patience,
-            door_cost: header.door_cost,
-            log: Log::new(alloc, header)?,
+            patience: settings.patience,
+            door_cost: settings.door_cost,
             threads: first_threads(alloc, threads)?,
             clocks,
             shared: Shared {
@@ -42,17 +39,18 @@ fn first_threads(alloc: Global, count: usize) -> Result<Vec<Thread>, AllocError>
 {
     let mut threads = Vec::new(alloc);
     for _ in 0..count {
-        threads.push(first_thread(alloc))?;
+        threads.push(first_thread(alloc)?)?;
     }
     Ok(threads)
 }
 
-fn first_thread(alloc: Global) -> Thread
-    ensures { result ≡ first_item }
+fn first_thread(alloc: Global) -> Result<Thread, AllocError>
+    ensures { IfOk result (λ thread. thread ≡ first_item) }
 {
-    Thread {
+    Ok(Thread {
         phase: Phase::Working,
-        asked: Steps::from_vec(Vec::new(alloc)),
+        asked: Steps::new(alloc)?,
         came: 0,
-    }
+        room: Room::new(alloc),
+    })
 }

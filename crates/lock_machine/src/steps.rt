@@ -1,37 +1,62 @@
-ghost use Rattle.std.specs.Prelude.{◌≡◌, ◌∷◌, [], ◌++◌, List, OnOk, OnErr};
-ghost use Rattle.thread_scripts.specs.declared.actor.Step.{Step};
+ghost use Rattle.std.specs.Prelude.{◌≡◌, ◌∷◌, [], ◌++◌, false, IfOk, OnOk, OnErr};
+ghost use Rattle.lock_model.specs.Held.{has_end};
+ghost use Rattle.thread_scripts.specs.declared.actor.Step.TheVariants as step;
 
-use std::alloc::AllocError;
+use std::alloc::{AllocError, Global};
 use std::marker::Model;
 use thread_scripts::Step;
 
-/// The steps that one thread asked, in order. Contracts see the list of them.
+/// The steps that one thread asked, in order. There is room for its end, until that is asked. Contracts see the list of them.
 #[derive(Debug, Drop)]
 pub struct Steps {
     list: Vec<Step>,
 }
 
 impl Model for Steps {
+    ghost use Rattle.std.specs.Prelude.{◌≡◌, ◌<◌, List, false, vec_capacity, vec_len};
+    ghost use Rattle.lock_model.specs.Held.{has_end};
+    ghost use Rattle.thread_scripts.specs.declared.actor.Step.{Step};
+
     ghost Value = { List Step };
 
     ghost view = { λ s. s.list.items };
+
+    ghost invariant = { λ s. has_end s.list.items ≡ false → vec_len s.list < vec_capacity s.list };
 }
 
 impl Steps {
-    /// The steps of a thread. It takes no memory.
-    pub fn from_vec(list: Vec<Step>) -> Steps
-        ensures { result ≡ list.items }
+    // The steps of a thread that asked none so far.
+    pub(crate) fn new(alloc: Global) -> Result<Steps, AllocError>
+        ensures { IfOk result (λ steps. steps ≡ []) }
     {
-        Steps { list }
+        Ok(Steps {
+            list: Vec::with_capacity(alloc, 1)?,
+        })
     }
 
-    // Adds a step at the end; without memory for it the steps are as they were.
+    // Adds a step at the end, and keeps room for the end; without memory for both the steps are as they were.
     pub(crate) fn push(&mut self, step: Step) -> Result<(), AllocError>
         ensures ok { OnOk result (self.new ≡ self.old ++ step ∷ []) }
         ensures err { OnErr result (self.new ≡ self.old) }
     {
-        self.list.push(step)?;
+        self.list.reserve(2)?;
+        self.list.push_reserved(step);
         Ok(())
+    }
+
+    // Whether the end was asked last.
+    pub(crate) fn has_end(&self) -> bool
+        ensures { result ≡ has_end self.now }
+    {
+        matches!(self.list.as_slice().last(), Some(Step::End))
+    }
+
+    // Adds the end. It takes no memory.
+    pub(crate) fn push_end(&mut self)
+        requires { has_end self.old ≡ false }
+        ensures { self.new ≡ self.old ++ step.End ∷ [] }
+    {
+        self.list.push_reserved(Step::End);
     }
 
     /// The steps, in order.

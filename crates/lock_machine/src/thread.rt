@@ -1,9 +1,9 @@
 ghost use Rattle.std.specs.Prelude.{◌≡◌};
-ghost use Rattle.lock_machine.specs.Refusals.{is_blocked, wants_object, wants_table, works};
+ghost use Rattle.lock_machine.specs.Rooms.{HasSpace};
 
 use crate::steps::Steps;
 use descriptor_table::Errand;
-use object_store::TurnEnd;
+use object_store::{Room, TurnEnd};
 use posix_terms::Call;
 
 /// A call that goes outside: the row of the history that it has, the object whose lock it holds, for how many turns it
@@ -46,15 +46,16 @@ pub enum Phase {
     Outside(Outing),
     /// its outcome came and stands in the log
     Recorded(Outing),
-    /// in a call that was blocked for so many turns, which it makes again
+    /// in a call that was blocked for so many turns, which it makes again: the one that it asked last
     Blocked {
-        call: Call,
         turns: u32,
     },
     Ended,
 }
 
 impl Phase {
+    ghost use Rattle.lock_machine.specs.Refusals.{is_blocked, wants_object, wants_table, works};
+
     pub(crate) fn is_working(&self) -> bool
         ensures { result ≡ works self.now }
     {
@@ -80,10 +81,14 @@ impl Phase {
     }
 }
 
-// A thread of a run: the steps that it asked, and how many outcomes came for it from outside.
+// A thread of a run: the steps that it asked, how many outcomes came for it from outside, and the memory for its reply.
 #[derive(Drop)]
 pub struct Thread {
     pub phase: Phase,
     pub asked: Steps,
     pub came: u32,
+    pub room: Room,
+
+    // there is room for what its call may bring
+    ghost roomy: { HasSpace phase room },
 }

@@ -7,6 +7,7 @@ use Rattle.lock_model.specs.CallTable.{CallTable, Answer, Plan, Way}
 use Rattle.lock_model.specs.CallTable.Answer.{Gives, Again}
 use Rattle.lock_model.specs.CallTable.Plan.{No_object, Object}
 use Rattle.lock_model.specs.CallTable.Way.{Inside, Door, Keeps_table}
+use Rattle.lock_model.specs.Events.{IsIn, Tried}
 use Rattle.lock_model.specs.History.{IsPrefixOf}
 use Rattle.lock_model.specs.Laws.{Begins}
 use Rattle.lock_model.specs.Machine.{Setup, Moved, Event, after_step, answered, moves, move, advance, granted_phase, granted, new_job, planned, reached, wants, can_attempt, attempt, is_allowed, happens}
@@ -98,19 +99,6 @@ even_move setup i t m h g =
     h g
 
 -- ## Threads that an attempt leaves as they were, but for their phase
-
-abbrev pub IsIn : Phase → Bool
-IsIn Working = false
-IsIn Ended = false
-IsIn p = true
-
--- an attempt asks nothing, is answered nothing, and leads from within a call into it
-pub record Tried (t u : Thread) : Type 0 where
-  pub asked : u.asked ≡ t.asked
-  pub replies : u.replies ≡ t.replies
-  pub came : u.came ≡ t.came
-  pub before : IsIn t.phase ≡ true
-  pub after : IsIn u.phase ≡ true
 
 tried_now : (s : State) (i : ℕ) (t u : Thread) → i < length s.threads → Tried t u → Tried t (get_or (set s.threads i u) i nobody)
 tried_now s i t u l h = subst (Tried t) (sym (get_or-set_same s.threads i u nobody l)) h

@@ -12,12 +12,14 @@ pub mod Arising
 pub mod Ends
 pub mod Follows
 pub mod Rising
+pub mod EventLaws
 pub mod Held
 pub mod OwnRows
+pub mod OwnSteps
 pub mod Holder
-pub mod ScriptProgress
 pub mod RealLegal
 pub mod RealLaws
 pub mod OwnPlans
 pub mod CameRows
 pub mod PlainCame
+pub mod CameOutside

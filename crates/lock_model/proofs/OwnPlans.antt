@@ -1,8 +1,7 @@
 -- The calls of threads were planned in the worlds that they found.
 use Rattle.std.proofs.Common.{◌≡◌, ℕ, List, [], ◌∷◌, Some, None, Bool, true, false, is_none, ◌==◌, sym, refl, ap, ◌∙◌, subst, ⊎_elim}
 use Rattle.std.proofs.lemmas.Bool.{eqb-true, and_parts, cases_Bool}
-use Rattle.std.proofs.lemmas.Option.{none-some, same_Some}
-use Rattle.lock_model.specs.CallTable.{CallTable, Plan, Way, keeps_table}
+use Rattle.lock_model.specs.CallTable.{CallTable, Way, keeps_table}
 use Rattle.lock_model.specs.CallTable.Plan.{Object}
 use Rattle.lock_model.specs.Held.{HavePlans, job_in}
 use Rattle.lock_model.specs.Legal.{changed, handed_on}

@@ -2,12 +2,12 @@
 use Rattle.std.proofs.Common.{◌≡◌, ℕ, zero, suc, ◌+◌, ◌-◌, ◌≤◌, List, length, slice_get, Option, Some, None, Bool, true, false, sym, refl, ap, ◌∙◌, subst, inl, inr, ⊎_elim, arith}
 use Rattle.std.proofs.lemmas.Bool.{false≢true, cases_eq}
 use Rattle.std.proofs.lemmas.Option.{none-some, slice_get_within}
-use Rattle.lock_model.specs.Came.{under_came, SameUnderCame, OverUnderCame, PlainLeads, CameGrows, StaysOrFits, OutsideStays}
+use Rattle.lock_model.specs.Came.{under_came, SameUnderCame, OverUnderCame, PlainArises, PlainCount, PlainLeads, CameGrows, StaysOrFits, OutsideStays}
 use Rattle.lock_model.specs.History.{IsPrefixOf}
 use Rattle.lock_model.specs.Machine.{Setup, Moved, Event, fits_job, moves, move, can_advance, advance, wants, can_attempt, is_allowed, happens}
 use Rattle.lock_model.specs.Machine.Event.{Advances, Attempts}
 use Rattle.lock_model.specs.Programs.{Supply}
-use Rattle.lock_model.specs.Runs.{Follows, supplied, with_came}
+use Rattle.lock_model.specs.Runs.{Arises, Follows, supplied, with_came}
 use Rattle.lock_model.specs.Schedule.{next_event, attempt_by, advance_by, after_event, plain, plain_run}
 use Rattle.lock_model.specs.State.{Job, Phase, Thread, State, start, thread_of, live_clocks}
 use Rattle.lock_model.specs.State.Phase.{Outside}
@@ -19,8 +19,9 @@ use Rattle.lock_model.proofs.Turn.{thread_moved}
 use Rattle.lock_model.proofs.Attempt.{move_of, can_out, attempt_other}
 use Rattle.lock_model.proofs.Growth.{at_moves, Adds, adds_refl, adds_trans, adds_event}
 use Rattle.lock_model.proofs.Plain.{next_allowed, plain_elim, plain_reaches}
-use Rattle.lock_model.proofs.Arising.{slice_get-push, slice_get-prefix, TakesFrom, SameEvent, same_event}
+use Rattle.lock_model.proofs.Arising.{slice_get-push, slice_get-prefix, TakesFrom, SameEvent, arises_run, same_event}
 use Rattle.lock_model.proofs.Ends.{plain_run-suc, leads_on}
+use Rattle.lock_model.proofs.EventLaws.{event_count}
 use Rattle.lock_model.proofs.Follows.{run_follows}
 
 -- ## So many events of the plain run
@@ -44,6 +45,18 @@ plain_run-sum setup (suc n) m s = ap (λ (k : ℕ). plain_run setup k s) (suc_fi
 -- so many events of the plain run are a run
 pub plain_leads : PlainLeads
 plain_leads setup first n = let r = plain_reaches setup n first (plain_run setup n first) refl in leads_on setup r.0 first (plain_run setup n first) r.1
+
+pub plain_arises : PlainArises
+plain_arises setup threads objects w n =
+    let first = start threads objects w in
+    let to = plain_leads setup first n in
+    subst (Arises setup first) to.ends (arises_run setup threads objects w to.events)
+
+pub plain_count : PlainCount
+unfolding plain_run
+plain_count setup first zero = refl
+plain_count setup first (suc n) =
+    plain_count setup (plain setup first) n ∙ plain_elim setup first (λ (z : State). length z.threads ≡ length first.threads) (next_event setup first) refl refl (λ e q. event_count setup first e)
 
 -- ## What came is only added to
 

@@ -1,7 +1,8 @@
 -- The plain run under the outcomes that came in it.
 use Rattle.std.specs.Prelude.{◌≡◌, ℕ, ◌+◌, ◌≤◌, ◌⊎◌, length, Some, true, nat_lt, slice_get}
 use Rattle.lock_model.specs.History.{IsPrefixOf}
-use Rattle.lock_model.specs.Machine.{Setup, fits_job}
+use Rattle.lock_model.specs.Machine.{Event, Setup, fits_job, happens}
+use Rattle.lock_model.specs.Machine.Event.{Advances}
 use Rattle.lock_model.specs.Runs.{Arises, LeadsTo, supplied, with_came}
 use Rattle.lock_model.specs.Schedule.{IsOver, plain_run}
 use Rattle.lock_model.specs.State.{Job, State, Thread, start, thread_of}
@@ -28,6 +29,14 @@ OverUnderCame = (setup : Setup) (s : State) → IsOver setup s → IsOver (under
 abbrev pub PlainLeads : Type 0
 PlainLeads = (setup : Setup) (first : State) (n : ℕ) → LeadsTo setup first (plain_run setup n first)
 
+-- they lead to a state that arises
+abbrev pub PlainArises : Type 0
+PlainArises = (setup : Setup) (threads objects : ℕ) (w : World) (n : ℕ) → Arises setup (start threads objects w) (plain_run setup n (start threads objects w))
+
+-- of as many threads
+abbrev pub PlainCount : Type 0
+PlainCount = (setup : Setup) (first : State) (n : ℕ) → length (plain_run setup n first).threads ≡ length first.threads
+
 -- what came is only added to
 abbrev pub CameGrows : Type 0
 CameGrows = (setup : Setup) (first : State) (n m i : ℕ) → IsPrefixOf (thread_of (plain_run setup n first) i).came (thread_of (plain_run setup (n + m) first) i).came
@@ -50,3 +59,9 @@ abbrev pub RoomOutside : Type 0
 RoomOutside =
     (setup : Setup) (threads objects : ℕ) (w : World) (s : State) → Arises setup (start threads objects w) s
     → (i : ℕ) (job : Job) → (thread_of s i).phase ≡ Outside job → nat_lt (length (thread_of s i).came) setup.limits.outcome_limit ≡ true
+
+-- an outcome comes in the event of a thread that is outside alone, and for it alone
+abbrev pub CameOutside : Type 0
+CameOutside =
+    (setup : Setup) (s : State) (e : Event) (k : ℕ) → (e ≡ Advances k → (job : Job) → (thread_of s k).phase ≡ Outside job → ⊥)
+    → (thread_of (happens setup e s) k).came ≡ (thread_of s k).came

@@ -1,13 +1,15 @@
--- Which locks and which row a thread has, by its phase.
-use Rattle.std.specs.Prelude.{◌≡◌, ℕ, ◌<◌, length, Option, Some, None, Bool, true, false, not, ◌||◌, slice_get}
+-- Which locks and which row a thread has and what it asked last, by its phase.
+use Rattle.std.specs.Prelude.{◌≡◌, ℕ, ◌-◌, ◌<◌, List, length, Option, Some, None, Bool, true, false, not, ◌||◌, slice_get}
 use Rattle.lock_model.specs.CallTable.{CallTable, Plan, Way, has_object, keeps_table}
 use Rattle.lock_model.specs.CallTable.Plan.{No_object, Object}
 use Rattle.lock_model.specs.Machine.{fits_job, is_number, is_open}
-use Rattle.lock_model.specs.State.{Job, Phase, Row, State, thread_of, object_of}
+use Rattle.lock_model.specs.State.{Job, Phase, Row, State, Thread, thread_of, object_of}
 use Rattle.posix_terms.specs.Step.{Carried}
 use Rattle.posix_terms.specs.declared.call.Call.{Call}
 use Rattle.posix_terms.specs.declared.outcome.Given.{Given}
-use Rattle.lock_model.specs.State.Phase.{WantsObject, Granted, ToOutside, Outside, Recorded}
+use Rattle.lock_model.specs.State.Phase.{Working, WantsTable, WantsObject, Granted, ToOutside, Outside, Recorded, Blocked, Ended}
+use Rattle.thread_scripts.specs.declared.actor.Step.{Step}
+use Rattle.thread_scripts.specs.declared.actor.Step.TheVariants as step
 
 -- the call that was granted and is not answered
 abbrev pub job_in : Phase → Option Job
@@ -61,3 +63,44 @@ pub record HavePlans (calls : CallTable) (s : State) : Type 0 where
   pub kept : (i : ℕ) (job : Job) → job_in (thread_of s i).phase ≡ Some job → keeps_table job.plan ≡ true → job.found ≡ s.world
   pub waits : (i : ℕ) (job : Job) → (thread_of s i).phase ≡ Outside job → job.outcome ≡ None
   pub came : (i : ℕ) (job : Job) → (thread_of s i).phase ≡ Recorded job → (o : Given) × (job.outcome ≡ Some o) × (fits_job calls job o ≡ true)
+
+-- ## Steps
+
+abbrev pub last_step : List Step → Option Step
+last_step asked = slice_get asked (length asked - 1)
+
+abbrev pub call_of : Option Step → Option Call
+call_of (Some (step.Call c)) = Some c
+call_of x = None
+
+abbrev pub is_end : Option Step → Bool
+is_end (Some step.End) = true
+is_end x = false
+
+-- the call that was asked last, if the last step is one
+abbrev pub last_call : List Step → Option Call
+last_call asked = call_of (last_step asked)
+
+-- the last step that was asked is the end
+abbrev pub has_end : List Step → Bool
+has_end asked = is_end (last_step asked)
+
+-- the call that a thread is in
+abbrev pub call_in : Phase → Option Call
+call_in Working = None
+call_in (WantsTable c b) = Some c
+call_in (WantsObject c b clock n way) = Some c
+call_in (Granted job) = Some job.call
+call_in (ToOutside job) = Some job.call
+call_in (Outside job) = Some job.call
+call_in (Recorded job) = Some job.call
+call_in (Blocked c b) = Some c
+call_in Ended = None
+
+-- a thread that is in a call asked it last, and one that works has not asked its end
+pub record HasAsked (t : Thread) : Type 0 where
+  pub call : (c : Call) → call_in t.phase ≡ Some c → last_call t.asked ≡ Some c
+  pub works : t.phase ≡ Working → has_end t.asked ≡ false
+
+abbrev pub HaveAsked : State → Type 0
+HaveAsked s = (i : ℕ) → HasAsked (thread_of s i)

@@ -1,6 +1,6 @@
 -- The laws of the lock machine.
 use Rattle.std.specs.Prelude.{◌≡◌, ℕ, suc, ◌<◌, ◌⊎◌, ◌↔◌, List, get_or, Option, Some, None, true, false}
-use Rattle.lock_model.specs.Held.{AreHeld, HavePlans, HaveRows}
+use Rattle.lock_model.specs.Held.{AreHeld, HaveAsked, HavePlans, HaveRows}
 use Rattle.lock_model.specs.History.{IsBeginning, IsPrefixOf, rows_of}
 use Rattle.lock_model.specs.Legal.{IsLegalHistory}
 use Rattle.lock_model.specs.Machine.{Setup, Event, is_allowed, happens}
@@ -157,3 +157,6 @@ PlansOfArisen = (setup : Setup) (threads objects : ℕ) (w : World) (s : State) 
 
 abbrev pub RowsOfArisen : Type 0
 RowsOfArisen = (setup : Setup) (threads objects : ℕ) (w : World) (s : State) → Arises setup (start threads objects w) s → HaveRows s
+
+abbrev pub StepsOfArisen : Type 0
+StepsOfArisen = (setup : Setup) (threads objects : ℕ) (w : World) (s : State) → Arises setup (start threads objects w) s → HaveAsked s

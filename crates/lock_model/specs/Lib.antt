@@ -10,6 +10,7 @@ pub mod Transcripts
 pub mod Legal
 pub mod Rising
 pub mod Held
+pub mod Events
 pub mod Laws
 pub mod Came
 pub mod Numbers

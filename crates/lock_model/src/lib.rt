@@ -5,11 +5,12 @@
 #![tactic(auto)]
 
 ghost use Rattle.std.specs.Prelude.{◌≡◌, ◌∷◌, []};
-ghost use Rattle.lock_model.specs.Came.{CameGrows, CameIsRows, OutsideStays, OverUnderCame, PlainLeads, RoomOutside, SameUnderCame};
+ghost use Rattle.lock_model.specs.Came.{CameGrows, CameIsRows, CameOutside, OutsideStays, OverUnderCame, PlainArises, PlainCount, PlainLeads, RoomOutside, SameUnderCame};
 ghost use Rattle.lock_model.specs.CallTable.Plan.{No_object, Object};
 ghost use Rattle.lock_model.specs.CallTable.Way.{Door, Inside, Keeps_table};
+ghost use Rattle.lock_model.specs.Events.{EventLaws};
 ghost use Rattle.lock_model.specs.Example.{Words, alone, blocked_call, one_call, replied_at, three_calls, turn, turns, two};
-ghost use Rattle.lock_model.specs.Laws.{ArisesAtStart, ArisesByEvent, ArisesByRun, EachEventLowers, EndedOrTurn, EndsHere, EndsNext, HolderHasTurn, LegalLaw, LegalOfArisen, LocksOfArisen, OneEventMore, OneTurn, OverLaw, OwnFinite, PlainIsRun, PlansOfArisen, PrefixLaw, PrefixLawOfCame, PrefixLawOfFollowed, PrefixLawOfOwn, RisingLaw, RisingOfArisen, RowsOfArisen, RunFollows, SomeEnd, SomeTurn, StuckLaw, UniqueEnd};
+ghost use Rattle.lock_model.specs.Laws.{ArisesAtStart, ArisesByEvent, ArisesByRun, EachEventLowers, EndedOrTurn, EndsHere, EndsNext, HolderHasTurn, LegalLaw, LegalOfArisen, LocksOfArisen, OneEventMore, OneTurn, OverLaw, OwnFinite, PlainIsRun, PlansOfArisen, PrefixLaw, PrefixLawOfCame, PrefixLawOfFollowed, PrefixLawOfOwn, RisingLaw, RisingOfArisen, RowsOfArisen, RunFollows, SomeEnd, SomeTurn, StepsOfArisen, StuckLaw, UniqueEnd};
 ghost use Rattle.lock_model.specs.RealLaws.{RealEnd, RealLegal, RealLegalOfArisen, RealPrefix, RealRising};
 ghost use Rattle.lock_model.specs.Schedule.{IsOver, plain_run};
 ghost use Rattle.lock_model.specs.ScriptPrograms.{NeverLacks};
@@ -60,6 +61,12 @@ pub fn plain_run_ends()
     ensures is_run { PlainIsRun }
 {}
 
+/// What one event does to the threads, for a function that makes runs event by event: it changes no thread but its own, and that one as its
+/// phase says; where it is not allowed it changes nothing.
+pub fn one_event()
+    ensures { EventLaws }
+{}
+
 /// At every moment of every run the history is legal: each answer is the one that the calls before it, one granted
 /// turn at a time, lead to, whatever outcomes the rows that lack theirs will get. And each granted turn comes before
 /// all later ones.
@@ -73,7 +80,8 @@ pub fn legal_history()
 /// supplies; so each run's state arises, and its threads follow their programs. The history of a state that arises
 /// is legal, and its turns rise. In it each lock is held by just the thread whose phase says so, and a thread in a
 /// call has one row without an answer, that of its call. It was planned in the world that it found, which stays as it
-/// is while the call keeps the table, and an outcome that came answers what it asks (`plans`).
+/// is while the call keeps the table, and an outcome that came answers what it asks (`plans`). The last step that such a
+/// thread asked is that call, and that of a thread that works is not its end (`steps`).
 pub fn arising_states()
     ensures at_start { ArisesAtStart }
     ensures by_event { ArisesByEvent }
@@ -84,6 +92,7 @@ pub fn arising_states()
     ensures locks { LocksOfArisen }
     ensures rows { RowsOfArisen }
     ensures plans { PlansOfArisen }
+    ensures steps { StepsOfArisen }
 {}
 
 /// The same for the real calls, in the words of files and descriptors. Whatever the order of events, the object of
@@ -125,15 +134,19 @@ pub fn scripts_never_lack()
 
 /// The plain run and the outcomes that came in it. With just those that came in so many events it is the same run so
 /// far (`same`), and over where it was over (`over`): so it can be made again from its own outcomes. What so many
-/// events make is a run (`leads`), which only adds to what came (`grows`). A thread that went outside is there still, or the
-/// next outcome that came for it answers what it asked (`stays`); outside it has room for one (`room`). In a state that
-/// arises, what came for a thread are the outcomes of its rows, in order (`rows`).
+/// events make is a run (`leads`), to a state that arises (`arises`), of as many threads (`count`), which only adds to what came (`grows`).
+/// A thread that went outside is there still, or the next outcome that came for it answers what it asked (`stays`); outside it has room for
+/// one (`room`). In a state that arises, what came for a thread are the outcomes of its rows, in order (`rows`). An outcome comes in the event
+/// of a thread that is outside alone, and for it alone (`outside`).
 pub fn outcomes_that_came()
     ensures same { SameUnderCame }
     ensures over { OverUnderCame }
     ensures leads { PlainLeads }
+    ensures arises { PlainArises }
+    ensures count { PlainCount }
     ensures grows { CameGrows }
     ensures stays { OutsideStays }
     ensures room { RoomOutside }
     ensures rows { CameIsRows }
+    ensures outside { CameOutside }
 {}

@@ -1,5 +1,5 @@
 -- The turn order: which thread may attempt a lock, by the threads' clocks alone.
-use Rattle.std.specs.Prelude.{ℕ, zero, suc, List, length, get_or, Option, Some, None, Bool, true, false, ◌&&◌, ◌||◌, ◌==◌, nat_lt}
+use Rattle.std.specs.Prelude.{◌≡◌, ℕ, zero, suc, ◌<◌, List, length, get_or, Option, Some, None, Bool, true, false, ◌&&◌, ◌||◌, ◌==◌, nat_lt}
 use Rattle.posix_terms.specs.declared.transcript.Turn.{Turn}
 
 -- by the clock, and at equal clocks by the thread
@@ -20,6 +20,10 @@ first_or None false n = None
 unfoldable pub first_below : ℕ → (ℕ → Bool) → Option ℕ
 first_below zero p = None
 first_below (suc n) p = first_or (first_below n p) (p n) n
+
+-- a number below n of which p holds, and of none before it, is the least
+abbrev pub LeastIsFound : Type 0
+LeastIsFound = (n k : ℕ) (p : ℕ → Bool) → k < n → first_below k p ≡ None → p k ≡ true → first_below n p ≡ Some k
 
 -- thread j has ended, or is the thread of this turn, or comes after it
 abbrev pub yields_at : Turn → ℕ → Option ℕ → Bool

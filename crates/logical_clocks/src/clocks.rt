@@ -1,5 +1,5 @@
 ghost use Rattle.std.specs.Prelude.{◌≡◌, ◌+◌, ◌<◌, ◌≤◌, ◌↔◌, length, IsErr, IfOk, OnOk, OnErr};
-ghost use Rattle.logical_clocks.specs.ThreadClocks.{first_clocks, clock_at, with_clock, with_end, live_clock, live_clocks};
+ghost use Rattle.logical_clocks.specs.ThreadClocks.{AreWithinLimit, first_clocks, clock_at, with_clock, with_end, live_clock, live_clocks};
 ghost use Rattle.logical_clocks.specs.TurnOrder.{all_below, has_turn, yields, yields_at, turn_holder};
 
 use posix_terms::{Limits, Turn};
@@ -120,11 +120,12 @@ impl Clocks {
         self.threads[i].live = false;
     }
 
-    /// The clock of a thread; of one that has ended the clock that it had.
+    /// The clock of a thread; of one that has ended the clock that it had. With it comes what holds of all clocks (`all_within_limit`).
     pub fn clock(&self, i: usize) -> u64
         requires { i < length self.now }
         ensures value { result ≡ clock_at self.now i }
         ensures within_limit { result ≤ Limits.CLOCK }
+        ensures all_within_limit { AreWithinLimit self.now }
     {
         self.threads[i].clock
     }

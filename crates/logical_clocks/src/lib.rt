@@ -2,5 +2,7 @@
 #![tactic(auto)]
 
 mod clocks;
+mod laws;
 
 pub use clocks::{ClockFull, Clocks, ThreadClock};
+pub use laws::least_is_found;

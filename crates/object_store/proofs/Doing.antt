@@ -28,7 +28,7 @@ use Rattle.descriptor_table.specs.Acts as acts
 use Rattle.descriptor_table.specs.Acts.{Acted, ActsAsStep, IsActed, IsStill, StandsAt, acted, ended, offset_at}
 use Rattle.descriptor_table.specs.Agreement.{AgreesOn, TellsAsStep, numbers_told}
 use Rattle.descriptor_table.specs.Changes.{Changes}
-use Rattle.descriptor_table.specs.Plans.{LocksKnown, MovesKnown, planned}
+use Rattle.descriptor_table.specs.Plans.{LocksKnown, MovesKnown, planned, read_count}
 use Rattle.descriptor_table.specs.Shows.{birth_at, birth_of, is_of}
 use Rattle.descriptor_table.specs.Table.{TableState, free_object, is_used}
 use Rattle.descriptor_table.specs.declared.plan.NewNumbers.{NewNumbers}
@@ -92,20 +92,20 @@ offset_in h _ = 0
 offset_stands : (h : Stored) (w : World) (key : ℕ) → Stands h w → IsTrue (fin.contains_key h.table.descriptions.by_key key) → offset_at w.object (birth_of h.table key) ≡ Some (offset_of_key h key)
 offset_stands h w key st known = ap (option_map (λ (d : posix.Description). d.offset)) (st.offsets key (description_at h.table.descriptions key) (known_at h.table.descriptions key known))
 
-pub stands_at : (h : Stored) (w : World) (act : Op) → Stands h w → MovesKnown h.table act → StandsAt h.table w.object act (offset_in h act)
-stands_at h w (op.Read from n) st known = offset_stands h w from.key st known
-stands_at h w (op.Write to) st known = offset_stands h w to.key st known
-stands_at h w (op.Lseek from) st known = offset_stands h w from.key st known
-stands_at h w (op.Open cut) st known = tt
-stands_at h w op.Release st known = tt
-stands_at h w (op.Pread n start) st known = tt
-stands_at h w (op.Pwrite start) st known = tt
-stands_at h w (op.Ftruncate size) st known = tt
-stands_at h w (op.Fstat links) st known = tt
-stands_at h w op.Pipe st known = tt
-stands_at h w op.Socketpair st known = tt
-stands_at h w (op.Shutdown side how) st known = tt
-stands_at h w (op.Ask errand) st known = tt
+pub stands_at : (h : Stored) (w : World) (most : ℕ) (act : Op) → Stands h w → MovesKnown h.table most act → StandsAt h.table w.object act (offset_in h act)
+stands_at h w most (op.Read from n) st known = offset_stands h w from.key st known.0
+stands_at h w most (op.Write to) st known = offset_stands h w to.key st known
+stands_at h w most (op.Lseek from) st known = offset_stands h w from.key st known
+stands_at h w most (op.Open cut) st known = tt
+stands_at h w most op.Release st known = tt
+stands_at h w most (op.Pread n start) st known = tt
+stands_at h w most (op.Pwrite start) st known = tt
+stands_at h w most (op.Ftruncate size) st known = tt
+stands_at h w most (op.Fstat links) st known = tt
+stands_at h w most op.Pipe st known = tt
+stands_at h w most op.Socketpair st known = tt
+stands_at h w most (op.Shutdown side how) st known = tt
+stands_at h w most (op.Ask errand) st known = tt
 
 -- ## What the act finds
 
@@ -182,8 +182,8 @@ module _ (h : Stored) (w : World) (c : Call) (node : ℕ) (act : Op) (settings :
   abbrev stepped : Stepped
   stepped = step settings w.object c None carried
 
-  known : LocksKnown h.table (plan.Node node act planned_is.0)
-  known = subst (LocksKnown h.table) planned_is.1 (known-planned h.table c st.sound)
+  known : LocksKnown h.table (read_count c) (plan.Node node act planned_is.0)
+  known = subst (LocksKnown h.table (read_count c)) planned_is.1 (known-planned h.table c st.sound)
 
   act_does : ActsAsStep h.table c (plan.Node node act planned_is.0)
   act_does = subst (ActsAsStep h.table c) planned_is.1 (acts-as_step h.table c st.sound st.described)
@@ -196,7 +196,7 @@ module _ (h : Stored) (w : World) (c : Call) (node : ℕ) (act : Op) (settings :
   IsDone done = IsActed h.table node act done (ended settings w.object carried done.ending) stepped
 
   on : (content : Content) → content_of w.object (birth_at h.table node) ≡ content → IsDone (done_with content)
-  on content is = act_does settings w.object None carried content (offset_in h act) st.shows is (stands_at h w act st known.1)
+  on content is = act_does settings w.object None carried content (offset_in h act) st.shows is (stands_at h w (read_count c) act st known.1)
 
   some_of : (b : ℕ) (o : Option Content) → fin.get w.object.objects b ≡ o → is_some o ≡ true → (x : Content) × (fin.get w.object.objects b ≡ Some x)
   some_of b None is there = absurd (false≢true there)
@@ -311,8 +311,8 @@ rests_still t node op.Socketpair keep rests birth = tt
 rests_still t node (op.Shutdown side how) keep rests birth = tt
 rests_still t node (op.Ask errand) keep rests birth = tt
 
-pub known_of : (h : Stored) (w : World) (c : Call) (node : ℕ) (act : Op) (keep : Bool) → Stands h w → planned h.table c ≡ plan.Node node act keep → LocksKnown h.table (plan.Node node act keep)
-known_of h w c node act keep st is = subst (LocksKnown h.table) is (known-planned h.table c st.sound)
+pub known_of : (h : Stored) (w : World) (c : Call) (node : ℕ) (act : Op) (keep : Bool) → Stands h w → planned h.table c ≡ plan.Node node act keep → LocksKnown h.table (read_count c) (plan.Node node act keep)
+known_of h w c node act keep st is = subst (LocksKnown h.table (read_count c)) is (known-planned h.table c st.sound)
 
 -- the table was changed, and the object
 pub made_ends : (h : Stored) (c : Call) (node : ℕ) (act : Op) (u : TableState) (given : NewNumbers) (bodies : List Kept) (e : Ending) → Rests act → IsKind act → IsPlanned h c node act → TableMade h c None u → TellsAsStep h.table c None given
@@ -343,10 +343,10 @@ pub data Moves : Op → ℕ → Type 0 where
   ByWrite : (to : Opened) → Moves (op.Write to) to.key
   BySeek : (from : Opened) → Moves (op.Lseek from) from.key
 
-moves_known : (t : TableState) (act : Op) (key : ℕ) → Moves act key → MovesKnown t act → ContainsKey t.descriptions key
-moves_known t _ _ (ByRead from n) known = known
-moves_known t _ _ (ByWrite to) known = known
-moves_known t _ _ (BySeek from) known = known
+moves_known : (t : TableState) (most : ℕ) (act : Op) (key : ℕ) → Moves act key → MovesKnown t most act → ContainsKey t.descriptions key
+moves_known t most _ _ (ByRead from n) known = known.0
+moves_known t most _ _ (ByWrite to) known = known
+moves_known t most _ _ (BySeek from) known = known
 
 moves_at : (t : TableState) (s : State) (act : Op) (key offset : ℕ) → Moves act key → StandsAt t s act offset → offset_at s (birth_of t key) ≡ Some offset
 moves_at t s _ _ offset (ByRead from n) at = at
@@ -368,7 +368,7 @@ moved_ends h c node act key bodies done e moves kind (keep, is) same done_is end
     let leaves = subst (λ (p : Plan). Leaves h.table h.table p w.object stepped.after) is (stays_leaves h w c settings carried st same) in
     let known = known_of h w c node act keep st is in (
       turn_ends h w node act settings carried done stepped (shown_ending e) now ends,
-      moved_stands h w st h.table node act keep stepped.after leaves known.0 done.content now.content_is bodies rewrites refl key done.offset (moves_known h.table act key moves known.1) (moves_at h.table stepped.after act key done.offset moves now.offset_is) (moves_still h.table node act keep key moves),
+      moved_stands h w st h.table node act keep stepped.after leaves known.0 done.content now.content_is bodies rewrites refl key done.offset (moves_known h.table (read_count c) act key moves known.1) (moves_at h.table stepped.after act key done.offset moves now.offset_is) (moves_still h.table node act keep key moves),
     )
 
 -- the offset is left where it was
@@ -381,7 +381,7 @@ rested_ends h c node act key bodies done e moves kind (keep, is) same done_is re
     let leaves = subst (λ (p : Plan). Leaves h.table h.table p w.object stepped.after) is (stays_leaves h w c settings carried st same) in
     let known = known_of h w c node act keep st is in (
       turn_ends h w node act settings carried done stepped (shown_ending e) now ends,
-      rested_stands h w st h.table node act keep stepped.after leaves known.0 done.content now.content_is bodies rewrites refl key (moves_known h.table act key moves known.1) (moves_at h.table stepped.after act key done.offset moves now.offset_is ∙ ap (λ (n : ℕ). Some n) rests) (moves_still h.table node act keep key moves),
+      rested_stands h w st h.table node act keep stepped.after leaves known.0 done.content now.content_is bodies rewrites refl key (moves_known h.table (read_count c) act key moves known.1) (moves_at h.table stepped.after act key done.offset moves now.offset_is ∙ ap (λ (n : ℕ). Some n) rests) (moves_still h.table node act keep key moves),
     )
 
 -- what referred to an object does so no more, and the object holds what it held

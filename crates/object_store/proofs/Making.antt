@@ -1,8 +1,7 @@
 -- Each act of the store, as the table plans it, makes its call.
-use Rattle.std.proofs.Common.{◌≡◌, ℕ, ◌+◌, ◌<◌, ◌==◌, List, [], length, None, Result, Ok, Err, Bool, true, false, refl, sym, ap, ◌∙◌, subst, IfOk}
+use Rattle.std.proofs.Common.{◌≡◌, ℕ, ◌+◌, ◌<◌, ◌==◌, List, [], length, None, Result, Ok, Err, Bool, true, false, refl, sym, ap, ◌∙◌, subst}
 use Rattle.std.proofs.lemmas.Bool.{true≢false}
 use Rattle.std.specs.Prelude.{ℤ, ◌+ℤ◌, pos, slice_index_or, slice_set, if◌then◌else◌}
-use Rattle.std.specs.declared.alloc.AllocError.{AllocError}
 use Rattle.posix_terms.specs.Ends.{is_end, side_of}
 use Rattle.posix_terms.specs.Files.{bytes_at, resized, written}
 use Rattle.posix_terms.specs.Object.{Content, DoorTo, File, Pair, Pipe}
@@ -149,9 +148,8 @@ read_by h new c node n from (part.Door door) e planned inside through (answers, 
     (rested_ends h c node (op.Read from n) from.key h.bodies done (ending.Reply reply.Done) (ByRead from n) tt planned (still h c node (op.Read from n) planned tt)
     (λ given. ap (λ (x : End). read_acted h.table node from n (held_by x (kept_at h node)) (offset_of_key h from.key)) through) refl refl (bodies_same h node done.content refl))
 
-pub read_ends : (res : Result Ending AllocError) (h new : Stored) (c : Call) (node n : ℕ) (from : Opened) → IsPlanned h c node (op.Read from n) → node < length h.bodies → IfOk res (λ e. HasRead from.«end» h node from n e new) → IfOk res (λ e. EndsTurn h c e new)
-read_ends (Err x) h new c node n from planned inside has = tt
-read_ends (Ok e) h new c node n from planned inside has = read_by h new c node n from from.«end» e planned inside refl has
+pub read_ends : (h new : Stored) (c : Call) (node n : ℕ) (from : Opened) (e : Ending) → IsPlanned h c node (op.Read from n) → node < length h.bodies → HasRead from.«end» h node from n e new → EndsTurn h c e new
+read_ends h new c node n from e planned inside has = read_by h new c node n from from.«end» e planned inside refl has
 
 pub pread_ends : (h : Stored) (c : Call) (node n start : ℕ) (r : Reply) → IsPlanned h c node (op.Pread n start) → r ≡ reply.Data (bytes_at (body_at h node) start n) → EndsTurn h c (ending.Reply r) h
 pread_ends h c node n start r planned answers =

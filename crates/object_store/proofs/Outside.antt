@@ -1,6 +1,7 @@
 -- Calls that go outside: what they leave when they go, and what comes of their outcomes.
-use Rattle.std.proofs.Common.{◌≡◌, ℕ, ◌&&◌, ◌==◌, ◌||◌, List, length, Option, Some, None, Result, Ok, Err, Bool, true, false, if◌then◌else◌, nat_le, nat_lt, ◌⊎◌, inl, inr, refl, sym, ap, ap₂, ◌∙◌, subst, ⊎_elim}
+use Rattle.std.proofs.Common.{◌≡◌, ℕ, ◌≤◌, ◌&&◌, ◌==◌, ◌||◌, List, length, Option, Some, None, Result, Ok, Err, Bool, true, false, if◌then◌else◌, nat_le, nat_lt, ◌⊎◌, inl, inr, refl, sym, ap, ap₂, ◌∙◌, subst, ⊎_elim, arith}
 use Rattle.std.proofs.lemmas.Bool.{false≢true}
+use Rattle.std.proofs.lemmas.Bool.Decides.{nat_tests}
 use Rattle.std.proofs.lemmas.Option.{none-some, same_Some}
 use Rattle.std.specs.FinMap as fin
 use Rattle.std.specs.Prelude.{◌+◌, is_some, unwrap_or}
@@ -221,6 +222,9 @@ succeeds patience turns errand given o value bytes r is told settings s same =
 pub same_outcome : (patience turns : ℕ) (errand : Errand) (given : NewNumbers) (o x : Outcome) (e : TurnEnd) → o ≡ x → EndsOutside patience turns errand given x e → EndsOutside patience turns errand given o e
 same_outcome patience turns errand given o x e is ends = subst (λ (y : Outcome). EndsOutside patience turns errand given y e) (sym is) ends
 
+at_most : (asked value count : ℕ) → (value == count) ≡ true → nat_le value asked ≡ true → count ≤ asked
+at_most asked value count same within = grind (arith, nat_tests)
+
 -- what is no read, no write and no seek, and opens no door, tells no more than that it is done
 pub told_done : (k : OutKind) (value : ℕ) (bytes : List ℕ) → (k ≡ out.Read → ⊥) → (k ≡ out.Write → ⊥) → (k ≡ out.Seek → ⊥) → reply.Done ≡ told_outside k numbers.None value bytes
 told_done out.Open value bytes read write seek = refl
@@ -237,6 +241,13 @@ told_done out.Close value bytes read write seek = refl
 pub offset_fits : (asked value : ℕ) (bytes : List ℕ) → fits out.Seek asked (outcome.Ok value bytes) ≡ true → nat_le value 9223372036854775807 ≡ true
 unfolding fits
 offset_fits asked value bytes fit = both_first (nat_le value 9223372036854775807) (bytes_fit out.Seek (length bytes)) fit
+
+-- a read brings no more bytes than it asks
+pub read_fits : (asked value : ℕ) (bytes : List ℕ) → fits out.Read asked (outcome.Ok value bytes) ≡ true → length bytes ≤ asked
+unfolding fits
+read_fits asked value bytes fit =
+    let value_fit = both_first (value == length bytes && nat_le value asked) (bytes_fit out.Read (length bytes)) fit in
+    at_most asked value (length bytes) (both_first (value == length bytes) (nat_le value asked) value_fit) (both_second (value == length bytes) (nat_le value asked) value_fit)
 
 -- what opens a door tells its numbers
 pub told_numbers : (k : OutKind) (given : NewNumbers) (value : ℕ) (bytes : List ℕ) → opens_door k ≡ true → acts.numbers_reply given ≡ told_outside k given value bytes

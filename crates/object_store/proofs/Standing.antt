@@ -15,7 +15,7 @@ use Rattle.posix_terms.specs.declared.reply.Answer.{Answer}
 use Rattle.posix_terms.specs.declared.request.Request.{Request}
 use Rattle.posix_terms.specs.declared.transcript.Settings.{Settings}
 use Rattle.descriptor_table.specs.Agreement.{AgreesOn, object_of}
-use Rattle.descriptor_table.specs.Plans.{IsKnownNumber, LocksKnown, planned}
+use Rattle.descriptor_table.specs.Plans.{IsKnownNumber, LocksKnown, planned, read_count}
 use Rattle.descriptor_table.specs.Shows.{birth_at, birth_of, shown_node}
 use Rattle.descriptor_table.specs.Table.{free_object, empty_table, is_used}
 use Rattle.descriptor_table.specs.declared.plan.Plan.{Plan}
@@ -52,15 +52,15 @@ free_number h w node stands free =
 stands_number : (h : Stored) (w : World) (node : ℕ) → Stands h w → IsKnownNumber h.table node → number_of w (birth_at h.table node) ≡ node
 stands_number h w node stands known = ⊎_elim (λ used. used_number h w node stands used) (λ free. free_number h w node stands free) known.1
 
-planned_number : (h : Stored) (w : World) (c : Call) (p : Plan) (o : Option ℕ) (r : Option Request) (a : Answer) → Stands h w → LocksKnown h.table p → AgreesOn h.table c p o r a → numbered w o ≡ object_of p
-planned_number h w c (plan.Reply r) o q a stands known agrees = ap (numbered w) agrees.0
-planned_number h w c (plan.Node node act keep_table) o q a stands known agrees = ap (numbered w) agrees.0 ∙ ap (λ n. Some n) (stands_number h w node stands known.0)
+planned_number : (h : Stored) (w : World) (c : Call) (p : Plan) (most : ℕ) (o : Option ℕ) (r : Option Request) (a : Answer) → Stands h w → LocksKnown h.table most p → AgreesOn h.table c p o r a → numbered w o ≡ object_of p
+planned_number h w c (plan.Reply r) most o q a stands known agrees = ap (numbered w) agrees.0
+planned_number h w c (plan.Node node act keep_table) most o q a stands known agrees = ap (numbered w) agrees.0 ∙ ap (λ n. Some n) (stands_number h w node stands known.0)
 
 -- the number of the object that a call locks is that of the lock machine
 pub number_known : (h : Stored) (w : World) (call : Call) (carried : Carried) → Stands h w → numbered w (locked_object w.object call carried) ≡ number_locked h call
 number_known h w call carried stands =
     let settings : Settings = record { patience = 1; door_cost = 1 } in
-    planned_number h w call (planned h.table call) (locked_object w.object call carried) (asks w.object call carried) (step settings w.object call None carried).answer stands (known-planned h.table call stands.sound)
+    planned_number h w call (planned h.table call) (read_count call) (locked_object w.object call carried) (asks w.object call carried) (step settings w.object call None carried).answer stands (known-planned h.table call stands.sound)
     (plans-as_step h.table call stands.sound stands.described settings w.object None carried stands.shows)
 
 -- ## At the start

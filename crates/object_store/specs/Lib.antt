@@ -4,3 +4,4 @@ pub mod StoreCode
 pub mod Acting
 pub mod Patience
 pub mod Errands
+pub mod Space

@@ -11,6 +11,7 @@ use Rattle.lock_model.specs.CallTable.{Answer}
 use Rattle.lock_model.specs.CallTable.Answer.{Gives, Again}
 use Rattle.lock_model.specs.RealCalls.{answer_in, answered_with}
 use Rattle.descriptor_table.specs.Acts as acts
+use Rattle.descriptor_table.specs.Plans.{reply_bytes}
 use Rattle.descriptor_table.specs.declared.plan.Errand.{Errand}
 use Rattle.descriptor_table.specs.declared.plan.NewNumbers.{NewNumbers}
 use Rattle.object_store.specs.declared.patience.Ending.{Ending}
@@ -22,6 +23,16 @@ use Rattle.object_store.specs.declared.patience.TurnEnd.TheVariants as end
 abbrev pub ended : TurnEnd → Answer
 ended (end.Reply reply) = Gives reply
 ended (end.Blocked turns) = Again turns
+
+-- how many bytes such an end brings
+abbrev pub turn_bytes : TurnEnd → ℕ
+turn_bytes (end.Reply reply) = reply_bytes reply
+turn_bytes (end.Blocked turns) = 0
+
+-- how many bytes an act brings
+abbrev pub act_bytes : Ending → ℕ
+act_bytes (ending.Reply reply) = reply_bytes reply
+act_bytes ending.Waits = 0
 
 -- how an act ended, as the table's plan has it
 abbrev pub shown_ending : Ending → acts.Ending

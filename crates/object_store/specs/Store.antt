@@ -1,5 +1,5 @@
 -- The shared table with the bodies of its objects, and the world that they stand for.
-use Rattle.std.specs.Prelude.{◌≡◌, ℕ, Bool, true, false, List, nat_le, replicate, slice_index_or, Option, Some, None}
+use Rattle.std.specs.Prelude.{◌≡◌, ℕ, ◌≤◌, Bool, true, false, List, nat_le, replicate, slice_index_or, Option, Some, None}
 use Rattle.std.specs.FinMap as map
 use Rattle.posix_terms.specs.Object.{Content}
 use Rattle.posix_terms.specs.Locked.{keeps_table, locked_object}
@@ -19,7 +19,7 @@ use Rattle.posix_terms.specs.declared.transcript.Settings.{Settings}
 use Rattle.file_descriptions.specs.Descriptions.{AreSound}
 use Rattle.file_descriptions.specs.declared.description.Description.{Description}
 use Rattle.descriptor_table.specs.Agreement.{ChangesAsStep, NumbersStay, OffsetsStay, object_of, request_of}
-use Rattle.descriptor_table.specs.Plans.{planned}
+use Rattle.descriptor_table.specs.Plans.{bytes_asked, planned}
 use Rattle.descriptor_table.specs.Shows as shown
 use Rattle.descriptor_table.specs.Table.{IsSound, TableState, empty_table}
 use Rattle.descriptor_table.specs.declared.plan.Errand.{Errand}
@@ -33,7 +33,7 @@ use Rattle.lock_model.specs.Terms.{World}
 use Rattle.descriptor_table.specs.Acts as acts
 use Rattle.object_store.specs.Bodies.{Kept, first_kept, kept_as}
 use Rattle.object_store.specs.Errands.{door_taken, waits_outside}
-use Rattle.object_store.specs.Patience.{ended, shown_ending}
+use Rattle.object_store.specs.Patience.{ended, shown_ending, turn_bytes}
 use Rattle.object_store.specs.declared.patience.Ending.{Ending}
 use Rattle.object_store.specs.declared.patience.TurnEnd.{TurnEnd}
 use Rattle.object_store.specs.declared.patience.TurnStart.{TurnStart}
@@ -95,6 +95,11 @@ StartsIn settings w turns old c (start.GoesOut errand) new = GoesOut settings w 
 -- with this patience, and in whatever world they stood for
 abbrev pub Makes : ℕ → ℕ → Stored → Call → TurnStart → Stored → Type 0
 Makes patience turns old c x new = (settings : Settings) (w : World) → settings.patience ≡ patience → Stands old w → StartsIn settings w turns old c x new
+
+-- a turn that ended brings no more bytes than the call may read. One that goes outside asks no more, and leaves the room for them as it was
+abbrev pub UsesRoom : ℕ → List ℕ → List ℕ → TurnStart → Type 0
+UsesRoom most old new (start.Ended e) = turn_bytes e ≤ most
+UsesRoom most old new (start.GoesOut errand) = (new ≡ old) × (bytes_asked errand ≤ most)
 
 -- a turn of a call that kept the table while it was outside ended so, by an outcome that fits what it asked
 abbrev pub Opens : ℕ → ℕ → Stored → Call → Outcome → TurnEnd → Stored → Type 0

@@ -1,4 +1,4 @@
-ghost use Rattle.std.specs.Prelude.{◌≡◌, ℕ, ◌^◌, ◌+◌, ◌-◌, ◌<◌, ◌≤◌, ◌==◌, ◌+ℤ◌, pos, length, true, false, IfOk, OnErr};
+ghost use Rattle.std.specs.Prelude.{◌≡◌, ℕ, ◌^◌, ◌+◌, ◌-◌, ◌<◌, ◌≤◌, ◌==◌, ◌+ℤ◌, pos, length, true, false, IfOk};
 ghost use Rattle.posix_terms.specs.Files.{bytes_at, resized, written};
 ghost use Rattle.posix_terms.specs.Transfers.{base_of, offset_of};
 ghost use Rattle.posix_terms.specs.declared.limits.TheConstants.Limits as limit;
@@ -6,8 +6,10 @@ ghost use Rattle.file_descriptions.specs.Descriptions.{ContainsKey};
 ghost use Rattle.posix_terms.specs.declared.reply.ObjectKind.TheVariants.{File};
 ghost use Rattle.posix_terms.specs.declared.reply.Reply.TheVariants.{Data, Done, Stat};
 ghost use Rattle.descriptor_table.specs.Acts.{numbers_reply};
+ghost use Rattle.descriptor_table.specs.Plans.{reply_bytes};
 ghost use Rattle.object_store.specs.Acting.{Seeks, Writes, cut_bodies, release_reply, moved, offset_of_key, rewritten, start_at};
 ghost use Rattle.descriptor_table.specs.declared.plan.Op.TheVariants as op;
+ghost use Rattle.object_store.specs.Patience.{act_bytes};
 ghost use Rattle.object_store.specs.Store.{EndsTurn, IsPlanned, Replies, body_at};
 
 use crate::patience::Ending;
@@ -15,43 +17,29 @@ use crate::store::Store;
 use descriptor_table::{NewNumbers, Opened};
 use memory_files::FileBody;
 use posix_terms::{Bytes, Call, Errno, ObjectKind, Reply, Whence};
-use std::alloc::{AllocError, Global};
 
 // What calls do with the file whose lock they took, by the file's number and the key of the description.
 impl Store {
-    // POSIX.1-2017, `read` of a file. Without memory nothing changes.
-    pub(crate) fn read_file(
-        &mut self,
-        alloc: Global,
-        node: usize,
-        from: Opened,
-        count: usize,
-    ) -> Result<Reply, AllocError>
+    // POSIX.1-2017, `read` of a file, as many bytes as there is room for.
+    pub(crate) fn read_file(&mut self, node: usize, from: Opened, into: Vec<u8>) -> Reply
         requires inside { node < limit.OBJECTS }
         requires known { ContainsKey self.old.table.descriptions from.key }
-        ensures reply { IfOk result (λ reply. reply ≡ Data (bytes_at (body_at self.old node) (offset_of_key self.old from.key) count)) }
-        ensures moved { IfOk result (λ _. self.new ≡ moved self.old from.key (offset_of_key self.old from.key + length (bytes_at (body_at self.old node) (offset_of_key self.old from.key) count))) }
-        ensures err { OnErr result (self.new ≡ self.old) }
+        ensures reply { result ≡ Data (bytes_at (body_at self.old node) (offset_of_key self.old from.key) (length into.items)) }
+        ensures moved { self.new ≡ moved self.old from.key (offset_of_key self.old from.key + length (bytes_at (body_at self.old node) (offset_of_key self.old from.key) (length into.items))) }
     {
         let offset = self.table.offset(from.key);
-        let bytes = file_bytes(alloc, &self.bodies[node].file, offset, count)?;
+        let bytes = file_bytes(&self.bodies[node].file, offset, into);
         self.table
             .set_offset(from.key, offset + bytes.as_slice().len() as u64);
-        Ok(Reply::Data(bytes))
+        Reply::Data(bytes)
     }
 
-    // POSIX.1-2017, `pread`.
-    pub(crate) fn pread(
-        &self,
-        alloc: Global,
-        node: usize,
-        count: usize,
-        position: u64,
-    ) -> Result<Reply, AllocError>
+    // POSIX.1-2017, `pread`, of as many bytes as there is room for.
+    pub(crate) fn pread(&self, node: usize, position: u64, into: Vec<u8>) -> Reply
         requires { node < limit.OBJECTS }
-        ensures { IfOk result (λ reply. reply ≡ Data (bytes_at (body_at self.now node) position count)) }
+        ensures { result ≡ Data (bytes_at (body_at self.now node) position (length into.items)) }
     {
-        Ok(Reply::Data(file_bytes(alloc, &self.bodies[node].file, position, count)?))
+        Reply::Data(file_bytes(&self.bodies[node].file, position, into))
     }
 
     // POSIX.1-2017, `write` of some bytes to a file.
@@ -59,7 +47,8 @@ impl Store {
         requires inside { node < limit.OBJECTS }
         requires known { ContainsKey self.old.table.descriptions to.key }
         requires some { (length bytes.now == 0) ≡ false }
-        ensures { Writes (written (body_at self.old node) (start_at self.old to node) bytes.now) self.old (λ count. moved self.old to.key (start_at self.old to node + count)) node result self.new }
+        ensures written { Writes (written (body_at self.old node) (start_at self.old to node) bytes.now) self.old (λ count. moved self.old to.key (start_at self.old to node + count)) node result self.new }
+        ensures few { reply_bytes result ≡ 0 }
     {
         let start = if to.flags.append {
             self.bodies[node].file.len()
@@ -79,7 +68,8 @@ impl Store {
     pub(crate) fn pwrite(&mut self, node: usize, position: u64, bytes: &[u8]) -> Reply
         requires inside { node < limit.OBJECTS }
         requires some { (length bytes.now == 0) ≡ false }
-        ensures { Writes (written (body_at self.old node) position bytes.now) self.old (λ count. self.old) node result self.new }
+        ensures written { Writes (written (body_at self.old node) position bytes.now) self.old (λ count. self.old) node result self.new }
+        ensures few { reply_bytes result ≡ 0 }
     {
         match self.bodies[node].file.write_at(position, bytes) {
             Ok(count) => Reply::Count(count as u64),
@@ -91,7 +81,8 @@ impl Store {
     pub(crate) fn lseek(&mut self, node: usize, from: Opened, offset: i64, whence: Whence) -> Reply
         requires inside { node < limit.OBJECTS }
         requires known { ContainsKey self.old.table.descriptions from.key }
-        ensures { Seeks (offset_of (pos (base_of whence (offset_of_key self.old from.key) (length (body_at self.old node))) +ℤ offset)) self.old from.key result self.new }
+        ensures sought { Seeks (offset_of (pos (base_of whence (offset_of_key self.old from.key) (length (body_at self.old node))) +ℤ offset)) self.old from.key result self.new }
+        ensures few { reply_bytes result ≡ 0 }
     {
         let base = match whence {
             Whence::Set => 0,
@@ -139,6 +130,7 @@ impl Store {
         requires known { ContainsKey self.old.table.descriptions to.key }
         requires planned { IsPlanned self.old call.now node (op.Write to) }
         ensures ends { EndsTurn self.old call.now result self.new }
+        ensures few { act_bytes result ≡ 0 }
         ensures births { (self.new.table.descriptions.made ≡ self.old.table.descriptions.made) × (self.new.table.made_objects ≡ self.old.table.made_objects) }
     {
         // What holds of every store holds of this one: each number has its body.
@@ -153,6 +145,7 @@ impl Store {
         requires inside { node < limit.OBJECTS }
         requires planned { IsPlanned self.old call.now node (op.Pwrite position) }
         ensures reply { Replies self.old call.now result self.new }
+        ensures few { reply_bytes result ≡ 0 }
         ensures births { (self.new.table.descriptions.made ≡ self.old.table.descriptions.made) × (self.new.table.made_objects ≡ self.old.table.made_objects) }
     {
         // What holds of every store holds of this one: each number has its body.
@@ -174,6 +167,7 @@ impl Store {
         requires known { ContainsKey self.old.table.descriptions from.key }
         requires planned { IsPlanned self.old call.now node (op.Lseek from) }
         ensures reply { Replies self.old call.now result self.new }
+        ensures few { reply_bytes result ≡ 0 }
         ensures births { (self.new.table.descriptions.made ≡ self.old.table.descriptions.made) × (self.new.table.made_objects ≡ self.old.table.made_objects) }
     {
         match call {
@@ -189,6 +183,7 @@ impl Store {
         requires inside { node < limit.OBJECTS }
         requires planned { IsPlanned self.old call.now node (op.Open cut) }
         ensures reply { Replies self.old call.now result self.new }
+        ensures few { reply_bytes result ≡ 0 }
         ensures births { (self.new.table.descriptions.made ≤ self.old.table.descriptions.made + 2) × (self.new.table.made_objects ≤ self.old.table.made_objects + 1) }
     {
         let plan = self.table.plan(call);
@@ -213,6 +208,7 @@ impl Store {
         requires objects { self.old.table.made_objects < 2 ^ 127 }
         requires planned { (node : ℕ) × IsPlanned self.old call.now node op.Release }
         ensures reply { Replies self.old call.now result self.new }
+        ensures few { reply_bytes result ≡ 0 }
         ensures births { (self.new.table.descriptions.made ≤ self.old.table.descriptions.made + 2) × (self.new.table.made_objects ≤ self.old.table.made_objects + 1) }
     {
         let plan = self.table.plan(call);
@@ -242,20 +238,15 @@ pub(crate) fn numbers_reply(given: NewNumbers) -> Reply
     }
 }
 
-// A copy of the bytes of a file from a position on.
-fn file_bytes(
-    alloc: Global,
-    body: &FileBody,
-    position: u64,
-    count: usize,
-) -> Result<Bytes, AllocError>
-    ensures bytes { IfOk result (λ bytes. bytes ≡ bytes_at body.now position count) }
-    ensures within_limit { IfOk result (λ bytes. length bytes ≤ 65536 - position) }
+// A copy of the bytes of a file from a position on, as many as there is room for.
+fn file_bytes(body: &FileBody, position: u64, into: Vec<u8>) -> Bytes
+    ensures bytes { result ≡ bytes_at body.now position (length into.items) }
+    ensures within_limit { length result ≤ 65536 - position }
 {
-    let mut bytes = vec![in alloc; 0; count]?;
+    let mut bytes = into;
     let read = body.read_at(position, bytes.as_mut_slice());
     bytes.truncate(read);
-    Ok(Bytes::from_vec(bytes))
+    Bytes::from_vec(bytes)
 }
 
 // An offset counted from a base.

@@ -5,7 +5,7 @@ ghost use Rattle.descriptor_table.specs.Plans.{planned};
 ghost use Rattle.descriptor_table.specs.declared.plan.NewNumbers.{NewNumbers};
 ghost use Rattle.descriptor_table.specs.declared.plan.Op.TheVariants as op;
 ghost use Rattle.descriptor_table.specs.declared.plan.Plan.TheVariants as plan;
-ghost use Rattle.object_store.specs.Patience.{EndsOutside};
+ghost use Rattle.object_store.specs.Patience.{EndsOutside, turn_bytes};
 ghost use Rattle.object_store.specs.Store.{LeavesTable, Opens, at_port, opens_door};
 
 use crate::acts::numbers_reply;
@@ -33,7 +33,7 @@ impl Store {
 
     /// Ends a turn of a call that kept the table while it was outside, by an outcome that fits: where a door was
     /// opened it is a new object, and the lowest number that is not open refers to it. Otherwise nothing changes:
-    /// the failure EAGAIN may make an accept wait, and every other one is the call's reply.
+    /// the failure EAGAIN may make an accept wait, and every other one is the call's reply. No reply brings bytes.
     pub fn open_door(
         &mut self,
         call: &Call,
@@ -44,6 +44,7 @@ impl Store {
         requires descriptions { self.old.table.descriptions.made < 2 ^ 127 }
         requires objects { self.old.table.made_objects < 2 ^ 127 }
         ensures opens { Opens patience turns self.old call.now outcome.now result self.new }
+        ensures few { turn_bytes result ≡ 0 }
         ensures births { (self.new.table.descriptions.made ≤ self.old.table.descriptions.made + 2) × (self.new.table.made_objects ≤ self.old.table.made_objects + 1) }
     {
         let plan = self.table.plan(call);
@@ -81,7 +82,8 @@ fn end_opening(
     patience: u32,
     turns: u32,
 ) -> TurnEnd
-    ensures { opens_door errand.kind ≡ true → EndsOutside patience turns errand given outcome.now result }
+    ensures ends { opens_door errand.kind ≡ true → EndsOutside patience turns errand given outcome.now result }
+    ensures few { turn_bytes result ≡ 0 }
 {
     match outcome {
         Outcome::Ok { .. } => TurnEnd::Reply(numbers_reply(given)),

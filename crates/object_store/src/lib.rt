@@ -6,9 +6,11 @@ mod body;
 mod doors;
 mod laws;
 mod patience;
+mod room;
 mod store;
 mod streams;
 
 pub use laws::locks_and_doors;
-pub use patience::{TurnEnd, TurnStart, end_outside};
+pub use patience::{TurnEnd, TurnStart, copied, end_outside};
+pub use room::Room;
 pub use store::Store;

@@ -1,15 +1,15 @@
-ghost use Rattle.std.specs.Prelude.{◌≡◌};
-ghost use Rattle.std.specs.Prelude.{IfOk, nat_le, pos, true};
+ghost use Rattle.std.specs.Prelude.{◌≡◌, ◌≤◌, length, nat_le, pos, take, true};
 ghost use Rattle.posix_terms.specs.declared.reply.Reply.TheVariants.{Number};
 ghost use Rattle.posix_terms.specs.Outcomes.{fits};
 ghost use Rattle.posix_terms.specs.declared.outcome.Outcome.TheVariants.{Fail as failure};
+ghost use Rattle.descriptor_table.specs.Plans.{bytes_asked, reply_bytes};
 ghost use Rattle.descriptor_table.specs.declared.plan.NewNumbers.{NewNumbers};
 ghost use Rattle.descriptor_table.specs.declared.plan.NewNumbers.TheVariants as numbers;
-ghost use Rattle.object_store.specs.Patience.{EndsOutside, Waits, shown_ending, stopped_ending};
+ghost use Rattle.object_store.specs.Patience.{EndsOutside, Waits, act_bytes, shown_ending, stopped_ending, turn_bytes};
 
 use descriptor_table::Errand;
-use posix_terms::{Errno, OutKind, Outcome, Reply};
-use std::alloc::AllocError;
+use posix_terms::{Bytes, Errno, OutKind, Outcome, Reply};
+use std::mem::replace;
 
 /// How a turn of a call ended.
 #[derive(Drop)]
@@ -38,7 +38,8 @@ pub enum Ending {
 
 // What cannot go on waits, or fails where its description is not to block.
 pub(crate) fn stopped(nonblock: bool) -> Ending
-    ensures { shown_ending result ≡ stopped_ending nonblock }
+    ensures shown { shown_ending result ≡ stopped_ending nonblock }
+    ensures few { act_bytes result ≡ 0 }
 {
     if nonblock {
         Ending::Reply(Reply::Fail(Errno::EAGAIN))
@@ -50,7 +51,8 @@ pub(crate) fn stopped(nonblock: bool) -> Ending
 // The end of a turn of a call that cannot go on, and was blocked for so many turns before: it is made again,
 // until it was blocked for as many turns as its patience.
 pub(crate) fn blocked(patience: u32, turns: u32) -> TurnEnd
-    ensures { Waits patience turns result }
+    ensures waits { Waits patience turns result }
+    ensures few { turn_bytes result ≡ 0 }
 {
     if u64::from(turns) + 1 < u64::from(patience) {
         TurnEnd::Blocked(turns + 1)
@@ -60,31 +62,71 @@ pub(crate) fn blocked(patience: u32, turns: u32) -> TurnEnd
 }
 
 /// The end of a turn of a call that went outside and did not keep the table, by the outcome that came and fits: a
-/// success is the call's reply; the failure EAGAIN may make it wait, and every other one is its reply. `Err` is
-/// want of memory for a read's bytes.
+/// success is the call's reply; the failure EAGAIN may make it wait, and every other one is its reply. The bytes
+/// of a read take the room with them, which has to be as many bytes as the read asks, whatever they are; there are
+/// no more than it had (`few`).
 pub fn end_outside(
     errand: Errand,
     outcome: &Outcome,
     patience: u32,
     turns: u32,
-) -> Result<TurnEnd, AllocError>
-    ensures { fits errand.kind errand.asked outcome.now ≡ true → IfOk result (λ e. EndsOutside patience turns errand numbers.None outcome.now e) }
+    room: &mut Vec<u8>,
+) -> TurnEnd
+    ensures ends { fits errand.kind errand.asked outcome.now ≡ true → bytes_asked errand ≤ length room.old.items → EndsOutside patience turns errand numbers.None outcome.now result }
+    ensures few { turn_bytes result ≤ length room.old.items }
 {
     let (value, bytes) = match outcome {
         Outcome::Ok { value, bytes } => (*value, bytes),
-        Outcome::Fail(error) => return Ok(fail_outside(errand, *error, patience, turns)),
+        Outcome::Fail(error) => return fail_outside(errand, *error, patience, turns),
     };
-    Ok(TurnEnd::Reply(match errand.kind {
-        OutKind::Read => Reply::Data(bytes.try_clone()?),
+    TurnEnd::Reply(match errand.kind {
+        OutKind::Read => Reply::Data(filled(room, bytes.as_slice())),
         OutKind::Write => Reply::Count(value),
         OutKind::Seek => seek_reply(value),
         _ => Reply::Done,
-    }))
+    })
+}
+
+/// A copy of a reply. Its bytes take the room with them, which has to be as many bytes as there are in the reply, whatever
+/// they are.
+pub fn copied(reply: &Reply, room: &mut Vec<u8>) -> Reply
+    ensures { reply_bytes reply.now ≤ length room.old.items → result ≡ reply.now }
+{
+    match reply {
+        Reply::Count(count) => Reply::Count(*count),
+        Reply::Data(bytes) => Reply::Data(filled(room, bytes.as_slice())),
+        Reply::Number(number) => Reply::Number(*number),
+        Reply::Pair(first, second) => Reply::Pair(*first, *second),
+        Reply::Stat {
+            kind,
+            number,
+            links,
+        } => Reply::Stat {
+            kind: *kind,
+            number: *number,
+            links: *links,
+        },
+        Reply::Done => Reply::Done,
+        Reply::Fail(error) => Reply::Fail(*error),
+    }
+}
+
+// A copy of these bytes in the room, in which nothing is left; of more than there is room for, the first.
+fn filled(room: &mut Vec<u8>, bytes: &[u8]) -> Bytes
+    ensures { result ≡ take (length room.old.items) bytes.now }
+{
+    let alloc = *room.allocator();
+    let mut copy = replace(room, Vec::new(alloc));
+    copy.truncate(bytes.len());
+    let count = copy.len();
+    copy.copy_from_slice(&bytes[..count]);
+    Bytes::from_vec(copy)
 }
 
 // The reply of a seek that ended at this offset. None that fits is beyond those of this type.
 fn seek_reply(offset: u64) -> Reply
-    ensures { nat_le offset 9223372036854775807 ≡ true → result ≡ Number (pos offset) }
+    ensures number { nat_le offset 9223372036854775807 ≡ true → result ≡ Number (pos offset) }
+    ensures few { reply_bytes result ≡ 0 }
 {
     match i64::try_from(offset) {
         Ok(offset) => Reply::Number(offset),
@@ -94,7 +136,8 @@ fn seek_reply(offset: u64) -> Reply
 
 // The end of a turn of a call that failed outside.
 pub(crate) fn fail_outside(errand: Errand, error: Errno, patience: u32, turns: u32) -> TurnEnd
-    ensures { (given : NewNumbers) → EndsOutside patience turns errand given (failure error) result }
+    ensures ends { (given : NewNumbers) → EndsOutside patience turns errand given (failure error) result }
+    ensures few { turn_bytes result ≡ 0 }
 {
     if errand.waits && error == Errno::EAGAIN {
         return blocked(patience, turns);

@@ -1,11 +1,12 @@
-ghost use Rattle.std.specs.Prelude.{◌≡◌, ◌+◌, ◌<◌, ◌≤◌, ◌^◌, true, length, IfOk, IfSome, OnErr, option_copied};
+ghost use Rattle.std.specs.Prelude.{◌≡◌, ◌+◌, ◌<◌, ◌≤◌, ◌^◌, true, length, IfOk, IfSome, option_copied};
 ghost use Rattle.posix_terms.specs.declared.limits.TheConstants.Limits as limit;
-ghost use Rattle.descriptor_table.specs.Plans.{MovesKnown, planned};
+ghost use Rattle.descriptor_table.specs.Plans.{MovesKnown, planned, read_count};
 ghost use Rattle.descriptor_table.specs.declared.plan.Plan.TheVariants as plan;
 ghost use Rattle.descriptor_table.specs.Agreement.{TellsAsStep};
 ghost use Rattle.descriptor_table.specs.Changes.{IsAtPort};
 ghost use Rattle.object_store.specs.Acting.{acts_inside};
-ghost use Rattle.object_store.specs.Store.{EndsTurn, IsPlanned, Makes, Replies, TableMade, first_stored, number_locked};
+ghost use Rattle.object_store.specs.Patience.{act_bytes};
+ghost use Rattle.object_store.specs.Store.{EndsTurn, IsPlanned, UsesRoom, Makes, Replies, TableMade, first_stored, number_locked};
 
 use crate::body::Body;
 use crate::patience::{Ending, TurnEnd, TurnStart, blocked};
@@ -13,6 +14,7 @@ use descriptor_table::{NewNumbers, Op, Plan, Table};
 use posix_terms::{Call, Limits, Outcome, Reply};
 use std::alloc::{AllocError, Global};
 use std::marker::Model;
+use std::mem::replace;
 
 /// The shared descriptor table, and by object number the bodies of the objects.
 #[derive(Drop)]
@@ -67,35 +69,34 @@ impl Store {
     /// until it was for as many turns as its patience, and then fails with EINTR; where its description has
     /// O_NONBLOCK it fails at once with EAGAIN. A call that goes outside gets its errand, with the number of the
     /// object whose door it takes along; unless it keeps the table, its change is made, and `end_outside` ends its
-    /// turn, and else `open_door`. `Err` is want of memory for a read's bytes, and then nothing changes.
-    pub fn make(
-        &mut self,
-        alloc: Global,
-        call: &Call,
-        patience: u32,
-        turns: u32,
-    ) -> Result<TurnStart, AllocError>
+    /// turn, and else `open_door`.
+    ///
+    /// The room is for a read's bytes, and has at least as many as `read_count` says, whatever they are. A read that
+    /// is made here takes it, even where it has to wait, so its next turn needs another, and no reply brings more
+    /// bytes than that. A call that goes outside leaves it as it was, for `end_outside`, and asks no more (`room`).
+    pub fn make(&mut self, call: &Call, patience: u32, turns: u32, room: &mut Vec<u8>) -> TurnStart
         requires descriptions { self.old.table.descriptions.made < 2 ^ 127 }
         requires objects { self.old.table.made_objects < 2 ^ 127 }
-        ensures makes { IfOk result (λ start. Makes patience turns self.old call.now start self.new) }
-        ensures err { OnErr result (self.new ≡ self.old) }
+        requires room { read_count call.now ≤ length room.old.items }
+        ensures makes { Makes patience turns self.old call.now result self.new }
+        ensures room { UsesRoom (read_count call.now) room.old.items room.new.items result }
         ensures births { (self.new.table.descriptions.made ≤ self.old.table.descriptions.made + 2) × (self.new.table.made_objects ≤ self.old.table.made_objects + 1) }
     {
         match self.table.plan(call) {
-            Plan::Reply(reply) => Ok(TurnStart::Ended(TurnEnd::Reply(self.settle(call, reply)))),
+            Plan::Reply(reply) => TurnStart::Ended(TurnEnd::Reply(self.settle(call, reply))),
             Plan::Node {
                 node,
                 op: Op::Ask(errand),
                 keep_table,
             } => {
                 self.go_out(call, node, errand, keep_table);
-                Ok(TurnStart::GoesOut(errand))
+                TurnStart::GoesOut(errand)
             }
             Plan::Node { node, op, .. } => {
-                Ok(TurnStart::Ended(match self.act(alloc, call, node, op)? {
+                TurnStart::Ended(match self.act(call, node, op, room) {
                     Ending::Reply(reply) => TurnEnd::Reply(reply),
                     Ending::Waits => blocked(patience, turns),
-                }))
+                })
             }
         }
     }
@@ -105,6 +106,7 @@ impl Store {
         requires descriptions { self.old.table.descriptions.made < 2 ^ 127 }
         requires objects { self.old.table.made_objects < 2 ^ 127 }
         requires planned { planned self.old.table call.now ≡ plan.Reply reply }
+        ensures same { result ≡ reply }
         ensures reply { Replies self.old call.now result self.new }
         ensures births { (self.new.table.descriptions.made ≤ self.old.table.descriptions.made + 2) × (self.new.table.made_objects ≤ self.old.table.made_objects + 1) }
     {
@@ -140,35 +142,47 @@ impl Store {
     }
 
     // Makes a turn of a call that acts on the object with this number.
-    fn act(&mut self, alloc: Global, call: &Call, node: usize, op: Op) -> Result<Ending, AllocError>
+    fn act(&mut self, call: &Call, node: usize, op: Op, room: &mut Vec<u8>) -> Ending
         requires descriptions { self.old.table.descriptions.made < 2 ^ 127 }
         requires objects { self.old.table.made_objects < 2 ^ 127 }
         requires planned { IsPlanned self.old call.now node op }
         requires inside { node < limit.OBJECTS }
-        requires known { MovesKnown self.old.table op }
+        requires known { MovesKnown self.old.table (read_count call.now) op }
         requires here { acts_inside op ≡ true }
-        ensures ends { IfOk result (λ e. EndsTurn self.old call.now e self.new) }
-        ensures err { OnErr result (self.new ≡ self.old) }
+        requires room { read_count call.now ≤ length room.old.items }
+        ensures ends { EndsTurn self.old call.now result self.new }
+        ensures few { act_bytes result ≤ read_count call.now }
         ensures births { (self.new.table.descriptions.made ≤ self.old.table.descriptions.made + 2) × (self.new.table.made_objects ≤ self.old.table.made_objects + 1) }
     {
         // What holds of every store holds of this one: each number has its body.
         let _ = &self.bodies;
         match op {
-            Op::Read { from, count } => self.read(alloc, node, from, count),
-            Op::Write { to } => Ok(self.write_call(call, node, to)),
-            Op::Open { cut } => Ok(Ending::Reply(self.open(call, node, cut))),
-            Op::Release => Ok(Ending::Reply(self.release(call))),
+            Op::Read { from, count } => self.read(node, from, taken(room, count)),
+            Op::Write { to } => self.write_call(call, node, to),
+            Op::Open { cut } => Ending::Reply(self.open(call, node, cut)),
+            Op::Release => Ending::Reply(self.release(call)),
             Op::Pread { count, position } => {
-                Ok(Ending::Reply(self.pread(alloc, node, count, position)?))
+                Ending::Reply(self.pread(node, position, taken(room, count)))
             }
-            Op::Ftruncate { size } => Ok(Ending::Reply(self.ftruncate(node, size))),
-            Op::Fstat { links } => Ok(Ending::Reply(self.fstat(node, links))),
-            Op::Pwrite { position } => Ok(Ending::Reply(self.pwrite_call(call, node, position))),
-            Op::Lseek { at } => Ok(Ending::Reply(self.lseek_call(call, node, at))),
-            Op::Pipe => Ok(Ending::Reply(self.open_pipe(call, node))),
-            Op::Socketpair => Ok(Ending::Reply(self.open_pair(call, node))),
-            Op::Shutdown { side, how } => Ok(Ending::Reply(self.shutdown(node, side, how))),
+            Op::Ftruncate { size } => Ending::Reply(self.ftruncate(node, size)),
+            Op::Fstat { links } => Ending::Reply(self.fstat(node, links)),
+            Op::Pwrite { position } => Ending::Reply(self.pwrite_call(call, node, position)),
+            Op::Lseek { at } => Ending::Reply(self.lseek_call(call, node, at)),
+            Op::Pipe => Ending::Reply(self.open_pipe(call, node)),
+            Op::Socketpair => Ending::Reply(self.open_pair(call, node)),
+            Op::Shutdown { side, how } => Ending::Reply(self.shutdown(node, side, how)),
             Op::Ask(_) => unreachable!(),
         }
     }
+}
+
+// So many bytes of the room, in which nothing is left.
+fn taken(room: &mut Vec<u8>, count: usize) -> Vec<u8>
+    requires { count ≤ length room.old.items }
+    ensures { length result.items ≡ count }
+{
+    let alloc = *room.allocator();
+    let mut bytes = replace(room, Vec::new(alloc));
+    bytes.truncate(count);
+    bytes
 }

@@ -1,4 +1,4 @@
-ghost use Rattle.std.specs.Prelude.{◌≡◌, ◌+◌, ◌^◌, ◌<◌, ◌≤◌, [], length, IfOk, OnErr};
+ghost use Rattle.std.specs.Prelude.{◌≡◌, ◌+◌, ◌^◌, ◌<◌, ◌≤◌, [], length};
 ghost use Rattle.posix_terms.specs.Object.{Pair, Pipe};
 ghost use Rattle.posix_terms.specs.Streams.{half_at, new_pair, pair_read, pair_write, peer_of, shut, with_waiting};
 ghost use Rattle.posix_terms.specs.declared.object.End.TheVariants as part;
@@ -8,9 +8,10 @@ ghost use Rattle.posix_terms.specs.declared.limits.TheConstants.Limits as limit;
 ghost use Rattle.pipes.specs.Pipe.{read_answer, write_answer};
 ghost use Rattle.stream_sockets.specs.Pair.{left_by_read, left_by_write, read_into};
 ghost use Rattle.descriptor_table.specs.Acts.{has_read, has_written, is_open, read_acted, write_acted};
+ghost use Rattle.descriptor_table.specs.Plans.{reply_bytes};
 ghost use Rattle.descriptor_table.specs.declared.plan.Op.TheVariants as op;
 ghost use Rattle.object_store.specs.Acting.{ActsOn, HasRead, HasWritten, ending_of_read, ending_of_write, holding, offset_of_key};
-ghost use Rattle.object_store.specs.Patience.{shown_ending};
+ghost use Rattle.object_store.specs.Patience.{act_bytes, shown_ending};
 ghost use Rattle.object_store.specs.Store.{IsPlanned, Replies, kept_at};
 
 use crate::acts::numbers_reply;
@@ -19,65 +20,45 @@ use crate::store::Store;
 use descriptor_table::Opened;
 use pipes::PipeAnswer;
 use posix_terms::{Bytes, Call, End, Errno, Reply, ShutdownHow, Side};
-use std::alloc::{AllocError, Global};
 
 // A read and a write, and what calls do with a pipe or a pair of sockets, whose lock they took.
 impl Store {
-    // POSIX.1-2017, `read`. Without memory nothing changes.
-    pub(crate) fn read(
-        &mut self,
-        alloc: Global,
-        node: usize,
-        from: Opened,
-        count: usize,
-    ) -> Result<Ending, AllocError>
+    // POSIX.1-2017, `read`, of as many bytes as there is room for.
+    pub(crate) fn read(&mut self, node: usize, from: Opened, into: Vec<u8>) -> Ending
         requires inside { node < limit.OBJECTS }
         requires known { ContainsKey self.old.table.descriptions from.key }
-        ensures read { IfOk result (λ e. HasRead from.«end» self.old node from count e self.new) }
-        ensures err { OnErr result (self.new ≡ self.old) }
+        ensures read { HasRead from.«end» self.old node from (length into.items) result self.new }
+        ensures few { act_bytes result ≤ length into.items }
     {
         match from.end {
-            End::Only => Ok(Ending::Reply(self.read_file(alloc, node, from, count)?)),
-            End::Read | End::Write => self.read_pipe(alloc, node, from, count),
-            End::Socket(side) => self.read_pair(alloc, node, from, side, count),
+            End::Only => Ending::Reply(self.read_file(node, from, into)),
+            End::Read | End::Write => self.read_pipe(node, from, into),
+            End::Socket(side) => self.read_pair(node, from, side, into),
             // A door is read outside.
-            End::Door(_) => Ok(Ending::Reply(Reply::Done)),
+            End::Door(_) => Ending::Reply(Reply::Done),
         }
     }
 
-    fn read_pipe(
-        &mut self,
-        alloc: Global,
-        node: usize,
-        from: Opened,
-        count: usize,
-    ) -> Result<Ending, AllocError>
+    fn read_pipe(&mut self, node: usize, from: Opened, into: Vec<u8>) -> Ending
         requires inside { node < limit.OBJECTS }
-        ensures acts { IfOk result (λ e. ActsOn (read_acted self.old.table node from count (Pipe (kept_at self.old node).pipe) (offset_of_key self.old from.key)) self.old node e self.new) }
-        ensures err { OnErr result (self.new ≡ self.old) }
+        ensures acts { ActsOn (read_acted self.old.table node from (length into.items) (Pipe (kept_at self.old node).pipe) (offset_of_key self.old from.key)) self.old node result self.new }
+        ensures few { act_bytes result ≤ length into.items }
     {
-        let mut bytes = vec![in alloc; 0; count]?;
+        let mut bytes = into;
         let writers = self.is_open(node, End::Write);
         let answer = self.bodies[node].pipe.take(bytes.as_mut_slice(), writers);
-        Ok(read_ending(answer, bytes, from.flags.nonblock))
+        read_ending(answer, bytes, from.flags.nonblock)
     }
 
-    fn read_pair(
-        &mut self,
-        alloc: Global,
-        node: usize,
-        from: Opened,
-        side: Side,
-        count: usize,
-    ) -> Result<Ending, AllocError>
+    fn read_pair(&mut self, node: usize, from: Opened, side: Side, into: Vec<u8>) -> Ending
         requires inside { node < limit.OBJECTS }
-        ensures acts { IfOk result (λ e. ActsOn (has_read from (λ left. Pair (with_waiting (kept_at self.old node).pair side left)) (Pair (kept_at self.old node).pair) (offset_of_key self.old from.key) (pair_read (kept_at self.old node).pair side count (is_open self.old.table node (part.Socket (peer_of side))))) self.old node e self.new) }
-        ensures err { OnErr result (self.new ≡ self.old) }
+        ensures acts { ActsOn (has_read from (λ left. Pair (with_waiting (kept_at self.old node).pair side left)) (Pair (kept_at self.old node).pair) (offset_of_key self.old from.key) (pair_read (kept_at self.old node).pair side (length into.items) (is_open self.old.table node (part.Socket (peer_of side))))) self.old node result self.new }
+        ensures few { act_bytes result ≤ length into.items }
     {
-        let mut bytes = vec![in alloc; 0; count]?;
+        let mut bytes = into;
         let peer_open = self.is_open(node, End::Socket(side.peer()));
         let answer = self.take_pair(node, side, bytes.as_mut_slice(), peer_open);
-        Ok(read_ending(answer, bytes, from.flags.nonblock))
+        read_ending(answer, bytes, from.flags.nonblock)
     }
 
     // POSIX.1-2017, `write`; to a file, of no bytes it does nothing.
@@ -85,6 +66,7 @@ impl Store {
         requires inside { node < limit.OBJECTS }
         requires known { ContainsKey self.old.table.descriptions to.key }
         ensures written { HasWritten to.«end» self.old node to bytes.now result self.new }
+        ensures few { act_bytes result ≡ 0 }
     {
         match to.end {
             End::Only if bytes.is_empty() => Ending::Reply(Reply::Count(0)),
@@ -98,7 +80,8 @@ impl Store {
 
     fn write_pipe(&mut self, node: usize, to: Opened, bytes: &[u8]) -> Ending
         requires inside { node < limit.OBJECTS }
-        ensures { ActsOn (write_acted self.old.table node to bytes.now (Pipe (kept_at self.old node).pipe) (offset_of_key self.old to.key)) self.old node result self.new }
+        ensures acts { ActsOn (write_acted self.old.table node to bytes.now (Pipe (kept_at self.old node).pipe) (offset_of_key self.old to.key)) self.old node result self.new }
+        ensures few { act_bytes result ≡ 0 }
     {
         let readers = self.is_open(node, End::Read);
         let answer = self.bodies[node].pipe.put(bytes, readers);
@@ -107,7 +90,8 @@ impl Store {
 
     fn write_pair(&mut self, node: usize, to: Opened, side: Side, bytes: &[u8]) -> Ending
         requires inside { node < limit.OBJECTS }
-        ensures { ActsOn (has_written to (λ left. Pair (with_waiting (kept_at self.old node).pair (peer_of side) left)) (Pair (kept_at self.old node).pair) (offset_of_key self.old to.key) (length bytes.now) (pair_write (kept_at self.old node).pair side bytes.now (is_open self.old.table node (part.Socket (peer_of side))))) self.old node result self.new }
+        ensures acts { ActsOn (has_written to (λ left. Pair (with_waiting (kept_at self.old node).pair (peer_of side) left)) (Pair (kept_at self.old node).pair) (offset_of_key self.old to.key) (length bytes.now) (pair_write (kept_at self.old node).pair side bytes.now (is_open self.old.table node (part.Socket (peer_of side))))) self.old node result self.new }
+        ensures few { act_bytes result ≡ 0 }
     {
         let peer_open = self.is_open(node, End::Socket(side.peer()));
         let answer = self.put_pair(node, side, bytes, peer_open);
@@ -150,6 +134,7 @@ impl Store {
         requires inside { node < limit.OBJECTS }
         requires planned { IsPlanned self.old call.now node op.Pipe }
         ensures reply { Replies self.old call.now result self.new }
+        ensures few { reply_bytes result ≡ 0 }
         ensures births { (self.new.table.descriptions.made ≤ self.old.table.descriptions.made + 2) × (self.new.table.made_objects ≤ self.old.table.made_objects + 1) }
     {
         let plan = self.table.plan(call);
@@ -173,6 +158,7 @@ impl Store {
         requires inside { node < limit.OBJECTS }
         requires planned { IsPlanned self.old call.now node op.Socketpair }
         ensures reply { Replies self.old call.now result self.new }
+        ensures few { reply_bytes result ≡ 0 }
         ensures births { (self.new.table.descriptions.made ≤ self.old.table.descriptions.made + 2) × (self.new.table.made_objects ≤ self.old.table.made_objects + 1) }
     {
         let plan = self.table.plan(call);
@@ -202,7 +188,8 @@ impl Store {
 
 // The end of a read that was answered so.
 fn read_ending(answer: PipeAnswer, bytes: Vec<u8>, nonblock: bool) -> Ending
-    ensures { shown_ending result ≡ ending_of_read answer bytes.items nonblock }
+    ensures shown { shown_ending result ≡ ending_of_read answer bytes.items nonblock }
+    ensures few { act_bytes result ≤ length bytes.items }
 {
     let mut bytes = bytes;
     match answer {
@@ -220,7 +207,8 @@ fn read_ending(answer: PipeAnswer, bytes: Vec<u8>, nonblock: bool) -> Ending
 
 // The end of a write that was answered so.
 fn write_ending(answer: PipeAnswer, nonblock: bool) -> Ending
-    ensures { shown_ending result ≡ ending_of_write answer nonblock }
+    ensures shown { shown_ending result ≡ ending_of_write answer nonblock }
+    ensures few { act_bytes result ≡ 0 }
 {
     match answer {
         PipeAnswer::Count(count) => Ending::Reply(Reply::Count(count as u64)),

@@ -1,46 +1,28 @@
 -- A run under the outcomes that came in another.
 use Rattle.std.proofs.Common.{◌≡◌, ℕ, zero, suc, ◌+◌, ◌≤◌, true, false, List, [], length, slice_get, Option, Some, None, refl, sym, ap, ◌∙◌, subst, ⊎_elim, inl, inr, arith}
 use Rattle.std.proofs.lemmas.Bool.{false≢true, cases_Bool, cond-true, cond-false}
-use Rattle.std.proofs.lemmas.List.{get_or_past, length-replicate, length-set}
+use Rattle.std.proofs.lemmas.List.{get_or_past, length-replicate}
 use Rattle.std.proofs.lemmas.Option.{none-some, same_Some, slice_get_within}
+use Rattle.call_machine.specs.Plain.{has_ended}
 use Rattle.call_machine.specs.Strays.{diverging, if_stray}
 use Rattle.lock_machine.specs.Strays.{is_stray, stray_in}
-use Rattle.lock_model.specs.Machine.{Setup, Event, Moved, happens, is_allowed, move}
-use Rattle.lock_model.specs.Machine.Event.{Advances, Attempts}
-use Rattle.lock_model.specs.Runs.{Arises, run}
+use Rattle.lock_model.specs.Machine.{Setup}
 use Rattle.lock_model.specs.Schedule.{IsOver, after_event, plain, plain_run}
-use Rattle.lock_model.specs.State.{Job, Phase, State, Thread, live_clock, live_clocks, nobody, start, thread_of}
+use Rattle.lock_model.specs.State.{Job, Phase, State, Thread, live_clocks, nobody, start, thread_of}
 use Rattle.lock_model.specs.State.Phase.{Outside}
 use Rattle.lock_model.specs.Terms.{World}
 use Rattle.lock_model.specs.Transcripts.{outcomes_of}
-use Rattle.lock_model.proofs.Arising.{arises_run}
-use Rattle.lock_model.proofs.Attempt.{move_of}
-use Rattle.lock_model.proofs.Commute.{advance_move}
-use Rattle.lock_model.proofs.Ends.{attempt_clock}
-use Rattle.lock_model.proofs.Follows.{run_follows}
-use Rattle.lock_model.proofs.Holder.{holder_there}
-use Rattle.lock_model.proofs.Kept.{run_keeps}
-use Rattle.lock_model.proofs.Turn.{clock_at}
 use Rattle.logical_clocks.specs.TurnOrder.{turn_holder}
 use Rattle.posix_terms.specs.declared.outcome.Given.{Given}
-use Rattle.lock_model.specs.Came.{CameIsRows, OutsideStays, PlainLeads, SameUnderCame, StaysOrFits, under_came}
+use Rattle.lock_model.specs.Came.{StaysOrFits, under_came}
+use Rattle.lock_model.specs.Laws.{HaveEnded}
+use Rattle.replayer.proofs.Known.{Known}
 
 -- ## The number of threads
 
-event_count : (setup : Setup) (s : State) (e : Event) → is_allowed setup e s ≡ true → length (happens setup e s).threads ≡ length s.threads
-event_count setup s (Attempts i) can = (attempt_clock setup s i can).0
-event_count setup s (Advances i) can =
-    let m = move_of setup s i can in
-    ap (λ (z : State). length z.threads) (advance_move setup i s ∙ ap (λ (o : Option Moved). move i o s) m.1) ∙ length-set s.threads i m.0.thread
-
 -- stays as it is
-pub plain_count : PlainLeads → (setup : Setup) (threads objects : ℕ) (w : World) (n : ℕ) → length (plain_run setup n (start threads objects w)).threads ≡ threads
-plain_count leads setup threads objects w n =
-    let first = start threads objects w in
-    let to = leads setup first n in
-    let same : length (run setup to.events first).threads ≡ length first.threads =
-    run_keeps setup (λ (z : State). length z.threads ≡ length first.threads) to.events first (λ z e can h. event_count setup z e can ∙ h) refl in
-    ap (λ (z : State). length z.threads) (sym to.ends) ∙ (same ∙ length-replicate threads _)
+pub plain_count : Known → (setup : Setup) (threads objects : ℕ) (w : World) (n : ℕ) → length (plain_run setup n (start threads objects w)).threads ≡ threads
+plain_count known setup threads objects w n = known.count setup (start threads objects w) n ∙ length-replicate threads _
 
 -- past it nothing came
 pub came_past : (s : State) (i : ℕ) → length s.threads ≤ i → (thread_of s i).came ≡ []
@@ -48,22 +30,17 @@ came_past s i l = ap (λ (t : Thread). t.came) (get_or_past s.threads i nobody l
 
 -- ## Outcomes
 
-pub plain_arises : PlainLeads → (setup : Setup) (threads objects : ℕ) (w : World) (n : ℕ) → Arises setup (start threads objects w) (plain_run setup n (start threads objects w))
-plain_arises leads setup threads objects w n =
-    let to = leads setup (start threads objects w) n in
-    subst (Arises setup (start threads objects w)) to.ends (arises_run setup threads objects w to.events)
-
 -- what came for a thread are the outcomes of its rows
-pub came_rows : PlainLeads → CameIsRows → (setup : Setup) (threads objects : ℕ) (w : World) (n i : ℕ)
+pub came_rows : Known → (setup : Setup) (threads objects : ℕ) (w : World) (n i : ℕ)
     → (thread_of (plain_run setup n (start threads objects w)) i).came ≡ outcomes_of i (plain_run setup n (start threads objects w)).rows
-came_rows leads is_rows setup threads objects w n i = is_rows setup threads objects w (plain_run setup n (start threads objects w)) (plain_arises leads setup threads objects w n) i
+came_rows known setup threads objects w n i = known.rows setup threads objects w (plain_run setup n (start threads objects w)) (known.arises setup threads objects w n) i
 
 -- each outcome that came was supplied
-came_supplied : PlainLeads → (setup : Setup) (threads objects : ℕ) (w : World) (n i k : ℕ) (o : Given)
+came_supplied : Known → (setup : Setup) (threads objects : ℕ) (w : World) (n i k : ℕ) (o : Given)
     → slice_get (thread_of (plain_run setup n (start threads objects w)) i).came k ≡ Some o → slice_get (setup.supply.outcomes i) k ≡ Some o
-came_supplied leads setup threads objects w n i k o h =
-    let to = leads setup (start threads objects w) n in
-    (run_follows setup threads objects w to.events).outcomes i k o (ap (λ (z : State). slice_get (thread_of z i).came k) to.ends ∙ h)
+came_supplied known setup threads objects w n i k o h =
+    let to = known.leads setup (start threads objects w) n in
+    (known.follows setup threads objects w to.events).outcomes i k o (ap (λ (z : State). slice_get (thread_of z i).came k) to.ends ∙ h)
 
 -- ## More events
 
@@ -107,16 +84,16 @@ none_behind : (xs : List Given) (o : Given) → slice_get xs (length xs) ≡ Som
 none_behind xs o h = omega (arith, slice_get_within xs (length xs) o h)
 
 -- and under the outcomes that came it is there at the end: no more came for it
-pub stays_outside : SameUnderCame → PlainLeads → OutsideStays → (setup : Setup) (threads objects : ℕ) (w : World) (n m i : ℕ) (job : Job)
+pub stays_outside : Known → (setup : Setup) (threads objects : ℕ) (w : World) (n m i : ℕ) (job : Job)
     → (thread_of (plain_run setup n (start threads objects w)) i).phase ≡ Outside job
     → (thread_of (plain_run (under_came setup (plain_run setup n (start threads objects w))) (n + m) (start threads objects w)) i).phase ≡ Outside job
-stays_outside same leads stays setup threads objects w n m i job is =
+stays_outside known setup threads objects w n m i job is =
     let first = start threads objects w in
     let last = plain_run setup n first in
     let under = under_came setup last in
-    let here : plain_run under n first ≡ last = same setup threads objects w n n (omega arith) in
+    let here : plain_run under n first ≡ last = known.same setup threads objects w n n (omega arith) in
     let out : (thread_of (plain_run under n first) i).phase ≡ Outside job = ap (λ (z : State). (thread_of z i).phase) here ∙ is in
-    split (ap (λ (z : State). (thread_of z i).came) here) out (stays under first n m i job out)
+    split (ap (λ (z : State). (thread_of z i).came) here) out (known.stays under first n m i job out)
   where
     split : (thread_of (plain_run (under_came setup (plain_run setup n (start threads objects w))) n (start threads objects w)) i).came ≡ (thread_of (plain_run setup n (start threads objects w)) i).came
         → (thread_of (plain_run (under_came setup (plain_run setup n (start threads objects w))) n (start threads objects w)) i).phase ≡ Outside job
@@ -126,9 +103,9 @@ stays_outside same leads stays setup threads objects w n m i job is =
         → (thread_of (plain_run (under_came setup (plain_run setup n (start threads objects w))) (n + m) (start threads objects w)) i).phase ≡ Outside job
     split came out (inl there) = ap (λ (t : Thread). t.phase) there ∙ out
     split came out (inr (o, next, fits)) =
-        let supplied = came_supplied leads (under_came setup (plain_run setup n (start threads objects w))) threads objects w (n + m) i _ o next in
+        let supplied = came_supplied known (under_came setup (plain_run setup n (start threads objects w))) threads objects w (n + m) i _ o next in
         absurd (none_behind (thread_of (plain_run setup n (start threads objects w)) i).came o (ap (λ xs. slice_get (thread_of (plain_run setup n (start threads objects w)) i).came (length xs)) (sym came) ∙ supplied))
 
 -- a thread that is outside has not ended, so some thread has the turn
-pub outside_turn : (s : State) (i : ℕ) (job : Job) → (thread_of s i).phase ≡ Outside job → (k : ℕ) × (turn_holder (live_clocks s) ≡ Some k)
-outside_turn s i job is = holder_there (live_clocks s) i (thread_of s i).clock (clock_at s i ∙ ap (λ (p : Phase). live_clock (record (thread_of s i) { phase = p })) is)
+pub outside_turn : Known → (s : State) (i : ℕ) (job : Job) → (thread_of s i).phase ≡ Outside job → (k : ℕ) × (turn_holder (live_clocks s) ≡ Some k)
+outside_turn known s i job is = ⊎_elim (λ (ended : HaveEnded s). absurd (false≢true (ap has_ended (sym is ∙ ended i)))) (λ turn. turn) (known.turn s)

@@ -1,10 +1,14 @@
 -- The first record that was not used.
-use Rattle.std.proofs.Common.{◌≡◌, ℕ, zero, suc, ◌+◌, ◌-◌, ◌<◌, Bool, true, false, List, [], Option, Some, None, refl, sym, ap, ◌∙◌, subst, arith}
-use Rattle.std.specs.Prelude.{nat_lt}
-use Rattle.input_log.specs.Grammar.{AreGood, number_of}
+use Rattle.std.proofs.Common.{◌≡◌, ℕ, zero, suc, ◌+◌, ◌-◌, ◌<◌, ◌≤◌, Bool, true, false, cond, List, [], ◌∷◌, ◌++◌, Option, Some, None, refl, sym, ap, ◌∙◌, subst, append_assoc, arith}
+use Rattle.std.proofs.lemmas.Bool.{eqb-true}
+use Rattle.std.proofs.lemmas.List.{append-nil}
+use Rattle.std.proofs.lemmas.List.Sums.{sum_by-append}
+use Rattle.std.specs.Prelude.{nat_lt, ◌&&◌, ◌==◌}
+use Rattle.posix_terms.specs.declared.limits.TheConstants.Limits as limit
+use Rattle.input_log.specs.Format.{fixed_of}
+use Rattle.input_log.specs.Grammar.{AreGood, good, number_of}
 use Rattle.input_log.specs.declared.log.Header.{Header}
 use Rattle.input_log.specs.declared.log.Record.{Record}
-use Rattle.input_log.proofs.Counts.{few}
 use Rattle.posix_terms.specs.declared.transcript.HistoryRow.{HistoryRow}
 use Rattle.replayer.specs.Outcomes.{came_for, first_or, first_unused, unused_at}
 
@@ -48,6 +52,30 @@ below (suc n) records rows t m is = split (below n records rows t m) (first_unus
     split before None same is =
         let one = one_below n (came_for n rows) (number_of n records) t m (nat_lt (came_for n rows) (number_of n records)) refl is in
         subst (λ (k : ℕ). m < number_of k records) one.0 one.1
+
+second_and_third : (a b c d e f g : Bool) → (a && b && c && d && e && f && g) ≡ true → (b ≡ true) × (c ≡ true)
+second_and_third a b c d e f g h = (grind (arith, h), grind (arith, h))
+
+-- a good record has the number that is due, and that is small
+good_due : (header : Header) (due : ℕ) (r : Record) → good header due (fixed_of r) ≡ true → due < 134217728
+unfolding good
+good_due header due r ok =
+    let h = second_and_third (nat_lt r.thread header.threads) (r.number == due) (nat_lt r.number limit.OUTCOMES) _ _ _ _ ok in
+    grind (arith, h.0, h.1)
+
+-- so each thread of a log has few records
+few : (header : Header) (t : ℕ) (before rs : List Record) → number_of t before ≤ 134217728 → AreGood header before rs → number_of t (before ++ rs) ≤ 134217728
+few header t before [] low all = rw (append-nil before) low
+few header t before (r ∷ rs) low all =
+    let push : number_of t (before ++ r ∷ []) ≡ number_of t before + cond (r.thread == t) 1 0 = sum_by-append (λ (q : Record). cond (q.thread == t) 1 0) before (r ∷ []) ∙ ap (λ (n : ℕ). number_of t before + n) (omega arith) in
+    let next : number_of t (before ++ r ∷ []) ≤ 134217728 = rw push (by_thread (r.thread == t) refl) in
+    rw (append_assoc before (r ∷ []) rs) at (few header t (before ++ r ∷ []) rs next all.1)
+  where
+    by_thread : (b : Bool) → (r.thread == t) ≡ b → number_of t before + cond b 1 0 ≤ 134217728
+    by_thread true e =
+        let due : number_of t before < 134217728 = subst (λ (u : ℕ). number_of u before < 134217728) (eqb-true r.thread t e) (good_due header (number_of r.thread before) r all.0) in
+        omega (arith, due)
+    by_thread false e = omega (arith, low)
 
 -- and so its number has 32 bits
 pub number_fits : (header : Header) (n : ℕ) (records : List Record) (rows : List HistoryRow) (t m : ℕ) → AreGood header [] records → first_unused n records rows ≡ Some (t, m) → m < 4294967296

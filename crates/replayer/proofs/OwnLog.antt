@@ -7,7 +7,7 @@ use Rattle.call_machine.specs.Plain.{IsPlainRun, are_settings, are_threads, has_
 use Rattle.call_machine.specs.Logs.{plain_records}
 use Rattle.call_machine.specs.Setup.{Inputs, first_state, script_of, setup_of}
 use Rattle.call_machine.specs.Strays.{diverging}
-use Rattle.call_machine.specs.declared.fault.Stop.TheVariants as stop
+use Rattle.logged_machine.specs.declared.stop.Stop.TheVariants as stop
 use Rattle.call_machine.specs.declared.plain.Plain.{Plain}
 use Rattle.input_log.specs.Faults.{bad_magic, bad_record, bad_version, torn}
 use Rattle.input_log.specs.Format.{text_of}
@@ -16,7 +16,6 @@ use Rattle.input_log.specs.Grammar.{IsLog, Spells}
 use Rattle.input_log.specs.declared.fault.LogFault.{LogFault}
 use Rattle.input_log.specs.declared.fault.LogFault.TheVariants as log_fault
 use Rattle.input_log.specs.declared.log.LogText.{LogText}
-use Rattle.input_log.proofs.Once.{log_or_fault, one_value}
 use Rattle.lock_model.specs.History.{IsPrefixOf}
 use Rattle.lock_model.specs.Laws.{Begins}
 use Rattle.lock_model.specs.Machine.{Setup}
@@ -29,13 +28,10 @@ use Rattle.lock_model.specs.State as lock
 use Rattle.lock_model.specs.State.{Job, Phase, Row, State, live_clocks, thread_of}
 use Rattle.lock_model.specs.State.Phase.{Outside}
 use Rattle.lock_model.specs.Transcripts.{transcript}
-use Rattle.lock_model.proofs.Follows.{prefix_came}
-use Rattle.lock_model.proofs.Plain.{unique_end}
 use Rattle.logical_clocks.specs.TurnOrder.{turn_holder}
 use Rattle.posix_terms.specs.declared.limits.TheConstants.Limits as limit
 use Rattle.thread_scripts.specs.declared.line.Line.{Line}
-use Rattle.lock_model.specs.Came.{CameIsRows, OutsideStays, OverUnderCame, PlainLeads, SameUnderCame, under_came}
-use Rattle.call_machine.specs.Covered.{HasSpelling, NoneStrays, RecordsCame}
+use Rattle.lock_model.specs.Came.{under_came}
 use Rattle.replayer.specs.Outcomes.{first_unused, outcomes_by}
 use Rattle.replayer.specs.OwnLog.{AreBeginnings, OwnLogLaw, Retells}
 use Rattle.replayer.specs.Replay.{IsReplay, Replays, Tells, ended, inputs_of}
@@ -43,27 +39,28 @@ use Rattle.replayer.specs.declared.fault.ReplayFault.{ReplayFault}
 use Rattle.replayer.specs.declared.fault.ReplayFault.TheVariants as replay_fault
 use Rattle.replayer.specs.declared.replayed.Replayed.{Replayed}
 use Rattle.replayer.proofs.ByThread.{came_counted, none_unused, number_counted, outcomes_at, outcomes_length, same_transcript, transcripts_at, transcripts_length}
+use Rattle.replayer.proofs.Known.{Known}
 use Rattle.replayer.proofs.CameAgain.{came_past, came_rows, outside_turn, over_at, plain_count, stays_outside, strayed_outside}
 
 -- ## The log at the front of its spelling
 
 -- is that log
-front_is : (text : List ℕ) (log found : LogText) → Spells text log → IsFront text found → found ≡ log
-front_is text log found is (inl whole) = one_value text found log whole is
-front_is text log found is (inr tear) = absurd (log_or_fault text log (torn tear.place tear.count) is tear.fault)
+front_is : Known → (text : List ℕ) (log found : LogText) → Spells text log → IsFront text found → found ≡ log
+front_is known text log found is (inl whole) = known.one_value text found log whole is
+front_is known text log found is (inr tear) = absurd (known.no_fault text log (torn tear.place tear.count) is tear.fault)
 
 -- and it has no fault
-no_fault : (text : List ℕ) (scripts : List (List Line)) (log : LogText) (fault : LogFault) → Spells text log → Replays text scripts (Err (replay_fault.Log fault)) → ⊥
-no_fault text scripts log log_fault.Memory is h = h
-no_fault text scripts log log_fault.BadMagic is h = log_or_fault text log bad_magic is h
-no_fault text scripts log log_fault.BadVersion is h = log_or_fault text log bad_version is h
-no_fault text scripts log (log_fault.BadRecord place) is h = log_or_fault text log (bad_record place) is h
-no_fault text scripts log (log_fault.Torn place count) is h = log_or_fault text log (torn place count) is h.0
+no_fault : Known → (text : List ℕ) (scripts : List (List Line)) (log : LogText) (fault : LogFault) → Spells text log → Replays text scripts (Err (replay_fault.Log fault)) → ⊥
+no_fault known text scripts log log_fault.Memory is h = h
+no_fault known text scripts log log_fault.BadMagic is h = known.no_fault text log bad_magic is h
+no_fault known text scripts log log_fault.BadVersion is h = known.no_fault text log bad_version is h
+no_fault known text scripts log (log_fault.BadRecord place) is h = known.no_fault text log (bad_record place) is h
+no_fault known text scripts log (log_fault.Torn place count) is h = known.no_fault text log (torn place count) is h.0
 
 -- with as many scripts as it has threads
-no_other : (text : List ℕ) (scripts : List (List Line)) (log : LogText) → Spells text log → log.header.threads ≡ length scripts → Replays text scripts (Err replay_fault.Threads) → ⊥
-no_other text scripts log is threads h =
-    let found : h.log ≡ log = front_is text log h.log is h.front in
+no_other : Known → (text : List ℕ) (scripts : List (List Line)) (log : LogText) → Spells text log → log.header.threads ≡ length scripts → Replays text scripts (Err replay_fault.Threads) → ⊥
+no_other known text scripts log is threads h =
+    let found : h.log ≡ log = front_is known text log h.log is h.front in
     let same : h.log.header.threads ≡ length scripts = ap (λ (l : LogText). l.header.threads) found ∙ threads in
     false≢true (sym h.other ∙ eq-eqb h.log.header.threads (length scripts) same)
 
@@ -73,40 +70,40 @@ record IsRunBy (log : LogText) (scripts : List (List Line)) (result : Result Rep
   pub run : IsPlainRun (inputs_of log scripts) plain
   pub tells : Tells log plain plain.stop result
 
-by_log : (text : List ℕ) (scripts : List (List Line)) (log : LogText) (result : Result Replayed ReplayFault) → Spells text log → IsReplay text scripts result → IsRunBy log scripts result
-by_log text scripts log result is h =
-    subst (λ (l : LogText). IsRunBy l scripts result) (front_is text log h.log is h.front) (record { plain = h.plain; run = h.run; tells = h.tells })
+by_log : Known → (text : List ℕ) (scripts : List (List Line)) (log : LogText) (result : Result Replayed ReplayFault) → Spells text log → IsReplay text scripts result → IsRunBy log scripts result
+by_log known text scripts log result is h =
+    subst (λ (l : LogText). IsRunBy l scripts result) (front_is known text log h.log is h.front) (record { plain = h.plain; run = h.run; tells = h.tells })
 
 -- or want of memory
-told_or_memory : (text : List ℕ) (scripts : List (List Line)) (log : LogText) (result : Result Replayed ReplayFault) (Q : Result Replayed ReplayFault → Type 0)
+told_or_memory : Known → (text : List ℕ) (scripts : List (List Line)) (log : LogText) (result : Result Replayed ReplayFault) (Q : Result Replayed ReplayFault → Type 0)
     → Spells text log → log.header.threads ≡ length scripts → Q (Err replay_fault.Memory) → (IsRunBy log scripts result → Q result) → Replays text scripts result → Q result
-told_or_memory text scripts log (Err replay_fault.Memory) Q is threads memory told h = memory
-told_or_memory text scripts log (Err (replay_fault.Log fault)) Q is threads memory told h = absurd (no_fault text scripts log fault is h)
-told_or_memory text scripts log (Err replay_fault.Threads) Q is threads memory told h = absurd (no_other text scripts log is threads h)
-told_or_memory text scripts log (Ok replayed) Q is threads memory told h = told (by_log text scripts log (Ok replayed) is h)
-told_or_memory text scripts log (Err (replay_fault.EndOfLog i t)) Q is threads memory told h = told (by_log text scripts log (Err (replay_fault.EndOfLog i t)) is h)
-told_or_memory text scripts log (Err (replay_fault.Diverged i n t)) Q is threads memory told h = told (by_log text scripts log (Err (replay_fault.Diverged i n t)) is h)
-told_or_memory text scripts log (Err (replay_fault.ClockFull t)) Q is threads memory told h = told (by_log text scripts log (Err (replay_fault.ClockFull t)) is h)
+told_or_memory known text scripts log (Err replay_fault.Memory) Q is threads memory told h = memory
+told_or_memory known text scripts log (Err (replay_fault.Log fault)) Q is threads memory told h = absurd (no_fault known text scripts log fault is h)
+told_or_memory known text scripts log (Err replay_fault.Threads) Q is threads memory told h = absurd (no_other known text scripts log is threads h)
+told_or_memory known text scripts log (Ok replayed) Q is threads memory told h = told (by_log known text scripts log (Ok replayed) is h)
+told_or_memory known text scripts log (Err (replay_fault.EndOfLog i t)) Q is threads memory told h = told (by_log known text scripts log (Err (replay_fault.EndOfLog i t)) is h)
+told_or_memory known text scripts log (Err (replay_fault.Diverged i n t)) Q is threads memory told h = told (by_log known text scripts log (Err (replay_fault.Diverged i n t)) is h)
+told_or_memory known text scripts log (Err (replay_fault.ClockFull t)) Q is threads memory told h = told (by_log known text scripts log (Err (replay_fault.ClockFull t)) is h)
 
 -- ## The run by the log
 
 -- the outcomes that the log has for each thread are those that came
-outcomes_came : PlainLeads → RecordsCame → (input : Inputs) (n i : ℕ)
+outcomes_came : Known → (input : Inputs) (n i : ℕ)
     → get_or (outcomes_by (length input.scripts) (plain_records (setup_of input) n (first_state input))) i [] ≡ (thread_of (plain_run (setup_of input) n (first_state input)) i).came
-outcomes_came leads records_came input n i =
+outcomes_came known input n i =
     let records = plain_records (setup_of input) n (first_state input) in
     let last = plain_run (setup_of input) n (first_state input) in
-    let count : length last.threads ≡ length input.scripts = plain_count leads (setup_of input) (length input.scripts) limit.OBJECTS first_world n in
+    let count : length last.threads ≡ length input.scripts = plain_count known (setup_of input) (length input.scripts) limit.OBJECTS first_world n in
     ⊎_elim
-    (λ (l : i < length input.scripts). outcomes_at (length input.scripts) i records l ∙ records_came input n i)
+    (λ (l : i < length input.scripts). outcomes_at (length input.scripts) i records l ∙ known.came input n i)
     (λ (l : length input.scripts ≤ i).
     get_or_past (outcomes_by (length input.scripts) records) i [] (omega (arith, outcomes_length (length input.scripts) records)) ∙ sym (came_past last i (omega (arith, count))))
     (cases_lt i (length input.scripts))
 
 -- so it is the run under those
-same_setup : PlainLeads → RecordsCame → (input : Inputs) (n : ℕ) (ends : List Bool) → setup_of (inputs_of (log_of input n ends) input.scripts) ≡ under_came (setup_of input) (plain_run (setup_of input) n (first_state input))
-same_setup leads records_came input n ends k =
-    real_setup input.settings (record { next = λ i. scripted (script_of input i); outcomes = λ i. outcomes_came leads records_came input n i k })
+same_setup : Known → (input : Inputs) (n : ℕ) (ends : List Bool) → setup_of (inputs_of (log_of input n ends) input.scripts) ≡ under_came (setup_of input) (plain_run (setup_of input) n (first_state input))
+same_setup known input n ends k =
+    real_setup input.settings (record { next = λ i. scripted (script_of input i); outcomes = λ i. outcomes_came known input n i k })
 
 -- ## What is told
 
@@ -146,13 +143,13 @@ beginnings n s last count more begins =
 -- ## Where the run did not diverge
 
 -- each record was used
-used : PlainLeads → CameIsRows → RecordsCame → (input : Inputs) (n threads : ℕ)
+used : Known → (input : Inputs) (n threads : ℕ)
     → first_unused threads (plain_records (setup_of input) n (first_state input)) (map shown (plain_run (setup_of input) n (first_state input)).rows) ≡ None
-used leads is_rows records_came input n threads =
+used known input n threads =
     let last = plain_run (setup_of input) n (first_state input) in
     let records = plain_records (setup_of input) n (first_state input) in
     none_unused threads records (map shown last.rows)
-    (λ i. came_counted i last.rows ∙ (ap length (sym (came_rows leads is_rows (setup_of input) (length input.scripts) limit.OBJECTS first_world n i)) ∙ (ap length (sym (records_came input n i)) ∙ sym (number_counted i records))))
+    (λ i. came_counted i last.rows ∙ (ap length (sym (came_rows known (setup_of input) (length input.scripts) limit.OBJECTS first_world n i)) ∙ (ap length (sym (known.came input n i)) ∙ sym (number_counted i records))))
 
 -- ## The law
 
@@ -164,17 +161,17 @@ record IsRunUnder (input : Inputs) (log : LogText) (s : State) (result : Result 
   pub over : IsOver (under_came (setup_of input) s) last
   pub tells : Tells log (plain_of (inputs_of log input.scripts) count last) (stop_by last (turn_holder (live_clocks last))) result
 
-run_under : PlainLeads → RecordsCame → NoneStrays → (input : Inputs) (n : ℕ) (ends : List Bool) (result : Result Replayed ReplayFault)
+run_under : Known → (input : Inputs) (n : ℕ) (ends : List Bool) (result : Result Replayed ReplayFault)
     → IsRunBy (log_of input n ends) input.scripts result → IsRunUnder input (log_of input n ends) (plain_run (setup_of input) n (first_state input)) result
-run_under leads records_came none_strays input n ends result h =
+run_under known input n ends result h =
     let run = h.run in
     let log = log_of input n ends in
     let own = inputs_of log input.scripts in
     let first = first_state input in
     let under = under_came (setup_of input) (plain_run (setup_of input) n first) in
-    let same : setup_of own ≡ under = same_setup leads records_came input n ends in
+    let same : setup_of own ≡ under = same_setup known input n ends in
     let reached : plain_run under run.count first ≡ run.last = ap (λ (z : Setup). plain_run z run.count first) (sym same) ∙ run.goes.reached in
-    let straight : diverging under run.last ≡ None = subst (λ (z : State). diverging under z ≡ None) reached (none_strays input n run.count) in
+    let straight : diverging under run.last ≡ None = subst (λ (z : State). diverging under z ≡ None) reached (known.straight input n run.count) in
     let none : diverging (setup_of own) run.last ≡ None = ap (λ (z : Setup). diverging z run.last) same ∙ straight in
     let tells : Tells log (plain_of own run.count run.last) (stop_of run.last (diverging (setup_of own) run.last)) result = subst (λ (p : Plain). Tells log p p.stop result) run.shows h.tells in
     record {
@@ -186,28 +183,28 @@ run_under leads records_came none_strays input n ends result h =
     }
 
 -- where the run did not diverge, the other comes to the same state
-without_stray : SameUnderCame → OverUnderCame → PlainLeads → CameIsRows → RecordsCame → (input : Inputs) (n : ℕ) (ends : List Bool) (result : Result Replayed ReplayFault)
+without_stray : Known → (input : Inputs) (n : ℕ) (ends : List Bool) (result : Result Replayed ReplayFault)
     → IsOver (setup_of input) (plain_run (setup_of input) n (first_state input))
     → IsRunUnder input (log_of input n ends) (plain_run (setup_of input) n (first_state input)) result
     → let last = plain_run (setup_of input) n (first_state input) in Retells (plain_of input n last) (stop_of last None) result
-without_stray same over_under leads is_rows records_came input n ends result over h =
+without_stray known input n ends result over h =
     let log = log_of input n ends in
     let first = first_state input in
     let last = plain_run (setup_of input) n first in
     let under = under_came (setup_of input) last in
-    let here : EndsIn under first last = record { count = n; reached = same (setup_of input) (length input.scripts) limit.OBJECTS first_world n n (omega arith); over = over_under (setup_of input) last over } in
+    let here : EndsIn under first last = record { count = n; reached = known.same (setup_of input) (length input.scripts) limit.OBJECTS first_world n n (omega arith); over = known.over (setup_of input) last over } in
     let there : EndsIn under first h.last = record { count = h.count; reached = h.reached; over = h.over } in
-    let one : h.last ≡ last = unique_end under first h.last last there here in
+    let one : h.last ≡ last = known.ends under first h.last last there here in
     let tells : Tells log (plain_of (inputs_of log input.scripts) h.count last) (stop_by last (turn_holder (live_clocks last))) result =
     subst (λ (z : State). Tells log (plain_of (inputs_of log input.scripts) h.count z) (stop_by z (turn_holder (live_clocks z))) result) one h.tells in
-    retold input log n h.count last result (turn_holder (live_clocks last)) (used leads is_rows records_came input n (length input.scripts)) tells
+    retold input log n h.count last result (turn_holder (live_clocks last)) (used known input n (length input.scripts)) tells
 
 -- where it diverged, the other goes on, and the thread that strayed stays outside
-with_stray : SameUnderCame → PlainLeads → OutsideStays → (input : Inputs) (n : ℕ) (ends : List Bool) (result : Result Replayed ReplayFault) (i : ℕ)
+with_stray : Known → (input : Inputs) (n : ℕ) (ends : List Bool) (result : Result Replayed ReplayFault) (i : ℕ)
     → diverging (setup_of input) (plain_run (setup_of input) n (first_state input)) ≡ Some i
     → IsRunUnder input (log_of input n ends) (plain_run (setup_of input) n (first_state input)) result
     → let last = plain_run (setup_of input) n (first_state input) in Retells (plain_of input n last) (stop_of last (Some i)) result
-with_stray same leads stays input n ends result i strays h =
+with_stray known input n ends result i strays h =
     let log = log_of input n ends in
     let threads = length input.scripts in
     let first = first_state input in
@@ -217,46 +214,46 @@ with_stray same leads stays input n ends result i strays h =
     let other = plain_of (inputs_of log input.scripts) h.count h.last in
     let stray = strayed_outside setup last i strays in
     let far : plain_run under (n + h.count) first ≡ h.last = over_at under first h.count n (subst (IsOver under) (sym h.reached) h.over) ∙ h.reached in
-    let out : (thread_of h.last i).phase ≡ Outside stray.0 = ap (λ (z : State). (thread_of z i).phase) (sym far) ∙ stays_outside same leads stays setup threads limit.OBJECTS first_world n h.count i stray.0 stray.1 in
-    let turn = outside_turn h.last i stray.0 out in
+    let out : (thread_of h.last i).phase ≡ Outside stray.0 = ap (λ (z : State). (thread_of z i).phase) (sym far) ∙ stays_outside known setup threads limit.OBJECTS first_world n h.count i stray.0 stray.1 in
+    let turn = outside_turn known h.last i stray.0 out in
     let tells : Tells log other (stop_by h.last (Some turn.0)) result = subst (λ (o : Option ℕ). Tells log other (stop_by h.last o) result) turn.1 h.tells in
-    let to = leads setup first n in
+    let to = known.leads setup first n in
     let there : EndsIn under first h.last = record { count = h.count; reached = h.reached; over = h.over } in
     let begins : Begins last h.last =
-    subst (λ (z : State). EndsIn (under_came setup z) first h.last → Begins z h.last) to.ends (prefix_came setup threads limit.OBJECTS first_world to.events h.last) there in
-    let more : length h.last.threads ≡ threads = ap (λ (z : State). length z.threads) (sym h.reached) ∙ plain_count leads under threads limit.OBJECTS first_world h.count in
+    subst (λ (z : State). EndsIn (under_came setup z) first h.last → Begins z h.last) to.ends (known.prefix setup threads limit.OBJECTS first_world to.events h.last) there in
+    let more : length h.last.threads ≡ threads = ap (λ (z : State). length z.threads) (sym h.reached) ∙ plain_count known under threads limit.OBJECTS first_world h.count in
     stuck_told log (plain_of input n last) other (thread_of h.last turn.0).phase i turn.0 (length (thread_of last i).came) result
-    (beginnings threads last h.last (plain_count leads setup threads limit.OBJECTS first_world n) more begins) tells
+    (beginnings threads last h.last (plain_count known setup threads limit.OBJECTS first_world n) more begins) tells
 
-own_log_of : SameUnderCame → OverUnderCame → PlainLeads → OutsideStays → CameIsRows → RecordsCame → (input : Inputs) (n : ℕ) (ends : List Bool) (result : Result Replayed ReplayFault) (o : Option ℕ)
+own_log_of : Known → (input : Inputs) (n : ℕ) (ends : List Bool) (result : Result Replayed ReplayFault) (o : Option ℕ)
     → diverging (setup_of input) (plain_run (setup_of input) n (first_state input)) ≡ o
     → (diverging (setup_of input) (plain_run (setup_of input) n (first_state input)) ≡ None → IsOver (setup_of input) (plain_run (setup_of input) n (first_state input)))
     → IsRunUnder input (log_of input n ends) (plain_run (setup_of input) n (first_state input)) result
     → let last = plain_run (setup_of input) n (first_state input) in Retells (plain_of input n last) (stop_of last o) result
-own_log_of same over_under leads stays is_rows records_came input n ends result None is over h = without_stray same over_under leads is_rows records_came input n ends result (over is) h
-own_log_of same over_under leads stays is_rows records_came input n ends result (Some i) is over h = with_stray same leads stays input n ends result i is h
+own_log_of known input n ends result None is over h = without_stray known input n ends result (over is) h
+own_log_of known input n ends result (Some i) is over h = with_stray known input n ends result i is h
 
 -- of the run that came to just this state
-own_log_at : SameUnderCame → OverUnderCame → PlainLeads → OutsideStays → CameIsRows → RecordsCame → HasSpelling → NoneStrays → (input : Inputs) (n : ℕ) (result : Result Replayed ReplayFault)
+own_log_at : Known → (input : Inputs) (n : ℕ) (result : Result Replayed ReplayFault)
     → are_threads input ≡ true → are_settings input.settings ≡ true
     → (last : State) → plain_run (setup_of input) n (first_state input) ≡ last → (diverging (setup_of input) last ≡ None → IsOver (setup_of input) last)
     → Replays (plain_of input n last).log input.scripts result → Retells (plain_of input n last) (plain_of input n last).stop result
-own_log_at same over_under leads stays is_rows records_came spelling none_strays input n result threads settings last reached over h =
+own_log_at known input n result threads settings last reached over h =
     let ends = map (λ (t : lock.Thread). has_ended t.phase) last.threads in
     let log = log_of input n ends in
-    let is : IsLog log = spelling input n ends threads settings in
+    let is : IsLog log = known.spelled input n ends threads settings in
     let spelled : Spells (text_of log) log = record { range = is.range; each_good = is.each_good; spelled = refl } in
-    told_or_memory (text_of log) input.scripts log result (λ r. Retells (plain_of input n last) (stop_of last (diverging (setup_of input) last)) r) spelled refl tt
+    told_or_memory known (text_of log) input.scripts log result (λ r. Retells (plain_of input n last) (stop_of last (diverging (setup_of input) last)) r) spelled refl tt
     (λ run.
-    let under = run_under leads records_came none_strays input n ends result run in
+    let under = run_under known input n ends result run in
     let at_end = plain_run (setup_of input) n (first_state input) in
     let over_there : diverging (setup_of input) at_end ≡ None → IsOver (setup_of input) at_end = subst (λ (z : State). diverging (setup_of input) z ≡ None → IsOver (setup_of input) z) (sym reached) over in
-    let told = own_log_of same over_under leads stays is_rows records_came input n ends result (diverging (setup_of input) at_end) refl over_there under in
+    let told = own_log_of known input n ends result (diverging (setup_of input) at_end) refl over_there under in
     subst (λ (z : State). Retells (plain_of input n z) (stop_of z (diverging (setup_of input) z)) result) reached told)
     h
 
 -- a replay of the log that a plain run wrote gives that run again
-pub own_log : SameUnderCame → OverUnderCame → PlainLeads → OutsideStays → CameIsRows → RecordsCame → HasSpelling → NoneStrays → OwnLogLaw
-own_log same over_under leads stays is_rows records_came spelling none_strays input plain result run h =
+pub own_log : Known → OwnLogLaw
+own_log known input plain result run h =
     subst (λ (p : Plain). Replays p.log input.scripts result → Retells p p.stop result) (sym run.shows)
-    (own_log_at same over_under leads stays is_rows records_came spelling none_strays input run.count result run.threads run.settings run.last run.goes.reached run.ends) h
+    (own_log_at known input run.count result run.threads run.settings run.last run.goes.reached run.ends) h

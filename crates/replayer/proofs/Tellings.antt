@@ -1,8 +1,8 @@
 -- What is told of a plain run is what a replay gives.
 use Rattle.std.proofs.Common.{◌≡◌, ℕ, List, Option, Some, None, length, Result, Ok, Err}
 use Rattle.call_machine.specs.Plain.{IsPlainRun}
-use Rattle.call_machine.specs.declared.fault.Stop.{Stop}
-use Rattle.call_machine.specs.declared.fault.Stop.TheVariants as stop
+use Rattle.logged_machine.specs.declared.stop.Stop.{Stop}
+use Rattle.logged_machine.specs.declared.stop.Stop.TheVariants as stop
 use Rattle.call_machine.specs.declared.plain.Plain.{Plain}
 use Rattle.input_log.specs.Fronts.{IsFront}
 use Rattle.input_log.specs.declared.fault.LogFault.{LogFault}

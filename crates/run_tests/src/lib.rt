@@ -6,4 +6,12 @@ mod lock_machines;
 #[cfg(test)]
 mod machine_runs;
 #[cfg(test)]
+mod machines;
+#[cfg(test)]
+mod random_drivers;
+#[cfg(test)]
+mod random_scripts;
+#[cfg(test)]
+mod refused_memory;
+#[cfg(test)]
 mod replays;

@@ -1,12 +1,10 @@
-use input_log::Header;
 use lock_machine::{Attempt, LockMachine, Refused};
-use posix_terms::{Access, Bytes, Call, OpenFlags};
+use posix_terms::{Access, Bytes, Call, OpenFlags, Settings};
 use std::alloc::{AllocError, Global};
 use std::test::Fail;
 use thread_scripts::Step;
 
-const HEADER: Header = Header {
-    threads: 2,
+const SETTINGS: Settings = Settings {
     patience: 1000,
     door_cost: 100,
 };
@@ -99,8 +97,8 @@ fn make(alloc: Global, machine: &mut LockMachine, event: Event) -> Result<Came, 
         Event::AskWork(_, amount) => made(machine.ask(i, Step::Work(amount))),
         Event::AskEnd(_) => made(machine.ask(i, Step::End)),
         Event::End(_) => made(machine.end(i)),
-        Event::TryTable(_) => tried(machine.try_table(alloc, i)),
-        Event::TryNode(_) => tried(machine.try_node(alloc, i)),
+        Event::TryTable(_) => tried(machine.try_table(i)),
+        Event::TryNode(_) => tried(machine.try_node(i)),
         Event::Answer(_) => made(machine.answer(i)),
         Event::BeginOutside(_) => made(machine.begin_outside(i)),
         Event::Again(_) => made(machine.again(i)),
@@ -109,7 +107,7 @@ fn make(alloc: Global, machine: &mut LockMachine, event: Event) -> Result<Came, 
 
 // Whether this comes of these events of two threads.
 fn comes(alloc: Global, rows: &[(Event, Came)]) -> Result<bool, AllocError> {
-    let mut machine = LockMachine::new(alloc, 2, HEADER)?;
+    let mut machine = LockMachine::new(alloc, 2, SETTINGS)?;
     for (event, wanted) in rows.iter() {
         if make(alloc, &mut machine, *event)? != *wanted {
             return Ok(false);

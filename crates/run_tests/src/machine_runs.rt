@@ -122,10 +122,11 @@ fn stayed_inside(plain: &Plain) -> bool {
 
 // Whether the run of one thread has asked so many steps, of which the last is its end.
 fn has_steps(plain: &Plain, steps: usize) -> bool {
-    match plain.history.asked() {
-        [asked] => asked.as_slice().len() == steps && asked.as_slice().last() == Some(&Step::End),
-        _ => false,
+    let asked = plain.history.asked();
+    if asked.len() != 1 {
+        return false;
     }
+    asked.steps(0).len() == steps && asked.steps(0).last() == Some(&Step::End)
 }
 
 #[test]

@@ -115,9 +115,10 @@ fn is_short_write(history: &History) -> bool {
 fn the_history_of_a_short_host_write(rt: HostRuntime) -> Result<(), Fail> {
     let replayed = replayed(rt.alloc(), SHORT_WRITE_LOG, &[SHORT_WRITE])?;
     assert!(rt; is_short_write(&replayed.history));
-    assert_eq!(rt; replayed.history.asked().len(), 1);
-    for asked in replayed.history.asked() {
-        assert_eq!(rt; asked.as_slice().len(), 4);
+    let asked = replayed.history.asked();
+    assert_eq!(rt; asked.len(), 1);
+    for i in 0..asked.len() {
+        assert_eq!(rt; asked.steps(i).len(), 4);
     }
     Ok(())
 }

@@ -1,5 +1,5 @@
 use crate::tables::outcome;
-use descriptor_table::Errand;
+use descriptor_table::{Errand, read_count};
 use object_store::{Store, TurnEnd, TurnStart, end_outside};
 use posix_terms::{Access, Bytes, Call, Errno, OpenFlags, OutKind, Outcome, Reply};
 use std::alloc::{AllocError, Global};
@@ -116,7 +116,8 @@ fn makes(
     if descriptions >= 1_000 || objects >= 1_000 {
         return Ok(false);
     }
-    Ok(match store.make(alloc, call, 3, turns)? {
+    let mut room = vec![in alloc; 0; read_count(call)]?;
+    Ok(match store.make(call, 3, turns, &mut room) {
         TurnStart::Ended(found) => match end {
             Some(wanted) => ended(&found, wanted),
             None => false,
@@ -141,7 +142,11 @@ fn becomes(alloc: Global, store: &mut Store, call: &Call, turn: &Turn) -> Result
         Turn::Asks(errand) => makes(alloc, store, call, 0, None, Some(*errand))?,
         Turn::Comes(errand, came, turns, wanted) => {
             let outcome = outcome(alloc, *came);
-            ended(&end_outside(*errand, &outcome, 3, *turns)?, wanted)
+            let mut room = Vec::new(alloc);
+            ended(
+                &end_outside(*errand, &outcome, 3, *turns, &mut room),
+                wanted,
+            )
         }
         Turn::Opens(came, wanted) => opens(store, call, &outcome(alloc, *came), wanted),
         Turn::Locks(wanted) => store.number_locked(call) == *wanted,

@@ -2,6 +2,7 @@ use Rattle.lock_model.proofs.Arising.{arises_event, arises_run, arises_start, le
 use Rattle.lock_model.proofs.Follows.{run_follows}
 use Rattle.lock_model.proofs.OwnPlans.{plans_arisen}
 use Rattle.lock_model.proofs.OwnRows.{held_arisen, rows_arisen}
+use Rattle.lock_model.proofs.OwnSteps.{steps_arisen}
 use Rattle.lock_model.proofs.Rising.{rising_arisen}
 use Rattle.lock_model.proofs.arising_states.Goals as goal
 
@@ -31,3 +32,6 @@ returns-clause-rows c = rows_arisen
 
 pub returns-clause-plans : goal.returns-clause-plans
 returns-clause-plans c = plans_arisen
+
+pub returns-clause-steps : goal.returns-clause-steps
+returns-clause-steps c = steps_arisen

@@ -1,5 +1,6 @@
 use Rattle.lock_model.proofs.CameRows.{came_is_rows, room_outside}
-use Rattle.lock_model.proofs.PlainCame.{came_grows, outside_stays, over_under_came, plain_leads, same_under_came}
+use Rattle.lock_model.proofs.CameOutside.{came_outside}
+use Rattle.lock_model.proofs.PlainCame.{came_grows, outside_stays, over_under_came, plain_arises, plain_count, plain_leads, same_under_came}
 use Rattle.lock_model.proofs.outcomes_that_came.Goals as goal
 
 pub returns-clause-same : goal.returns-clause-same
@@ -10,6 +11,12 @@ returns-clause-over c = over_under_came
 
 pub returns-clause-leads : goal.returns-clause-leads
 returns-clause-leads c = plain_leads
+
+pub returns-clause-arises : goal.returns-clause-arises
+returns-clause-arises c = plain_arises
+
+pub returns-clause-count : goal.returns-clause-count
+returns-clause-count c = plain_count
 
 pub returns-clause-grows : goal.returns-clause-grows
 returns-clause-grows c = came_grows
@@ -22,3 +29,6 @@ returns-clause-room c = room_outside
 
 pub returns-clause-rows : goal.returns-clause-rows
 returns-clause-rows c = came_is_rows
+
+pub returns-clause-outside : goal.returns-clause-outside
+returns-clause-outside c = came_outside

@@ -3,15 +3,14 @@ use Rattle.call_machine.specs.Driven.{Ends}
 use Rattle.call_machine.specs.Plain.{are_settings, are_threads}
 use Rattle.call_machine.specs.Playing.{played_of}
 use Rattle.call_machine.specs.Setup.{Inputs}
-use Rattle.call_machine.proofs.Concluding.{begins_of, plain_legal, plain_rising, plain_run_is}
-use Rattle.call_machine.proofs.Covering.{is_covered}
+use Rattle.call_machine.proofs.Concluding.{begins_of, plain_covered, plain_legal, plain_rising, plain_run_is}
 use Rattle.call_machine.proofs.run.plain_run.Goals as goal
 
 pub run-requires : goal.run-requires
 run-requires c =
     let input : Inputs = record { scripts = c.args.scripts.items; outcomes = c.args.outcomes.items; settings = c.args.settings } in
     let count : c.len-3.result ≡ length c.args.scripts.items = search rules in
-    (input, begins_of input c.len-3.result (played_of c.in_ok-driver.driver) count c.in_ok-driver.ensures)
+    (input, begins_of c.laws.ensures.starts input c.len-3.result (played_of c.in_ok-driver.driver) count c.in_ok-driver.ensures)
 
 pub returns-clause-run : goal.returns-clause-run
 returns-clause-run c =
@@ -19,11 +18,11 @@ returns-clause-run c =
     let p = played_of c.run.new.self in
     let strayed = c.in_ok-strayed.strayed in
     let count : c.len-3.result ≡ length c.args.scripts.items = search rules in
-    let e : Ends input strayed p = c.in_ok-strayed.ensures input (begins_of input c.len-3.result (played_of c.in_ok-driver.driver) count c.in_ok-driver.ensures) in
+    let e : Ends input strayed p = c.in_ok-strayed.ensures input (begins_of c.laws.ensures.starts input c.len-3.result (played_of c.in_ok-driver.driver) count c.in_ok-driver.ensures) in
     let plain = c.in_ok-finish.field-0 in
     let threads : are_threads input ≡ true = search rules in
     let settings : are_settings input.settings ≡ true = search rules in
-    plain_run_is input strayed p plain e c.in_ok-finish.ensures threads settings
+    plain_run_is c.laws.ensures.clocks input strayed p plain e c.in_ok-finish.ensures threads settings
 
 pub returns-clause-legal : goal.returns-clause-legal
 returns-clause-legal c =
@@ -31,8 +30,8 @@ returns-clause-legal c =
     let p = played_of c.run.new.self in
     let strayed = c.in_ok-strayed.strayed in
     let count : c.len-3.result ≡ length c.args.scripts.items = search rules in
-    let e : Ends input strayed p = c.in_ok-strayed.ensures input (begins_of input c.len-3.result (played_of c.in_ok-driver.driver) count c.in_ok-driver.ensures) in
-    plain_legal input strayed p c.in_ok-finish.field-0 e c.in_ok-finish.ensures
+    let e : Ends input strayed p = c.in_ok-strayed.ensures input (begins_of c.laws.ensures.starts input c.len-3.result (played_of c.in_ok-driver.driver) count c.in_ok-driver.ensures) in
+    plain_legal c.laws.ensures.clocks c.laws.ensures.legal input strayed p c.in_ok-finish.field-0 e c.in_ok-finish.ensures
 
 pub returns-clause-rising : goal.returns-clause-rising
 returns-clause-rising c =
@@ -40,8 +39,8 @@ returns-clause-rising c =
     let p = played_of c.run.new.self in
     let strayed = c.in_ok-strayed.strayed in
     let count : c.len-3.result ≡ length c.args.scripts.items = search rules in
-    let e : Ends input strayed p = c.in_ok-strayed.ensures input (begins_of input c.len-3.result (played_of c.in_ok-driver.driver) count c.in_ok-driver.ensures) in
-    plain_rising input strayed p c.in_ok-finish.field-0 e c.in_ok-finish.ensures
+    let e : Ends input strayed p = c.in_ok-strayed.ensures input (begins_of c.laws.ensures.starts input c.len-3.result (played_of c.in_ok-driver.driver) count c.in_ok-driver.ensures) in
+    plain_rising c.laws.ensures.clocks c.laws.ensures.rising input strayed p c.in_ok-finish.field-0 e c.in_ok-finish.ensures
 
 pub returns-clause-covered : goal.returns-clause-covered
 returns-clause-covered c =
@@ -49,8 +48,7 @@ returns-clause-covered c =
     let p = played_of c.run.new.self in
     let strayed = c.in_ok-strayed.strayed in
     let count : c.len-3.result ≡ length c.args.scripts.items = search rules in
-    let e : Ends input strayed p = c.in_ok-strayed.ensures input (begins_of input c.len-3.result (played_of c.in_ok-driver.driver) count c.in_ok-driver.ensures) in
-    let plain = c.in_ok-finish.field-0 in
+    let e : Ends input strayed p = c.in_ok-strayed.ensures input (begins_of c.laws.ensures.starts input c.len-3.result (played_of c.in_ok-driver.driver) count c.in_ok-driver.ensures) in
     let threads : are_threads input ≡ true = search rules in
     let settings : are_settings input.settings ≡ true = search rules in
-    is_covered input plain (plain_run_is input strayed p plain e c.in_ok-finish.ensures threads settings)
+    plain_covered c.laws.ensures.clocks c.laws.ensures.came c.laws.ensures.spelled c.laws.ensures.rows input strayed p c.in_ok-finish.field-0 e c.in_ok-finish.ensures threads settings

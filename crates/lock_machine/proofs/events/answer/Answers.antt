@@ -10,7 +10,7 @@ use Rattle.logical_clocks.specs.declared.clocks.ThreadClock.{ThreadClock}
 use Rattle.lock_machine.specs.Events.{Parts, in_time, parts}
 use Rattle.lock_machine.specs.Held.{end_held, phase_behind, told_as}
 use Rattle.lock_machine.specs.Threads.{timed}
-use Rattle.lock_machine.proofs.Parting.{answered_end, answers_made}
+use Rattle.lock_machine.proofs.Parting.{answers_made}
 use Rattle.lock_machine.proofs.events.answer.Goals as goal
 
 pub returns-clause-event : goal.returns-clause-event
@@ -23,19 +23,19 @@ returns-clause-event c table =
     let room : in_time old 1 ≡ true = search rules in
     let size : rows.len ≡ length rows.items = search rules in
     let there : slice_get rows.items c.args.row ≡ Some q = slice_get_read rows.items rows.len c.args.row q size (c.in-Some.ensures.variant.0 refl) c.in-Some.ensures.value in
-    let found = answered_end q.call (end_held c.args.thread.now.phase) c.in-Some-2.answer c.in-Some-2.phase (sym c.in-Some-2.is ∙ c.in_ok-answer.ensures.ends) in
-    let e = found.0 in
+    let e = c.in-Granted.ends in
+    let ends : end_held c.args.thread.now.phase ≡ Some e = search rules in
     let clocks : c.add.new.self ≡ with_clock c.args.clocks.now c.args.i (start + 1) = search rules in
     let at : clock_at c.add.new.self c.args.i ≡ start + 1 =
     ap (λ (cs : List ThreadClock). clock_at cs c.args.i) clocks ∙ ap (λ (x : ThreadClock). x.clock) (get_or-set_same c.args.clocks.now c.args.i _ no_thread c.requires.inside) in
     let lock : c.free.new.self ≡ freed start = c.free.ensures ∙ ap freed c.clock-clock.ensures.value in
     let told : c.told.result ≡ Some (told_as e) = search rules in
-    let placed : c.replace.new.dest ≡ c.in-Some-2.phase = search rules in
-    let behind : c.replace.new.dest ≡ phase_behind q.call e = placed ∙ found.1.1.1 in
-    answers_made c.args.i c.args.row c.told.result old _ e q held room found.1.0 there told
+    let placed : c.replace.new.dest ≡ c.phase_behind-behind.result = search rules in
+    let behind : c.replace.new.dest ≡ phase_behind e = placed ∙ c.phase_behind-behind.ensures.phase in
+    answers_made c.args.i c.args.row c.told.result old _ e q held room ends there told
     (λ k. record {
       thread = record (timed c.args.thread.now (at k)) { phase = behind k };
       lock = lock k;
       table = table;
-      rows = set rows.items c.args.row (record q { answer = Some (found.1.1.0 k) });
+      rows = set rows.items c.args.row (record q { answer = Some (c.answer_copied.ensures k) });
     })

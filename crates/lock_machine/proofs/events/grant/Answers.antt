@@ -13,9 +13,9 @@ returns-clause-event c =
     let object = c.args.object in
     let call = c.args.call in
     let turns = c.args.turns in
-    let start = c.in_ok-start.start in
-    let makes : Makes c.args.patience turns shared.store call start c.make.new.self = search rules in
-    let rows : c.push.new.self.items ≡ shared.rows.items ++ granted_row c.args.turn call ∷ [] = search rules in
+    let start = c.make-start.result in
+    let makes : Makes c.args.patience turns shared.store call start c.make-start.new.store = search rules in
+    let rows : c.push_reserved.new.self.items ≡ shared.rows.items ++ granted_row c.args.turn call ∷ [] = search rules in
     let at : c.len-row.result ≡ length shared.rows.items = search rules in
     λ clock. record {
       start = start;

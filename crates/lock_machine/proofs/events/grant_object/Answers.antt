@@ -1,4 +1,4 @@
-use Rattle.std.proofs.Common.{◌≡◌, rules}
+use Rattle.std.proofs.Common.{Ok, ◌≡◌, rules}
 use Rattle.lock_machine.specs.Events.{parts}
 use Rattle.lock_machine.specs.Threads.{timed}
 use Rattle.lock_machine.specs.declared.thread.Phase.TheVariants as phase
@@ -10,7 +10,7 @@ returns-in-WantsObject-clause-event c =
     let shared = c.args.shared.now in
     let want = c.in-WantsObject in
     let is : c.args.thread.now.phase ≡ phase.WantsObject want.call want.turns want.clock want.object = search rules in
-    granted_object c.args.patience c.grant.result c.args.thread.now.phase c.replace.new.dest c.args.i want.call want.turns want.clock want.object
+    granted_object c.args.patience (Ok tt) c.args.thread.now.phase c.replace.new.dest c.args.i want.call want.turns want.clock want.object
     (λ clock. parts (timed c.args.thread.now clock) shared.lock shared.store shared.rows.items)
     (λ clock. parts (timed c.grant.new.thread clock) c.grant.new.shared.lock c.grant.new.shared.store c.grant.new.shared.rows.items)
     is c.grant.ensures.event

@@ -1,4 +1,4 @@
-use Rattle.std.proofs.Common.{◌≡◌, ◌+◌, Some, true, false, refl, sym, ap, ◌∙◌, subst, rules}
+use Rattle.std.proofs.Common.{◌≡◌, ◌+◌, ◌^◌, Some, true, false, refl, sym, ap, ◌∙◌, subst, rules}
 use Rattle.std.proofs.lemmas.Bool.{false≢true}
 use Rattle.det_mutex.specs.Attempt.{freed}
 use Rattle.logical_clocks.specs.ThreadClocks.{clock_at}
@@ -8,6 +8,10 @@ use Rattle.lock_machine.specs.Threads.{timed}
 use Rattle.lock_machine.specs.declared.machine.Shared.{Shared}
 use Rattle.lock_machine.specs.declared.thread.Phase.TheVariants as phase
 use Rattle.lock_machine.proofs.Granting.{reached_granted, reached_parts, taken_some}
+use Rattle.lock_machine.specs.Births.{BornWithin}
+use Rattle.lock_machine.specs.Waiting.{HasRoom, rows_due}
+use Rattle.lock_machine.specs.declared.thread.Phase.{Phase}
+use Rattle.lock_machine.proofs.Bearing.{few_born}
 use Rattle.lock_machine.proofs.events.try_object.Goals as goal
 use Rattle.lock_machine.proofs.events.try_object.Goals.{then-is_some+then-not-keeps, else-is_some, else-is_some-via-then-is_some+else-not-keeps, else-is_some-via-else-is_some, then-not-keeps-2, else-not-keeps-2}
 
@@ -45,9 +49,29 @@ returns-clause-event c =
           let frees : keeps_table want.call ≡ false = search rules in
           let lock : w.free.new.self ≡ freed (start + 1) = search rules in
           reached_granted c.args.patience c.args.i now want.call want.turns want.clock want.object w.free.new.self c.args.lock.now c.in-Some.taken old new is taken.0 room
-          (reached_parts (keeps_table want.call) now w.free.new.self old clock (λ keeps. absurd (false≢true (sym frees ∙ keeps))) (λ e. lock)) taken.1 (subst P w.shared-is (c.in_ok-grant_object.ensures.event now))
+          (reached_parts (keeps_table want.call) now w.free.new.self old clock (λ keeps. absurd (false≢true (sym frees ∙ keeps))) (λ e. lock)) taken.1 (subst P w.shared-is (c.grant_object.ensures.event now))
       | else-not-keeps-2 w ↦
           let keeps : keeps_table want.call ≡ true = search rules in
           reached_granted c.args.patience c.args.i now want.call want.turns want.clock want.object shared.lock c.args.lock.now c.in-Some.taken old new is taken.0 room
-          (reached_parts (keeps_table want.call) now shared.lock old clock (λ e. refl) (λ frees. absurd (false≢true (sym frees ∙ keeps)))) taken.1 (subst P w.shared-is (c.in_ok-grant_object.ensures.event now))
+          (reached_parts (keeps_table want.call) now shared.lock old clock (λ e. refl) (λ frees. absurd (false≢true (sym frees ∙ keeps)))) taken.1 (subst P w.shared-is (c.grant_object.ensures.event now))
+    ]
+
+pub grant_object-requires-clause-born : goal.grant_object-requires-clause-born
+grant_object-requires-clause-born c =
+    let own = few_born c.args.clocks.now c.args.shared.now.store c.requires.few c.clock-now.ensures.all_within_limit c.requires.born in
+    let P : Shared → Type 0 = λ s. BornWithin (2 ^ 126) s.store in
+    elim c.if-not-keeps-2.branch [
+      | then-not-keeps-2 w ↦ subst P (sym w.shared-is) own
+      | else-not-keeps-2 w ↦ subst P (sym w.shared-is) own
+    ]
+
+pub grant_object-requires-clause-row : goal.grant_object-requires-clause-row
+grant_object-requires-clause-row c =
+    let want = c.in-WantsObject in
+    let is : c.args.thread.now.phase ≡ phase.WantsObject want.call want.turns want.clock want.object = search rules in
+    let own = subst (λ (p : Phase). HasRoom (rows_due p) c.args.shared.now.rows) is c.requires.row in
+    let P : Shared → Type 0 = λ s. HasRoom 1 s.rows in
+    elim c.if-not-keeps-2.branch [
+      | then-not-keeps-2 w ↦ subst P (sym w.shared-is) own
+      | else-not-keeps-2 w ↦ subst P (sym w.shared-is) own
     ]

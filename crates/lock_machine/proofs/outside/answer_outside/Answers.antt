@@ -1,4 +1,4 @@
-use Rattle.std.proofs.Common.{◌≡◌, ◌+◌, ◌^◌, List, Some, None, true, refl, sym, ap, ◌∙◌, subst, length, rules}
+use Rattle.std.proofs.Common.{◌≡◌, ◌+◌, ◌^◌, List, Some, None, true, refl, sym, ap, ◌∙◌, subst, length, arith, rules}
 use Rattle.std.proofs.lemmas.Option.{slice_get_read}
 use Rattle.std.specs.Prelude.{nat_le, slice_get}
 use Rattle.std.proofs.Math.ListN.{set}
@@ -7,10 +7,12 @@ use Rattle.det_mutex.specs.Attempt.{freed}
 use Rattle.logical_clocks.specs.ThreadClocks.{clock_at, no_thread, with_clock}
 use Rattle.logical_clocks.specs.declared.clocks.ThreadClock.{ThreadClock}
 use Rattle.posix_terms.specs.declared.transcript.HistoryRow.{HistoryRow}
-use Rattle.lock_machine.specs.Outings.{AnswersOutside, answer_cost, outside_parts, table_freed, went_on}
+use Rattle.lock_machine.specs.Outings.{AnswersOutside, answer_cost, outside_parts, table_freed}
+use Rattle.lock_machine.specs.Held.{phase_behind}
 use Rattle.lock_machine.specs.Threads.{timed}
 use Rattle.lock_machine.proofs.ClockLemmas.{kept_clock}
 use Rattle.lock_machine.proofs.Parting.{concludes_made, concludes_pending, holds_locks, got_set, object_holder}
+use Rattle.lock_machine.proofs.Bearing.{few_born}
 use Rattle.lock_machine.proofs.outside.answer_outside.Goals as goal
 
 pub returns-in_default-as_ref-clause-event : goal.returns-in_default-as_ref-clause-event
@@ -23,11 +25,6 @@ returns-in_default-as_ref-clause-event c =
     let none : c.in-Some.row.now.outcome ≡ None = search rules in
     subst (λ (rows : List HistoryRow). AnswersOutside c.args.patience None c.args.i c.args.outing old (record old { rows = rows })) (sym (got_set c.args.shared.now.rows.items c.args.outing.row c.in-Some.row.now there))
     (concludes_pending c.args.patience c.args.i c.args.outing old c.in-Some.row.now held there none)
-
-pub returns-in_err-go_on-clause-others : goal.returns-in_err-go_on-clause-others
-returns-in_err-go_on-clause-others c =
-    let clocks : c.add.new.self ≡ with_clock c.args.clocks.now c.args.i (clock_at c.args.clocks.now c.args.i + c.answer_cost.result) = search rules in
-    kept_clock c.args.i (clock_at c.args.clocks.now c.args.i + c.answer_cost.result) c.args.thread.now c.go_on.new.thread c.args.clocks.now c.add.new.self c.requires.inside clocks c.requires.live (c.in_err-go_on.ensures.live c.requires.live)
 
 pub free-requires : goal.free-requires
 free-requires c =
@@ -47,16 +44,19 @@ returns-clause-event c =
     let clocks : c.add.new.self ≡ with_clock c.args.clocks.now c.args.i (clock_at c.args.clocks.now c.args.i + c.answer_cost.result) = search rules in
     let at : clock_at c.add.new.self c.args.i ≡ old.thread.clock + answer_cost c.args.outing.keeps_table =
     ap (λ (cs : List ThreadClock). clock_at cs c.args.i) clocks ∙ ap (λ (x : ThreadClock). x.clock) (get_or-set_same c.args.clocks.now c.args.i _ no_thread c.requires.inside) ∙ ap (λ n. old.thread.clock + n) c.answer_cost.ensures in
-    let thread : timed c.go_on.new.thread (clock_at c.add.new.self c.args.i) ≡ went_on c.in-Some.row.now.call c.in_ok-end.end (record old.thread { clock = old.thread.clock + answer_cost c.args.outing.keeps_table }) =
-    c.in_ok-go_on.ensures.thread (clock_at c.add.new.self c.args.i) ∙ ap (λ n. went_on c.in-Some.row.now.call c.in_ok-end.end (timed c.args.thread.now n)) at in
+    let behind : c.phase_behind.result ≡ phase_behind c.end_turn-end.result = c.phase_behind.ensures.phase in
     let object : c.free.new.self ≡ freed old.thread.clock = c.free.ensures ∙ ap freed c.clock-now.ensures.value in
     let lock : c.free_table.new.table ≡ table_freed c.args.outing.keeps_table (old.thread.clock + 1) c.args.shared.now.lock = c.free_table.ensures ∙ ap (λ n. table_freed c.args.outing.keeps_table (n + 1) c.args.shared.now.lock) c.clock-now.ensures.value in
-    concludes_made c.args.patience c.args.i c.args.outing (Some c.told_as.result) old _ c.in-Some.row.now c.in-Some-as_ref.outcome.now c.in_ok-end.end held there came room (ap Some c.told_as.ensures)
-    c.in_ok-end.ensures
+    concludes_made c.args.patience c.args.i c.args.outing (Some c.told_as.result) old _ c.in-Some.row.now c.in-Some-as_ref.outcome.now c.end_turn-end.result held there came room (ap Some c.told_as.ensures)
+    c.end_turn-end.ensures.event
     (λ k. record {
-      thread = thread k;
+      thread = record (timed c.args.thread.now (at k)) { phase = behind k };
       object = object k;
       lock = lock k;
-      table = c.end_turn.new.store;
-      rows = set rows.items c.args.outing.row (record c.in-Some.row.now { answer = Some (c.in_ok-go_on.ensures.answer k) });
+      table = c.end_turn-end.new.store;
+      rows = set rows.items c.args.outing.row (record c.in-Some.row.now { answer = Some (c.answer_copied.ensures k) });
     })
+
+pub end_turn-end-requires-clause-born : goal.end_turn-end-requires-clause-born
+end_turn-end-requires-clause-born c =
+    few_born c.args.clocks.now c.args.shared.now.store c.requires.few c.clock-now.ensures.all_within_limit c.requires.born

@@ -1,8 +1,26 @@
-use Rattle.lock_model.proofs.CameRows.{came_is_rows}
-use Rattle.lock_model.proofs.PlainCame.{outside_stays, over_under_came, plain_leads, same_under_came}
-use Rattle.call_machine.proofs.Covering.{has_spelling, none_strays, records_came}
 use Rattle.replayer.proofs.OwnLog as law
 use Rattle.replayer.proofs.laws.own_log.Goals as goal
 
 pub returns : goal.returns
-returns c = law.own_log same_under_came over_under_came plain_leads outside_stays came_is_rows records_came has_spelling none_strays
+returns c =
+    let plain = c.outcomes_that_came.ensures in
+    let logs = c.logs_of_plain_runs.ensures in
+    law.own_log
+    (record {
+      same = plain.same;
+      over = plain.over;
+      leads = plain.leads;
+      arises = plain.arises;
+      count = plain.count;
+      stays = plain.stays;
+      rows = plain.rows;
+      follows = c.arising_states.ensures.follows;
+      turn = c.turn_order.ensures.ended;
+      prefix = c.prefix_law.ensures.under_came;
+      ends = c.plain_run_ends.ensures.unique;
+      came = logs.came;
+      spelled = logs.spelled;
+      straight = logs.straight;
+      one_value = c.one_value.ensures;
+      no_fault = c.one_fault.ensures.none;
+    })

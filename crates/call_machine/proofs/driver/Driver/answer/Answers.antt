@@ -17,4 +17,4 @@ returns-clause-event c =
     let h = comes_told (has_answer q) c.answer.result told p.whole w (λ o. Tells o i p.whole w) c.requires.answered c.answer.ensures.event c.in_ok-told.ensures in
     let P : Played → Type 0 = λ x. Makes c.hear.result i p x in
     let Q : Progress → Type 0 = λ b. Makes b i p (hears told i (record p { whole = w })) in
-    subst P (sym c.hear.ensures.heard) (subst Q (sym c.hear.ensures.progress) (tells_made p i w q told c.requires.inside refl (answering q c.requires.answered) h))
+    subst P (sym c.hear.ensures.heard) (subst Q (sym c.hear.ensures.progress) (tells_made c.laws.ensures.events p i w q told c.requires.inside refl (answering q c.requires.answered) h))

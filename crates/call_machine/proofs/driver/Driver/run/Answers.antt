@@ -6,7 +6,7 @@ use Rattle.call_machine.proofs.Scheduling.{at_the_start, comes_astray, comes_on,
 use Rattle.call_machine.proofs.driver.Driver.run.Goals as goal
 
 pub loop-i-init : goal.loop-i-init
-loop-i-init c input h = at_the_start input (played_of c.args.self.now) h
+loop-i-init c input h = at_the_start c.laws.ensures.starts input (played_of c.args.self.now) h
 
 pub loop-i-smaller : goal.loop-i-smaller
 loop-i-smaller c =
@@ -17,7 +17,7 @@ loop-i-smaller c =
 pub loop-i-preserved : goal.loop-i-preserved
 loop-i-preserved c input h =
     let Q : Went → Type 0 = λ w. Plainly w (played_of c.loop-i.self) (played_of c.step.new.self) in
-    comes_on input (played_of c.loop-i.self) (played_of c.step.new.self) (c.loop-i.invariant input h) (subst Q c.in-On.is c.in_ok-step.ensures)
+    comes_on c.laws.ensures.arises input (played_of c.loop-i.self) (played_of c.step.new.self) (c.loop-i.invariant input h) (subst Q c.in-On.is c.in_ok-step.ensures)
 
 pub returns-in-Over : goal.returns-in-Over
 returns-in-Over c input h =

@@ -29,4 +29,4 @@ returns-clause-opens c =
     let made : TableMade h call (Some c.args.outcome.now) new.table = search rules in
     let tells : TellsAsStep h.table call (Some c.args.outcome.now) c.change-given.result = search rules in
     let bodies : new.bodies ≡ h.bodies = search rules in
-    door_opens h new call x.node x.errand x.keep_table c.args.outcome.now c.change-given.result c.end_opening.result c.args.patience c.args.turns is made tells bodies c.end_opening.ensures
+    door_opens h new call x.node x.errand x.keep_table c.args.outcome.now c.change-given.result c.end_opening.result c.args.patience c.args.turns is made tells bodies c.end_opening.ensures.ends

@@ -1,4 +1,4 @@
-use Rattle.std.proofs.Common.{◌≡◌, ◌&&◌, not, List, ℕ, length, take, drop, ◌++◌, ap, ap₂, sym, ◌∙◌, rules}
+use Rattle.std.proofs.Common.{◌≡◌, ◌&&◌, not, List, ℕ, length, take, drop, ◌++◌, ap, ap₂, refl, sym, ◌∙◌, rules}
 use Rattle.std.proofs.Math.Seq.{take-append_seam}
 use Rattle.posix_terms.specs.Object.{Pair}
 use Rattle.posix_terms.specs.Streams.{half_at, pair_read, peer_of, with_waiting}
@@ -17,19 +17,18 @@ returns-clause-acts c =
     let h = c.args.self.now in
     let p = (kept_at h c.args.node).pair in
     let peer_open = is_open h.table c.args.node (part.Socket (peer_of c.args.side)) in
-    let r = pair_read p c.args.side c.args.count peer_open in
-    let place : List ℕ = c.in_ok-bytes.bytes.items in
-    let count : length place ≡ c.args.count = search rules in
+    let place : List ℕ = c.args.into.items in
+    let r = pair_read p c.args.side (length place) peer_open in
     let answered : c.take_pair-answer.result ≡ read_answer r = search rules in
     let filled : c.take_pair-answer.new.into ≡ read_into (half_at p c.args.side) place = search rules in
-    let whole : length c.take_pair-answer.new.into ≡ c.in_ok-bytes.bytes.len = search rules in
-    let kept : take c.in_ok-bytes.bytes.len (c.take_pair-answer.new.into ++ drop (length c.take_pair-answer.new.into) place) ≡ c.take_pair-answer.new.into =
+    let whole : length c.take_pair-answer.new.into ≡ c.args.into.len = search rules in
+    let kept : take c.args.into.len (c.take_pair-answer.new.into ++ drop (length c.take_pair-answer.new.into) place) ≡ c.take_pair-answer.new.into =
     ap (λ (k : ℕ). take k (c.take_pair-answer.new.into ++ drop (length c.take_pair-answer.new.into) place)) (sym whole)
     ∙ take-append_seam c.take_pair-answer.new.into (drop (length c.take_pair-answer.new.into) place) in
     let as_answered : shown_ending c.read_ending.result ≡ ending_of_read c.take_pair-answer.result c.take_pair-answer.new.into c.args.from.flags.nonblock =
-    c.read_ending.ensures ∙ ap (λ (l : List ℕ). ending_of_read c.take_pair-answer.result l c.args.from.flags.nonblock) kept in
+    c.read_ending.ensures.shown ∙ ap (λ (l : List ℕ). ending_of_read c.take_pair-answer.result l c.args.from.flags.nonblock) kept in
     let told = as_answered ∙ ap₂ (λ a b. ending_of_read a b c.args.from.flags.nonblock) answered filled in
     let left : c.take_pair-answer.new.self ≡ holding h c.args.node (Pair (left_by_read p c.args.side r)) = search rules in (
-      told ∙ read_ending c.args.from (λ (l : List ℕ). Pair (with_waiting p c.args.side l)) (Pair p) (offset_of_key h c.args.from.key) c.args.count (half_at p c.args.side) place (peer_open && not (half_at p (peer_of c.args.side)).writing_shut) count,
+      told ∙ read_ending c.args.from (λ (l : List ℕ). Pair (with_waiting p c.args.side l)) (Pair p) (offset_of_key h c.args.from.key) (length place) (half_at p c.args.side) place (peer_open && not (half_at p (peer_of c.args.side)).writing_shut) refl,
       left ∙ ap (holding h c.args.node) (sym (read_content c.args.from p c.args.side (offset_of_key h c.args.from.key) r)),
     )

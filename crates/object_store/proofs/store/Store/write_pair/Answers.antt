@@ -11,8 +11,8 @@ use Rattle.object_store.specs.Store.{kept_at}
 use Rattle.object_store.proofs.Streaming.{written_content, written_ending}
 use Rattle.object_store.proofs.store.Store.write_pair.Goals as goal
 
-pub returns : goal.returns
-returns c =
+pub returns-clause-acts : goal.returns-clause-acts
+returns-clause-acts c =
     let h = c.args.self.now in
     let p = (kept_at h c.args.node).pair in
     let w = pair_write p c.args.side c.args.bytes.now (is_open h.table c.args.node (part.Socket (peer_of c.args.side))) in

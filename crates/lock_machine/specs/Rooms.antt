@@ -1,0 +1,30 @@
+-- How much memory a thread has for the bytes of its reply, and how much it needs.
+use Rattle.std.specs.Prelude.{◌≤◌, ℕ}
+use Rattle.descriptor_table.specs.Plans.{bytes_asked, read_count}
+use Rattle.object_store.specs.Patience.{turn_bytes}
+use Rattle.object_store.specs.Space.{Space}
+use Rattle.lock_machine.specs.declared.thread.Phase.{Phase}
+use Rattle.lock_machine.specs.declared.thread.Phase.TheVariants as phase
+
+-- so many bytes the reply brings that is told, at most
+abbrev pub told_needed : Phase → ℕ
+told_needed (phase.WantsTable call turns) = read_count call
+told_needed (phase.WantsObject call turns clock object) = read_count call
+told_needed (phase.ToOutside o) = bytes_asked o.errand
+told_needed (phase.Outside o) = bytes_asked o.errand
+told_needed (phase.Recorded o) = bytes_asked o.errand
+told_needed p = 0
+
+-- and its copy in the row, where there is room for so many in what is told
+abbrev pub row_needed : Phase → ℕ → ℕ
+row_needed (phase.WantsTable call turns) told = told
+row_needed (phase.WantsObject call turns clock object) told = told
+row_needed (phase.Granted row object e) told = turn_bytes e
+row_needed (phase.ToOutside o) told = told
+row_needed (phase.Outside o) told = told
+row_needed (phase.Recorded o) told = told
+row_needed p told = 0
+
+-- a thread in this phase has the room that its call needs
+abbrev pub HasSpace : Phase → Space → Type 0
+HasSpace p s = (told_needed p ≤ s.told) × (row_needed p s.told ≤ s.row)

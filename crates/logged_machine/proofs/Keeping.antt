@@ -1,0 +1,119 @@
+-- What is true of each machine stays so by an event.
+use Rattle.std.proofs.Common.{◌≡◌, ℕ, ◌<◌, length, List, Option, Some, None, Bool, true, false, ◌&&◌, not, sym, refl, ap, ap₂, ◌∙◌, subst}
+use Rattle.std.proofs.lemmas.Bool.{and_parts, false≢true, true≢false}
+use Rattle.input_log.specs.declared.log.Header.{Header}
+use Rattle.lock_machine.specs.Refusals.{goes_outside, has_answer, is_blocked, is_outside, phase_at, works}
+use Rattle.lock_machine.specs.Conditions.{setup_under, start_under}
+use Rattle.lock_machine.specs.Shows.{PhaseShows, Shows}
+use Rattle.lock_machine.specs.Whole.{Whole, thread_at}
+use Rattle.lock_machine.specs.Threads.{Thread}
+use Rattle.lock_machine.specs.declared.thread.Phase.{Phase}
+use Rattle.lock_machine.specs.declared.thread.Phase.TheVariants as phase
+use Rattle.lock_model.specs.Came.{CameOutside}
+use Rattle.lock_model.specs.Laws.{ArisesByEvent}
+use Rattle.lock_model.specs.Machine.{Event, happens}
+use Rattle.lock_model.specs.Machine.Event.{Advances, Attempts}
+use Rattle.lock_model.specs.Runs.{own}
+use Rattle.lock_model.specs.State as lock
+use Rattle.lock_model.specs.State.{Job, Row, State, thread_of}
+use Rattle.lock_model.specs.State.Phase.{Blocked, Ended, Granted, Outside, Recorded, ToOutside, WantsObject, WantsTable, Working}
+use Rattle.logged_machine.specs.Kept.{IsKept, header_of}
+use Rattle.logged_machine.specs.Runs.{Coming, IsEnd, setup_with, supply_with, terms_with}
+use Rattle.logged_machine.specs.Shown.{Shown}
+use Rattle.logged_machine.proofs.Ending.{IsMade, ends_at}
+
+-- ## Which threads are outside
+
+abbrev outside_in : lock.Phase → Bool
+outside_in (Outside job) = true
+outside_in p = false
+
+not_outside : (p : lock.Phase) (job : Job) → outside_in p ≡ false → p ≡ Outside job → ⊥
+not_outside p job h is = true≢false (ap outside_in (sym is) ∙ h)
+
+shown_outside : (w : Whole) (s : State) (i : ℕ) (t : Thread) (u : lock.Thread) (p : Phase) → PhaseShows (terms_with w (own s)) i s.rows t u p → is_outside p ≡ false → outside_in u.phase ≡ false
+shown_outside w s i t u phase.Working h q = ap outside_in h
+shown_outside w s i t u (phase.WantsTable call turns) h q = ap outside_in h
+shown_outside w s i t u (phase.WantsObject call turns clock object) h q = ap outside_in h.1.0
+shown_outside w s i t u (phase.Granted place object ends) h q = ap outside_in h.1.0
+shown_outside w s i t u (phase.ToOutside o) h q = ap outside_in h.1.0
+shown_outside w s i t u (phase.Outside o) h q = absurd (true≢false q)
+shown_outside w s i t u (phase.Recorded o) h q = ap outside_in h.1.0
+shown_outside w s i t u (phase.Blocked turns) h q = ap outside_in h.1
+shown_outside w s i t u phase.Ended h q = ap outside_in h
+
+-- nothing can come in this event, whichever run leads to the machine
+abbrev pub IsQuiet : Event → Whole → Type 0
+IsQuiet e w = (s : State) → IsEnd w s → (k : ℕ) → e ≡ Advances k → (job : Job) → (thread_of s k).phase ≡ Outside job → ⊥
+
+abbrev thread_in : Event → ℕ
+thread_in (Advances i) = i
+thread_in (Attempts i) = i
+
+abbrev is_attempt : Event → Bool
+is_attempt (Advances i) = false
+is_attempt (Attempts i) = true
+
+pub attempt_quiet : (i : ℕ) (w : Whole) → IsQuiet (Attempts i) w
+attempt_quiet i w s h k is job out = true≢false (ap is_attempt is)
+
+inside_quiet : (i : ℕ) (w : Whole) → is_outside (phase_at w i) ≡ false → IsQuiet (Advances i) w
+inside_quiet i w inside s h k is job out =
+    let here : (thread_of s i).phase ≡ Outside job = subst (λ (n : ℕ). (thread_of s n).phase ≡ Outside job) (sym (ap thread_in is)) out in
+    not_outside (thread_of s i).phase job (shown_outside w s i (thread_at w i) (thread_of s i) (phase_at w i) (h.1.threads i).phase inside) here
+
+working_inside : (p : Phase) → works p ≡ true → is_outside p ≡ false
+working_inside phase.Working h = refl
+working_inside p h = absurd (false≢true h)
+
+going_inside : (p : Phase) → goes_outside p ≡ true → is_outside p ≡ false
+going_inside (phase.ToOutside o) h = refl
+going_inside p h = absurd (false≢true h)
+
+answering_inside : (p : Phase) → has_answer p ≡ true → is_outside p ≡ false
+answering_inside (phase.Granted row object ends) h = refl
+answering_inside (phase.Recorded o) h = refl
+answering_inside p h = absurd (false≢true h)
+
+blocked_inside : (p : Phase) → is_blocked p ≡ true → is_outside p ≡ false
+blocked_inside (phase.Blocked turns) h = refl
+blocked_inside p h = absurd (false≢true h)
+
+pub working_quiet : (i : ℕ) (w : Whole) → works (phase_at w i) ≡ true → IsQuiet (Advances i) w
+working_quiet i w h = inside_quiet i w (working_inside (phase_at w i) h)
+
+pub going_quiet : (i : ℕ) (w : Whole) → goes_outside (phase_at w i) ≡ true → IsQuiet (Advances i) w
+going_quiet i w h = inside_quiet i w (going_inside (phase_at w i) h)
+
+pub answering_quiet : (i : ℕ) (w : Whole) → has_answer (phase_at w i) ≡ true → IsQuiet (Advances i) w
+answering_quiet i w h = inside_quiet i w (answering_inside (phase_at w i) h)
+
+pub blocked_quiet : (i : ℕ) (w : Whole) → is_blocked (phase_at w i) ≡ true → IsQuiet (Advances i) w
+blocked_quiet i w h = inside_quiet i w (blocked_inside (phase_at w i) h)
+
+-- ## The header
+
+pub header_stays : (old new : Whole) (c : Coming) (s z : State) → length new.threads ≡ length old.threads → Shows (terms_with old (supply_with c s)) new z → header_of old ≡ header_of new
+header_stays old new c s z count h = λ k. record { threads = sym count k; patience = h.patience k; door_cost = h.door_cost k }
+
+-- ## The event
+
+-- a machine that made an event in which nothing came; its doors may be others
+pub kept_quietly : (D : Type 0) (m : Shown D) (w : Whole) (doors : List (Option D)) (c : Coming) (e : Event) → ArisesByEvent → CameOutside → IsKept D m → length w.threads ≡ length m.whole.threads → IsMade c e m.whole w → IsQuiet e m.whole → length doors ≡ length m.doors
+    → IsKept D (record m { whole = w; doors = doors })
+kept_quietly D m w doors c e arises outside h count made quiet same_doors =
+    let s = h.end in
+    let setup = setup_with m.whole c s in
+    let shows = (made s h.ends).1 in
+    let z = happens setup e s in
+    record {
+      end = z;
+      ends = ends_at m.whole w (supply_with c s) z count (arises setup (start_under (terms_with m.whole (supply_with c s))) s e h.ends.0) shows;
+      header = h.header ∙ header_stays m.whole w c s z count shows;
+      sound = h.sound;
+      came = λ i. outside setup s e i (quiet s h.ends i) ∙ h.came i;
+      unclosed = h.unclosed;
+      failed = h.failed;
+      strayed = h.strayed;
+      doors = same_doors ∙ h.doors;
+    }

@@ -1,0 +1,10 @@
+pub mod Ending
+pub mod Beginning
+pub mod AskedKinds
+pub mod Covering
+pub mod Keeping
+pub mod Recording
+pub mod Going
+pub mod Coming
+pub mod Starting
+pub mod Asking

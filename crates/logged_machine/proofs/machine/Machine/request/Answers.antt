@@ -1,0 +1,19 @@
+use Rattle.std.proofs.Common.{◌≡◌, List, Some, get_or, sym, ap, ◌∙◌, subst}
+use Rattle.lock_machine.specs.Refusals.{phase_at}
+use Rattle.posix_terms.specs.declared.transcript.HistoryRow.{HistoryRow}
+use Rattle.logged_machine.specs.Requests.{IsRequest, out_of}
+use Rattle.logged_machine.specs.Shown.{Shown}
+use Rattle.logged_machine.proofs.Asking.{is_request}
+use Rattle.logged_machine.proofs.machine.Machine.request.Goals as goal
+
+pub returns : goal.returns
+returns g c =
+    let m = c.self.inside in
+    let o = c.in-Some.outing in
+    let row = c.index-rows-outing.result in
+    let out = sym c.in-Some.ensures in
+    let phase = c.phase.ensures in
+    let at = c.index-rows-outing.is ∙ ap (λ (rows : List HistoryRow). get_or rows o.row row) c.rows.ensures in
+    let copy = c.in_ok-try_clone.ensures ∙ ap (λ (r : HistoryRow). r.call) (sym c.index-rows-outing.is) in
+    subst (λ (x : Shown g.row.D.Denot). IsRequest x.whole c.args.i (Some (record { kind = o.errand.kind; asked = o.errand.asked; call = c.in_ok-try_clone.field-0 }))) c.self.view_is
+    (is_request m.calls c.args.i o row c.in_ok-try_clone.field-0 (sym (ap out_of phase) ∙ out) at copy)

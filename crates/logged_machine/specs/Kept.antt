@@ -1,0 +1,41 @@
+-- What is true of each machine at any time.
+use Rattle.std.specs.Prelude.{◌≡◌, ℕ, Bool, true, false, List, length, Option, Some, None, if◌then◌else◌}
+use Rattle.input_log.specs.Writing.{IsSound}
+use Rattle.input_log.specs.declared.log.Header.{Header}
+use Rattle.lock_machine.specs.Whole.{Whole}
+use Rattle.lock_model.specs.State.{State, thread_of}
+use Rattle.posix_terms.specs.declared.limits.TheConstants.Limits as limit
+use Rattle.logged_machine.specs.Records.{outcomes_of}
+use Rattle.logged_machine.specs.Runs.{IsEnd}
+use Rattle.logged_machine.specs.Shown.{Shown}
+use Rattle.logged_machine.specs.declared.stop.Stop.{Stop}
+use Rattle.logged_machine.specs.declared.stop.Stop.TheVariants as stop
+
+abbrev pub header_of : Whole → Header
+header_of w = record { threads = length w.threads; patience = w.patience; door_cost = w.door_cost }
+
+abbrev pub is_sink : Option Stop → Bool
+is_sink (Some stop.Sink) = true
+is_sink o = false
+
+abbrev pub is_strayed : Option Stop → Bool
+is_strayed (Some stop.Strayed) = true
+is_strayed o = false
+
+-- a sink failed just where this is why its machine was stopped, and then once; and no machine itself finds that threads strayed
+pub record StopsFor (failures : ℕ) (stopped : Option Stop) : Type 0 where
+  pub sink : failures ≡ (if is_sink stopped then 1 else 0)
+  pub strayed : is_strayed stopped ≡ false
+
+-- a run leads to it, whose outcomes are by thread those that its log has; the log's writer failed just where that was why the machine was
+-- stopped, and no machine itself finds that threads strayed
+pub record IsKept (D : Type 0) (m : Shown D) : Type 0 where
+  pub end : State
+  pub ends : IsEnd m.whole end
+  pub header : m.log.header ≡ header_of m.whole
+  pub sound : IsSound m.log
+  pub came : (i : ℕ) → (thread_of end i).came ≡ outcomes_of i m.log.records
+  pub unclosed : m.log.closed ≡ false
+  pub failed : m.log.failed ≡ is_sink m.stop
+  pub strayed : is_strayed m.stop ≡ false
+  pub doors : length m.doors ≡ limit.OBJECTS

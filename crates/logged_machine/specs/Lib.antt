@@ -1,0 +1,12 @@
+pub mod Shown
+pub mod Runs
+pub mod Records
+pub mod Kept
+pub mod Doors
+pub mod Events
+pub mod Starting
+pub mod History
+pub mod Covered
+pub mod Begins
+pub mod Finishing
+pub mod Requests

@@ -1,0 +1,22 @@
+-- A machine at its start.
+use Rattle.std.specs.Prelude.{ℕ, replicate, None}
+use Rattle.input_log.specs.Writing.{begun}
+use Rattle.input_log.specs.declared.log.Header.{Header}
+use Rattle.lock_machine.specs.Starting.{first_whole}
+use Rattle.posix_terms.specs.declared.limits.TheConstants.Limits as limit
+use Rattle.posix_terms.specs.declared.transcript.Settings.{Settings}
+use Rattle.logged_machine.specs.Shown.{Shown}
+
+-- the header of a run of so many threads
+abbrev pub header_for : Settings → ℕ → Header
+header_for settings threads = record { threads = threads; patience = settings.patience; door_cost = settings.door_cost }
+
+-- nothing was asked, and there is no door
+abbrev pub first_shown : {D : Type 0} → Settings → ℕ → Shown D
+first_shown settings threads =
+    record {
+      whole = first_whole settings threads;
+      log = begun (header_for settings threads);
+      doors = replicate limit.OBJECTS None;
+      stop = None;
+    }

@@ -1,0 +1,24 @@
+-- How much memory is set aside for the bytes of a reply.
+use Rattle.std.specs.Prelude.{◌≤◌, ℕ}
+use Rattle.descriptor_table.specs.Plans.{bytes_asked, read_count}
+use Rattle.posix_terms.specs.declared.call.Call.{Call}
+use Rattle.object_store.specs.Patience.{turn_bytes}
+use Rattle.object_store.specs.declared.patience.TurnStart.{TurnStart}
+use Rattle.object_store.specs.declared.patience.TurnStart.TheVariants as start
+
+-- so many bytes for the reply that is told, and for its copy in the row
+pub record Space : Type 0 where
+  pub told : ℕ
+  pub row : ℕ
+
+abbrev pub no_space : Space
+no_space = record { told = 0; row = 0 }
+
+-- as much as a call needs
+abbrev pub HasSpaceFor : Call → Space → Type 0
+HasSpaceFor call s = (read_count call ≤ s.told) × (s.told ≤ s.row)
+
+-- what a turn leaves of it: for the copy of its reply, or for what comes from outside
+abbrev pub LeavesSpace : TurnStart → Space → Type 0
+LeavesSpace (start.Ended e) s = turn_bytes e ≤ s.row
+LeavesSpace (start.GoesOut errand) s = (bytes_asked errand ≤ s.told) × (s.told ≤ s.row)

@@ -1,0 +1,91 @@
+ghost use Rattle.std.specs.Prelude.{◌≡◌, ◌+◌, ◌≤◌, ◌<◌, ◌^◌, IfOk, true};
+ghost use Rattle.descriptor_table.specs.Plans.{bytes_asked, reply_bytes};
+ghost use Rattle.descriptor_table.specs.declared.plan.NewNumbers.TheVariants as numbers;
+ghost use Rattle.posix_terms.specs.Outcomes.{fits};
+ghost use Rattle.object_store.specs.Patience.{EndsOutside, turn_bytes};
+ghost use Rattle.object_store.specs.Space.{HasSpaceFor, LeavesSpace, no_space};
+ghost use Rattle.object_store.specs.Store.{Makes};
+
+use crate::patience::{TurnEnd, TurnStart, copied, end_outside};
+use crate::store::Store;
+use descriptor_table::{Errand, read_count};
+use posix_terms::{Call, Outcome, Reply};
+use std::alloc::{AllocError, Global};
+use std::marker::Model;
+
+/// The memory that a thread has for the bytes of its reply: for the one that is told, and for its copy in the row of the history.
+/// Contracts see how many bytes each has.
+#[derive(Drop)]
+pub struct Room {
+    told: Vec<u8>,
+    row: Vec<u8>,
+}
+
+impl Model for Room {
+    ghost use Rattle.std.specs.Prelude.{length};
+    ghost use Rattle.object_store.specs.Space.{Space};
+
+    ghost Value = { Space };
+
+    ghost view = { λ r. record { told = length r.told.items; row = length r.row.items } };
+}
+
+impl Room {
+    /// Of no bytes. It takes no memory.
+    pub fn new(alloc: Global) -> Room
+        ensures { result ≡ no_space }
+    {
+        Room {
+            told: Vec::new(alloc),
+            row: Vec::new(alloc),
+        }
+    }
+
+    /// Another, for as many bytes as a call may read.
+    pub fn for_call(&self, call: &Call) -> Result<Room, AllocError>
+        ensures { IfOk result (HasSpaceFor call.now) }
+    {
+        let alloc = *self.told.allocator();
+        let count = read_count(call);
+        Ok(Room {
+            told: vec![in alloc; 0; count]?,
+            row: vec![in alloc; 0; count]?,
+        })
+    }
+
+    /// Makes a turn of a call, as [`Store::make`], with room for the bytes of its reply.
+    pub fn make(&mut self, store: &mut Store, call: &Call, patience: u32, turns: u32) -> TurnStart
+        requires descriptions { store.old.table.descriptions.made < 2 ^ 127 }
+        requires objects { store.old.table.made_objects < 2 ^ 127 }
+        requires room { HasSpaceFor call.now self.old }
+        ensures makes { Makes patience turns store.old call.now result store.new }
+        ensures room { LeavesSpace result self.new }
+        ensures births { (store.new.table.descriptions.made ≤ store.old.table.descriptions.made + 2) × (store.new.table.made_objects ≤ store.old.table.made_objects + 1) }
+    {
+        store.make(call, patience, turns, &mut self.told)
+    }
+
+    /// Ends a turn that went outside, as [`end_outside`], with room for the bytes that came.
+    pub fn end_outside(
+        &mut self,
+        errand: Errand,
+        outcome: &Outcome,
+        patience: u32,
+        turns: u32,
+    ) -> TurnEnd
+        requires asked { bytes_asked errand ≤ self.old.told }
+        requires copy { self.old.told ≤ self.old.row }
+        ensures ends { fits errand.kind errand.asked outcome.now ≡ true → EndsOutside patience turns errand numbers.None outcome.now result }
+        ensures copy { turn_bytes result ≤ self.new.row }
+    {
+        end_outside(errand, outcome, patience, turns, &mut self.told)
+    }
+
+    /// A copy of a reply, for the row.
+    pub fn copy(&mut self, reply: &Reply) -> Reply
+        requires { reply_bytes reply.now ≤ self.old.row }
+        ensures { result ≡ reply.now }
+    {
+        copied(reply, &mut self.row)
+    }
+}

@@ -1,0 +1,29 @@
+-- The laws of other crates that the law of a run's own log rests on.
+use Rattle.std.proofs.Common.{◌≡◌, ℕ, List}
+use Rattle.call_machine.specs.Covered.{HasSpelling, NoneStrays, RecordsCame}
+use Rattle.input_log.specs.Faults.{Fault, HasFault}
+use Rattle.input_log.specs.Grammar.{Spells}
+use Rattle.input_log.specs.declared.log.LogText.{LogText}
+use Rattle.lock_model.specs.Came.{CameIsRows, OutsideStays, OverUnderCame, PlainArises, PlainCount, PlainLeads, SameUnderCame}
+use Rattle.lock_model.specs.Laws.{EndedOrTurn, PrefixLawOfCame, RunFollows, UniqueEnd}
+
+pub record Known : Type 0 where
+  -- plain runs, and those under the outcomes that came
+  pub same : SameUnderCame
+  pub over : OverUnderCame
+  pub leads : PlainLeads
+  pub arises : PlainArises
+  pub count : PlainCount
+  pub stays : OutsideStays
+  pub rows : CameIsRows
+  pub follows : RunFollows
+  pub turn : EndedOrTurn
+  pub prefix : PrefixLawOfCame
+  pub ends : UniqueEnd
+  -- their logs
+  pub came : RecordsCame
+  pub spelled : HasSpelling
+  pub straight : NoneStrays
+  -- what a text spells
+  pub one_value : (text : List ℕ) (a b : LogText) → Spells text a → Spells text b → a ≡ b
+  pub no_fault : (text : List ℕ) (log : LogText) (fault : Fault) → Spells text log → HasFault text fault → ⊥

@@ -1,0 +1,504 @@
+ghost use Rattle.std.specs.Prelude.{◌<◌, length};
+
+use crate::random_scripts::{Dice, made_up, script_texts};
+use call_machine::{Machine, Plain, plain_run};
+use input_log::{Header, LogWriter, MemorySink};
+use lock_machine::{Attempt, Phase};
+use posix_terms::{
+    Answer, Given, HistoryRow, OutKind, Outcome, Outcomes, Reply, Request, Row, Settings,
+    Transcript,
+};
+use replayer::replay;
+use std::alloc::{AllocError, Global};
+use std::mem::replace;
+use std::process::Abort;
+use std::test::Fail;
+use thread_scripts::{Actor, Script, ScriptActor, Step, parse};
+
+// How many runs there are of each choice, each by a seed of its own.
+const RUNS: u64 = 250;
+
+// More than a run makes: it has at most 40 calls of 3 turns, and few attempts of each turn fail.
+const MOST_EVENTS: u32 = 20_000;
+
+// More than the log of a run takes: a header, at most 120 records of at most 28 bytes, and the end.
+const ROOM: usize = 10_000;
+
+const SETTINGS: Settings = Settings {
+    patience: 3,
+    door_cost: 7,
+};
+
+// ## A thread of a run
+
+// A thread: the script that plays it, the last reply that it heard, what it asked outside with the door that it took along, what came for it
+// so far, and how many of its attempts failed.
+#[derive(Drop)]
+struct Player {
+    seed: u64,
+    actor: ScriptActor,
+    last: Option<Reply>,
+    request: Option<Request>,
+    door: Option<u8>,
+    given: Vec<Given>,
+    failed: usize,
+}
+
+impl Player {
+    fn new(alloc: Global, seed: u64, script: Script) -> Player {
+        Player {
+            seed,
+            actor: ScriptActor::new(script),
+            last: None,
+            request: None,
+            door: None,
+            given: Vec::new(alloc),
+            failed: 0,
+        }
+    }
+
+    // Thread i makes the event of its phase, where it can; whether it did.
+    fn advance(
+        &mut self,
+        alloc: Global,
+        machine: &mut Machine<MemorySink, u8>,
+        i: usize,
+    ) -> Result<bool, Fail>
+        requires { i < length machine.old.whole.threads }
+    {
+        match machine.phase(i) {
+            Phase::Working => self.ask(machine, i),
+            Phase::WantsTable { .. } => self.attempt_table(machine, i),
+            Phase::WantsObject { .. } => self.attempt_object(machine, i),
+            Phase::ToOutside(_) => self.go_outside(machine, i),
+            Phase::Outside(_) => self.come_back(alloc, machine, i),
+            Phase::Granted { .. } | Phase::Recorded(_) => self.answer(machine, i),
+            Phase::Blocked { .. } => {
+                machine.again(i)?;
+                Ok(true)
+            }
+            Phase::Ended => Ok(false),
+        }
+    }
+
+    fn ask(&mut self, machine: &mut Machine<MemorySink, u8>, i: usize) -> Result<bool, Fail>
+        requires { i < length machine.old.whole.threads }
+    {
+        let step = self.actor.next(self.last.as_ref())?;
+        self.last = None;
+        match step {
+            Step::End => machine.end(i)?,
+            step => machine.ask(i, step)?,
+        }
+        Ok(true)
+    }
+
+    fn attempt_table(
+        &mut self,
+        machine: &mut Machine<MemorySink, u8>,
+        i: usize,
+    ) -> Result<bool, Fail>
+        requires { i < length machine.old.whole.threads }
+    {
+        if !machine.has_turn(i) {
+            return Ok(false);
+        }
+        self.count(machine.try_table(i)?);
+        Ok(true)
+    }
+
+    fn attempt_object(
+        &mut self,
+        machine: &mut Machine<MemorySink, u8>,
+        i: usize,
+    ) -> Result<bool, Fail>
+        requires { i < length machine.old.whole.threads }
+    {
+        if !machine.has_turn(i) {
+            return Ok(false);
+        }
+        self.count(machine.try_node(i)?);
+        Ok(true)
+    }
+
+    fn count(&mut self, attempt: Attempt) {
+        if attempt == Attempt::Failed {
+            self.failed = self.failed.saturating_add(1);
+        }
+    }
+
+    fn go_outside(&mut self, machine: &mut Machine<MemorySink, u8>, i: usize) -> Result<bool, Fail>
+        requires { i < length machine.old.whole.threads }
+    {
+        self.request = machine.request(i)?;
+        self.door = machine.begin_outside(i)?;
+        Ok(true)
+    }
+
+    fn come_back(
+        &mut self,
+        alloc: Global,
+        machine: &mut Machine<MemorySink, u8>,
+        i: usize,
+    ) -> Result<bool, Fail>
+        requires { i < length machine.old.whole.threads }
+    {
+        let Some(request) = &self.request else {
+            return Err("a thread is outside and asked nothing".into());
+        };
+        let kind = request.kind;
+        let number = self.given.len() as u64;
+        let mut dice = Dice::new(self.seed.wrapping_add(number));
+        let outcome = made_up(alloc, &mut dice, request)?;
+        self.given.push(Given {
+            kind,
+            outcome: outcome.try_clone()?,
+        })?;
+        let door = self.door.take();
+        if !goes_with(kind, door) {
+            return Err("another door went out than the call needs".into());
+        }
+        record(machine, i, kind, outcome, door)
+    }
+
+    fn answer(&mut self, machine: &mut Machine<MemorySink, u8>, i: usize) -> Result<bool, Fail>
+        requires { i < length machine.old.whole.threads }
+    {
+        if let Answer::Reply(reply) = machine.answer(i)? {
+            self.last = Some(reply);
+        }
+        Ok(true)
+    }
+}
+
+// ## Doors, each the number of the kind of request that it was opened by
+
+// Whether a call that asks this goes outside with this door.
+fn goes_with(kind: OutKind, door: Option<u8>) -> bool {
+    match (kind, door) {
+        (OutKind::Open | OutKind::Listen | OutKind::Connect, None) => true,
+        (OutKind::Seek, Some(door)) => door == OutKind::Open as u8,
+        (OutKind::Accept, Some(door)) => door == OutKind::Listen as u8,
+        (OutKind::Read | OutKind::Write, Some(door)) => door != OutKind::Listen as u8,
+        (OutKind::Shutdown, Some(door)) => {
+            door == OutKind::Connect as u8 || door == OutKind::Accept as u8
+        }
+        (OutKind::Close, Some(_)) => true,
+        _ => false,
+    }
+}
+
+// The door that a request of this kind opened, if it did.
+fn opened_by(kind: OutKind, outcome: &Outcome) -> Option<u8> {
+    match (kind, outcome) {
+        (
+            OutKind::Open | OutKind::Listen | OutKind::Connect | OutKind::Accept,
+            Outcome::Ok { .. },
+        ) => Some(kind as u8),
+        _ => None,
+    }
+}
+
+// This outcome comes for thread i, with the door that went out, unless it was closed.
+fn record(
+    machine: &mut Machine<MemorySink, u8>,
+    i: usize,
+    kind: OutKind,
+    outcome: Outcome,
+    door: Option<u8>,
+) -> Result<bool, Fail>
+    requires { i < length machine.old.whole.threads }
+{
+    let back = if kind == OutKind::Close { None } else { door };
+    let opened = opened_by(kind, &outcome);
+    if !machine.takes(i, &outcome, back.is_some(), opened.is_some()) {
+        return Err("an outcome does not answer what was asked".into());
+    }
+    match machine.record(i, outcome, back, opened) {
+        Ok(()) => Ok(true),
+        Err(not) => Err(not.cause.into()),
+    }
+}
+
+// ## What threads saw
+
+// Whether a row of a thread's transcript is this one.
+fn is_row(row: &Row, wanted: &HistoryRow) -> bool {
+    match &wanted.answer {
+        Some(Answer::Reply(reply)) => {
+            row.call == wanted.call && row.turn == wanted.turn && row.reply == *reply
+        }
+        _ => false,
+    }
+}
+
+// Whether these are the rows of this thread that have a reply.
+fn saw(seen: &[Row], thread: usize, rows: &[HistoryRow]) -> bool {
+    let mut seen = seen;
+    for row in rows {
+        if row.turn.thread != thread || !matches!(row.answer, Some(Answer::Reply(_))) {
+            continue;
+        }
+        match seen.split_first() {
+            Some((first, rest)) if is_row(first, row) => seen = rest,
+            _ => return false,
+        }
+    }
+    seen.is_empty()
+}
+
+// Whether each thread saw what these rows say.
+fn all_saw(transcripts: &[Transcript], threads: usize, rows: &[HistoryRow]) -> bool {
+    if transcripts.len() != threads {
+        return false;
+    }
+    for (thread, transcript) in transcripts.iter().enumerate() {
+        if !saw(transcript.rows(), thread, rows) {
+            return false;
+        }
+    }
+    true
+}
+
+// ## A run
+
+fn scripts(alloc: Global, texts: &[Vec<u8>]) -> Result<Vec<Script>, Fail> {
+    let mut scripts = Vec::new(alloc);
+    for text in texts {
+        scripts.push(parse(alloc, text.as_slice())?)?;
+    }
+    Ok(scripts)
+}
+
+fn players(alloc: Global, texts: &[Vec<u8>], dice: &mut Dice) -> Result<Vec<Player>, Fail> {
+    let mut players = Vec::new(alloc);
+    for script in scripts(alloc, texts)? {
+        players.push(Player::new(alloc, dice.roll(), script))?;
+    }
+    Ok(players)
+}
+
+#[tactic(auto, unfolding(input_log::specs::Grammar::in_range))]
+fn machine(alloc: Global, threads: usize) -> Result<Machine<MemorySink, u8>, AllocError> {
+    if threads < 1 || threads > 8 {
+        return Err(AllocError);
+    }
+    let header = Header {
+        threads: threads as u16,
+        patience: SETTINGS.patience,
+        door_cost: SETTINGS.door_cost,
+    };
+    match LogWriter::begin(MemorySink::new(alloc, ROOM)?, header) {
+        Ok(log) => match Machine::new(alloc, threads, SETTINGS, log) {
+            Ok(machine) => Ok(machine),
+            Err(_) => Err(AllocError),
+        },
+        Err(_) => Err(AllocError),
+    }
+}
+
+// How the thread is chosen that goes on.
+#[derive(Clone, Copy)]
+enum Choice {
+    Any,
+    // the lesser of two, so that the last threads are slow
+    Lesser,
+    // the greater of two
+    Greater,
+    // mostly the one that was chosen before
+    Same,
+}
+
+fn chosen(dice: &mut Dice, choice: Choice, threads: usize, before: usize) -> usize {
+    let one = dice.below(threads as u64) as usize;
+    let other = dice.below(threads as u64) as usize;
+    match choice {
+        Choice::Any => one,
+        Choice::Lesser => one.min(other),
+        Choice::Greater => one.max(other),
+        Choice::Same if dice.below(8) == 0 => one,
+        Choice::Same => before,
+    }
+}
+
+// The scripts of a run, the threads that they play, and the machine that is driven.
+#[derive(Drop)]
+struct Run {
+    texts: Vec<Vec<u8>>,
+    players: Vec<Player>,
+    machine: Machine<MemorySink, u8>,
+}
+
+impl Run {
+    fn new(alloc: Global, dice: &mut Dice) -> Result<Run, Fail> {
+        let texts = script_texts(alloc, dice)?;
+        let players = players(alloc, texts.as_slice(), dice)?;
+        let machine = machine(alloc, texts.len())?;
+        Ok(Run {
+            texts,
+            players,
+            machine,
+        })
+    }
+
+    // Thread i makes its event, where it can; whether it did.
+    fn advance(&mut self, alloc: Global, i: usize) -> Result<bool, Fail> {
+        match self.players.get_mut(i) {
+            Some(player) if i < self.machine.len() => player.advance(alloc, &mut self.machine, i),
+            _ => Ok(false),
+        }
+    }
+
+    // One thread makes its event: this one, or else the next one that can.
+    fn advance_from(&mut self, alloc: Global, first: usize) -> Result<bool, Fail> {
+        for i in first..self.players.len() {
+            if self.advance(alloc, i)? {
+                return Ok(true);
+            }
+        }
+        for i in 0..first {
+            if self.advance(alloc, i)? {
+                return Ok(true);
+            }
+        }
+        Ok(false)
+    }
+
+    // Makes events, each of a thread by chance, until no thread can make any.
+    fn drive(&mut self, alloc: Global, choice: Choice, dice: &mut Dice) -> Result<(), Fail> {
+        let mut thread = 0;
+        for _ in 0..MOST_EVENTS {
+            thread = chosen(dice, choice, self.players.len(), thread);
+            if !self.advance_from(alloc, thread)? {
+                return Ok(());
+            }
+        }
+        Err("a run without end".into())
+    }
+
+    // What came for each thread, which its player has no more.
+    fn outcomes(&mut self, alloc: Global) -> Result<Vec<Outcomes>, Fail> {
+        let mut outcomes = Vec::new(alloc);
+        for player in self.players.iter_mut() {
+            let given = replace(&mut player.given, Vec::new(alloc));
+            outcomes.push(Outcomes::from_vec(given))?;
+        }
+        Ok(outcomes)
+    }
+
+    // The plain run of the same scripts, for which the same comes.
+    fn plain(&mut self, alloc: Global) -> Result<Plain, Fail> {
+        let scripts = scripts(alloc, self.texts.as_slice())?;
+        Ok(plain_run(alloc, scripts, self.outcomes(alloc)?, SETTINGS)?)
+    }
+
+    // Whether the plain run comes to its end and gives the same.
+    fn is_plain(&mut self, alloc: Global) -> Result<bool, Fail> {
+        let plain = self.plain(alloc)?;
+        let rows = self.machine.history();
+        Ok(
+            plain.stop.is_none()
+                && plain.history.rows() == rows
+                && all_saw(plain.transcripts.threads(), self.texts.len(), rows),
+        )
+    }
+
+    // Whether all threads ended, and the replay of the machine's log gives what they saw.
+    fn is_replayed(self, alloc: Global) -> Result<bool, Fail> {
+        let Run { texts, machine, .. } = self;
+        if machine.turn_holder().is_some() {
+            return Ok(false);
+        }
+        let finished = machine.finish();
+        let scripts = scripts(alloc, texts.as_slice())?;
+        let replayed = replay(alloc, finished.sink.bytes(), scripts)?;
+        let rows = finished.history.rows.as_slice();
+        Ok(finished.stop.is_none() && all_saw(replayed.transcripts.threads(), texts.len(), rows))
+    }
+}
+
+// ## What the runs met
+
+// How many runs had a call that went outside, one that was blocked, and an attempt that failed.
+#[derive(Clone, Copy, Debug, Default)]
+struct Met {
+    outside: usize,
+    blocked: usize,
+    contended: usize,
+}
+
+fn went_outside(rows: &[HistoryRow]) -> bool {
+    rows.iter().any(|row| row.outcome.is_some())
+}
+
+fn was_blocked(rows: &[HistoryRow]) -> bool {
+    rows.iter()
+        .any(|row| matches!(row.answer, Some(Answer::Again)))
+}
+
+fn contended(players: &[Player]) -> bool {
+    players.iter().any(|player| player.failed > 0)
+}
+
+impl Met {
+    fn count(&mut self, rows: &[HistoryRow], players: &[Player]) {
+        self.outside = self.outside.saturating_add(usize::from(went_outside(rows)));
+        self.blocked = self.blocked.saturating_add(usize::from(was_blocked(rows)));
+        self.contended = self
+            .contended
+            .saturating_add(usize::from(contended(players)));
+    }
+}
+
+// Whether the run of this seed gives what the plain run gives.
+fn is_the_plain_run(alloc: Global, choice: Choice, seed: u64, met: &mut Met) -> Result<bool, Fail> {
+    let mut dice = Dice::new(seed);
+    let mut run = Run::new(alloc, &mut dice)?;
+    run.drive(alloc, choice, &mut dice)?;
+    met.count(run.machine.history(), run.players.as_slice());
+    Ok(run.is_plain(alloc)? && run.is_replayed(alloc)?)
+}
+
+// The runs of these seeds, from the first one on. Enough of them met what makes threads wait for one another.
+fn are_the_plain_runs(
+    rt: &(impl Abort + Eprint),
+    alloc: Global,
+    choice: Choice,
+    first: u64,
+) -> Result<(), Fail> {
+    let mut met = Met::default();
+    for seed in first..first.saturating_add(RUNS) {
+        match is_the_plain_run(alloc, choice, seed, &mut met) {
+            Ok(same) => assert!(rt; same, "seed {seed}"),
+            Err(fail) => {
+                let _ = eprintln!(rt; "seed {seed}");
+                return Err(fail);
+            }
+        }
+    }
+    assert!(rt;
+        met.outside >= 150 && met.blocked >= 50 && met.contended >= 100,
+        "{met:?}"
+    );
+    Ok(())
+}
+
+#[test]
+fn any_thread_goes_on(rt: HostRuntime) -> Result<(), Fail> {
+    are_the_plain_runs(&rt, rt.alloc(), Choice::Any, 0)
+}
+
+#[test]
+fn mostly_a_lesser_thread_goes_on(rt: HostRuntime) -> Result<(), Fail> {
+    are_the_plain_runs(&rt, rt.alloc(), Choice::Lesser, 1000)
+}
+
+#[test]
+fn mostly_a_greater_thread_goes_on(rt: HostRuntime) -> Result<(), Fail> {
+    are_the_plain_runs(&rt, rt.alloc(), Choice::Greater, 2000)
+}
+
+#[test]
+fn mostly_the_same_thread_goes_on(rt: HostRuntime) -> Result<(), Fail> {
+    are_the_plain_runs(&rt, rt.alloc(), Choice::Same, 3000)
+}

@@ -1,0 +1,276 @@
+use call_machine::{Machine, Refused};
+use input_log::{Header, LogWriter, MemorySink};
+use lock_machine::Phase;
+use posix_terms::{Access, Answer, Bytes, Call, HistoryRow, OpenFlags, Reply, Settings};
+use std::alloc::{AllocError, Global};
+use std::test::Fail;
+use thread_scripts::Step;
+
+const SETTINGS: Settings = Settings {
+    patience: 1000,
+    door_cost: 100,
+};
+
+const HEADER: Header = Header {
+    threads: 2,
+    patience: 1000,
+    door_cost: 100,
+};
+
+const CREATE: OpenFlags = OpenFlags {
+    create: true,
+    exclusive: false,
+    truncate: false,
+    append: false,
+    nonblock: false,
+};
+
+// Two machines that make the same events, the second each one behind the first. So where an event of the first is refused, the second
+// shows how the first stood before.
+#[derive(Drop)]
+struct Twins {
+    first: Machine<MemorySink, u8>,
+    second: Machine<MemorySink, u8>,
+}
+
+#[tactic(auto, unfolding(input_log::specs::Grammar::in_range))]
+fn two_threads(alloc: Global) -> Result<Machine<MemorySink, u8>, AllocError> {
+    match LogWriter::begin(MemorySink::new(alloc, 21)?, HEADER) {
+        Ok(log) => match Machine::new(alloc, 2, SETTINGS, log) {
+            Ok(machine) => Ok(machine),
+            Err(_) => Err(AllocError),
+        },
+        Err(_) => Err(AllocError),
+    }
+}
+
+// One allocation alone is refused, so what lacked its memory has it when it is tried again.
+fn started(alloc: Global) -> Result<Machine<MemorySink, u8>, AllocError> {
+    match two_threads(alloc) {
+        Ok(machine) => Ok(machine),
+        Err(_) => two_threads(alloc),
+    }
+}
+
+// ## The events
+
+// What a thread asks, by how much it asked before: the second reads from a pipe of the first before that writes to it.
+fn made_step(alloc: Global, i: usize, asked: usize) -> Result<Step, AllocError> {
+    Ok(match (i, asked) {
+        (0, 0) => Step::Call(Call::Pipe),
+        (0, 1) => Step::Work(20),
+        (0, 2) => Step::Call(Call::Write {
+            descriptor: 1,
+            bytes: Bytes::from_slice(alloc, b"z")?,
+        }),
+        (1, 0) => Step::Work(5),
+        (1, 1) => Step::Call(Call::Read {
+            descriptor: 0,
+            count: 1,
+        }),
+        (1, 2) => Step::Call(Call::Open {
+            path: Bytes::from_slice(alloc, b"/a")?,
+            access: Access::ReadWrite,
+            flags: CREATE,
+        }),
+        _ => Step::End,
+    })
+}
+
+fn step(alloc: Global, i: usize, asked: usize) -> Result<Step, AllocError> {
+    match made_step(alloc, i, asked) {
+        Ok(step) => Ok(step),
+        Err(_) => made_step(alloc, i, asked),
+    }
+}
+
+// Thread i makes the event of its phase. Without the turn for its attempt it is refused, as in another phase.
+fn event(alloc: Global, machine: &mut Machine<MemorySink, u8>, i: usize) -> Result<(), Refused> {
+    if i >= machine.len() {
+        return Err(Refused::WrongPhase);
+    }
+    match machine.phase(i) {
+        Phase::Working => ask(alloc, machine, i),
+        Phase::WantsTable { .. } => made(machine.try_table(i)),
+        Phase::WantsObject { .. } => made(machine.try_node(i)),
+        Phase::Blocked { .. } => machine.again(i),
+        _ => made(machine.answer(i)),
+    }
+}
+
+fn made<T: Drop>(told: Result<T, Refused>) -> Result<(), Refused> {
+    told?;
+    Ok(())
+}
+
+fn ask(alloc: Global, machine: &mut Machine<MemorySink, u8>, i: usize) -> Result<(), Refused> {
+    if i >= machine.len() {
+        return Err(Refused::WrongPhase);
+    }
+    match step(alloc, i, machine.asked(i).len()) {
+        Ok(Step::End) => machine.end(i),
+        Ok(step) => machine.ask(i, step),
+        Err(_) => Err(Refused::Memory),
+    }
+}
+
+// ## What a machine shows
+
+fn same_phase(one: &Phase, other: &Phase) -> bool {
+    match (one, other) {
+        (Phase::Working, Phase::Working) | (Phase::Ended, Phase::Ended) => true,
+        (
+            Phase::WantsTable { call, turns },
+            Phase::WantsTable {
+                call: other_call,
+                turns: other_turns,
+            },
+        ) => call == other_call && turns == other_turns,
+        (
+            Phase::WantsObject {
+                call,
+                turns,
+                clock,
+                object,
+            },
+            Phase::WantsObject {
+                call: other_call,
+                turns: other_turns,
+                clock: other_clock,
+                object: other_object,
+            },
+        ) => {
+            call == other_call
+                && turns == other_turns
+                && clock == other_clock
+                && object == other_object
+        }
+        (
+            Phase::Granted { row, object, .. },
+            Phase::Granted {
+                row: other_row,
+                object: other_object,
+                ..
+            },
+        ) => row == other_row && object == other_object,
+        (Phase::Blocked { turns }, Phase::Blocked { turns: other }) => turns == other,
+        _ => false,
+    }
+}
+
+impl Twins {
+    // Whether both show the same of thread i.
+    fn are_alike_at(&self, i: usize) -> bool {
+        if i >= self.first.len() || i >= self.second.len() {
+            return false;
+        }
+        same_phase(self.first.phase(i), self.second.phase(i))
+            && self.first.asked(i) == self.second.asked(i)
+    }
+
+    // Whether both show the same. No thread goes outside here.
+    fn are_alike(&self) -> bool {
+        self.first.turn_holder() == self.second.turn_holder()
+            && self.first.history() == self.second.history()
+            && self.are_alike_at(0)
+            && self.are_alike_at(1)
+    }
+
+    // The event of thread i by both; whether it could be made. One that was refused for memory changed nothing, and is made again.
+    fn advance(&mut self, alloc: Global, i: usize) -> Result<bool, Fail> {
+        let mut made = event(alloc, &mut self.first, i);
+        if made == Err(Refused::Memory) {
+            if !self.are_alike() {
+                return Err("a refused event changed the machine".into());
+            }
+            made = event(alloc, &mut self.first, i);
+        }
+        let mut behind = event(alloc, &mut self.second, i);
+        if behind == Err(Refused::Memory) {
+            behind = event(alloc, &mut self.second, i);
+        }
+        if made != behind || !self.are_alike() {
+            return Err("the machines differ".into());
+        }
+        match made {
+            Ok(()) => Ok(true),
+            Err(Refused::WrongPhase) => Ok(false),
+            Err(refused) => Err(refused.into()),
+        }
+    }
+
+    // Events of both threads, as far as there are any.
+    fn run(&mut self, alloc: Global) -> Result<(), Fail> {
+        for _ in 0..200_u32 {
+            if !self.advance(alloc, 0)? && !self.advance(alloc, 1)? {
+                return Ok(());
+            }
+        }
+        Err("a run without end".into())
+    }
+}
+
+// ## What comes of it
+
+// Whether a row is this thread's, and was granted at this clock.
+fn granted(row: &HistoryRow, thread: usize, clock: u64) -> bool {
+    row.turn.thread == thread && row.turn.clock == clock
+}
+
+fn replied(row: &HistoryRow, thread: usize, clock: u64, reply: &Reply) -> bool {
+    match &row.answer {
+        Some(Answer::Reply(own)) => granted(row, thread, clock) && own == reply,
+        _ => false,
+    }
+}
+
+fn read_z(row: &HistoryRow, clock: u64) -> bool {
+    match &row.answer {
+        Some(Answer::Reply(Reply::Data(bytes))) => granted(row, 1, clock)
+            && bytes.as_slice() == b"z".as_slice(),
+        _ => false,
+    }
+}
+
+// Whether these are blocked turns of the second thread, from 6 on, each 4 behind the one before.
+fn were_blocked(rows: &[HistoryRow]) -> bool {
+    let mut clock = 6_u64;
+    for row in rows {
+        if !granted(row, 1, clock) || row.answer != Some(Answer::Again) {
+            return false;
+        }
+        clock = clock.wrapping_add(4);
+    }
+    true
+}
+
+// A pipe at 1. The read is made at 6 and again at 10, 14, 18 and 22. The write behind the work is at 25, and so the read has its byte at 28.
+fn is_whole(rows: &[HistoryRow]) -> bool {
+    match rows {
+        [pipe, blocked @ .., write, read, open] => {
+            replied(pipe, 0, 1, &Reply::Pair(0, 1))
+                && blocked.len() == 5
+                && were_blocked(blocked)
+                && replied(write, 0, 25, &Reply::Count(1))
+                && read_z(read, 28)
+                && replied(open, 1, 32, &Reply::Number(2))
+        }
+        _ => false,
+    }
+}
+
+// Whichever allocation is refused, by `rt try --test --fail-alloc`, the run is the same: `ask` and `again` say that there is no memory, change
+// nothing, and are made when they are asked again. See tools/refused-allocations.
+#[test]
+fn asks_again_where_memory_was_refused(rt: HostRuntime) -> Result<(), Fail> {
+    let alloc = rt.alloc();
+    let mut twins = Twins {
+        first: started(alloc)?,
+        second: started(alloc)?,
+    };
+    twins.run(alloc)?;
+    assert!(rt; is_whole(twins.first.history()));
+    assert!(rt; is_whole(twins.second.history()));
+    assert!(rt; twins.first.finish().stop.is_none());
+    Ok(())
+}
