@@ -12,7 +12,7 @@ use Rattle.call_machine.specs.History.{transcripts_of}
 use Rattle.call_machine.specs.Logs.{plain_records, recorded_next}
 use Rattle.call_machine.specs.Plain.{IsPlainRun, OnePlainRun, all_true, has_ended, header_of, plain_of, stop_of}
 use Rattle.call_machine.specs.Setup.{Inputs, first_state, setup_of}
-use Rattle.call_machine.specs.Strays.{diverging}
+use Rattle.call_machine.specs.Diverging.{diverging}
 use Rattle.call_machine.specs.declared.plain.Plain.{Plain}
 use Rattle.call_machine.proofs.Scheduling.{run_next}
 

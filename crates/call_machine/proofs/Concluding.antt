@@ -12,7 +12,8 @@ use Rattle.lock_model.specs.Came.{CameIsRows}
 use Rattle.call_machine.specs.Covered.{HasSpelling, IsCovered, RecordsCame}
 use Rattle.call_machine.specs.Driven.{Begins, Ends}
 use Rattle.call_machine.specs.History.{AreRising}
-use Rattle.call_machine.specs.Plain.{IsPlainRun, are_settings, are_threads, header_of, plain_of}
+use Rattle.call_machine.specs.Plain.{IsPlainRun, are_threads, header_of, plain_of}
+use Rattle.logged_machine.specs.Starting.{are_settings}
 use Rattle.call_machine.specs.Playing.{Played}
 use Rattle.call_machine.specs.Setup.{Inputs, setup_of}
 use Rattle.call_machine.specs.Starting.{first_played, told}
@@ -29,24 +30,24 @@ begins_of shows input threads first count is =
     let H : ℕ → Header = λ n. record { threads = n; patience = input.settings.patience; door_cost = input.settings.door_cost } in
     subst P (sym (is ∙ ap (λ (n : ℕ). first_played (H n) input.scripts input.outcomes) count)) (first_begins shows input)
 
-plain_is : ClocksShown → (input : Inputs) (strayed : Option ℕ) (p : Played) (plain : Plain) (e : Ends input strayed p) → plain ≡ told strayed p.whole p.log → plain ≡ plain_of input e.count e.last
-plain_is clocks input strayed p plain e is = is ∙ told_shown clocks input p.whole p.log e.last e.count strayed e.plays.shows e.log e.strays
+plain_is : ClocksShown → (input : Inputs) (diverged : Option ℕ) (p : Played) (plain : Plain) (e : Ends input diverged p) → plain ≡ told diverged p.whole p.log → plain ≡ plain_of input e.count e.last
+plain_is clocks input diverged p plain e is = is ∙ told_shown clocks input p.whole p.log e.last e.count diverged e.plays.shows e.log e.diverges
 
-pub plain_run_is : ClocksShown → (input : Inputs) (strayed : Option ℕ) (p : Played) (plain : Plain) → Ends input strayed p → plain ≡ told strayed p.whole p.log → are_threads input ≡ true → are_settings input.settings ≡ true → IsPlainRun input plain
-plain_run_is clocks input strayed p plain e is threads settings =
-    record { threads = threads; settings = settings; count = e.count; last = e.last; goes = e.goes; ends = λ none. e.over (sym e.strays ∙ none); shows = plain_is clocks input strayed p plain e is }
+pub plain_run_is : ClocksShown → (input : Inputs) (diverged : Option ℕ) (p : Played) (plain : Plain) → Ends input diverged p → plain ≡ told diverged p.whole p.log → are_threads input ≡ true → are_settings input.settings ≡ true → IsPlainRun input plain
+plain_run_is clocks input diverged p plain e is threads settings =
+    record { threads = threads; settings = settings; count = e.count; last = e.last; goes = e.goes; ends = λ none. e.over (sym e.diverges ∙ none); shows = plain_is clocks input diverged p plain e is }
 
-pub plain_covered : ClocksShown → RecordsCame → HasSpelling → CameIsRows → (input : Inputs) (strayed : Option ℕ) (p : Played) (plain : Plain) → Ends input strayed p → plain ≡ told strayed p.whole p.log → are_threads input ≡ true → are_settings input.settings ≡ true
+pub plain_covered : ClocksShown → RecordsCame → HasSpelling → CameIsRows → (input : Inputs) (diverged : Option ℕ) (p : Played) (plain : Plain) → Ends input diverged p → plain ≡ told diverged p.whole p.log → are_threads input ≡ true → are_settings input.settings ≡ true
     → IsCovered (header_of input) plain.history.rows plain.log
 unfolding plain_run_is
-plain_covered clocks came spelled rows input strayed p plain e is threads settings = is_covered came spelled rows input plain (plain_run_is clocks input strayed p plain e is threads settings) e.arises
+plain_covered clocks came spelled rows input diverged p plain e is threads settings = is_covered came spelled rows input plain (plain_run_is clocks input diverged p plain e is threads settings) e.arises
 
-pub plain_legal : ClocksShown → RealLegalOfArisen → (input : Inputs) (strayed : Option ℕ) (p : Played) (plain : Plain) → Ends input strayed p → plain ≡ told strayed p.whole p.log → IsLegal input.settings plain.history.rows
-plain_legal clocks legal input strayed p plain e is =
+pub plain_legal : ClocksShown → RealLegalOfArisen → (input : Inputs) (diverged : Option ℕ) (p : Played) (plain : Plain) → Ends input diverged p → plain ≡ told diverged p.whole p.log → IsLegal input.settings plain.history.rows
+plain_legal clocks legal input diverged p plain e is =
     let P : Plain → Type 0 = λ x. IsLegal input.settings x.history.rows in
-    subst P (sym (plain_is clocks input strayed p plain e is)) (legal input.settings (setup_of input).supply (length input.scripts) e.last e.arises)
+    subst P (sym (plain_is clocks input diverged p plain e is)) (legal input.settings (setup_of input).supply (length input.scripts) e.last e.arises)
 
-pub plain_rising : ClocksShown → RisingOfArisen → (input : Inputs) (strayed : Option ℕ) (p : Played) (plain : Plain) → Ends input strayed p → plain ≡ told strayed p.whole p.log → AreRising plain.history.rows
-plain_rising clocks rising input strayed p plain e is =
+pub plain_rising : ClocksShown → RisingOfArisen → (input : Inputs) (diverged : Option ℕ) (p : Played) (plain : Plain) → Ends input diverged p → plain ≡ told diverged p.whole p.log → AreRising plain.history.rows
+plain_rising clocks rising input diverged p plain e is =
     let P : Plain → Type 0 = λ x. AreRising x.history.rows in
-    subst P (sym (plain_is clocks input strayed p plain e is)) (rising_shown e.last.rows (rising (setup_of input) (length input.scripts) limit.OBJECTS first_world e.last e.arises))
+    subst P (sym (plain_is clocks input diverged p plain e is)) (rising_shown e.last.rows (rising (setup_of input) (length input.scripts) limit.OBJECTS first_world e.last e.arises))

@@ -9,8 +9,9 @@ use Rattle.thread_scripts.specs.Meaning.{lines_left, next_of}
 use Rattle.thread_scripts.specs.declared.actor.ScriptState.{ScriptState}
 use Rattle.thread_scripts.specs.declared.actor.Step.{Step}
 use Rattle.thread_scripts.specs.declared.actor.Step.TheVariants as step
-use Rattle.lock_model.specs.CallTable.{Answer, CallTable, has_object, keeps_table}
-use Rattle.lock_model.specs.CallTable.Answer.{Again, Gives}
+use Rattle.lock_model.specs.CallTable.{CallTable, has_object, keeps_table}
+use Rattle.lock_model.specs.declared.turn_end.TurnEnd.{TurnEnd}
+use Rattle.lock_model.specs.declared.turn_end.TurnEnd.TheVariants as turn_end
 use Rattle.lock_model.specs.Events.{EventLaws, IsIn, IsMoved}
 use Rattle.lock_model.specs.Events.IsMoved.{AnswersGranted, AnswersRecorded, AsksStep, GetsOutcome, GoesOut, MakesAgain}
 use Rattle.lock_model.specs.Machine.{advance, after_step, answer, answered, attempt, can_advance, can_attempt, one_if, wants}
@@ -108,13 +109,13 @@ answer_cost : (x y : Bool) (clock : ℕ) → clock < clock + one_if x + one_if (
 answer_cost true y clock = omega arith
 answer_cost false y clock = omega arith
 
-answered_clock : (u : lock.Thread) (c : Call) (clock : ℕ) (a : Answer) → (answered u c clock a).clock ≡ clock
-answered_clock u c clock (Gives r) = refl
-answered_clock u c clock (Again b) = refl
+answered_clock : (u : lock.Thread) (c : Call) (clock : ℕ) (a : TurnEnd) → (answered u c clock a).clock ≡ clock
+answered_clock u c clock (turn_end.Reply r) = refl
+answered_clock u c clock (turn_end.Blocked b) = refl
 
-answered_left : (u : lock.Thread) (c : Call) (clock lines : ℕ) (a : Answer) → left_at (answered u c clock a).phase false lines ≤ 2 * lines + 3
-answered_left u c clock lines (Gives r) = omega arith
-answered_left u c clock lines (Again b) = omega arith
+answered_left : (u : lock.Thread) (c : Call) (clock lines : ℕ) (a : TurnEnd) → left_at (answered u c clock a).phase false lines ≤ 2 * lines + 3
+answered_left u c clock lines (turn_end.Reply r) = omega arith
+answered_left u c clock lines (turn_end.Blocked b) = omega arith
 
 answer_falls : (calls : CallTable) (u : lock.Thread) (job : Job) (lines left : ℕ) → (answer calls u job).thread.clock ≤ 2 ^ 62 → 2 * lines + 2 ≤ left → weight_at (answer calls u job).thread false lines < load u.clock left
 unfolding weight_at

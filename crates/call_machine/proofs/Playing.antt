@@ -13,8 +13,9 @@ use Rattle.thread_scripts.specs.Laws.{RunsEnd}
 use Rattle.thread_scripts.specs.Meaning.{lines_left, next_of}
 use Rattle.thread_scripts.specs.declared.actor.Step.{Step}
 use Rattle.thread_scripts.specs.declared.actor.Step.TheVariants as step
-use Rattle.lock_model.specs.CallTable.{Answer, CallTable}
-use Rattle.lock_model.specs.CallTable.Answer.{Again, Gives}
+use Rattle.lock_model.specs.CallTable.{CallTable}
+use Rattle.lock_model.specs.declared.turn_end.TurnEnd.{TurnEnd}
+use Rattle.lock_model.specs.declared.turn_end.TurnEnd.TheVariants as turn_end
 use Rattle.lock_model.specs.Events.{EventLaws, IsIn, IsMoved, thread_in}
 use Rattle.lock_model.specs.Events.IsMoved.{AnswersGranted, AnswersRecorded, AsksStep, GetsOutcome, GoesOut, MakesAgain}
 use Rattle.lock_model.specs.Machine.{Event, Setup, advance, after_step, answer, answered, attempt, can_advance, can_attempt, happens, moves, moves_in, record_outcome, within}
@@ -30,9 +31,9 @@ use Rattle.call_machine.specs.Playing.{Attempted, IsBetween, IsInCall, IsPlayed,
 use Rattle.lock_machine.specs.Conditions.{Conditions, setup_under}
 use Rattle.call_machine.specs.Setup.{Inputs, conditions_of, outcomes_of, script_of, setup_of}
 use Rattle.lock_machine.specs.Shows as shows
-use Rattle.lock_machine.specs.Shows.{Advanced, AdvancesQuietly, AsksFor, PhaseShows, Quietly, RecordsGiven, Shows, Tells, has_moved, has_strayed, replied}
+use Rattle.lock_machine.specs.Shows.{Advanced, AdvancesQuietly, AsksFor, PhaseShows, Quietly, RecordsGiven, Shows, Tells, has_moved, has_diverged, replied}
 use Rattle.lock_machine.specs.Whole.{Whole, thread_at}
-use Rattle.lock_machine.specs.Strays.{is_stray, stray_in}
+use Rattle.lock_machine.specs.Diverging.{is_diverging, diverging_in}
 use Rattle.lock_machine.specs.Threads.{Thread}
 use Rattle.lock_machine.specs.Views.{no_thread}
 use Rattle.call_machine.specs.Weights.{Falls, weight}
@@ -43,7 +44,7 @@ use Rattle.lock_machine.specs.declared.thread.Outing.{Outing}
 use Rattle.lock_machine.specs.declared.thread.Phase.{Phase}
 use Rattle.lock_machine.specs.declared.thread.Phase.TheVariants as phase
 use Rattle.call_machine.proofs.Falling.{advance_falls, asked_falls, attempt_falls, stuck_weighs, total_falls, total_stays, weight_at, weight_shown}
-use Rattle.call_machine.proofs.Quiet.{is_outside, logs_none, logs_with, none_between, quiet_came, quiet_strays}
+use Rattle.call_machine.proofs.Quiet.{is_outside, logs_none, logs_with, none_between, quiet_came, quiet_diverges}
 use Rattle.call_machine.proofs.ScriptProgress.{past, reached_call, reached_work}
 
 -- ## What an event leaves
@@ -150,9 +151,9 @@ gives (Granted job) = true
 gives (Recorded job) = true
 gives p = false
 
-answered_goes : (u : lock.Thread) (c : Call) (n : ℕ) (a : Answer) → Within u (answered u c n a) ⊎ Replied u (answered u c n a)
-answered_goes u c n (Gives r) = inr (record { reply = r; asked = refl; replies = refl; works = refl })
-answered_goes u c n (Again b) = inl (record { asked = refl; replies = refl; inside = refl })
+answered_goes : (u : lock.Thread) (c : Call) (n : ℕ) (a : TurnEnd) → Within u (answered u c n a) ⊎ Replied u (answered u c n a)
+answered_goes u c n (turn_end.Reply r) = inr (record { reply = r; asked = refl; replies = refl; works = refl })
+answered_goes u c n (turn_end.Blocked b) = inl (record { asked = refl; replies = refl; inside = refl })
 
 call_goes : (setup : Setup) (i : ℕ) (u v : lock.Thread) → IsIn u.phase ≡ true → IsMoved setup i u v → Within u v ⊎ Replied u v
 call_goes setup i u v inside h = by_event h
@@ -274,14 +275,14 @@ calling_at input p s i q h is calls =
 abbrev pub went : Bool → Progress
 went moved = if moved then progress.Moves else progress.Stays
 
--- nothing came, and nothing strays
+-- nothing came, and nothing diverges
 quiet_made : EventLaws → (input : Inputs) (s : State) (i : ℕ) (p new : Played) (moved : Bool) → Quietly moved i new.whole (conditions_of input) s → new.log ≡ p.log → is_outside (thread_of s i).phase ≡ false
     → IsPlayed input new (advance (setup_of input) i s) → Falls moved p.whole.threads p.players new.whole.threads new.players → Made (went moved) i p new input s
 quiet_made laws input s i p new moved h same quiet played falls =
     let setup = setup_of input in
     record {
       can = h.can ∙ sym (moved_by moved);
-      strays = quiet_strays setup s i quiet ∙ sym (strays_by moved);
+      diverges = quiet_diverges setup s i quiet ∙ sym (diverges_by moved);
       plays = played;
       log = logs_none (came_between i s (advance setup i s)) p.log new.log (none_between i s (advance setup i s) (quiet_came laws setup s (Advances i) quiet)) same;
       falls = subst (λ (b : Bool). Falls b p.whole.threads p.players new.whole.threads new.players) (sym (moved_by moved)) falls;
@@ -291,9 +292,9 @@ quiet_made laws input s i p new moved h same quiet played falls =
     moved_by true = refl
     moved_by false = refl
 
-    strays_by : (b : Bool) → has_strayed (went b) ≡ false
-    strays_by true = refl
-    strays_by false = refl
+    diverges_by : (b : Bool) → has_diverged (went b) ≡ false
+    diverges_by true = refl
+    diverges_by false = refl
 
 -- thread i is in a call, and its event has these replies
 record Telling (input : Inputs) (p : Played) (i : ℕ) (w : Whole) (s : State) (told : Option posix.Answer) : Type 0 where
@@ -414,8 +415,8 @@ moves_made laws p i w q moved inside is calls silent h input s at = by_test move
 
 -- ## No event
 
--- thread i can't make one, and does not stray
-stays_made : EventLaws → (input : Inputs) (p : Played) (s : State) (i : ℕ) (q : Player) (w : Whole) → i < length p.players → IsPlayed input p s → moves (setup_of input) i (thread_of s i) ≡ None → is_stray (setup_of input) s i ≡ false → Shows (conditions_of input) w s
+-- thread i can't make one, and does not diverge
+stays_made : EventLaws → (input : Inputs) (p : Played) (s : State) (i : ℕ) (q : Player) (w : Whole) → i < length p.players → IsPlayed input p s → moves (setup_of input) i (thread_of s i) ≡ None → is_diverging (setup_of input) s i ≡ false → Shows (conditions_of input) w s
     → Plays input i q (thread_of s i) → weighed (thread_of s i) q ≤ weighed (thread_of s i) (player_at p i) → Made progress.Stays i p (turned p i q w) input s
 stays_made laws input p s i q w inside played none quiet h own less =
     let setup = setup_of input in
@@ -425,13 +426,13 @@ stays_made laws input p s i q w inside played none quiet h own less =
     let P : State → Type 0 = IsPlayed input (turned p i q w) in
     record {
       can = off;
-      strays = quiet;
+      diverges = quiet;
       plays = subst P (sym same) (plays_on input p i q w s s turning own);
       log = logs_none (came_between i s (advance setup i s)) p.log p.log (none_between i s (advance setup i s) (ap (λ (z : State). (thread_of z i).came) same)) refl;
       falls = stays_on input p i q w s s turning less;
     }
 
-still_made : EventLaws → (input : Inputs) (p : Played) (s : State) (i : ℕ) → i < length p.players → IsPlayed input p s → moves (setup_of input) i (thread_of s i) ≡ None → is_stray (setup_of input) s i ≡ false → Made progress.Stays i p p input s
+still_made : EventLaws → (input : Inputs) (p : Played) (s : State) (i : ℕ) → i < length p.players → IsPlayed input p s → moves (setup_of input) i (thread_of s i) ≡ None → is_diverging (setup_of input) s i ≡ false → Made progress.Stays i p p input s
 still_made laws input p s i inside played none quiet =
     subst (λ (x : Played). Made progress.Stays i p x input s) (same_players p i p.whole)
     (stays_made laws input p s i (player_at p i) p.whole inside played none quiet played.shows (played.plays i) (same_le (weighed (thread_of s i) (player_at p i))))
@@ -457,7 +458,7 @@ pub idle_made : EventLaws → (p : Played) (i : ℕ) → i < length p.players �
 idle_made laws p i inside idle input s at =
     let terms = conditions_of input in
     let a = idle_moves terms i s.rows (thread_at p.whole i) (thread_of s i) (thread_at p.whole i).phase idle (at.1.shows.threads i).phase in
-    still_made laws input p s i inside at.1 a.0 (quiet_strays (setup_of input) s i a.1)
+    still_made laws input p s i inside at.1 a.0 (quiet_diverges (setup_of input) s i a.1)
 
 -- ## A script is asked for its next step
 
@@ -474,7 +475,7 @@ pausing input i p u stuck works is h =
 pub stuck_made : EventLaws → (p : Played) (i : ℕ) → i < length p.players → (thread_at p.whole i).phase ≡ phase.Working → (player_at p i).stuck ≡ true → Makes progress.Stays i p p
 stuck_made laws p i inside is stuck input s at =
     let works = working_at input p s i at.1.shows is in
-    still_made laws input p s i inside at.1 (pausing input i (player_at p i) (thread_of s i) true works stuck (at.1.plays i)) (quiet_strays (setup_of input) s i (ap is_outside works))
+    still_made laws input p s i inside at.1 (pausing input i (player_at p i) (thread_of s i) true works stuck (at.1.plays i)) (quiet_diverges (setup_of input) s i (ap is_outside works))
 
 -- a script past its next step
 abbrev pub stepped : Player → Bool → Player
@@ -554,7 +555,7 @@ asked_no laws input p i s x w h a =
     let none : moves setup i u ≡ None = none_by (moves setup i u) a.can in
     let P : lock.Phase → Type 0 = λ z. PlaysIn z input i q u in
     let Q : State → Type 0 = Shows (conditions_of input) w in
-    stays_made laws input p s i q w h.inside h.played none (quiet_strays setup s i (ap is_outside h.works)) (subst Q (laws.not_allowed setup (Advances i) s a.can) a.shows)
+    stays_made laws input p s i q w h.inside h.played none (quiet_diverges setup s i (ap is_outside h.works)) (subst Q (laws.not_allowed setup (Advances i) s a.can) a.shows)
     (subst P (sym h.works) none)
     (subst (λ (b : Bool). weighed u q ≤ weight_at u b (lines_left y.actor)) (sym h.free) (stuck_weighs u (lines_left q.actor) (lines_left y.actor) h.works))
   where
@@ -598,7 +599,7 @@ awaits_made laws p i o inside is none input s at =
     let (job, out) = (outside_at input p s i o at.1.shows is) in
     let given : slice_get (outcomes_of input i) (length u.came) ≡ None = given_next input p s i at.1 ∙ none in
     still_made laws input p s i inside at.1 (moves_none setup i u (Outside job) out (ap (record_outcome setup.calls u job) given))
-    (ap₂ (stray_in setup) out given)
+    (ap₂ (diverging_in setup) out given)
 
 -- a run that is played is so with any log
 with_log : (input : Inputs) (p : Played) (s : State) (l : Written) → IsPlayed input p s → IsPlayed input (record p { log = l }) s
@@ -609,7 +610,7 @@ pub records_made : EventLaws → (p : Played) (i : ℕ) (w : Whole) (o : Outing)
 records_made laws p i w o g made inside is there h input s at =
     let l = log_with made (record_of i (thread_at p.whole i).came g) p.log in
     subst (λ (y : Played). Made made i p (record y { log = l }) input s) (same_players p i w)
-    (record { can = a.can; strays = a.strays; plays = with_log input (turned p i x w) (advance setup i s) l (plays_on input p i x w s (advance setup i s) turning (own (can_advance setup s i) refl)); log = logs_with i s (advance setup i s) made g (thread_at p.whole i).came p.log a.came (at.1.shows.threads i).came; falls = falls (has_moved made) refl })
+    (record { can = a.can; diverges = a.diverges; plays = with_log input (turned p i x w) (advance setup i s) l (plays_on input p i x w s (advance setup i s) turning (own (can_advance setup s i) refl)); log = logs_with i s (advance setup i s) made g (thread_at p.whole i).came p.log a.came (at.1.shows.threads i).came; falls = falls (has_moved made) refl })
   where
     setup : Setup
     setup = setup_of input

@@ -21,20 +21,20 @@ use Rattle.call_machine.specs.Logs.{plain_records, recorded_by, recorded_next}
 use Rattle.call_machine.specs.Plain.{GoesTo}
 use Rattle.call_machine.specs.Playing.{Attempted, ComesAt, IsPlayed, Makes, Played}
 use Rattle.call_machine.specs.Setup.{Inputs, conditions_of, first_state, setup_of}
-use Rattle.call_machine.specs.Strays.{diverging, if_stray}
+use Rattle.call_machine.specs.Diverging.{diverging, if_diverging}
 use Rattle.lock_machine.specs.Shows.{ClocksShown}
-use Rattle.lock_machine.specs.Strays.{is_stray}
+use Rattle.lock_machine.specs.Diverging.{is_diverging}
 use Rattle.lock_machine.specs.Views.{clocks_of}
 use Rattle.call_machine.specs.Weights.{Falls, total}
 use Rattle.call_machine.specs.declared.drive.Went.TheVariants as went
 use Rattle.lock_machine.specs.declared.outside.Progress.TheVariants as progress
 use Rattle.call_machine.proofs.Quiet.{attempt_came, logs_none, none_between}
 
--- ## Strays and advances together
+-- ## Diverges and advances together
 
--- thread i could make an event without the turn, or strays
+-- thread i could make an event without the turn, or diverges
 abbrev pub stops_at : Inputs → State → ℕ → Bool
-stops_at input s i = can_advance (setup_of input) s i || is_stray (setup_of input) s i
+stops_at input s i = can_advance (setup_of input) s i || is_diverging (setup_of input) s i
 
 neither : (a b : Bool) → (a || b) ≡ false → (a ≡ false) × (b ≡ false)
 neither true b h = absurd (true≢false h)
@@ -53,7 +53,7 @@ none_of_both (suc n) p q h = by_first (first_below n (λ i. p i || q i)) (p n ||
 
 -- ## The schedule
 
--- the first threads, so many, can't make an event without the turn, and none of them strays; so the run stays where it is
+-- the first threads, so many, can't make an event without the turn, and none of them diverges; so the run stays where it is
 pub record StaysSo (input : Inputs) (s : State) (n : ℕ) (old now : Played) : Type 0 where
   pub none : first_below n (stops_at input s) ≡ None
   pub plays : IsPlayed input now s
@@ -89,7 +89,7 @@ one_more_none laws n old now new h same still =
           let so_far = h.holds input s at in
           let next = still input s (at.0, so_far.plays) in
           let P : State → Type 0 = IsPlayed input new in
-          let stays : stops_at input s n ≡ false = ap₂ (λ (a b : Bool). a || b) next.can next.strays in
+          let stays : stops_at input s n ≡ false = ap₂ (λ (a b : Bool). a || b) next.can next.diverges in
           record {
             none = ap (λ (k : ℕ). first_below k (stops_at input s)) (add_one n) ∙ ap (λ (o : Option ℕ). first_or o (stops_at input s n) n) so_far.none ∙ ap (λ (b : Bool). first_or None b n) stays;
             plays = subst P (laws.not_allowed (setup_of input) (Advances n) s next.can) next.plays;
@@ -120,26 +120,26 @@ advanced_next found i old now new inside h moved input s at =
     let so_far = h.holds input s at in
     let next = moved input s (at.0, so_far.plays) in
     let within : i < length s.threads = subst (λ (n : ℕ). i < n) (seat_of input old s at.1) inside in
-    let stops : stops_at input s i ≡ true = ap₂ (λ (a b : Bool). a || b) next.can next.strays in
+    let stops : stops_at input s i ≡ true = ap₂ (λ (a b : Bool). a || b) next.can next.diverges in
     record {
-      straight = ap (if_stray (setup_of input) s) (found (length s.threads) i (stops_at input s) within so_far.none stops) ∙ cond-false (is_stray (setup_of input) s i) (Some i) None next.strays;
+      straight = ap (if_diverging (setup_of input) s) (found (length s.threads) i (stops_at input s) within so_far.none stops) ∙ cond-false (is_diverging (setup_of input) s i) (Some i) None next.diverges;
       event = Advances i;
-      next = ap (advance_by (setup_of input) s) (found (length s.threads) i (can_advance (setup_of input) s) within (none_of_both i (can_advance (setup_of input) s) (is_stray (setup_of input) s) so_far.none) next.can);
+      next = ap (advance_by (setup_of input) s) (found (length s.threads) i (can_advance (setup_of input) s) within (none_of_both i (can_advance (setup_of input) s) (is_diverging (setup_of input) s) so_far.none) next.can);
       plays = next.plays;
       log = relogged (came_between i s (advance (setup_of input) i s)) old.log now.log new.log so_far.log next.log;
       falls = lower (total new.whole.threads new.players) (total now.whole.threads now.players) (total old.whole.threads old.players) next.falls so_far.falls;
     }
 
-pub strayed_next : EventLaws → LeastIsFound → (i : ℕ) (old now new : Played) → i < length old.players → NoneMoves i old now → Makes progress.Strays i now new → Plainly (went.Strays i) old new
+pub diverged_next : EventLaws → LeastIsFound → (i : ℕ) (old now new : Played) → i < length old.players → NoneMoves i old now → Makes progress.Diverges i now new → Plainly (went.Diverges i) old new
 unfolding diverging
-strayed_next laws found i old now new inside h strayed input s at =
+diverged_next laws found i old now new inside h diverged input s at =
     let so_far = h.holds input s at in
-    let next = strayed input s (at.0, so_far.plays) in
+    let next = diverged input s (at.0, so_far.plays) in
     let within : i < length s.threads = subst (λ (n : ℕ). i < n) (seat_of input old s at.1) inside in
-    let stops : stops_at input s i ≡ true = ap₂ (λ (a b : Bool). a || b) next.can next.strays in
+    let stops : stops_at input s i ≡ true = ap₂ (λ (a b : Bool). a || b) next.can next.diverges in
     let P : State → Type 0 = IsPlayed input new in
     record {
-      strays = ap (if_stray (setup_of input) s) (found (length s.threads) i (stops_at input s) within so_far.none stops) ∙ cond-true (is_stray (setup_of input) s i) (Some i) None next.strays;
+      diverges = ap (if_diverging (setup_of input) s) (found (length s.threads) i (stops_at input s) within so_far.none stops) ∙ cond-true (is_diverging (setup_of input) s i) (Some i) None next.diverges;
       over = λ none. absurd (none-some i (sym none));
       plays = subst P (laws.not_allowed (setup_of input) (Advances i) s next.can) next.plays;
       log = unlogged laws input s i now new next.can next.log ∙ so_far.log;
@@ -159,8 +159,8 @@ none_advances n old now whole h input s at =
     let so_far = h.holds input s at in
     let all : first_below (length s.threads) (stops_at input s) ≡ None = ap (λ (k : ℕ). first_below k (stops_at input s)) (sym (whole ∙ seat_of input old s at.1)) ∙ so_far.none in
     record {
-      straight = ap (if_stray (setup_of input) s) all;
-      next = ap (advance_by (setup_of input) s) (none_of_both (length s.threads) (can_advance (setup_of input) s) (is_stray (setup_of input) s) all);
+      straight = ap (if_diverging (setup_of input) s) all;
+      next = ap (advance_by (setup_of input) s) (none_of_both (length s.threads) (can_advance (setup_of input) s) (is_diverging (setup_of input) s) all);
       plays = so_far.plays;
       log = so_far.log;
       falls = so_far.falls;
@@ -172,7 +172,7 @@ holder_is clocks input p s o h e = ap (attempt_by (setup_of input) s) (ap turn_h
 pub over_next : ClocksShown → (n : ℕ) (old now : Played) → n ≡ length old.players → NoneMoves n old now → turn_holder (clocks_of now.whole.threads) ≡ None → Plainly went.Over old now
 over_next clocks n old now whole h none input s at =
     let q = none_advances n old now whole h input s at in
-    record { strays = q.straight; over = λ _. q.next ∙ holder_is clocks input now s None q.plays none; plays = q.plays; log = q.log }
+    record { diverges = q.straight; over = λ _. q.next ∙ holder_is clocks input now s None q.plays none; plays = q.plays; log = q.log }
 
 pub attempted_next : EventLaws → ClocksShown → (n i : ℕ) (old now new : Played) → n ≡ length old.players → NoneMoves n old now → turn_holder (clocks_of now.whole.threads) ≡ Some i → Attempted true i now new → Plainly went.On old new
 attempted_next laws clocks n i old now new whole h holder made input s at =
@@ -194,7 +194,7 @@ refused_next laws clocks n i old now new whole h holder made input s at =
     let tried = made input s (at.0, q.plays) in
     let P : State → Type 0 = IsPlayed input new in
     record {
-      strays = q.straight;
+      diverges = q.straight;
       over = λ _. q.next ∙ holder_is clocks input now s (Some i) q.plays holder ∙ cond-false (can_attempt (setup_of input) s i) (Some (Attempts i)) None tried.can;
       plays = subst P (laws.not_allowed (setup_of input) (Attempts i) s tried.can) tried.plays;
       log = tried.log ∙ q.log;
@@ -272,13 +272,13 @@ pub goes_down : (input : Inputs) (old new : Played) → ComesTo input old → Pl
 goes_down input old new h next = (next input h.state (h.arises, h.plays)).falls
 
 -- the run stays where it is
-ends_at : (input : Inputs) (strayed : Option ℕ) (old new : Played) (h : ComesTo input old) → StaysAt input h.state strayed old new → Ends input strayed new
-ends_at input strayed old new h now =
+ends_at : (input : Inputs) (diverged : Option ℕ) (old new : Played) (h : ComesTo input old) → StaysAt input h.state diverged old new → Ends input diverged new
+ends_at input diverged old new h now =
     let P : Written → Type 0 = IsLogged input h.count in
-    record { last = h.state; count = h.count; goes = h.goes; strays = now.strays; over = now.over; arises = h.arises; plays = now.plays; log = subst P (sym now.log) h.log }
+    record { last = h.state; count = h.count; goes = h.goes; diverges = now.diverges; over = now.over; arises = h.arises; plays = now.plays; log = subst P (sym now.log) h.log }
 
 pub comes_to_end : (input : Inputs) (old new : Played) → ComesTo input old → Plainly went.Over old new → Ends input None new
 comes_to_end input old new h next = ends_at input None old new h (next input h.state (h.arises, h.plays))
 
-pub comes_astray : (input : Inputs) (i : ℕ) (old new : Played) → ComesTo input old → Plainly (went.Strays i) old new → Ends input (Some i) new
-comes_astray input i old new h next = ends_at input (Some i) old new h (next input h.state (h.arises, h.plays))
+pub comes_diverging : (input : Inputs) (i : ℕ) (old new : Played) → ComesTo input old → Plainly (went.Diverges i) old new → Ends input (Some i) new
+comes_diverging input i old new h next = ends_at input (Some i) old new h (next input h.state (h.arises, h.plays))

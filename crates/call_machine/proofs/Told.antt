@@ -11,7 +11,7 @@ use Rattle.input_log.specs.Format.{closing, header_text, records_text, text_of}
 use Rattle.logical_clocks.specs.TurnOrder.{turn_holder}
 use Rattle.call_machine.specs.Driven.{Begins, IsLogged}
 use Rattle.call_machine.specs.Logs.{Written, plain_records}
-use Rattle.call_machine.specs.Strays.{diverging}
+use Rattle.call_machine.specs.Diverging.{diverging}
 use Rattle.logged_machine.specs.declared.stop.Stop.{Stop}
 use Rattle.logged_machine.specs.declared.stop.Stop.TheVariants as stop
 use Rattle.call_machine.specs.Plain.{all_true, has_ended, header_of, log_of, plain_of, stop_by, stop_of, stuck_in}
@@ -88,7 +88,7 @@ stuck_phase terms i rows t u (phase.Recorded o) h = sym (ap (λ (p : lock.Phase)
 stuck_phase terms i rows t u (phase.Blocked turns) h = sym (ap (λ (p : lock.Phase). stuck_in p i) h.1)
 stuck_phase terms i rows t u phase.Ended h = sym (ap (λ (p : lock.Phase). stuck_in p i) h)
 
-stop_shown : ClocksShown → (terms : Conditions) (w : Whole) (last : State) (strayed : Option ℕ) → Shows terms w last → stop_told w.threads strayed ≡ stop_of last strayed
+stop_shown : ClocksShown → (terms : Conditions) (w : Whole) (last : State) (diverged : Option ℕ) → Shows terms w last → stop_told w.threads diverged ≡ stop_of last diverged
 stop_shown clocks terms w last (Some i) h = ap (λ (n : ℕ). Some (stop.Diverged i n)) (sym (h.threads i).came)
 stop_shown clocks terms w last None h = by_turn (turn_holder (clocks_of w.threads)) ∙ ap (stop_by last) (ap turn_holder (sym (clocks terms w last h)))
   where
@@ -108,11 +108,11 @@ log_shown input count log ended logged =
     zero_plus : (n : ℕ) → 0 + n ≡ n
     zero_plus n = omega arith
 
-pub told_shown : ClocksShown → (input : Inputs) (w : Whole) (log : Written) (last : State) (count : ℕ) (strayed : Option ℕ) → Shows (conditions_of input) w last → IsLogged input count log → diverging (setup_of input) last ≡ strayed → told strayed w log ≡ plain_of input count last
-told_shown clocks input w log last count strayed h logged strays k =
+pub told_shown : ClocksShown → (input : Inputs) (w : Whole) (log : Written) (last : State) (count : ℕ) (diverged : Option ℕ) → Shows (conditions_of input) w last → IsLogged input count log → diverging (setup_of input) last ≡ diverged → told diverged w log ≡ plain_of input count last
+told_shown clocks input w log last count diverged h logged diverges k =
     record {
       transcripts = (ap₂ (λ (n : ℕ) (rows : List HistoryRow). transcripts_of n rows) (sym h.count) (sym h.rows)) k;
       history = record { rows = sym h.rows k; asked = sym (maps_agree (λ (u : lock.Thread). u.asked) (λ (t : Thread). t.asked) last.threads w.threads nobody no_thread h.count (λ i. (h.threads i).asked)) k };
       log = (log_shown input count log (map (λ (t : Thread). is_ended t.phase) w.threads) logged ∙ ap (λ ended. text_of (log_of input count ended)) (ended_shown (conditions_of input) w last h)) k;
-      stop = (stop_shown clocks (conditions_of input) w last strayed h ∙ ap (stop_of last) (sym strays)) k;
+      stop = (stop_shown clocks (conditions_of input) w last diverged h ∙ ap (stop_of last) (sym diverges)) k;
     }

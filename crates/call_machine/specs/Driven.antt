@@ -12,7 +12,7 @@ use Rattle.call_machine.specs.Playing.{ComesAt, IsPlayed, Played}
 use Rattle.lock_machine.specs.declared.refused.Refused.{Refused}
 use Rattle.lock_machine.specs.declared.refused.Refused.TheVariants as refused
 use Rattle.call_machine.specs.Weights.{Falls}
-use Rattle.call_machine.specs.Strays.{diverging}
+use Rattle.call_machine.specs.Diverging.{diverging}
 use Rattle.call_machine.specs.declared.drive.Went.{Went}
 use Rattle.call_machine.specs.declared.drive.Went.TheVariants as went
 
@@ -26,16 +26,16 @@ pub record GoesOn (input : Inputs) (s : State) (old new : Played) : Type 0 where
   pub falls : Falls true old.whole.threads old.players new.whole.threads new.players
 
 -- the run stays where it is: it diverges at this thread, or no event is next
-pub record StaysAt (input : Inputs) (s : State) (strayed : Option ℕ) (old new : Played) : Type 0 where
-  pub strays : diverging (setup_of input) s ≡ strayed
-  pub over : strayed ≡ None → IsOver (setup_of input) s
+pub record StaysAt (input : Inputs) (s : State) (diverged : Option ℕ) (old new : Played) : Type 0 where
+  pub diverges : diverging (setup_of input) s ≡ diverged
+  pub over : diverged ≡ None → IsOver (setup_of input) s
   pub plays : IsPlayed input new s
   pub log : new.log ≡ old.log
 
 abbrev pub WentSo : Went → Inputs → State → Played → Played → Type 0
 WentSo went.On input s old new = GoesOn input s old new
 WentSo went.Over input s old new = StaysAt input s None old new
-WentSo (went.Strays i) input s old new = StaysAt input s (Some i) old new
+WentSo (went.Diverges i) input s old new = StaysAt input s (Some i) old new
 
 abbrev pub Plainly : Went → Played → Played → Type 0
 Plainly w old new = (input : Inputs) (s : State) → ComesAt old input s → WentSo w input s old new
@@ -57,12 +57,12 @@ pub record ComesTo (input : Inputs) (p : Played) : Type 0 where
   pub log : IsLogged input count p.log
 
 -- the plain run has come to its end, or diverges at this thread
-pub record Ends (input : Inputs) (strayed : Option ℕ) (p : Played) : Type 0 where
+pub record Ends (input : Inputs) (diverged : Option ℕ) (p : Played) : Type 0 where
   pub last : State
   pub count : ℕ
   pub goes : GoesTo (setup_of input) (first_state input) count last
-  pub strays : diverging (setup_of input) last ≡ strayed
-  pub over : strayed ≡ None → IsOver (setup_of input) last
+  pub diverges : diverging (setup_of input) last ≡ diverged
+  pub over : diverged ≡ None → IsOver (setup_of input) last
   pub arises : Arises (setup_of input) (first_state input) last
   pub plays : IsPlayed input p last
   pub log : IsLogged input count p.log

@@ -6,5 +6,5 @@ pub mod Driven
 pub mod Plain
 pub mod Starting
 pub mod Logs
-pub mod Strays
+pub mod Diverging
 pub mod Covered

@@ -14,10 +14,11 @@ use Rattle.logical_clocks.specs.TurnOrder.{turn_holder}
 use Rattle.call_machine.specs.History.{transcripts_of}
 use Rattle.lock_model.specs.Rows.{shown}
 use Rattle.call_machine.specs.Logs.{plain_records}
-use Rattle.call_machine.specs.Strays.{diverging}
+use Rattle.call_machine.specs.Diverging.{diverging}
 use Rattle.call_machine.specs.Setup.{Inputs, first_state, setup_of}
 use Rattle.call_machine.specs.declared.fault.PlainFault.{PlainFault}
 use Rattle.call_machine.specs.declared.fault.PlainFault.TheVariants as plain_fault
+use Rattle.logged_machine.specs.Starting.{are_settings}
 use Rattle.logged_machine.specs.declared.stop.Stop.{Stop}
 use Rattle.logged_machine.specs.declared.stop.Stop.TheVariants as stop
 use Rattle.call_machine.specs.declared.plain.Plain.{Plain}
@@ -71,9 +72,6 @@ counts_fit scripts outcomes = nat_le 1 scripts && nat_le scripts limit.THREADS &
 
 abbrev pub are_threads : Inputs → Bool
 are_threads input = counts_fit (length input.scripts) (length input.outcomes)
-
-abbrev pub are_settings : Settings → Bool
-are_settings settings = nat_le 1 settings.patience && nat_le settings.patience limit.PATIENCE && (nat_le 1 settings.door_cost && nat_le settings.door_cost limit.DOOR_COST)
 
 -- so many events of the plain schedule lead to this state, none of which is behind a state where the run diverges
 pub record GoesTo (setup : Setup) (first : State) (count : ℕ) (last : State) : Type 0 where

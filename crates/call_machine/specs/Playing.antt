@@ -13,9 +13,9 @@ use Rattle.lock_model.specs.State.{State, thread_of}
 use Rattle.lock_model.specs.State.Phase.{Ended, Working}
 use Rattle.call_machine.specs.Logs.{LogsMore, Written, came_between}
 use Rattle.call_machine.specs.Setup.{Inputs, conditions_of, first_state, script_of, setup_of}
-use Rattle.lock_machine.specs.Shows.{Shows, has_moved, has_strayed}
+use Rattle.lock_machine.specs.Shows.{Shows, has_moved, has_diverged}
 use Rattle.lock_machine.specs.Whole.{Whole}
-use Rattle.lock_machine.specs.Strays.{is_stray}
+use Rattle.lock_machine.specs.Diverging.{is_diverging}
 use Rattle.call_machine.specs.Weights.{Falls}
 use Rattle.call_machine.specs.declared.driver.Driver.{Driver}
 use Rattle.lock_machine.specs.declared.outside.Progress.{Progress}
@@ -88,10 +88,10 @@ hears told i p = record p { players = set p.players i (heard told (player_at p i
 
 -- ## Events
 
--- thread i makes its event that needs no turn, just where it can, and strays just where what is there for it does not answer
+-- thread i makes its event that needs no turn, just where it can, and diverges just where what is there for it does not answer
 pub record Made (made : Progress) (i : ℕ) (old new : Played) (input : Inputs) (s : State) : Type 0 where
   pub can : can_advance (setup_of input) s i ≡ has_moved made
-  pub strays : is_stray (setup_of input) s i ≡ has_strayed made
+  pub diverges : is_diverging (setup_of input) s i ≡ has_diverged made
   pub plays : IsPlayed input new (advance (setup_of input) i s)
   pub log : LogsMore (came_between i s (advance (setup_of input) i s)) old.log new.log
   pub falls : Falls (has_moved made) old.whole.threads old.players new.whole.threads new.players

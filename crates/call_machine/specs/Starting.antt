@@ -58,11 +58,11 @@ stop_told threads None = stop_for threads (turn_holder (clocks_of threads))
 
 -- what a run tells that has come to its end, or diverged at this thread
 abbrev pub told : Option ℕ → Whole → Written → Plain
-told strayed w log =
+told diverged w log =
     let ended = map (λ (t : Thread). is_ended t.phase) w.threads in
     record {
       transcripts = transcripts_of (length w.threads) w.rows;
       history = record { rows = w.rows; asked = map (λ (t : Thread). t.asked) w.threads };
       log = log.text ++ closing (all_true ended) log.records;
-      stop = stop_told w.threads strayed;
+      stop = stop_told w.threads diverged;
     }

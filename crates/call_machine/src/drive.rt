@@ -16,7 +16,7 @@ use crate::driver::Driver;
 use crate::log::Log;
 use crate::players::first_players;
 use input_log::{Header, Record};
-use lock_machine::{LockMachine, Phase, Progress, Refused, clocks_are_shown};
+use lock_machine::{LockMachine, Phase, Progress, Refused, machines_show};
 use lock_model::{arising_states, one_event};
 use logical_clocks::least_is_found;
 use posix_terms::{Answer, Given, Outcomes, Settings};
@@ -31,7 +31,7 @@ pub enum Went {
     // not at all: no event is next
     Over,
     // not at all: the outcome of this thread does not answer what it asked
-    Strays(usize),
+    Diverges(usize),
 }
 
 impl Driver {
@@ -58,21 +58,21 @@ impl Driver {
     // told.
     pub fn run(&mut self, alloc: Global) -> Result<Option<usize>, AllocError>
         requires { (input : Inputs) × Begins input (played_of self.old) }
-        ensures { IfOk result (λ strayed. (input : Inputs) → Begins input (played_of self.old) → Ends input strayed (played_of self.new)) }
+        ensures { IfOk result (λ diverged. (input : Inputs) → Begins input (played_of self.old) → Ends input diverged (played_of self.new)) }
     {
         laws();
         loop {
             match self.step(alloc)? {
                 Went::On => {}
                 Went::Over => return Ok(None),
-                Went::Strays(i) => return Ok(Some(i)),
+                Went::Diverges(i) => return Ok(Some(i)),
             }
         }
     }
 
     // Makes the next event of the plain schedule, if there is one: the least thread that can makes its event that
     // needs no turn; where none can, the thread that has the turn makes its attempt. Where the least thread that
-    // could make an event has an outcome that does not answer, the run strays.
+    // could make an event has an outcome that does not answer, the run diverges.
     fn step(&mut self, alloc: Global) -> Result<Went, AllocError>
         ensures { IfOk result (λ went. Plainly went (played_of self.old) (played_of self.new)) }
     {
@@ -80,7 +80,7 @@ impl Driver {
         for i in 0..self.players.len() {
             match self.advance(alloc, i)? {
                 Progress::Moves => return Ok(Went::On),
-                Progress::Strays => return Ok(Went::Strays(i)),
+                Progress::Diverges => return Ok(Went::Diverges(i)),
                 Progress::Stays => {}
             }
         }
@@ -262,6 +262,6 @@ fn laws()
     one_event();
     runs_end();
     least_is_found();
-    clocks_are_shown();
+    machines_show();
     arising_states();
 }

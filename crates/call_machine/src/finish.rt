@@ -15,10 +15,10 @@ use std::alloc::{AllocError, Global};
 
 impl Driver {
     // What a run tells that has come to its end, or diverged at this thread.
-    pub fn finish(self, alloc: Global, strayed: Option<usize>) -> Result<Plain, AllocError>
-        ensures { IfOk result (λ plain. plain ≡ told strayed self.machine self.log) }
+    pub fn finish(self, alloc: Global, diverged: Option<usize>) -> Result<Plain, AllocError>
+        ensures { IfOk result (λ plain. plain ≡ told diverged self.machine self.log) }
     {
-        let stop = self.stop(strayed);
+        let stop = self.stop(diverged);
         let ended = self.have_ended();
         let threads = self.machine.len();
         let Driver { machine, log, .. } = self;
@@ -33,10 +33,10 @@ impl Driver {
     }
 
     // Why a run stopped that diverged at this thread, or not: nobody has the turn once all threads have ended.
-    fn stop(&self, strayed: Option<usize>) -> Option<Stop>
-        ensures { result ≡ stop_told self.now.machine.threads strayed }
+    fn stop(&self, diverged: Option<usize>) -> Option<Stop>
+        ensures { result ≡ stop_told self.now.machine.threads diverged }
     {
-        if let Some(i) = strayed {
+        if let Some(i) = diverged {
             return Some(Stop::Diverged(i, self.came(i)));
         }
         let i = self.machine.turn_holder()?;

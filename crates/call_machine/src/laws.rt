@@ -1,7 +1,7 @@
-ghost use Rattle.call_machine.specs.Covered.{HasSpelling, NoneStrays, RecordsCame};
+ghost use Rattle.call_machine.specs.Covered.{HasSpelling, NoneDiverges, RecordsCame};
 ghost use Rattle.call_machine.specs.Plain.{OnePlainRun};
 
-use lock_machine::requests_are_little;
+use lock_machine::requests_asked;
 use lock_model::{one_event, outcomes_that_came};
 
 /// The log of a plain run, after any number of events. By thread the outcomes of its records are those that came, in order
@@ -10,11 +10,11 @@ use lock_model::{one_event, outcomes_that_came};
 pub fn logs_of_plain_runs()
     ensures came { RecordsCame }
     ensures spelled { HasSpelling }
-    ensures straight { NoneStrays }
+    ensures straight { NoneDiverges }
 {
     one_event();
     outcomes_that_came();
-    requests_are_little();
+    requests_asked();
 }
 
 /// There is one plain run of given scripts, outcomes and settings: whatever is one has the same transcripts, history,

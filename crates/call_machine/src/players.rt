@@ -5,7 +5,7 @@ ghost use Rattle.call_machine.specs.Playing.{heard};
 
 use posix_terms::{Answer, Reply};
 use std::alloc::{AllocError, Global};
-use thread_scripts::{Actor, Script, ScriptActor, Step};
+use thread_scripts::{Script, ScriptActor, Step};
 
 // A script that plays a thread: with the last reply, which it sees with its next step, and whether its last step had no
 // room on the thread's clock.
@@ -17,12 +17,12 @@ pub struct Player {
 }
 
 impl Player {
-    // The script's next step.
+    // The script's next step. Without memory for it the run is over, so nothing is saved for that.
     pub fn next(&mut self) -> Result<Step, AllocError>
         ensures step { IfOk result (λ step. step ≡ (next_of self.old.last self.old.actor).0) }
         ensures after { IfOk result (λ _. self.new ≡ record self.old { actor = (next_of self.old.last self.old.actor).1; last = None }) }
     {
-        match self.actor.next(self.last.as_ref()) {
+        match self.actor.next_unsaved(self.last.as_ref()) {
             Ok(step) => {
                 self.last = None;
                 Ok(step)

@@ -7,15 +7,16 @@ ghost use Rattle.lock_model.specs.Laws.{RisingOfArisen};
 ghost use Rattle.lock_model.specs.RealLaws.{RealLegalOfArisen};
 ghost use Rattle.call_machine.specs.Covered.{HasSpelling, IsCovered, RecordsCame};
 ghost use Rattle.call_machine.specs.History.{AreRising};
-ghost use Rattle.call_machine.specs.Plain.{Runs, are_settings, counts_fit, header_of};
+ghost use Rattle.call_machine.specs.Plain.{Runs, counts_fit, header_of};
 
 use crate::driver::Driver;
 use crate::fault::PlainFault;
 use crate::laws::logs_of_plain_runs;
 use crate::plain::Plain;
 use input_log::Header;
-use lock_machine::{clocks_are_shown, machines_begin};
+use lock_machine::machines_show;
 use lock_model::{arising_states, outcomes_that_came, real_runs};
+use logged_machine::are_in_range;
 use posix_terms::{Limits, Outcomes, Settings};
 use std::alloc::Global;
 use thread_scripts::Script;
@@ -57,22 +58,14 @@ pub fn plain_run(
         door_cost: settings.door_cost,
     };
     let mut driver = Driver::new(alloc, scripts, outcomes, header)?;
-    let strayed = driver.run(alloc)?;
-    Ok(driver.finish(alloc, strayed)?)
+    let diverged = driver.run(alloc)?;
+    Ok(driver.finish(alloc, diverged)?)
 }
 
 fn counts_fit(scripts: usize, outcomes: usize) -> bool
     ensures { result ≡ counts_fit scripts outcomes }
 {
     1 <= scripts && scripts <= Limits::THREADS && outcomes == scripts
-}
-
-fn are_in_range(settings: Settings) -> bool
-    ensures { result ≡ are_settings settings }
-{
-    1 <= settings.patience
-        && settings.patience <= Limits::PATIENCE
-        && (1 <= settings.door_cost && settings.door_cost <= Limits::DOOR_COST)
 }
 
 // What holds of each plain run.
@@ -85,8 +78,7 @@ fn laws()
     ensures came { RecordsCame }
     ensures spelled { HasSpelling }
 {
-    machines_begin();
-    clocks_are_shown();
+    machines_show();
     real_runs();
     arising_states();
     outcomes_that_came();

@@ -9,6 +9,7 @@ use Rattle.thread_scripts.specs.Grammar.{script_of}
 use Rattle.thread_scripts.specs.declared.line.Line.{Line}
 use Rattle.call_machine.specs.Plain.{counts_fit}
 use Rattle.commands.specs.Commands.{AreRead, AreTexts, CountPrints, IsFirstUnread, IsText, PlainPrints, ReadPrints, script_before, scripts_from}
+use Rattle.commands.specs.Records.{CountRecords, RecordPrints, TextsRecord}
 use Rattle.commands.specs.declared.printed.Printed.{Printed}
 
 -- more scripts behind these
@@ -74,11 +75,23 @@ view_fits view sources n fits count is true_is =
     let same : length (map view sources) ≡ n = length-map sources view ∙ sym count in
     ap (λ m. counts_fit m m) same ∙ sym is ∙ true_is
 
+-- there are as many scripts as texts, and as many texts as sources
+pub scripts_count : (texts : List (List ℕ)) (scripts : List (List Line)) → scripts_from 0 texts ≡ Ok scripts → length scripts ≡ length texts
+scripts_count texts scripts is = subst (λ (r : Result (List (List Line)) (ℕ × Fault)). IfOk r (λ all. length all ≡ length texts)) is (scripts_length 0 texts)
+
+pub texts_count : {S : Type 0} (view : S → List ℕ × Option (List ℕ)) (sources : List S) (texts : List (List ℕ)) → AreTexts (map view sources) texts → length texts ≡ length sources
+texts_count view sources texts read = texts_length (map view sources) texts read ∙ length-map sources view
+
 -- what was read of sources that fit is printed
 pub read_prints : (settings : Settings) (turns : Bool) (sources : List (List ℕ × Option (List ℕ))) (outcome : Result (List (List ℕ)) (List ℕ)) (printed : Printed)
     → Fits sources → AreRead sources outcome → ReadPrints settings turns outcome printed → PlainPrints settings turns sources printed
 read_prints settings turns sources outcome printed fits read prints =
     subst (λ b. CountPrints b settings turns sources printed) (sym fits) (outcome, read, prints)
+
+pub read_records : (D : Type 0) (settings : Settings) (turns : Bool) (path : List ℕ) (sources : List (List ℕ × Option (List ℕ))) (outcome : Result (List (List ℕ)) (List ℕ)) (printed : Printed)
+    → Fits sources → AreRead sources outcome → TextsRecord D settings turns path outcome printed → RecordPrints D settings turns path sources printed
+read_records D settings turns path sources outcome printed fits read prints =
+    subst (λ b. CountRecords D b settings turns path sources printed) (sym fits) (outcome, read, prints)
 
 map_same : {S : Type 0} (xs : List S) → map (λ y. y) xs ≡ xs
 map_same [] = refl

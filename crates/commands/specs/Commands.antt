@@ -7,7 +7,8 @@ use Rattle.posix_terms.specs.declared.transcript.Settings.{Settings}
 use Rattle.thread_scripts.specs.Faults.{Fault, bad_line, too_long}
 use Rattle.thread_scripts.specs.Grammar.{script_of}
 use Rattle.thread_scripts.specs.declared.line.Line.{Line}
-use Rattle.call_machine.specs.Plain.{IsPlainRun, are_settings, counts_fit}
+use Rattle.call_machine.specs.Plain.{IsPlainRun, counts_fit}
+use Rattle.logged_machine.specs.Starting.{are_settings}
 use Rattle.call_machine.specs.Setup.{Inputs}
 use Rattle.logged_machine.specs.declared.stop.Stop.{Stop}
 use Rattle.call_machine.specs.declared.plain.Plain.{Plain}
@@ -29,6 +30,9 @@ no_memory = fault_printed 4 (codes "no memory\n")
 
 abbrev pub cannot_read : List ℕ → Printed
 cannot_read path = fault_printed 4 (codes "cannot read " +++ path +++ codes "\n")
+
+abbrev pub cannot_write : List ℕ → Printed
+cannot_write path = fault_printed 4 (codes "cannot write " +++ path +++ codes "\n")
 
 -- the greatest size of a file that a command reads
 abbrev pub read_limit : ℕ

@@ -4,3 +4,4 @@ pub mod FirstFaults
 pub mod LogTexts
 pub mod Shows
 pub mod Replays
+pub mod Records

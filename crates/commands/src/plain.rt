@@ -1,8 +1,9 @@
 ghost use Rattle.std.specs.Prelude.{◌≡◌, MatchResult, ◌∷◌, [], length, map, IfOk, replicate, true};
 ghost use Rattle.thread_scripts.specs.Faults.{bad_line, too_long};
 ghost use Rattle.thread_scripts.specs.Grammar.{script_of};
-ghost use Rattle.call_machine.specs.Plain.{are_settings, counts_fit};
-ghost use Rattle.commands.specs.Commands.{PlainPrints, Prints, RunPrints, ScriptsPrint, inputs_of, script_fault, scripts_from};
+ghost use Rattle.call_machine.specs.Plain.{counts_fit};
+ghost use Rattle.logged_machine.specs.Starting.{are_settings};
+ghost use Rattle.commands.specs.Commands.{PlainPrints, Prints, RunPrints, ScriptsPrint, bad_settings, inputs_of, script_fault, scripts_from};
 ghost use Rattle.commands.specs.FirstFaults.{IsFirst, IsScript};
 
 use crate::first_fault::FirstFault;
@@ -118,9 +119,7 @@ fn scripts_run(
         Ok(plain) => run_printed(alloc, turns, &plain.transcripts, plain.stop),
         Err(PlainFault::Memory) => Err(AllocError),
         Err(PlainFault::Threads) => unreachable!(),
-        Err(PlainFault::Settings) => {
-            fault(alloc, 2, "patience and door cost are 1 to 1000000\n")
-        }
+        Err(PlainFault::Settings) => bad_settings(alloc),
     }
 }
 
@@ -133,6 +132,12 @@ fn no_outcomes(alloc: Global, scripts: usize) -> Result<Vec<Outcomes>, AllocErro
         outcomes.push(Outcomes::from_vec(Vec::new(alloc)))?;
     }
     Ok(outcomes)
+}
+
+pub fn bad_settings(alloc: Global) -> Result<Printed, AllocError>
+    ensures { IfOk result (λ printed. printed ≡ bad_settings) }
+{
+    fault(alloc, 2, "patience and door cost are 1 to 1000000\n")
 }
 
 pub fn bad_line(alloc: Global, script: usize, line: usize) -> Result<Printed, AllocError>

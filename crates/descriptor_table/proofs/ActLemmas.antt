@@ -62,7 +62,7 @@ use Rattle.descriptor_table.proofs.PathLemmas.{births_alike, entries_shown, name
 use Rattle.descriptor_table.proofs.PlanLemmas.{asking_of, ends_shown, full_shown, last_open, listener_by, lowest_none, moves_file_inside, moves_inside, moves_outside, outside_at, transfers_by, two_shown}
 use Rattle.descriptor_table.proofs.ShownLemmas.{FoundBoth, Shut, Open, found_both, lowest_shown}
 use Rattle.descriptor_table.proofs.SoundLemmas.{get-insert_same, get-remove_other, get-remove_same, paths_total}
-use Rattle.descriptor_table.specs.Acts.{Acted, ActsAsStep, Holds, IsActed, Replies, StandsAt, Waits, acted, ended, has_read, has_written, held_after, is_open, offset_at, outside_content, outside_ending, read_acted, replied, sought, told_outside, write_acted, wrote}
+use Rattle.descriptor_table.specs.Acts.{Acted, ActsAsStep, Holds, IsActed, StandsAt, acted, ended, has_read, has_written, held_after, is_open, offset_at, outside_content, outside_ending, read_acted, replied, sought, told_outside, write_acted, wrote}
 use Rattle.descriptor_table.specs.Agreement.{numbers_told}
 use Rattle.descriptor_table.specs.Plans.{act_or_ask, answered, close_plan, ends_a_door, errand, fstat_plan, ftruncate_plan, host_open_plan, leads_outside, locks, lseek_plan, moves, not_listener, of_file, of_listener, opens_plan, seekable, shut_act, shutdown_plan, stat_by, stat_plan, tcp_accept_plan, tcp_connect_plan, tcp_listen_plan, two_ends_plan, pread_plan, pwrite_plan, read_plan, seen, write_plan, addable, dup2_plan, dup_from_plan, dup_plan, getfl_plan, link_plan, mkdir_plan, open_new, open_node, open_plan, open_there, planned, replaced, rmdir_plan, setfl_plan, unlink_plan}
 use Rattle.descriptor_table.specs.Shows.{Shows, birth_at, birth_of, is_of, shown, shown_node}
@@ -204,7 +204,7 @@ module _ (t : TableState) (s : State) (settings : Settings) (outcome : Option Ou
 
   -- what waits leaves all as it was
   waited_as : (node : ℕ) (act : Op) (content : Content) (offset : ℕ) → content_of s (birth_at t node) ≡ content → StandsAt t s act offset
-      → IsActed t node act (record { ending = Waits; content = content; offset = offset }) (ended settings s carried Waits) (waited settings s carried)
+      → IsActed t node act (record { ending = None; content = content; offset = offset }) (ended settings s carried None) (waited settings s carried)
   waited_as node act content offset is stands = record {
     answer_is = refl;
     carried_is = refl;
@@ -214,7 +214,7 @@ module _ (t : TableState) (s : State) (settings : Settings) (outcome : Option Ou
 
   -- a stream that cannot go on
   stopped_as : (node : ℕ) (act : Op) (at : Opened) (content : Content) (offset : ℕ) → content_of s (birth_at t node) ≡ content → StandsAt t s act offset → (b : Bool)
-      → Ended node act (record { ending = if b then Replies (reply.Fail EAGAIN) else Waits; content = content; offset = offset }) (if b then Err EAGAIN else Ok Blocks)
+      → Ended node act (record { ending = if b then Some (reply.Fail EAGAIN) else None; content = content; offset = offset }) (if b then Err EAGAIN else Ok Blocks)
   stopped_as node act at content offset is stands true = record { answer_is = refl; carried_is = refl; content_is = same_content s (birth_at t node) content is; offset_is = stands }
   stopped_as node act at content offset is stands false = waited_as node act content offset is stands
 
@@ -236,7 +236,7 @@ module _ (t : TableState) (s : State) (settings : Settings) (outcome : Option Ou
       act : Op
       act = op.Ask (record { kind = k; asked = asked; waits = waits; door = door })
 
-      by_waiting : (b : Bool) → let ending = if b then Waits else Replies (reply.Fail e) in IsActed t node act (record { ending = ending; content = content; offset = offset }) (ended settings s carried ending) (if b then waited settings s carried else failed otherwise e)
+      by_waiting : (b : Bool) → let ending = if b then None else Some (reply.Fail e) in IsActed t node act (record { ending = ending; content = content; offset = offset }) (ended settings s carried ending) (if b then waited settings s carried else failed otherwise e)
       by_waiting true = waited_as node act content offset is tt
       by_waiting false = record { answer_is = refl; carried_is = refl; content_is = holds; offset_is = tt }
   outside_as c node k asked waits door succeeds otherwise content offset is holds told held None = record { answer_is = refl; carried_is = refl; content_is = holds; offset_is = tt }

@@ -39,19 +39,14 @@ use Rattle.descriptor_table.specs.declared.plan.Opened.{Opened}
 use Rattle.descriptor_table.specs.declared.plan.Plan.{Plan}
 use Rattle.descriptor_table.specs.declared.plan.Plan.TheVariants as plan
 
--- how an act ends: with a reply, or it has to wait
-pub data Ending : Type 0 where
-  Replies : (reply : Reply) → Ending
-  Waits : Ending
-
--- how it ends, what its object holds then, and where its description stands
+-- the reply with which an act ends, if it need not wait; what its object holds then, and where its description stands
 pub record Acted : Type 0 where
-  pub ending : Ending
+  pub ending : Option Reply
   pub content : Content
   pub offset : ℕ
 
 abbrev pub replied : Reply → Content → ℕ → Acted
-replied r content offset = record { ending = Replies r; content = content; offset = offset }
+replied r content offset = record { ending = Some r; content = content; offset = offset }
 
 -- a write to a file that starts here, and leaves the offset where it is told
 abbrev pub wrote : Result (List ℕ × ℕ) Errno → List ℕ → ℕ → (ℕ → ℕ) → Acted
@@ -75,7 +70,7 @@ is_open t node which = let ends = ends_of t.descriptions node in not ((if is_fir
 
 -- what cannot go on leaves all as it is; O_NONBLOCK decides whether it waits
 abbrev pub stopped : Opened → Content → ℕ → Acted
-stopped at content offset = record { ending = if at.flags.nonblock then Replies (reply.Fail EAGAIN) else Waits; content = content; offset = offset }
+stopped at content offset = record { ending = if at.flags.nonblock then Some (reply.Fail EAGAIN) else None; content = content; offset = offset }
 
 -- a read of a stream, by what its object holds when so many bytes are left
 abbrev pub has_read : Opened → (List ℕ → Content) → Content → ℕ → Reading → Acted
@@ -112,10 +107,10 @@ held_after out.Accept value content = DoorTo door.Stream
 held_after k value content = content
 
 -- EAGAIN may make a call wait, and every other failure is its reply. While the outcome is missing the ending says nothing
-abbrev pub outside_ending : Errand → NewNumbers → Option Outcome → Ending
-outside_ending e given (Some (outcome.Ok value bytes)) = Replies (told_outside e.kind given value bytes)
-outside_ending e given (Some (outcome.Fail error)) = if e.waits && is_again error then Waits else Replies (reply.Fail error)
-outside_ending e given None = Replies (reply.Fail EIO)
+abbrev pub outside_ending : Errand → NewNumbers → Option Outcome → Option Reply
+outside_ending e given (Some (outcome.Ok value bytes)) = Some (told_outside e.kind given value bytes)
+outside_ending e given (Some (outcome.Fail error)) = if e.waits && is_again error then None else Some (reply.Fail error)
+outside_ending e given None = Some (reply.Fail EIO)
 
 abbrev pub outside_content : Errand → Content → Option Outcome → Content
 outside_content e content (Some (outcome.Ok value bytes)) = held_after e.kind value content
@@ -179,9 +174,9 @@ abbrev pub Holds : State → ℕ → Content → Type 0
 Holds s birth content = (other : Content) → map.get s.objects birth ≡ Some other → other ≡ content
 
 -- the answer of a turn that ends so, and what is carried on from it
-abbrev pub ended : Settings → State → Carried → Ending → Answer × Carried
-ended settings s carried (Replies r) = (answer.Reply r, nothing_carried)
-ended settings s carried Waits = let stepped = waited settings s carried in (stepped.answer, stepped.carried)
+abbrev pub ended : Settings → State → Carried → Option Reply → Answer × Carried
+ended settings s carried (Some r) = (answer.Reply r, nothing_carried)
+ended settings s carried None = let stepped = waited settings s carried in (stepped.answer, stepped.carried)
 
 -- the step answers as the act ends, and leaves the content and the offset that the act leaves
 pub record IsActed (t : TableState) (node : ℕ) (act : Op) (done : Acted) (answered : Answer × Carried) (stepped : Stepped) : Type 0 where

@@ -3,3 +3,6 @@ pub mod OutcomeList
 pub mod Host
 pub mod Opening
 pub mod Asked
+pub mod Gates
+pub mod Options
+pub mod Channels

@@ -11,10 +11,11 @@ use Rattle.host_doors.specs.declared.stop.DoorStop.TheVariants as stop
 use Rattle.host_doors.specs.declared.counts.Counts.{Counts}
 use Rattle.host_doors.specs.Counting.{counted}
 
--- a list of outcomes, and how many were given and were failures
-pub record OutcomeList : Type 0 where
+-- a list of outcomes, how many were given and were failures, and the gate before it
+pub record OutcomeList (G : Type 0) : Type 0 where
   pub list : List Given
   pub counts : Counts
+  pub gate : G
 
 -- the list has this outcome at this number, and it answers the request
 pub record IsListed (list : List Given) (number : ℕ) (request : Request) (o : Outcome) : Type 0 where
@@ -37,14 +38,14 @@ Chosen true list number request (Err s) = Stops list number request s
 Chosen false list number request result = result ≡ Ok (outcome.Fail errno.ETIMEDOUT)
 
 -- an outcome is counted, and where there is none all is as before; the list stays
-abbrev pub Counted : OutcomeList → OutcomeList → Result Outcome DoorStop → Type 0
-Counted old new (Ok o) = new ≡ record { list = old.list; counts = counted old.counts o }
+abbrev pub Counted : {G : Type 0} → OutcomeList G → OutcomeList G → Result Outcome DoorStop → Type 0
+Counted old new (Ok o) = (new.list ≡ old.list) × (new.counts ≡ counted old.counts o)
 Counted old new (Err s) = new ≡ old
 
--- what a call gives, by a gate that may answer so
-pub record Gives (may_answer : Bool → Type 0) (number : ℕ) (request : Request) (old new : OutcomeList) (result : Result Outcome DoorStop) : Type 0 where
+-- what a call of a thread gives, by the answer of a gate that may answer so
+pub record Gives {G : Type 0} (may_answer : G → ℕ → ℕ → Bool → G → Type 0) (thread number : ℕ) (request : Request) (old new : OutcomeList G) (result : Result Outcome DoorStop) : Type 0 where
   pub entered : Bool
-  pub gate : may_answer entered
+  pub gate : may_answer old.gate thread number entered new.gate
   pub chosen : Chosen entered old.list number request result
   pub fits : IfOk result (λ o. fits request.kind request.asked o ≡ true)
   pub counted : Counted old new result

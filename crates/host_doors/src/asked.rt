@@ -1,5 +1,7 @@
-ghost use Rattle.std.specs.Prelude.{◌≡◌, ◌≤◌, ◌↔◌, Some, IfOk, IsOk, IsSome, option_map, take};
-ghost use Rattle.host_doors.specs.Asked.{Opens, Seeks, Shuts, bytes_of};
+ghost use Rattle.std.specs.Prelude.{◌≡◌, ◌≤◌, ◌↔◌, Some, IfErr, IfOk, IsOk, IsSome, option_map, take};
+ghost use Rattle.std.specs.IoError.{error_kind};
+ghost use Rattle.std.specs.declared.io.ErrorKind.TheVariants as kind;
+ghost use Rattle.host_doors.specs.Asked.{CanSeek, IsShutdown, Opens, OpensText, Seeks, Shuts, bytes_of};
 
 use posix_terms::{Access, Call, Limits, OpenFlags, ShutdownHow, Whence};
 use std::io;
@@ -16,7 +18,9 @@ pub(crate) struct HostFile<'a> {
 
 /// The file that the call opens. `InvalidInput` where the path is not UTF-8.
 pub(crate) fn file_to_open(call: &Call) -> io::Result<HostFile<'_>>
-    ensures { IfOk result (λ file. Opens call.now file.path.now file.access file.flags) }
+    ensures file { IfOk result (λ file. Opens call.now file.path.now file.access file.flags) }
+    ensures ok { IsOk result ↔ OpensText call.now }
+    ensures error { IfErr result (λ error. error_kind error ≡ kind.InvalidInput) }
 {
     let Call::HostOpen {
         path,
@@ -40,6 +44,7 @@ pub(crate) fn file_to_open(call: &Call) -> io::Result<HostFile<'_>>
 pub(crate) fn bytes_to_write(call: &Call, most: u64) -> io::Result<&[u8]>
     ensures bytes { IfOk result (λ front. Some front.now ≡ option_map (take most) (bytes_of call.now)) }
     ensures ok { IsOk result ↔ IsSome (bytes_of call.now) }
+    ensures error { IfErr result (λ error. error_kind error ≡ kind.InvalidInput) }
 {
     let Call::Write { bytes, .. } = call else {
         return Err(ErrorKind::InvalidInput.into());
@@ -51,7 +56,9 @@ pub(crate) fn bytes_to_write(call: &Call, most: u64) -> io::Result<&[u8]>
 
 /// The place that the call seeks. `InvalidInput` where it lies before the beginning.
 pub(crate) fn place_to_seek(call: &Call) -> io::Result<SeekFrom>
-    ensures { IfOk result (λ place. Seeks call.now place) }
+    ensures place { IfOk result (λ place. Seeks call.now place) }
+    ensures ok { IsOk result ↔ CanSeek call.now }
+    ensures error { IfErr result (λ error. error_kind error ≡ kind.InvalidInput) }
 {
     let Call::Lseek { offset, whence, .. } = call else {
         return Err(ErrorKind::InvalidInput.into());
@@ -68,7 +75,9 @@ pub(crate) fn place_to_seek(call: &Call) -> io::Result<SeekFrom>
 
 /// What of a stream the call shuts.
 pub(crate) fn directions_to_end(call: &Call) -> io::Result<Shutdown>
-    ensures { IfOk result (λ directions. Shuts call.now directions) }
+    ensures directions { IfOk result (λ directions. Shuts call.now directions) }
+    ensures ok { IsOk result ↔ IsShutdown call.now }
+    ensures error { IfErr result (λ error. error_kind error ≡ kind.InvalidInput) }
 {
     let Call::Shutdown { how, .. } = call else {
         return Err(ErrorKind::InvalidInput.into());
@@ -84,6 +93,7 @@ pub(crate) fn directions_to_end(call: &Call) -> io::Result<Shutdown>
 pub(crate) fn port_of(asked: u64) -> io::Result<u16>
     ensures port { IfOk result (λ port. port ≡ asked) }
     ensures ok { IsOk result ↔ (asked ≤ Limits.PORT) }
+    ensures error { IfErr result (λ error. error_kind error ≡ kind.InvalidInput) }
 {
     match u16::try_from(asked) {
         Ok(port) => Ok(port),

@@ -1,10 +1,11 @@
-ghost use Rattle.std.specs.Prelude.{◌≤◌, length, IfOk};
-
-use crate::asked::{bytes_to_write, directions_to_end, file_to_open, place_to_seek, port_of};
-use posix_terms::Request;
+use crate::asked::{directions_to_end, file_to_open, place_to_seek, port_of};
+use crate::channel::{read_asked, write_asked};
+use crate::options::HostOptions;
+use posix_terms::{Bytes, Request};
+use std::alloc::{AllocError, Global};
 use std::fs::{File, Files, OpenOptions};
 use std::io;
-use std::io::{ErrorKind, Read, Seek, Write};
+use std::io::{ErrorKind, Seek};
 use std::net::{Net, TcpListener, TcpStream};
 
 /// A door to the host.
@@ -22,28 +23,20 @@ const LOOPBACK: &str = "127.0.0.1";
 /// alone, and one that is opened to append may be cut, as by `open`.
 pub(crate) fn open_file<R: Files<File = File>>(rt: &R, request: &Request) -> io::Result<File> {
     let wanted = file_to_open(&request.call)?;
-    let writes = wanted.access.can_write();
-    let appends = writes && wanted.flags.append;
-    let truncates = writes && wanted.flags.truncate;
-    let mut options = File::options();
-    options.read(wanted.access.can_read());
-    options.write(writes);
-    options.append(appends);
-    options.create(writes && wanted.flags.create);
-    options.truncate(truncates && !appends);
-    let file = if wanted.flags.create && !writes {
-        open_or_create(rt, wanted.path, &options)?
+    let how = HostOptions::new(wanted.access, wanted.flags);
+    let file = if how.makes {
+        open_or_make(rt, wanted.path, &how.options)?
     } else {
-        options.open(rt, wanted.path)?
+        how.options.open(rt, wanted.path)?
     };
-    if truncates && appends {
+    if how.cuts {
         file.set_len(0)?;
     }
     Ok(file)
 }
 
 /// Opens a file, and makes it first where it is missing.
-fn open_or_create<R: Files<File = File>>(
+fn open_or_make<R: Files<File = File>>(
     rt: &R,
     path: &str,
     options: &OpenOptions,
@@ -77,26 +70,26 @@ pub(crate) fn connect<R: Net<Listener = TcpListener, Stream = TcpStream>>(
 }
 
 impl HostDoor {
-    /// Reads once. `InvalidInput` at a listener.
-    pub(crate) fn read(&mut self, buffer: &mut [u8]) -> io::Result<usize>
-        ensures { IfOk result (λ count. count ≤ length buffer.old) }
-    {
+    /// Reads once, at most the bytes asked for. `InvalidInput` at a listener.
+    pub(crate) fn read(
+        &mut self,
+        alloc: Global,
+        request: &Request,
+    ) -> Result<io::Result<Bytes>, AllocError> {
         match self {
-            HostDoor::File(file) => file.read(buffer),
-            HostDoor::Stream(stream) => stream.read(buffer),
-            HostDoor::Listener(_) => Err(ErrorKind::InvalidInput.into()),
+            HostDoor::File(file) => read_asked(file, alloc, request.asked),
+            HostDoor::Stream(stream) => read_asked(stream, alloc, request.asked),
+            HostDoor::Listener(_) => Ok(Err(ErrorKind::InvalidInput.into())),
         }
     }
 
     /// Writes once. `InvalidInput` at a listener.
     pub(crate) fn write(&mut self, request: &Request) -> io::Result<u64> {
-        let bytes = bytes_to_write(&request.call, request.asked)?;
-        let count = match self {
-            HostDoor::File(file) => file.write(bytes)?,
-            HostDoor::Stream(stream) => stream.write(bytes)?,
-            HostDoor::Listener(_) => return Err(ErrorKind::InvalidInput.into()),
-        };
-        Ok(count as u64)
+        match self {
+            HostDoor::File(file) => write_asked(file, request),
+            HostDoor::Stream(stream) => write_asked(stream, request),
+            HostDoor::Listener(_) => Err(ErrorKind::InvalidInput.into()),
+        }
     }
 
     /// Moves the offset of a file. `InvalidInput` at any other door.

@@ -1,13 +1,17 @@
 ghost use Rattle.std.specs.Prelude.{◌≡◌, ℕ, Bool, true};
+ghost use Rattle.std.specs.Bool.{OnTrue};
 
 /// What a call has to pass before it gets its outcome.
 pub trait Gate {
-    /// Which answers there may be for a thread and the number of its outcome.
-    ghost may_answer: { ℕ → ℕ → Bool → Type 0 };
+    /// Which answer there may be for a thread and the number of its outcome: how the gate stood before, and
+    /// how it stands after.
+    ghost may_answer: { Self → ℕ → ℕ → Bool → Self → Type 0 };
 
-    /// Whether the call that is to get this outcome may go on. It may wait.
+    /// Whether the call that is to get this outcome may go on. It may wait. A gate that lets a call go on
+    /// shows what it showed before.
     fn enter(&mut self, thread: usize, number: u64) -> bool
-        ensures { may_answer thread number result };
+        ensures answer { may_answer self.old thread number result self.new }
+        ensures passed { OnTrue result (self.new ≡ self.old) };
 }
 
 /// The gate that lets every call go on.
@@ -15,7 +19,7 @@ pub trait Gate {
 pub struct NoGate;
 
 impl Gate for NoGate {
-    ghost may_answer = { λ _ _ answer. answer ≡ true };
+    ghost may_answer = { λ _ _ _ answer _. answer ≡ true };
 
     fn enter(&mut self, _thread: usize, _number: u64) -> bool {
         true

@@ -171,11 +171,10 @@ impl<R: Files<File = File> + Net<Listener = TcpListener, Stream = TcpStream>> Ou
         requires few { self.old.failures < 2 ^ 64 - 1 }
         ensures { GivesAny request.now self.old self.new result }
     {
-        let mut buffer = vec![in self.alloc; 0; request.asked as usize]?;
-        match door.read(buffer.as_mut_slice()) {
-            Ok(count) => {
-                buffer.truncate(count);
-                Ok(self.succeed(request, count as u64, Bytes::from_vec(buffer)))
+        match door.read(self.alloc, request)? {
+            Ok(bytes) => {
+                let count = bytes.as_slice().len() as u64;
+                Ok(self.succeed(request, count, bytes))
             }
             Err(error) => Ok(self.fail(error_of(error.kind()))),
         }

@@ -3,13 +3,16 @@
 #![tactic(auto)]
 
 mod asked;
+mod channel;
 mod counts;
 mod door;
 mod error;
 mod gate;
 mod host;
 mod opened;
+mod options;
 mod outside;
+mod pair;
 mod script;
 mod stop;
 
@@ -18,5 +21,6 @@ pub use gate::{Gate, NoGate};
 pub use host::HostDoors;
 pub use opened::Opened;
 pub use outside::Outside;
+pub use pair::{PairGate, Place};
 pub use script::{ScriptDoor, ScriptDoors};
 pub use stop::DoorStop;

@@ -12,8 +12,7 @@ use Rattle.posix_terms.specs.declared.reply.Answer as posix
 use Rattle.posix_terms.specs.declared.transcript.HistoryRow.{HistoryRow}
 use Rattle.det_mutex.specs.Attempt.{freed, new_lock}
 use Rattle.det_mutex.specs.declared.lock.DetLock.{DetLock}
-use Rattle.lock_model.specs.CallTable.{Answer, CallTable, Plan, has_object, keeps_table}
-use Rattle.lock_model.specs.CallTable.Answer.{Again, Gives}
+use Rattle.lock_model.specs.CallTable.{CallTable, Plan, has_object, keeps_table}
 use Rattle.lock_model.specs.CallTable.Way.{Inside}
 use Rattle.lock_model.specs.Held.{AreHeld, HaveRows, holds_table, object_held, object_in, row_of}
 use Rattle.lock_model.specs.Machine as machine
@@ -25,14 +24,13 @@ use Rattle.lock_model.specs.State.Phase.{Granted}
 use Rattle.lock_model.specs.Terms.{World}
 use Rattle.lock_model.proofs.Commute.{advance_move, lock_mine, lock_other, row_closed, row_open}
 use Rattle.lock_machine.specs.Events.{Answers, AnswersIn, AnswersWith, Parts, in_time, parts, row_answered}
-use Rattle.object_store.specs.Patience.{ended}
 use Rattle.lock_machine.specs.Held.{end_held, phase_behind, told_as}
 use Rattle.lock_machine.specs.Conditions.{Conditions, setup_under}
 use Rattle.lock_model.specs.Rows.{shown, shown_answer}
 use Rattle.lock_machine.specs.Shows.{IsGranted, PhaseShows, Shows, ThreadShows, replied}
 use Rattle.lock_machine.specs.Whole.{Whole, thread_at}
-use Rattle.object_store.specs.declared.patience.TurnEnd.{TurnEnd}
-use Rattle.object_store.specs.declared.patience.TurnEnd.TheVariants as end
+use Rattle.lock_model.specs.declared.turn_end.TurnEnd.{TurnEnd}
+use Rattle.lock_model.specs.declared.turn_end.TurnEnd.TheVariants as end
 use Rattle.lock_machine.specs.declared.thread.Phase.{Phase}
 use Rattle.lock_machine.specs.declared.thread.Phase.TheVariants as phase
 use Rattle.lock_machine.specs.Threads.{Thread}
@@ -103,7 +101,7 @@ locks_freed i (suc n) clock (l ∷ ls) inside mine others =
 -- ## The move
 
 -- the table is freed now where no object is held, and else later, when the thread does not hold it
-abbrev pub freeing : Option ℕ → lock.Thread → Call → Answer → Moved
+abbrev pub freeing : Option ℕ → lock.Thread → Call → TurnEnd → Moved
 freeing object u c a =
     record {
       thread = answered u c (u.clock + 1) a;
@@ -111,7 +109,7 @@ freeing object u c a =
     }
 
 -- the answer of a job with this plan and this answer, which makes no change
-abbrev pub answer_by : lock.Thread → Call → Plan → Answer → Option World → Moved
+abbrev pub answer_by : lock.Thread → Call → Plan → TurnEnd → Option World → Moved
 answer_by u c plan a w =
     let next = u.clock + one_if (has_object plan) in
     record {
@@ -127,7 +125,7 @@ late_by : (calls : CallTable) (job : Job) (object : Option ℕ) → late_change 
 late_by calls job None = late_none calls job job.outcome
 late_by calls job (Some n) = late_none calls job job.outcome
 
-freeing_by : (u : lock.Thread) (c : Call) (object : Option ℕ) (a : Answer) → answer_by u c (plan_of Inside object) a None ≡ freeing object u c a
+freeing_by : (u : lock.Thread) (c : Call) (object : Option ℕ) (a : TurnEnd) → answer_by u c (plan_of Inside object) a None ≡ freeing object u c a
 freeing_by u c None a =
     ap (λ (n : ℕ). let m : Moved = record { thread = answered u c n a; effect = record { outcome = None; answer = Some a; object_freed = Some u.clock; table_freed = Some (u.clock + 0); world = None } } in m) (once u.clock)
   where
@@ -139,22 +137,22 @@ freeing_by u c (Some object) a =
     once : (n : ℕ) → n + 1 + 0 ≡ n + 1
     once n = omega arith
 
-answer_frees : (calls : CallTable) (u : lock.Thread) (job : Job) (object : Option ℕ) (a : Answer) → job.plan ≡ plan_of Inside object → calls.answer job.found job.call job.outcome job.carried ≡ a → machine.answer calls u job ≡ freeing object u job.call a
+answer_frees : (calls : CallTable) (u : lock.Thread) (job : Job) (object : Option ℕ) (a : TurnEnd) → job.plan ≡ plan_of Inside object → calls.answer job.found job.call job.outcome job.carried ≡ a → machine.answer calls u job ≡ freeing object u job.call a
 answer_frees calls u job object a plan gives =
     ap (λ (p : Plan). answer_by u job.call p (calls.answer job.found job.call job.outcome job.carried) (late_change calls job job.outcome (keeps_table p))) plan
-    ∙ ap₂ (λ (b : Answer) (w : Option World). answer_by u job.call (plan_of Inside object) b w) gives (late_by calls job object)
+    ∙ ap₂ (λ (b : TurnEnd) (w : Option World). answer_by u job.call (plan_of Inside object) b w) gives (late_by calls job object)
     ∙ freeing_by u job.call object a
 
-moves_granted : (terms : Conditions) (i : ℕ) (u : lock.Thread) (job : Job) (object : Option ℕ) (a : Answer) → u.phase ≡ Granted job → job.plan ≡ plan_of Inside object → answer_in (step terms.settings job.found.object job.call (outcome_in job.outcome) job.carried) ≡ a
+moves_granted : (terms : Conditions) (i : ℕ) (u : lock.Thread) (job : Job) (object : Option ℕ) (a : TurnEnd) → u.phase ≡ Granted job → job.plan ≡ plan_of Inside object → answer_in (step terms.settings job.found.object job.call (outcome_in job.outcome) job.carried) ≡ a
     → moves (setup_under terms) i u ≡ within (2 ^ 62) (Some (freeing object u job.call a))
 unfolding moves
 moves_granted terms i u job object a e plan gives =
     ap (λ (p : lock.Phase). within (2 ^ 62) (moves_in (setup_under terms) i u p)) e
     ∙ ap (λ (m : Moved). within (2 ^ 62) (Some m)) (answer_frees (real_calls terms.settings) u job object a plan gives)
 
-pub answered_clock : (u : lock.Thread) (c : Call) (n : ℕ) (a : Answer) → (answered u c n a).clock ≡ n
-answered_clock u c n (Gives reply) = refl
-answered_clock u c n (Again turns) = refl
+pub answered_clock : (u : lock.Thread) (c : Call) (n : ℕ) (a : TurnEnd) → (answered u c n a).clock ≡ n
+answered_clock u c n (end.Reply reply) = refl
+answered_clock u c n (end.Blocked turns) = refl
 
 -- ## The whole
 
@@ -164,15 +162,15 @@ same_eqb a b e = ⊎_elim (λ (h : (a == b) ≡ true). h) (λ (h : (a == b) ≡ 
 pub open_row : (i : ℕ) (job : Job) → job.turn.thread ≡ i → is_open i (row_of job) ≡ true
 open_row i job e = ap (λ (b : Bool). b && true) (same_eqb job.turn.thread i e)
 
-shown_end : (x : TurnEnd) → shown_answer (Some (ended x)) ≡ Some (told_as x)
+shown_end : (x : TurnEnd) → shown_answer (Some x) ≡ Some (told_as x)
 shown_end (end.Reply reply) = refl
 shown_end (end.Blocked turns) = refl
 
-shown_filled : (r : Row) (e : Effect) (x : TurnEnd) → e.outcome ≡ None → e.answer ≡ Some (ended x) → shown (filled_by e r) ≡ record (shown r) { answer = Some (told_as x) }
+shown_filled : (r : Row) (e : Effect) (x : TurnEnd) → e.outcome ≡ None → e.answer ≡ Some x → shown (filled_by e r) ≡ record (shown r) { answer = Some (told_as x) }
 shown_filled r e x out ans k = record { call = r.call; turn = r.turn; outcome = ap outcome_in (ap (first_of r.outcome) out ∙ first_kept r.outcome) k; answer = (ap shown_answer ans ∙ shown_end x) k }
 
 pub rows_answered : (i : ℕ) (s : State) (w : List HistoryRow) (place : ℕ) (job : Job) (e : Effect) (x : TurnEnd) → HaveRows s → map shown s.rows ≡ w → job.turn.thread ≡ i → slice_get s.rows place ≡ Some (row_of job)
-    → e.outcome ≡ None → e.answer ≡ Some (ended x)
+    → e.outcome ≡ None → e.answer ≡ Some x
     → map shown (map (row_after i e) s.rows) ≡ set w place (record (shown (row_of job)) { answer = Some (told_as x) })
 rows_answered i s w place job e x rows is mine at out ans =
     let open_is = open_row i job mine in
@@ -235,28 +233,28 @@ next_le c h = omega arith
 
 -- the thread works, or makes its call again
 thread_answered : (terms : Conditions) (i : ℕ) (rows : List Row) (t : Thread) (u : lock.Thread) (c : Call) (e : TurnEnd) → u.clock ≡ t.clock → t.clock < 2 ^ 62 → u.asked ≡ t.asked → length u.came ≡ t.came
-    → ThreadShows terms i rows (record t { phase = phase_behind e; clock = t.clock + 1 }) (answered u c (u.clock + 1) (ended e))
+    → ThreadShows terms i rows (record t { phase = phase_behind e; clock = t.clock + 1 }) (answered u c (u.clock + 1) e)
 thread_answered terms i rows t u c (end.Reply reply) clock room asked came = record { clock = ap (λ (n : ℕ). n + 1) clock; in_time = next_le t.clock room; asked = asked; came = came; phase = refl }
 thread_answered terms i rows t u c (end.Blocked turns) clock room asked came = record { clock = ap (λ (n : ℕ). n + 1) clock; in_time = next_le t.clock room; asked = asked; came = came; phase = (c, refl) }
 
 thread_now : (terms : Conditions) (w : Whole) (s : State) (i place : ℕ) (object : Option ℕ) (e : TurnEnd) (job : Job) (a : Answering terms w s i place object e job) (rows : List Row) → (thread_at w i).clock < 2 ^ 62
-    → ThreadShows terms i rows (row_answered (parts_at w i object) place e (shown (row_of job))).thread (freeing object (thread_of s i) job.call (ended e)).thread
+    → ThreadShows terms i rows (row_answered (parts_at w i object) place e (shown (row_of job))).thread (freeing object (thread_of s i) job.call e).thread
 thread_now terms w s i place object e job a rows room =
     let h = a.shows.threads i in thread_answered terms i rows (thread_at w i) (thread_of s i) job.call e h.clock room h.asked h.came
 
 move_made : (terms : Conditions) (w : Whole) (s : State) (i place : ℕ) (object : Option ℕ) (e : TurnEnd) (job : Job) (a : Answering terms w s i place object e job) → (thread_at w i).clock < 2 ^ 62
-    → moves (setup_under terms) i (thread_of s i) ≡ Some (freeing object (thread_of s i) job.call (ended e))
+    → moves (setup_under terms) i (thread_of s i) ≡ Some (freeing object (thread_of s i) job.call e)
 move_made terms w s i place object e job a room =
     let u = thread_of s i in
     let fits : u.clock + 1 ≤ 2 ^ 62 = subst (λ (c : ℕ). c + 1 ≤ 2 ^ 62) (sym (a.shows.threads i).clock) (next_le (thread_at w i).clock room) in
-    moves_granted terms i u job object (ended e) a.phase a.granted.plan a.granted.answers ∙ within_yes (2 ^ 62) (freeing object u job.call (ended e)) (subst (λ (c : ℕ). c ≤ 2 ^ 62) (sym (answered_clock u job.call (u.clock + 1) (ended e))) fits)
+    moves_granted terms i u job object e a.phase a.granted.plan a.granted.answers ∙ within_yes (2 ^ 62) (freeing object u job.call e) (subst (λ (c : ℕ). c ≤ 2 ^ 62) (sym (answered_clock u job.call (u.clock + 1) e)) fits)
 
 answered_yes : (terms : Conditions) (w : Whole) (s : State) (i place : ℕ) (object : Option ℕ) (e : TurnEnd) (job : Job) (a : Answering terms w s i place object e job) → (thread_at w i).clock < 2 ^ 62
     → Answered terms w s i object true (row_answered (parts_at w i object) place e (shown (row_of job)))
 answered_yes terms w s i place None e job a room =
     let u = thread_of s i in
     let h = a.shows.threads i in
-    let m = freeing None u job.call (ended e) in
+    let m = freeing None u job.call e in
     let new = row_answered (parts_at w i None) place e (shown (row_of job)) in
     let inside : (n : ℕ) → n < length s.objects → is_number (get_or s.objects n new_lock).holder i ≡ false = one_held terms w s i place None e job a in
     whole_moved terms w s i new.thread m new.lock w.objects new.rows a.inside a.shows (move_made terms w s i place None e job a room) (thread_now terms w s i place None e job a (map (row_after i m.effect) s.rows) room)
@@ -270,7 +268,7 @@ answered_yes terms w s i place None e job a room =
 answered_yes terms w s i place (Some n) e job a room =
     let u = thread_of s i in
     let h = a.shows.threads i in
-    let m = freeing (Some n) u job.call (ended e) in
+    let m = freeing (Some n) u job.call e in
     let new = row_answered (parts_at w i (Some n)) place e (shown (row_of job)) in
     let within : n < length s.objects = object_inside terms w s a.shows n a.granted.in_range in
     whole_moved terms w s i new.thread m w.lock (set w.objects n new.lock) new.rows a.inside a.shows (move_made terms w s i place (Some n) e job a room) (thread_now terms w s i place (Some n) e job a (map (row_after i m.effect) s.rows) room)
@@ -290,9 +288,9 @@ move_refused : (terms : Conditions) (w : Whole) (s : State) (i place : ℕ) (obj
 move_refused terms w s i place object e job a full =
     let u = thread_of s i in
     let h = a.shows.threads i in
-    let m = freeing object u job.call (ended e) in
+    let m = freeing object u job.call e in
     let past : 2 ^ 62 < u.clock + 1 = subst (λ (c : ℕ). 2 ^ 62 < c + 1) (sym h.clock) (next_lt (thread_at w i).clock full) in
-    moves_granted terms i u job object (ended e) a.phase a.granted.plan a.granted.answers ∙ within_no (2 ^ 62) m (subst (λ (c : ℕ). 2 ^ 62 < c) (sym (answered_clock u job.call (u.clock + 1) (ended e))) past)
+    moves_granted terms i u job object e a.phase a.granted.plan a.granted.answers ∙ within_no (2 ^ 62) m (subst (λ (c : ℕ). 2 ^ 62 < c) (sym (answered_clock u job.call (u.clock + 1) e)) past)
   where
     next_lt : (c : ℕ) → 2 ^ 62 ≤ c → 2 ^ 62 < c + 1
     next_lt c h = omega arith
@@ -314,7 +312,7 @@ replies_moved terms s i m inside is =
 pub replies_still : (terms : Conditions) (s : State) (i : ℕ) → moves (setup_under terms) i (thread_of s i) ≡ None → (thread_of (advance (setup_under terms) i s) i).replies ≡ (thread_of s i).replies
 replies_still terms s i is = ap (λ (z : State). (thread_of z i).replies) (advance_move (setup_under terms) i s ∙ ap (λ (o : Option Moved). machine.move i o s) is)
 
-pub replies_answered : (u : lock.Thread) (c : Call) (n : ℕ) (e : TurnEnd) → (answered u c n (ended e)).replies ≡ replied (Some (told_as e)) u.replies
+pub replies_answered : (u : lock.Thread) (c : Call) (n : ℕ) (e : TurnEnd) → (answered u c n e).replies ≡ replied (Some (told_as e)) u.replies
 replies_answered u c n (end.Reply reply) = refl
 replies_answered u c n (end.Blocked turns) = refl
 
@@ -335,7 +333,7 @@ answered_by terms w s i place object e job told new true a room h =
     let S : Parts → Type 0 = λ p. Told terms w s i object (Some (told_as e)) p in
     subst R (sym g.0) (subst S (sym g.1) (
       answered_yes terms w s i place object e job a fewer_is,
-      replies_moved terms s i (freeing object (thread_of s i) job.call (ended e)) inside (move_made terms w s i place object e job a fewer_is) ∙ replies_answered (thread_of s i) job.call ((thread_of s i).clock + 1) e,
+      replies_moved terms s i (freeing object (thread_of s i) job.call e) inside (move_made terms w s i place object e job a fewer_is) ∙ replies_answered (thread_of s i) job.call ((thread_of s i).clock + 1) e,
     ))
   where
     fewer : (c : ℕ) → c + 1 ≤ 2 ^ 62 → c < 2 ^ 62

@@ -1,6 +1,6 @@
 -- The steps that a thread asks are those that it is given.
-use Rattle.std.proofs.Common.{◌≡◌, ℕ, ◌+◌, ◌<◌, ◌≤◌, ◌^◌, List, [], ◌∷◌, ◌++◌, length, Option, Some, None, Bool, true, false, sym, refl, ap, ◌∙◌, subst}
-use Rattle.std.proofs.lemmas.Bool.{cond-true, cond-false, le-leb, lt-leb}
+use Rattle.std.proofs.Common.{◌≡◌, ℕ, ◌+◌, ◌<◌, ◌≤◌, ◌^◌, List, [], ◌∷◌, ◌++◌, length, Option, Some, None, Bool, true, false, is_some, sym, refl, ap, ◌∙◌, subst}
+use Rattle.std.proofs.lemmas.Bool.{cond-true, cond-false, false≢true, le-leb, lt-leb}
 use Rattle.posix_terms.specs.declared.call.Call.{Call}
 use Rattle.thread_scripts.specs.declared.actor.Step.{Step}
 use Rattle.thread_scripts.specs.declared.actor.Step.TheVariants as step
@@ -8,15 +8,18 @@ use Rattle.lock_model.specs.Held.{HasAsked, call_in, has_end, last_call}
 use Rattle.lock_model.specs.Machine.{Moved, after_step, again, ask, moves, moves_in, quietly, within}
 use Rattle.lock_model.specs.RealCalls.{real_calls}
 use Rattle.lock_model.specs.State as lock
-use Rattle.lock_model.specs.State.{Row}
+use Rattle.lock_model.specs.State.{Row, thread_of}
 use Rattle.lock_model.specs.State.Phase.{Blocked, Working}
-use Rattle.lock_machine.specs.Asking.{Asks, EndsIf, GoesAgain, GoesAgainIn, GoesAgainWith, worked}
+use Rattle.lock_machine.specs.Asking.{Asks, EndsIf, GoesAgain, GoesAgainIn, GoesAgainWith, HasTime, worked}
 use Rattle.lock_machine.specs.Conditions.{Conditions, setup_under}
-use Rattle.lock_machine.specs.Shows.{PhaseShows, ThreadShows}
+use Rattle.lock_machine.specs.Shows.{BlockedIn, MayAdvance, MayAsk, PhaseShows, ThreadShows}
+use Rattle.lock_machine.specs.Waiting.{is_call}
+use Rattle.lock_machine.specs.Whole.{Whole, thread_at}
 use Rattle.lock_machine.specs.declared.thread.Phase.{Phase}
 use Rattle.lock_machine.specs.declared.thread.Phase.TheVariants as phase
 use Rattle.lock_machine.specs.Threads.{Thread}
 use Rattle.lock_machine.proofs.ShownThreads.{Moving}
+use Rattle.std.specs.Prelude.{OnErr, Result, Ok, Err}
 
 pub within_yes : (limit : ℕ) (m : Moved) → m.thread.clock ≤ limit → within limit (Some m) ≡ Some m
 within_yes limit m h = cond-true _ _ _ (le-leb m.thread.clock limit h)
@@ -114,3 +117,48 @@ again_moves terms i rows moved t v u turns is h asked goes =
         subst R (sym went.1) (record { clock = h.clock; in_time = h.in_time; asked = h.asked; came = h.came; phase = refl }),
       ),
     )
+
+-- ## What no number forbids
+
+time_fits : (terms : Conditions) (i : ℕ) (rows : List Row) (x : Step) (t : Thread) (u : lock.Thread) → ThreadShows terms i rows t u → HasTime x t → (let m : Moved = quietly (after_step (real_calls terms.settings) u x) in m.thread.clock) ≤ 2 ^ 62
+time_fits terms i rows (step.Work n) t u h time = subst (λ (c : ℕ). c + n ≤ 2 ^ 62) (sym h.clock) time
+time_fits terms i rows (step.Call call) t u h time = subst (λ (c : ℕ). c ≤ 2 ^ 62) (sym h.clock) h.in_time
+time_fits terms i rows step.End t u h time = subst (λ (c : ℕ). c ≤ 2 ^ 62) (sym h.clock) h.in_time
+
+-- a thread that works may ask a step for which its clock has room
+pub may_ask : (w : Whole) (i : ℕ) (x : Step) → (thread_at w i).phase ≡ phase.Working → HasTime x (thread_at w i) → MayAsk i x w
+may_ask w i x works time terms s (arises, h) next =
+    let u = thread_of s i in
+    let P : Phase → Type 0 = λ p. PhaseShows terms i s.rows (thread_at w i) u p in
+    let now : u.phase ≡ Working = subst P works (h.threads i).phase in
+    let m : Moved = quietly (after_step (real_calls terms.settings) u x) in
+    ap is_some (moves_at terms i u x now next ∙ within_yes (2 ^ 62) m (time_fits terms i s.rows x (thread_at w i) u (h.threads i) time))
+
+-- a call takes no time
+pub call_time : (x : Step) (t : Thread) → is_call x ≡ true → HasTime x t
+call_time (step.Work n) t h = absurd (false≢true h)
+call_time (step.Call call) t h = tt
+call_time step.End t h = tt
+
+-- nor does a call that is made again
+pub may_again : (w : Whole) (i : ℕ) → BlockedIn (thread_at w i).phase → MayAdvance i w
+may_again w i blocked terms s (arises, h) = by_phase (thread_at w i).phase blocked (h.threads i).phase
+  where
+    by_phase : (p : Phase) → BlockedIn p → PhaseShows terms i s.rows (thread_at w i) (thread_of s i) p → is_some (moves (setup_under terms) i (thread_of s i)) ≡ true
+    by_phase (phase.Blocked turns) b (call, now) =
+        let u = thread_of s i in
+        let fits : u.clock ≤ 2 ^ 62 = subst (λ (c : ℕ). c ≤ 2 ^ 62) (sym (h.threads i).clock) (h.threads i).in_time in
+        ap is_some (moves_again terms i u call turns now ∙ within_yes (2 ^ 62) (again u call turns) fits)
+    by_phase phase.Working b g = absurd b
+    by_phase (phase.WantsTable call turns) b g = absurd b
+    by_phase (phase.WantsObject call turns clock n) b g = absurd b
+    by_phase (phase.Granted row n e) b g = absurd b
+    by_phase (phase.ToOutside o) b g = absurd b
+    by_phase (phase.Outside o) b g = absurd b
+    by_phase (phase.Recorded o) b g = absurd b
+    by_phase phase.Ended b g = absurd b
+
+-- what is so anyway is so at an error
+pub on_err : {T E P : Type 0} (r : Result T E) → P → OnErr r P
+on_err (Ok v) p = tt
+on_err (Err e) p = p

@@ -38,7 +38,7 @@ use Rattle.lock_machine.specs.Shows.{IsGranted, IsOut, PhaseShows, Shows, Thread
 use Rattle.lock_machine.specs.Whole.{Whole, thread_at}
 use Rattle.lock_machine.specs.Threads.{Thread}
 use Rattle.lock_machine.specs.Views.{no_thread}
-use Rattle.object_store.specs.declared.patience.TurnEnd.{TurnEnd}
+use Rattle.lock_model.specs.declared.turn_end.TurnEnd.{TurnEnd}
 use Rattle.object_store.specs.declared.patience.TurnStart.{TurnStart}
 use Rattle.object_store.specs.declared.patience.TurnStart.TheVariants as start
 use Rattle.descriptor_table.specs.declared.plan.Errand.{Errand}

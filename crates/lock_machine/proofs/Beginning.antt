@@ -1,5 +1,5 @@
 -- A machine at its start.
-use Rattle.std.proofs.Common.{◌≡◌, ℕ, zero, suc, ◌<◌, ◌≤◌, List, [], replicate, length, get_or, sym, refl, ◌∙◌, subst, arith, ⊎_elim, lit≤}
+use Rattle.std.proofs.Common.{◌≡◌, ℕ, zero, suc, ◌<◌, ◌≤◌, [], replicate, get_or, sym, refl, ◌∙◌, subst, arith, ⊎_elim, lit≤}
 use Rattle.std.proofs.lemmas.Bool.{cases_lt}
 use Rattle.std.proofs.lemmas.List.{get_or_past, length-replicate}
 use Rattle.det_mutex.specs.Attempt.{new_lock}

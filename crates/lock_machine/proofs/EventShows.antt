@@ -9,7 +9,7 @@ use Rattle.posix_terms.specs.declared.call.Call.{Call}
 use Rattle.posix_terms.specs.declared.limits.TheConstants.Limits as limit
 use Rattle.posix_terms.specs.declared.reply.Answer as posix
 use Rattle.posix_terms.specs.declared.transcript.HistoryRow.{HistoryRow}
-use Rattle.object_store.specs.declared.patience.TurnEnd.{TurnEnd}
+use Rattle.lock_model.specs.declared.turn_end.TurnEnd.{TurnEnd}
 use Rattle.det_mutex.specs.Attempt.{new_lock}
 use Rattle.det_mutex.specs.declared.lock.DetLock.{DetLock}
 use Rattle.logical_clocks.specs.ThreadClocks.{clock_at, live_clock, live_clocks}

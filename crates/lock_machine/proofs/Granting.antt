@@ -1,18 +1,19 @@
 -- The events of a thread, put together from what the code does on the way.
-use Rattle.std.proofs.Common.{◌≡◌, ℕ, ◌+◌, length, Option, Some, None, Bool, true, false, refl, sym, ap₂, ◌∙◌, subst}
+use Rattle.std.proofs.Common.{◌≡◌, ℕ, ◌+◌, List, [], ◌∷◌, ◌++◌, ap, length, Option, Some, None, Bool, true, false, refl, sym, ap₂, ◌∙◌, subst}
 use Rattle.std.proofs.lemmas.Option.{none-some, same_Some}
 use Rattle.std.specs.Prelude.{IfOk, Result, Ok, Err}
 use Rattle.std.specs.declared.alloc.AllocError.{AllocError}
-use Rattle.object_store.specs.Store.{number_locked}
+use Rattle.object_store.specs.Store.{Makes, Stored, number_locked}
 use Rattle.object_store.specs.declared.patience.TurnStart.{TurnStart}
 use Rattle.object_store.specs.declared.patience.TurnStart.TheVariants as start
 use Rattle.posix_terms.specs.Locked.{keeps_table}
 use Rattle.posix_terms.specs.declared.call.Call.{Call}
+use Rattle.posix_terms.specs.declared.transcript.HistoryRow.{HistoryRow}
 use Rattle.posix_terms.specs.declared.transcript.Turn.{Turn}
 use Rattle.det_mutex.specs.Attempt.{freed, held, takes}
 use Rattle.det_mutex.specs.declared.lock.DetLock.{DetLock}
-use Rattle.lock_machine.specs.Events.{Grants, GrantsObject, ObjectInTime, Parts, PlansTo, Reaches, ReachesIn, Tries, TriesIn, TriesInTime, TriesLock, in_time, later, object_cost, object_reached, object_taken, parts, takes_object}
-use Rattle.lock_machine.specs.Held.{turn_started}
+use Rattle.lock_machine.specs.Events.{Grants, GrantsObject, ObjectInTime, Parts, granted_row, PlansTo, Reaches, ReachesIn, Tries, TriesIn, TriesInTime, TriesLock, in_time, later, object_cost, object_reached, object_taken, parts, takes_object}
+use Rattle.lock_machine.specs.Held.{phase_started, turn_started}
 use Rattle.lock_machine.specs.Threads.{Thread}
 use Rattle.lock_machine.specs.declared.thread.Phase.{Phase}
 use Rattle.lock_machine.specs.declared.thread.Phase.TheVariants as phase
@@ -32,9 +33,21 @@ replanned patience (Some object) turn call turns p old new g = g
 
 -- ## Put together
 
-pub planned_none : (patience : ℕ) (r : Result (Unit {0}) AllocError) (o : Option ℕ) (turn : Turn) (call : Call) (turns : ℕ) (old new : ℕ → Parts) → o ≡ None → IfOk r (λ _. (clock : ℕ) → Grants patience turn call turns None (old clock) (new clock)) → IfOk r (λ _. (clock : ℕ) → PlansTo patience o turn call turns (old clock) (new clock))
-planned_none patience (Ok u) o turn call turns old new none h = λ clock. let P : Option ℕ → Type 0 = λ x. PlansTo patience x turn call turns (old clock) (new clock) in subst P (sym none) (h clock)
-planned_none patience (Err e) o turn call turns old new none h = tt
+-- a turn that was made, and has its row then
+pub seated : (patience : ℕ) (turn : Turn) (call : Call) (turns : ℕ) (object : Option ℕ) (x : TurnStart) (t : Thread) (p : Phase) (lock : DetLock) (old new : Stored) (rows later_rows : List HistoryRow)
+    → Makes patience turns old call x new → p ≡ phase_started (length rows) object call turns x → later_rows ≡ rows ++ granted_row turn call ∷ []
+    → Grants patience turn call turns object (parts t lock old rows) (parts (record t { phase = p }) lock new later_rows)
+seated patience turn call turns object x t p lock old new rows later_rows makes phase_is rows_are =
+    record {
+      start = x;
+      makes = makes;
+      thread = ap (λ (q : Phase). let u : Thread = record t { phase = q } in u) phase_is;
+      lock = refl;
+      rows = rows_are;
+    }
+
+pub planned_none : (patience : ℕ) (o : Option ℕ) (turn : Turn) (call : Call) (turns : ℕ) (old new : Parts) → o ≡ None → Grants patience turn call turns None old new → PlansTo patience o turn call turns old new
+planned_none patience o turn call turns old new none h = subst (λ (x : Option ℕ). PlansTo patience x turn call turns old new) (sym none) h
 
 pub tried_planned : (patience i now : ℕ) (call : Call) (turns : ℕ) (p : Phase) (turn : Turn) (lock : DetLock) (old new : Parts) → old.thread.phase ≡ phase.WantsTable call turns → in_time old 1 ≡ true → takes old.lock old.thread.clock ≡ true
     → now ≡ old.thread.clock + 1 → turn ≡ record { clock = old.thread.clock; thread = i } → lock ≡ held i old.lock

@@ -18,3 +18,4 @@ pub mod Refusing
 pub mod Resting
 pub mod Parting
 pub mod Beginning
+pub mod ShownPhases

@@ -7,8 +7,7 @@ use Rattle.std.proofs.lemmas.Option.{same_Some, none-some, slice_get-map}
 use Rattle.std.specs.Prelude.{is_some, nat_le, nat_lt, option_map}
 use Rattle.det_mutex.specs.Attempt.{freed, new_lock}
 use Rattle.det_mutex.specs.declared.lock.DetLock.{DetLock}
-use Rattle.lock_model.specs.CallTable.{Answer, Plan, has_object, keeps_table}
-use Rattle.lock_model.specs.CallTable.Answer.{Again, Gives}
+use Rattle.lock_model.specs.CallTable.{Plan, has_object, keeps_table}
 use Rattle.lock_model.specs.CallTable.Plan.{Object}
 use Rattle.lock_model.specs.Held.{AreHeld, HavePlans, HaveRows, holds_table, job_in, object_held, object_in, row_of}
 use Rattle.lock_model.specs.Machine as machine
@@ -21,10 +20,10 @@ use Rattle.lock_model.specs.State.{Job, Row, State, nobody, thread_of}
 use Rattle.lock_model.specs.State.Phase.{Outside, Recorded, ToOutside}
 use Rattle.lock_model.specs.Terms.{World}
 use Rattle.lock_model.proofs.Commute.{advance_move, lock_mine, lock_other, world_mine}
-use Rattle.object_store.specs.Patience.{as_answer, ended}
+use Rattle.object_store.specs.Patience.{as_answer}
 use Rattle.object_store.specs.Store.{Stands, Stored}
-use Rattle.object_store.specs.declared.patience.TurnEnd.{TurnEnd}
-use Rattle.object_store.specs.declared.patience.TurnEnd.TheVariants as end
+use Rattle.lock_model.specs.declared.turn_end.TurnEnd.{TurnEnd}
+use Rattle.lock_model.specs.declared.turn_end.TurnEnd.TheVariants as end
 use Rattle.descriptor_table.specs.Acts as acts
 use Rattle.descriptor_table.specs.Agreement.{request_of}
 use Rattle.descriptor_table.specs.declared.plan.NewNumbers.TheVariants as numbers
@@ -47,7 +46,7 @@ use Rattle.lock_machine.specs.Outings.{AnswersOutside, Begins, BeginsIf, Conclud
 use Rattle.lock_machine.specs.Conditions.{Conditions, setup_under}
 use Rattle.lock_machine.specs.Shows.{Advanced, IsOut, PhaseShows, Shows, ThreadShows, replied}
 use Rattle.lock_machine.specs.Whole.{Whole, thread_at}
-use Rattle.lock_machine.specs.Strays.{is_stray, stray_in}
+use Rattle.lock_machine.specs.Diverging.{is_diverging, diverging_in}
 use Rattle.lock_machine.specs.Threads.{Thread}
 use Rattle.lock_machine.specs.declared.outside.Progress.{Progress}
 use Rattle.lock_machine.specs.declared.outside.Progress.TheVariants as progress
@@ -146,11 +145,11 @@ moves_record : (terms : Conditions) (i : ℕ) (u : lock.Thread) (job : Job) → 
 unfolding moves
 moves_record terms i u job e = ap (λ (p : lock.Phase). within (2 ^ 62) (moves_in (setup_under terms) i u p)) e
 
-stray_is : (terms : Conditions) (s : State) (i : ℕ) (job : Job) → (thread_of s i).phase ≡ Outside job → is_stray (setup_under terms) s i ≡ stray_in (setup_under terms) (Outside job) (slice_get (terms.supply.outcomes i) (length (thread_of s i).came))
-stray_is terms s i job e = ap (λ (p : lock.Phase). stray_in (setup_under terms) p (slice_get (terms.supply.outcomes i) (length (thread_of s i).came))) e
+divergence_is : (terms : Conditions) (s : State) (i : ℕ) (job : Job) → (thread_of s i).phase ≡ Outside job → is_diverging (setup_under terms) s i ≡ diverging_in (setup_under terms) (Outside job) (slice_get (terms.supply.outcomes i) (length (thread_of s i).came))
+divergence_is terms s i job e = ap (λ (p : lock.Phase). diverging_in (setup_under terms) p (slice_get (terms.supply.outcomes i) (length (thread_of s i).came))) e
 
 shown_recorded : (job : Job) (e : Effect) (g : Given) → job.outcome ≡ None → e.outcome ≡ Some g → e.answer ≡ None → shown (filled_by e (row_of job)) ≡ record (shown (row_of job)) { outcome = Some g.outcome }
-shown_recorded job e g none out ans k = record { call = job.call; turn = job.turn; outcome = ap outcome_in (ap₂ first_of none out) k; answer = ap (λ (a : Option Answer). (shown (record (row_of job) { answer = a })).answer) ans k }
+shown_recorded job e g none out ans k = record { call = job.call; turn = job.turn; outcome = ap outcome_in (ap₂ first_of none out) k; answer = ap (λ (a : Option TurnEnd). (shown (record (row_of job) { answer = a })).answer) ans k }
 
 rows_recorded : (i : ℕ) (s : State) (w : List HistoryRow) (place : ℕ) (job : Job) (e : Effect) (g : Given) → HaveRows s → map shown s.rows ≡ w → job.turn.thread ≡ i → slice_get s.rows place ≡ Some (row_of job)
     → job.outcome ≡ None → e.outcome ≡ Some g → e.answer ≡ None
@@ -182,18 +181,18 @@ Recording terms w s i made g p = Advanced made i g (recorded_whole w i p) terms 
 
 -- an outcome that does not answer
 recorded_no : (terms : Conditions) (w : Whole) (s : State) (i : ℕ) (o : Outing) (job : Job) (g : Given) (new : RecordedParts) → Waiting terms w s i o job → slice_get (terms.supply.outcomes i) (length (thread_of s i).came) ≡ Some g
-    → fits_job (real_calls terms.settings) job g ≡ false → new ≡ recorded_at w i → Recording terms w s i progress.Strays g new
+    → fits_job (real_calls terms.settings) job g ≡ false → new ≡ recorded_at w i → Recording terms w s i progress.Diverges g new
 recorded_no terms w s i o job g new a given_is misfit new_is =
     let u = thread_of s i in
     let calls = real_calls terms.settings in
     let none : record_outcome calls u job (Some g) ≡ None = cond-false (fits_job calls job g) _ None misfit in
     let is : moves (setup_under terms) i u ≡ None = moves_record terms i u job a.phase ∙ ap (within (2 ^ 62)) (ap (record_outcome calls u job) given_is ∙ none) in
     let next : advance (setup_under terms) i s ≡ s = advance_move (setup_under terms) i s ∙ ap (λ (m : Option Moved). machine.move i m s) is in
-    let P : RecordedParts → Type 0 = λ p. Recording terms w s i progress.Strays g p in
+    let P : RecordedParts → Type 0 = λ p. Recording terms w s i progress.Diverges g p in
     let held = whole_still terms w s i (thread_at w i) a.inside a.shows is (a.shows.threads i) in
     subst P (sym new_is) (record {
       can = held.0;
-      strays = stray_is terms s i job a.phase ∙ ap (stray_in (setup_under terms) (Outside job)) given_is ∙ ap not misfit;
+      diverges = divergence_is terms s i job a.phase ∙ ap (diverging_in (setup_under terms) (Outside job)) given_is ∙ ap not misfit;
       shows = held.1;
       came = ap (λ (z : State). (thread_of z i).came) next;
     })
@@ -219,7 +218,7 @@ recorded_yes terms w s i o job g a given_is good =
     (rows_recorded i s w.rows o.row job m.effect g a.rows a.shows.rows a.out.thread a.out.row a.none refl refl) in
     record {
       can = moved.0;
-      strays = stray_is terms s i job a.phase ∙ ap (stray_in (setup_under terms) (Outside job)) given_is ∙ ap not good;
+      diverges = divergence_is terms s i job a.phase ∙ ap (diverging_in (setup_under terms) (Outside job)) given_is ∙ ap not good;
       shows = moved.1;
       came = ap (λ (x : lock.Thread). x.came) mine;
     }
@@ -278,7 +277,7 @@ record_whole terms w s i o given made new inside h own plans is at records =
 -- ## `answer`
 
 -- the answer of a job that goes outside with this object, and keeps the table or not
-abbrev pub concluding : lock.Thread → Call → Bool → Answer → Option World → Moved
+abbrev pub concluding : lock.Thread → Call → Bool → TurnEnd → Option World → Moved
 concluding u c keeps a w =
     record {
       thread = answered u c (u.clock + answer_cost keeps) a;
@@ -293,22 +292,22 @@ costs : (c : ℕ) (keeps : Bool) → c + 1 + one_if keeps ≡ c + answer_cost ke
 costs c true = omega arith
 costs c false = omega arith
 
-concludes_by : (u : lock.Thread) (c : Call) (n : ℕ) (keeps : Bool) (a : Answer) (w : Option World) → answer_by u c (Object n (way_of true keeps)) a w ≡ concluding u c keeps a w
+concludes_by : (u : lock.Thread) (c : Call) (n : ℕ) (keeps : Bool) (a : TurnEnd) (w : Option World) → answer_by u c (Object n (way_of true keeps)) a w ≡ concluding u c keeps a w
 concludes_by u c n keeps a w k =
     record {
       thread = answered u c ((ap (λ (b : Bool). u.clock + 1 + one_if b) (plan_kept n keeps) ∙ costs u.clock keeps) k) a;
       effect = record { outcome = None; answer = Some a; object_freed = Some u.clock; table_freed = Some (u.clock + 1); world = w };
     }
 
-answer_concludes : (terms : Conditions) (u : lock.Thread) (job : Job) (n : ℕ) (keeps : Bool) (a : Answer) → job.plan ≡ Object n (way_of true keeps) → (real_calls terms.settings).answer job.found job.call job.outcome job.carried ≡ a
+answer_concludes : (terms : Conditions) (u : lock.Thread) (job : Job) (n : ℕ) (keeps : Bool) (a : TurnEnd) → job.plan ≡ Object n (way_of true keeps) → (real_calls terms.settings).answer job.found job.call job.outcome job.carried ≡ a
     → machine.answer (real_calls terms.settings) u job ≡ concluding u job.call keeps a (late_change (real_calls terms.settings) job job.outcome keeps)
 answer_concludes terms u job n keeps a plan gives =
     let calls = real_calls terms.settings in
     ap (λ (p : Plan). answer_by u job.call p (calls.answer job.found job.call job.outcome job.carried) (late_change calls job job.outcome (keeps_table p))) plan
-    ∙ ap₂ (λ (b : Answer) (k : Bool). answer_by u job.call (Object n (way_of true keeps)) b (late_change calls job job.outcome k)) gives (plan_kept n keeps)
+    ∙ ap₂ (λ (b : TurnEnd) (k : Bool). answer_by u job.call (Object n (way_of true keeps)) b (late_change calls job job.outcome k)) gives (plan_kept n keeps)
     ∙ concludes_by u job.call n keeps a (late_change calls job job.outcome keeps)
 
-moves_recorded : (terms : Conditions) (i : ℕ) (u : lock.Thread) (job : Job) (n : ℕ) (keeps : Bool) (a : Answer) → u.phase ≡ Recorded job → job.plan ≡ Object n (way_of true keeps) → (real_calls terms.settings).answer job.found job.call job.outcome job.carried ≡ a
+moves_recorded : (terms : Conditions) (i : ℕ) (u : lock.Thread) (job : Job) (n : ℕ) (keeps : Bool) (a : TurnEnd) → u.phase ≡ Recorded job → job.plan ≡ Object n (way_of true keeps) → (real_calls terms.settings).answer job.found job.call job.outcome job.carried ≡ a
     → moves (setup_under terms) i u ≡ within (2 ^ 62) (Some (concluding u job.call keeps a (late_change (real_calls terms.settings) job job.outcome keeps)))
 unfolding moves
 moves_recorded terms i u job n keeps a e plan gives =
@@ -360,19 +359,19 @@ module _ (terms : Conditions) (w : Whole) (s : State) (i : ℕ) (o : Outing) (jo
   abbrev stepped : Stepped
   stepped = step terms.settings job.found.object job.call (Some g.outcome) job.carried
 
-  gives_is : (x : TurnEnd) → answer_in stepped ≡ ended x → (real_calls terms.settings).answer job.found job.call job.outcome job.carried ≡ ended x
+  gives_is : (x : TurnEnd) → answer_in stepped ≡ x → (real_calls terms.settings).answer job.found job.call job.outcome job.carried ≡ x
   gives_is x is = ap (λ (y : Option Given). answer_in (step terms.settings job.found.object job.call (outcome_in y) job.carried)) c.came ∙ is
 
   -- how the turn ended, and what the table stands for then
   record Ended (x : TurnEnd) (table : Stored) : Type 0 where
-    answer_is : answer_in stepped ≡ ended x
+    answer_is : answer_in stepped ≡ x
     world_is : Stands table (world_after i s.table (late_change (real_calls terms.settings) job job.outcome o.keeps_table) s.world)
 
   ended_by : (keeps : Bool) (x : TurnEnd) (table : Stored) → o.keeps_table ≡ keeps → EndsTurn keeps terms.settings.patience o job.call g.outcome x w.table table → Ended x table
   ended_by false x table keeps (ends, same) =
-      let patience_is : (settings : Settings) (z : posix_state.State) → settings.patience ≡ terms.settings.patience → as_answer (acts.ended settings z o.turns (acts.outside_ending o.errand numbers.None (Some g.outcome))) ≡ ended x = ends c.good in
-      let at : as_answer (acts.ended terms.settings job.found.object job.carried (acts.outside_ending o.errand numbers.None (Some g.outcome))) ≡ ended x =
-      subst (λ (k : ℕ). as_answer (acts.ended terms.settings job.found.object k (acts.outside_ending o.errand numbers.None (Some g.outcome))) ≡ ended x) (sym c.out.carried) (patience_is terms.settings job.found.object refl) in
+      let patience_is : (settings : Settings) (z : posix_state.State) → settings.patience ≡ terms.settings.patience → as_answer (acts.ended settings z o.turns (acts.outside_ending o.errand numbers.None (Some g.outcome))) ≡ x = ends c.good in
+      let at : as_answer (acts.ended terms.settings job.found.object job.carried (acts.outside_ending o.errand numbers.None (Some g.outcome))) ≡ x =
+      subst (λ (k : ℕ). as_answer (acts.ended terms.settings job.found.object k (acts.outside_ending o.errand numbers.None (Some g.outcome))) ≡ x) (sym c.out.carried) (patience_is terms.settings job.found.object refl) in
       let none : late_change (real_calls terms.settings) job job.outcome o.keeps_table ≡ None = ap (late_change (real_calls terms.settings) job job.outcome) keeps ∙ late_none (real_calls terms.settings) job job.outcome in
       record {
         answer_is = ap as_answer (c.out.ends keeps g.outcome) ∙ at;
@@ -386,7 +385,7 @@ module _ (terms : Conditions) (w : Whole) (s : State) (i : ℕ) (o : Outing) (jo
       let asked : asks job.found.object job.call o.turns ≡ Some (record { kind = o.errand.kind; asked = o.errand.asked; call = job.call }) = subst (λ (k : ℕ). asks job.found.object job.call k ≡ request_of job.call (op.Ask o.errand)) c.out.carried c.out.asks_is in
       let made = opens terms.settings job.found (record { kind = o.errand.kind; asked = o.errand.asked; call = job.call }) refl stands keeps_call asked c.good in
       let after : late_change (real_calls terms.settings) job job.outcome o.keeps_table ≡ Some (world_with job.found stepped.after) = ap₂ (late_change (real_calls terms.settings) job) c.came keeps in
-      let P : ℕ → Type 0 = λ k. let y = step terms.settings job.found.object job.call (Some g.outcome) k in (answer_in y ≡ ended x) × Stands table (world_with job.found y.after) in
+      let P : ℕ → Type 0 = λ k. let y = step terms.settings job.found.object job.call (Some g.outcome) k in (answer_in y ≡ x) × Stands table (world_with job.found y.after) in
       let both : P job.carried = subst P (sym c.out.carried) made in
       record {
         answer_is = both.0;
@@ -398,7 +397,7 @@ module _ (terms : Conditions) (w : Whole) (s : State) (i : ℕ) (o : Outing) (jo
 
   -- the thread works, or makes its call again
   thread_concluded : (x : TurnEnd) (rows : List Row) → t.clock + answer_cost o.keeps_table ≤ 2 ^ 62
-      → ThreadShows terms i rows (went_on x (record t { clock = t.clock + answer_cost o.keeps_table })) (answered u job.call (u.clock + answer_cost o.keeps_table) (ended x))
+      → ThreadShows terms i rows (went_on x (record t { clock = t.clock + answer_cost o.keeps_table })) (answered u job.call (u.clock + answer_cost o.keeps_table) x)
   thread_concluded (end.Reply reply) rows room =
       let h = c.shows.threads i in record { clock = ap (λ (k : ℕ). k + answer_cost o.keeps_table) h.clock; in_time = room; asked = h.asked; came = h.came; phase = refl }
   thread_concluded (end.Blocked turns) rows room =
@@ -415,10 +414,10 @@ module _ (terms : Conditions) (w : Whole) (s : State) (i : ℕ) (o : Outing) (jo
   concluded_yes : (x : TurnEnd) (table : Stored) → Ended x table → t.clock + answer_cost o.keeps_table ≤ 2 ^ 62 → Told (Some (told_as x)) (row_concluded o (shown (row_of job)) x table (outside_at w i n))
   concluded_yes x table e room =
       let h = c.shows.threads i in
-      let m = concluding u job.call o.keeps_table (ended x) (late_change (real_calls terms.settings) job job.outcome o.keeps_table) in
+      let m = concluding u job.call o.keeps_table x (late_change (real_calls terms.settings) job job.outcome o.keeps_table) in
       let new = row_concluded o (shown (row_of job)) x table (outside_at w i n) in
       let fits_in : u.clock + answer_cost o.keeps_table ≤ 2 ^ 62 = subst (λ (k : ℕ). k + answer_cost o.keeps_table ≤ 2 ^ 62) (sym h.clock) room in
-      let is : moves (setup_under terms) i u ≡ Some m = moves_recorded terms i u job n o.keeps_table (ended x) c.phase c.out.plan (gives_is x e.answer_is) ∙ within_yes (2 ^ 62) m (subst (λ (k : ℕ). k ≤ 2 ^ 62) (sym (answered_clock u job.call (u.clock + answer_cost o.keeps_table) (ended x))) fits_in) in
+      let is : moves (setup_under terms) i u ≡ Some m = moves_recorded terms i u job n o.keeps_table x c.phase c.out.plan (gives_is x e.answer_is) ∙ within_yes (2 ^ 62) m (subst (λ (k : ℕ). k ≤ 2 ^ 62) (sym (answered_clock u job.call (u.clock + answer_cost o.keeps_table) x)) fits_in) in
       let inside : i < length s.threads = subst (λ (k : ℕ). i < k) (sym c.shows.count) c.inside in (
         whole_changed terms w s i new.thread m new.lock (set w.objects n new.object) table new.rows c.inside c.shows is
             (thread_concluded x (map (row_after i m.effect) s.rows) room)
@@ -430,12 +429,12 @@ module _ (terms : Conditions) (w : Whole) (s : State) (i : ℕ) (o : Outing) (jo
         replies_moved terms s i m inside is ∙ replies_answered u job.call (u.clock + answer_cost o.keeps_table) x,
       )
 
-  concluded_no : (x : TurnEnd) → answer_in stepped ≡ ended x → 2 ^ 62 < t.clock + answer_cost o.keeps_table → Told None (outside_at w i n)
+  concluded_no : (x : TurnEnd) → answer_in stepped ≡ x → 2 ^ 62 < t.clock + answer_cost o.keeps_table → Told None (outside_at w i n)
   concluded_no x gives full =
       let h = c.shows.threads i in
-      let m = concluding u job.call o.keeps_table (ended x) (late_change (real_calls terms.settings) job job.outcome o.keeps_table) in
+      let m = concluding u job.call o.keeps_table x (late_change (real_calls terms.settings) job job.outcome o.keeps_table) in
       let past : 2 ^ 62 < u.clock + answer_cost o.keeps_table = subst (λ (k : ℕ). 2 ^ 62 < k + answer_cost o.keeps_table) (sym h.clock) full in
-      let is : moves (setup_under terms) i u ≡ None = moves_recorded terms i u job n o.keeps_table (ended x) c.phase c.out.plan (gives_is x gives) ∙ within_no (2 ^ 62) m (subst (λ (k : ℕ). 2 ^ 62 < k) (sym (answered_clock u job.call (u.clock + answer_cost o.keeps_table) (ended x))) past) in
+      let is : moves (setup_under terms) i u ≡ None = moves_recorded terms i u job n o.keeps_table x c.phase c.out.plan (gives_is x gives) ∙ within_no (2 ^ 62) m (subst (λ (k : ℕ). 2 ^ 62 < k) (sym (answered_clock u job.call (u.clock + answer_cost o.keeps_table) x)) past) in
       let still = whole_still terms w s i t c.inside c.shows is h in
       let inside : n < length w.objects = subst (λ (k : ℕ). n < k) (sym c.shows.object_count) c.out.in_range in
       let P : List DetLock → Type 0 = λ ls. Shows terms (record w { threads = set w.threads i t; objects = ls }) (advance (setup_under terms) i s) in
@@ -449,14 +448,9 @@ module _ (terms : Conditions) (w : Whole) (s : State) (i : ℕ) (o : Outing) (jo
       subst Q (sym told_is) (subst R (sym new_is) (concluded_yes x new.table e (leb-true (t.clock + answer_cost o.keeps_table) (2 ^ 62) room)))
   concluded_by told new false room (told_is, new_is) =
       let full = leb-false (t.clock + answer_cost o.keeps_table) (2 ^ 62) room in
-      let x = some_end (answer_in stepped) in
       let Q : Option posix_answer.Answer → Type 0 = λ a. Told a new in
       let R : OutsideParts → Type 0 = λ p. Told None p in
-      subst Q (sym told_is) (subst R (sym new_is) (concluded_no x.0 x.1 full))
-    where
-      some_end : (a : Answer) → (x : TurnEnd) × (a ≡ ended x)
-      some_end (Gives reply) = (end.Reply reply, refl)
-      some_end (Again turns) = (end.Blocked turns, refl)
+      subst Q (sym told_is) (subst R (sym new_is) (concluded_no (answer_in stepped) refl full))
 
   locks_are_held : (is_number (get_or w.objects n new_lock).holder i && (not o.keeps_table || is_number w.lock.holder i)) ≡ true
   locks_are_held =

@@ -5,20 +5,18 @@ use Rattle.std.proofs.lemmas.Bool.Decides.{nat_tests}
 use Rattle.std.proofs.lemmas.List.{set-get_or}
 use Rattle.std.proofs.lemmas.Option.{get_or_from_slice_get, slice_get_read}
 use Rattle.std.proofs.Math.ListN.{get_or, set}
-use Rattle.std.specs.Option.{option_map}
 use Rattle.std.specs.Prelude.{nat_le, nat_lt, slice_get}
 use Rattle.lock_model.specs.Machine.{is_number}
-use Rattle.object_store.specs.declared.patience.TurnEnd.{TurnEnd}
+use Rattle.lock_model.specs.declared.turn_end.TurnEnd.{TurnEnd}
 use Rattle.posix_terms.specs.declared.outcome.Given.{Given}
 use Rattle.posix_terms.specs.declared.outcome.Outcome.{Outcome}
 use Rattle.posix_terms.specs.declared.reply.Answer.{Answer}
 use Rattle.posix_terms.specs.declared.transcript.HistoryRow.{HistoryRow}
 use Rattle.lock_machine.specs.Events.{Answers, AnswersIn, AnswersWith, Parts, in_time, row_answered}
-use Rattle.lock_machine.specs.Held.{end_held, phase_behind, told_as}
+use Rattle.lock_machine.specs.Held.{end_held, told_as}
 use Rattle.lock_machine.specs.Outings.{AnswersOutside, ConcludesHeld, ConcludesIf, ConcludesRow, ConcludesWith, EndsTurn, OutsideParts, RecordedParts, Records, RecordsIf, RecordsRow, answer_cost, answers_errand, row_concluded, row_recorded}
 use Rattle.lock_machine.specs.declared.outside.Progress.TheVariants as progress
 use Rattle.lock_machine.specs.declared.thread.Outing.{Outing}
-use Rattle.lock_machine.specs.declared.thread.Phase.{Phase}
 
 -- an element that is written back
 pub got_set : {A : Type 0} (xs : List A) (i : ℕ) (x : A) → slice_get xs i ≡ Some x → set xs i x ≡ xs

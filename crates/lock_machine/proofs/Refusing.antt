@@ -41,7 +41,7 @@ pub comes_moved : {A : Type 0} (right moved : Bool) (r : Result A Refused) (old 
 comes_moved right moved (Ok a) old new P there made full rests h = (there, subst P (sym made) h)
 comes_moved right moved (Err refused.ClockFull) old new P there made full rests h = let R : Bool → Type 0 = λ b. Rests b old new in (there, subst R (sym made) rests, subst P (sym made) h)
 comes_moved right moved (Err refused.WrongPhase) old new P there made full rests h = absurd (false≢true (ap is_full full))
-comes_moved right moved (Err refused.Memory) old new P there made full rests h = tt
+comes_moved right moved (Err refused.Memory) old new P there made full rests h = absurd (false≢true (ap is_full full))
 
 -- what is refused so leaves all as it was
 pub moved_rests : {A : Type 0} (moved : Bool) (r : Result A Refused) (old new : Whole) → is_ok r ≡ moved → Rests moved old new → OnErr r (new ≡ old)

@@ -1,11 +1,10 @@
 -- No request asks for more than a record of its outcome can hold.
-use Rattle.std.proofs.Common.{◌≡◌, refl, ◌≤◌, ◌&&◌, ℕ, ℤ, List, Bool, true, false, not, Option, Some, None, Result, Ok, Err, arith, lit≤}
+use Rattle.std.proofs.Common.{refl, ◌≤◌, ◌&&◌, ℕ, ℤ, List, Bool, true, false, not, Option, Result, Ok, Err, arith, lit≤}
 use Rattle.std.proofs.lemmas.Bool.Decides.{nat_tests}
 use Rattle.posix_terms.specs.Step.{Carried, asks, request_of}
 use Rattle.posix_terms.specs.Object as object
 use Rattle.posix_terms.specs.Refusals.{◌>>=◌, refuse_if}
 use Rattle.posix_terms.specs.declared.errno.Errno.TheVariants.{EBADF, EBUSY}
-use Rattle.posix_terms.specs.declared.limits.TheConstants.Limits as limit
 use Rattle.posix_terms.specs.declared.outcome.OutKind.{OutKind}
 use Rattle.posix_terms.specs.declared.outcome.OutKind.TheVariants as kind
 use Rattle.posix_terms.specs.declared.reply.Reply.TheVariants as reply

@@ -10,7 +10,7 @@ use Rattle.det_mutex.specs.declared.lock.DetLock.{DetLock}
 use Rattle.logical_clocks.specs.ThreadClocks.{clock_at}
 use Rattle.logical_clocks.specs.declared.clocks.ThreadClock.{ThreadClock}
 use Rattle.object_store.specs.Store.{Stored}
-use Rattle.object_store.specs.declared.patience.TurnEnd.{TurnEnd}
+use Rattle.lock_model.specs.declared.turn_end.TurnEnd.{TurnEnd}
 use Rattle.posix_terms.specs.declared.call.Call.{Call}
 use Rattle.posix_terms.specs.declared.outcome.Given.{Given}
 use Rattle.posix_terms.specs.declared.outcome.Outcome.{Outcome}

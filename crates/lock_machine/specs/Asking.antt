@@ -36,6 +36,12 @@ Asks moved (step.Work n) old new = Works moved n old new
 Asks moved (step.Call call) old new = (moved ≡ true) × (new ≡ after_want call old)
 Asks moved step.End old new = Ends moved old new
 
+-- the clock has room for this step
+abbrev pub HasTime : Step → Thread → Type 0
+HasTime (step.Work n) t = t.clock + n ≤ 2 ^ 62
+HasTime (step.Call call) t = Unit {0}
+HasTime step.End t = Unit {0}
+
 -- a blocked call, which is the one that was asked last, wants the table again
 abbrev pub GoesAgainWith : Option Call → ℕ → Bool → Thread → Thread → Type 0
 GoesAgainWith (Some call) turns moved old new = (moved ≡ true) × (new ≡ record old { phase = phase.WantsTable call turns })

@@ -12,7 +12,7 @@ use Rattle.lock_model.specs.Machine.{is_number}
 use Rattle.lock_machine.specs.Held.{end_held, turn_started, phase_behind, told_as}
 use Rattle.object_store.specs.Store.{Makes, Stored, number_locked}
 use Rattle.lock_machine.specs.Threads.{Thread}
-use Rattle.object_store.specs.declared.patience.TurnEnd.{TurnEnd}
+use Rattle.lock_model.specs.declared.turn_end.TurnEnd.{TurnEnd}
 use Rattle.object_store.specs.declared.patience.TurnStart.{TurnStart}
 use Rattle.lock_machine.specs.declared.thread.Phase.{Phase}
 use Rattle.lock_machine.specs.declared.thread.Phase.TheVariants as phase

@@ -10,8 +10,9 @@ pub mod Asking
 pub mod Held
 pub mod Events
 pub mod Outings
-pub mod Strays
+pub mod Diverging
 pub mod Shows
+pub mod Phases
 pub mod Starting
 pub mod Refusals
 pub mod Requests

@@ -7,7 +7,7 @@ use Rattle.det_mutex.specs.declared.lock.DetLock.{DetLock}
 use Rattle.lock_model.specs.Machine.{is_number}
 use Rattle.object_store.specs.Patience.{EndsOutside}
 use Rattle.object_store.specs.Store.{Opens, Stored}
-use Rattle.object_store.specs.declared.patience.TurnEnd.{TurnEnd}
+use Rattle.lock_model.specs.declared.turn_end.TurnEnd.{TurnEnd}
 use Rattle.posix_terms.specs.Outcomes.{fits, is_kind}
 use Rattle.posix_terms.specs.declared.call.Call.{Call}
 use Rattle.posix_terms.specs.declared.limits.TheConstants.Limits as limit
@@ -50,7 +50,7 @@ abbrev pub progress_by : Bool → Option HistoryRow → Bool → Progress
 progress_by true (Some q) true = progress.Moves
 progress_by true (Some q) false = progress.Stays
 progress_by true None room = progress.Stays
-progress_by false q room = progress.Strays
+progress_by false q room = progress.Diverges
 
 abbrev pub can_count : Thread → Bool
 can_count t = nat_lt (t.came + 1) (2 ^ 32)
@@ -69,7 +69,7 @@ RecordsRow None room made o g old new = (made ≡ progress.Stays) × (new ≡ ol
 
 abbrev pub RecordsIf : Bool → Progress → Outing → Given → RecordedParts → RecordedParts → Type 0
 RecordsIf true made o g old new = RecordsRow (slice_get old.rows o.row) (can_count old.thread) made o g old new
-RecordsIf false made o g old new = (made ≡ progress.Strays) × (new ≡ old)
+RecordsIf false made o g old new = (made ≡ progress.Diverges) × (new ≡ old)
 
 -- this outcome comes, where it answers
 abbrev pub Records : Progress → Outing → Given → RecordedParts → RecordedParts → Type 0

@@ -69,13 +69,24 @@ abbrev pub Rests : Bool → Whole → Whole → Type 0
 Rests true old new = Unit {0}
 Rests false old new = new ≡ old
 
--- an event comes where it has its phase: it is made, with what comes of it, or a number forbids it. Where it is refused it changes
--- nothing
+-- an event comes where it has its phase: it is made, with what comes of it, or a number forbids it, or there is no memory. Where it is
+-- refused it changes nothing
 abbrev pub Comes : {A : Type 0} → Bool → Result A Refused → Whole → Whole → (Option A → Type 0) → Type 0
 Comes right (Ok a) old new made = (right ≡ true) × made (Some a)
 Comes right (Err refused.WrongPhase) old new made = (right ≡ false) × (new ≡ old)
 Comes right (Err refused.ClockFull) old new made = (right ≡ true) × (new ≡ old) × made None
-Comes right (Err refused.Memory) old new made = Unit {0}
+Comes right (Err refused.Memory) old new made = (right ≡ true) × (new ≡ old)
+
+-- what is so where an event is refused for want of memory
+abbrev pub OnMemory : {A : Type 0} → Result A Refused → Type 0 → Type 0
+OnMemory (Ok a) P = Unit {0}
+OnMemory (Err refused.WrongPhase) P = Unit {0}
+OnMemory (Err refused.ClockFull) P = Unit {0}
+OnMemory (Err refused.Memory) P = P
+
+-- an event that wants no memory is not refused for the lack of it
+abbrev pub WantsNone : {A : Type 0} → Result A Refused → Type 0
+WantsNone r = OnMemory r ⊥
 
 -- ## Outcomes
 
@@ -90,18 +101,11 @@ outlook w i g = let t = thread_at w i in outlook_in t.phase t w.rows g
 -- what `record` gives, by whether the thread is outside and the outlook of the outcome
 abbrev pub recorded_as : Bool → Progress → Result Progress Refused
 recorded_as true progress.Moves = Ok progress.Moves
-recorded_as true progress.Strays = Ok progress.Strays
+recorded_as true progress.Diverges = Ok progress.Diverges
 recorded_as true progress.Stays = Err refused.ClockFull
 recorded_as false p = Err refused.WrongPhase
 
 -- ## Attempts
-
--- an event that wants no memory is not refused for the lack of it
-abbrev pub WantsNone : {A : Type 0} → Result A Refused → Type 0
-WantsNone (Ok a) = Unit {0}
-WantsNone (Err refused.WrongPhase) = Unit {0}
-WantsNone (Err refused.ClockFull) = Unit {0}
-WantsNone (Err refused.Memory) = ⊥
 
 -- an attempt was made, or was not
 abbrev pub Tried : {A : Type 0} → Result A Refused → (Bool → Type 0) → Type 0

@@ -27,13 +27,12 @@ use Rattle.lock_model.specs.State.Phase.{Working, WantsTable, WantsObject, Grant
 use Rattle.lock_model.specs.Rows.{shown}
 use Rattle.lock_machine.specs.Conditions.{Conditions, setup_under, start_under}
 use Rattle.object_store.specs.Errands.{door_taken, waits_outside}
-use Rattle.object_store.specs.Patience.{ended}
 use Rattle.object_store.specs.Store.{Stands}
-use Rattle.lock_machine.specs.Strays.{is_stray}
+use Rattle.lock_machine.specs.Diverging.{is_diverging}
 use Rattle.lock_machine.specs.declared.outside.Progress.{Progress}
 use Rattle.lock_machine.specs.declared.outside.Progress.TheVariants as progress
 use Rattle.lock_machine.specs.declared.thread.Outing.{Outing}
-use Rattle.object_store.specs.declared.patience.TurnEnd.{TurnEnd}
+use Rattle.lock_model.specs.declared.turn_end.TurnEnd.{TurnEnd}
 use Rattle.lock_machine.specs.declared.thread.Phase.{Phase}
 use Rattle.lock_machine.specs.declared.thread.Phase.TheVariants as phase
 use Rattle.lock_machine.specs.Threads.{Thread}
@@ -47,7 +46,7 @@ pub record IsGranted (terms : Conditions) (i : ℕ) (rows : List Row) (place : �
   pub plan : job.plan ≡ plan_of Inside object
   pub in_range : IfSome object (λ n. n < limit.OBJECTS)
   pub thread : job.turn.thread ≡ i
-  pub answers : answer_in (step terms.settings job.found.object job.call (outcome_in job.outcome) job.carried) ≡ ended ends
+  pub answers : answer_in (step terms.settings job.found.object job.call (outcome_in job.outcome) job.carried) ≡ ends
   pub row : slice_get rows place ≡ Some (row_of job)
 
 -- the call that a thread was granted and goes outside with: what it asks, at whose door, and whether EAGAIN makes it wait
@@ -137,22 +136,22 @@ WantsAt w i object = WantsIn (thread_at w i).phase object
 abbrev pub has_moved : Progress → Bool
 has_moved progress.Moves = true
 has_moved progress.Stays = false
-has_moved progress.Strays = false
+has_moved progress.Diverges = false
 
-abbrev pub has_strayed : Progress → Bool
-has_strayed progress.Strays = true
-has_strayed progress.Moves = false
-has_strayed progress.Stays = false
+abbrev pub has_diverged : Progress → Bool
+has_diverged progress.Diverges = true
+has_diverged progress.Moves = false
+has_diverged progress.Stays = false
 
 -- the outcomes of a thread behind what came of this one
 abbrev pub came_with : Progress → Given → List Given → List Given
 came_with progress.Moves g came = came ++ g ∷ []
 came_with p g came = came
 
--- this outcome comes for thread i, just where it can, and it strays just where the outcome does not answer
+-- this outcome comes for thread i, just where it can, and it diverges just where the outcome does not answer
 pub record Advanced (made : Progress) (i : ℕ) (g : Given) (new : Whole) (terms : Conditions) (s : State) : Type 0 where
   pub can : can_advance (setup_under terms) s i ≡ has_moved made
-  pub strays : is_stray (setup_under terms) s i ≡ has_strayed made
+  pub diverges : is_diverging (setup_under terms) s i ≡ has_diverged made
   pub shows : Shows terms new (advance (setup_under terms) i s)
   pub came : (thread_of (advance (setup_under terms) i s) i).came ≡ came_with made g (thread_of s i).came
 
@@ -173,6 +172,15 @@ AdvancesQuietly moved i old new = (terms : Conditions) (s : State) → StandsAt 
 abbrev pub AsksFor : Bool → ℕ → Step → Whole → Whole → Type 0
 AsksFor moved i x old new =
     (terms : Conditions) (s : State) → StandsAt old terms s → (let u : lock.Thread = thread_of s i in terms.supply.next i u.asked u.replies ≡ Some x) → Quietly moved i new terms s
+
+-- no number forbids that thread i asks this step
+abbrev pub MayAsk : ℕ → Step → Whole → Type 0
+MayAsk i x w =
+    (terms : Conditions) (s : State) → StandsAt w terms s → (let u : lock.Thread = thread_of s i in terms.supply.next i u.asked u.replies ≡ Some x) → can_advance (setup_under terms) s i ≡ true
+
+-- nor that it makes an event in which nothing comes
+abbrev pub MayAdvance : ℕ → Whole → Type 0
+MayAdvance i w = (terms : Conditions) (s : State) → StandsAt w terms s → can_advance (setup_under terms) s i ≡ true
 
 -- the replies of a thread behind its answer, if it has one
 abbrev pub replied : Option posix.Answer → List Reply → List Reply

@@ -3,6 +3,7 @@ use Rattle.std.specs.Prelude.{ℕ, List, get_or}
 use Rattle.det_mutex.specs.declared.lock.DetLock.{DetLock}
 use Rattle.object_store.specs.Store.{Stored}
 use Rattle.posix_terms.specs.declared.transcript.HistoryRow.{HistoryRow}
+use Rattle.posix_terms.specs.declared.transcript.Settings.{Settings}
 use Rattle.lock_machine.specs.Threads.{Thread}
 use Rattle.lock_machine.specs.Views.{no_thread}
 
@@ -19,3 +20,6 @@ pub record Whole : Type 0 where
 
 abbrev pub thread_at : Whole → ℕ → Thread
 thread_at w k = get_or w.threads k no_thread
+
+abbrev pub settings_in : Whole → Settings
+settings_in w = record { patience = w.patience; door_cost = w.door_cost }

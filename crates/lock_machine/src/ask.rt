@@ -1,7 +1,7 @@
-ghost use Rattle.std.specs.Prelude.{◌≡◌, ◌<◌, ◌≤◌, ℕ, true, false, IfOk, OnErr, length};
+ghost use Rattle.std.specs.Prelude.{◌≡◌, ◌+◌, ◌<◌, ◌≤◌, ◌^◌, ℕ, true, false, IfOk, OnErr, length};
 ghost use Rattle.logical_clocks.specs.ThreadClocks.{clock_at};
 ghost use Rattle.lock_model.specs.Held.{last_call};
-ghost use Rattle.lock_machine.specs.Asking.{Asks, Ends, GoesAgain, Works, after_want};
+ghost use Rattle.lock_machine.specs.Asking.{Asks, Ends, GoesAgain, HasTime, Works, after_want};
 ghost use Rattle.lock_machine.specs.Lives.{is_live};
 ghost use Rattle.lock_machine.specs.Threads.{KeepsOthers, timed};
 ghost use Rattle.lock_machine.specs.Waiting.{HasRoom, KeepsRoom, is_call, rows_due};
@@ -19,6 +19,7 @@ impl Thread {
         requires live { is_live self.old.phase ≡ true }
         ensures event { IfOk result (λ moved. Asks moved step (timed self.old (clock_at clocks.old i)) (timed self.new (clock_at clocks.new i))) }
         ensures err { OnErr result ((self.new ≡ self.old) × (clocks.new ≡ clocks.old)) }
+        ensures time { OnErr result (HasTime step (timed self.old (clock_at clocks.old i))) }
         ensures others { KeepsOthers i self.old clocks.old self.new clocks.new }
         ensures due { is_call step ≡ false → rows_due self.new.phase ≤ rows_due self.old.phase }
     {
@@ -34,6 +35,7 @@ impl Thread {
         requires live { is_live self.old.phase ≡ true }
         ensures event { IfOk result (λ moved. Works moved amount (timed self.old (clock_at clocks.old i)) (timed self.new (clock_at clocks.new i))) }
         ensures err { OnErr result ((self.new ≡ self.old) × (clocks.new ≡ clocks.old)) }
+        ensures time { OnErr result (clock_at clocks.old i + amount ≤ 2 ^ 62) }
         ensures others { KeepsOthers i self.old clocks.old self.new clocks.new }
         ensures due { self.new.phase ≡ self.old.phase }
     {
@@ -52,7 +54,7 @@ impl Thread {
     {
         let room = self.room.for_call(&call)?;
         self.asked.push(Step::Call(call.try_clone()?))?;
-        self.room = room;
+        self.room.change(room);
         self.phase = Phase::WantsTable { call, turns: 0 };
         Ok(true)
     }
@@ -86,7 +88,8 @@ impl Thread {
         let Some(call) = last_call(self.asked.as_slice())? else {
             return Ok(false);
         };
-        self.room = self.room.for_call(&call)?;
+        let other = self.room.for_call(&call)?;
+        self.room.change(other);
         self.phase = Phase::WantsTable { call, turns };
         Ok(true)
     }
@@ -111,6 +114,7 @@ pub fn reserve_rows(
     ensures items { rows.new.items ≡ rows.old.items }
     ensures kept { KeepsRoom 0 rows.old 0 rows.new }
     ensures room { IfOk result (λ _. is_call step.now ≡ true → HasRoom threads rows.new) }
+    ensures call { OnErr result (is_call step.now ≡ true) }
 {
     match step {
         Step::Call(_) => rows.reserve(threads),

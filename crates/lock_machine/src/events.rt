@@ -1,11 +1,11 @@
 ghost use Rattle.std.specs.Option.{option_map};
-ghost use Rattle.std.specs.Prelude.{◌≡◌, ◌*◌, ◌<◌, ◌≤◌, ◌^◌, ◌&&◌, ℕ, true, IfOk, IfSome, length};
+ghost use Rattle.std.specs.Prelude.{◌≡◌, ◌++◌, ◌∷◌, [], ◌*◌, ◌<◌, ◌≤◌, ◌^◌, ◌&&◌, ℕ, true, IfOk, IfSome, length};
 ghost use Rattle.det_mutex.specs.Attempt.{takes};
 ghost use Rattle.lock_model.specs.Machine.{is_number};
 ghost use Rattle.logical_clocks.specs.ThreadClocks.{clock_at};
 ghost use Rattle.posix_terms.specs.declared.limits.TheConstants.Limits as limit;
 ghost use Rattle.lock_machine.specs.Births.{BearsInTime, BornWithin, time_of};
-ghost use Rattle.lock_machine.specs.Events.{Answers, Grants, wants_to_keep, GrantsObject, PlansTo, Reaches, Tries, object_taken, parts};
+ghost use Rattle.lock_machine.specs.Events.{Answers, Grants, granted_row, wants_to_keep, GrantsObject, PlansTo, Reaches, Tries, object_taken, parts};
 ghost use Rattle.lock_machine.specs.Lives.{is_live};
 ghost use Rattle.lock_machine.specs.Held.{end_held, phase_behind, phase_started, told_as};
 ghost use Rattle.lock_machine.specs.Threads.{KeepsOthers, timed};
@@ -19,7 +19,7 @@ use crate::outside::keeps_table;
 use crate::thread::{Outing, Phase, Thread};
 use det_mutex::DetLock;
 use logical_clocks::Clocks;
-use object_store::{Room, TurnEnd, TurnStart};
+use object_store::{AtTable, Room, TurnEnd, TurnStart};
 use posix_terms::{Answer, Call, HistoryRow, Turn};
 use std::mem;
 
@@ -162,9 +162,12 @@ fn plan(patience: u32, turn: Turn, call: Call, turns: u32, thread: &mut Thread, 
     ensures births { BearsInTime 0 shared.old.store 1 shared.new.store }
     ensures room { KeepsRoom 1 shared.old.rows (rows_due thread.new.phase) shared.new.rows }
 {
-    match shared.store.number_locked(&call) {
-        None => grant(patience, turn, call, turns, None, thread, shared),
-        Some(object) => {
+    match shared.store.settle_or_lock(&call) {
+        AtTable::Answers(reply) => {
+            let start = TurnStart::Ended(TurnEnd::Reply(reply));
+            thread.phase = seat(turn, call, turns, None, start, &mut shared.rows);
+        }
+        AtTable::Locks(object) => {
             thread.phase = Phase::WantsObject {
                 call,
                 turns,
@@ -284,15 +287,33 @@ fn grant(
     ensures births { BearsInTime 0 shared.old.store 1 shared.new.store }
     ensures room { KeepsRoom 1 shared.old.rows (rows_due thread.new.phase) shared.new.rows }
 {
-    let row = shared.rows.len();
     let start = thread.room.make(&mut shared.store, &call, patience, turns);
-    thread.phase = started(row, object, turns, &call, start);
-    shared.rows.push_reserved(HistoryRow {
+    thread.phase = seat(turn, call, turns, object, start, &mut shared.rows);
+}
+
+// A call whose turn started so gets a row of the history; this is the phase of its thread then.
+fn seat(
+    turn: Turn,
+    call: Call,
+    turns: u32,
+    object: Option<usize>,
+    start: TurnStart,
+    history: &mut Vec<HistoryRow>,
+) -> Phase
+    requires row { HasRoom 1 history.old }
+    ensures phase { result ≡ phase_started (length history.old.items) object call turns start }
+    ensures row { history.new.items ≡ history.old.items ++ granted_row turn call ∷ [] }
+    ensures live { is_live result ≡ true }
+    ensures room { KeepsRoom 1 history.old (rows_due result) history.new }
+{
+    let phase = started(history.len(), object, turns, &call, start);
+    history.push_reserved(HistoryRow {
         call,
         turn,
         outcome: None,
         answer: None,
     });
+    phase
 }
 
 // The phase of a thread whose turn started so, which has this row.

@@ -16,7 +16,7 @@ mod steps;
 mod thread;
 
 pub use asked::Asked;
-pub use laws::{clocks_are_shown, machines_begin, requests_are_little, requests_have_kinds};
+pub use laws::{machines_show, requests_asked};
 pub use machine::{Left, LockMachine};
 pub use outside::Progress;
 pub use refused::{Attempt, Refused};

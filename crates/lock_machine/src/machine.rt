@@ -6,7 +6,7 @@ ghost use Rattle.lock_machine.specs.Lives.{Agree};
 ghost use Rattle.lock_machine.specs.Threads.{Thread as Seen};
 ghost use Rattle.lock_machine.specs.Views.{clocks_of};
 ghost use Rattle.lock_machine.specs.Waiting.{HasRoom, waiting};
-ghost use Rattle.lock_machine.specs.Whole.{thread_at};
+ghost use Rattle.lock_machine.specs.Whole.{settings_in, thread_at};
 
 use crate::asked::Asked;
 use crate::thread::{Phase, Thread};
@@ -111,7 +111,7 @@ impl LockMachine {
 
     /// The patience of its calls, and the cost of going outside.
     pub fn settings(&self) -> Settings
-        ensures { result ≡ record { patience = self.now.patience; door_cost = self.now.door_cost } }
+        ensures { result ≡ settings_in self.now }
     {
         Settings {
             patience: self.patience,

@@ -1,9 +1,9 @@
 ghost use Rattle.std.specs.Prelude.{◌≡◌, ◌<◌, true, IfOk, OnErr, is_some, length};
 ghost use Rattle.logical_clocks.specs.TurnOrder.{has_turn};
-ghost use Rattle.lock_machine.specs.Shows.{AdvancesQuietly, AsksFor, Attempts, IsAt, IsBlockedAt, IsGrantedAt, RecordsGiven, Tells, WantsAt, has_moved};
+ghost use Rattle.lock_machine.specs.Shows.{AdvancesQuietly, AsksFor, Attempts, IsAt, IsBlockedAt, IsGrantedAt, MayAdvance, MayAsk, RecordsGiven, Tells, WantsAt, has_moved};
 ghost use Rattle.lock_machine.specs.Refusals.{Rests, outlook, wants_table};
 ghost use Rattle.lock_machine.specs.Views.{clocks_of};
-ghost use Rattle.lock_machine.specs.Whole.{thread_at};
+ghost use Rattle.lock_machine.specs.Whole.{settings_in, thread_at};
 ghost use Rattle.lock_machine.specs.declared.thread.Phase.TheVariants as phase;
 ghost use Rattle.thread_scripts.specs.declared.actor.Step.TheVariants as step;
 
@@ -25,7 +25,9 @@ impl LockMachine {
         ensures event { IfOk result (λ moved. AsksFor moved i step self.old self.new) }
         ensures rests { IfOk result (λ moved. Rests moved self.old self.new) }
         ensures err { OnErr result (self.new ≡ self.old) }
+        ensures memory { OnErr result (MayAsk i step self.old) }
         ensures count { length self.new.threads ≡ length self.old.threads }
+        ensures settings { settings_in self.new ≡ settings_in self.old }
     {
         arising_states();
         reserve_rows(&step, self.threads.len(), &mut self.shared.rows)?;
@@ -39,6 +41,7 @@ impl LockMachine {
         ensures event { AsksFor result i step.End self.old self.new }
         ensures rests { Rests result self.old self.new }
         ensures count { length self.new.threads ≡ length self.old.threads }
+        ensures settings { settings_in self.new ≡ settings_in self.old }
     {
         arising_states();
         self.threads[i].end(&mut self.clocks, i)
@@ -51,6 +54,7 @@ impl LockMachine {
         ensures event { AdvancesQuietly result i self.old self.new }
         ensures rests { Rests result self.old self.new }
         ensures count { length self.new.threads ≡ length self.old.threads }
+        ensures settings { settings_in self.new ≡ settings_in self.old }
     {
         begin_outside(
             i,
@@ -68,7 +72,9 @@ impl LockMachine {
         ensures event { IfOk result (λ moved. AdvancesQuietly moved i self.old self.new) }
         ensures rests { IfOk result (λ moved. Rests moved self.old self.new) }
         ensures err { OnErr result (self.new ≡ self.old) }
+        ensures memory { OnErr result (MayAdvance i self.old) }
         ensures count { length self.new.threads ≡ length self.old.threads }
+        ensures settings { settings_in self.new ≡ settings_in self.old }
     {
         arising_states();
         self.shared.rows.reserve(self.threads.len())?;
@@ -83,6 +89,7 @@ impl LockMachine {
         ensures rests { Rests (has_moved result) self.old self.new }
         ensures outlook { result ≡ outlook self.old i given }
         ensures count { length self.new.threads ≡ length self.old.threads }
+        ensures settings { settings_in self.new ≡ settings_in self.old }
     {
         record(outing, given, &mut self.threads[i], &mut self.shared.rows)
     }
@@ -94,6 +101,7 @@ impl LockMachine {
         ensures event { Tells result i self.old self.new }
         ensures rests { Rests (is_some result) self.old self.new }
         ensures count { length self.new.threads ≡ length self.old.threads }
+        ensures settings { settings_in self.new ≡ settings_in self.old }
     {
         let Some(object) = outing.object else {
             return None;
@@ -125,6 +133,7 @@ impl LockMachine {
         ensures event { Tells result i self.old self.new }
         ensures rests { Rests (is_some result) self.old self.new }
         ensures count { length self.new.threads ≡ length self.old.threads }
+        ensures settings { settings_in self.new ≡ settings_in self.old }
     {
         match object {
             None => answer(
@@ -159,6 +168,7 @@ impl LockMachine {
         ensures event { Attempts result i self.old self.new }
         ensures rests { Rests result self.old self.new }
         ensures count { length self.new.threads ≡ length self.old.threads }
+        ensures settings { settings_in self.new ≡ settings_in self.old }
     {
         try_table(
             self.patience,
@@ -177,6 +187,7 @@ impl LockMachine {
         ensures event { Attempts result i self.old self.new }
         ensures rests { Rests result self.old self.new }
         ensures count { length self.new.threads ≡ length self.old.threads }
+        ensures settings { settings_in self.new ≡ settings_in self.old }
     {
         let Some(lock) = self.objects.get_mut(object) else {
             return false;

@@ -29,7 +29,7 @@ pub enum Progress {
     /// it cannot be made
     Stays,
     /// the outcome that is there does not answer what was asked
-    Strays,
+    Diverges,
 }
 
 // Whether a call keeps the table to its answer, if it goes outside.
@@ -83,7 +83,7 @@ pub fn outlook(outing: Outing, given: &Given, came: u32, rows: &[HistoryRow]) ->
     ensures { result ≡ progress_by (answers_errand outing.errand given.now) (slice_get rows.now outing.row) (nat_lt (came + 1) (2 ^ 32)) }
 {
     if !answers(outing.errand, given) {
-        return Progress::Strays;
+        return Progress::Diverges;
     }
     if outing.row < rows.len() && came < u32::MAX {
         Progress::Moves
@@ -105,7 +105,7 @@ pub fn record(
     ensures room { KeepsRoom (rows_due thread.old.phase) rows.old (rows_due thread.new.phase) rows.new }
 {
     if !answers(outing.errand, &given) {
-        return Progress::Strays;
+        return Progress::Diverges;
     }
     let Some(row) = rows.get_mut(outing.row) else {
         return Progress::Stays;

@@ -1,8 +1,9 @@
 ghost use Rattle.std.specs.Prelude.{◌≡◌, ◌<◌, ◌&&◌, not, Bool, true, false, Ok, Err, IfErr, IfOk, OnErr, is_ok, is_some, length, unwrap_or};
 ghost use Rattle.logical_clocks.specs.TurnOrder.{has_turn};
-ghost use Rattle.lock_machine.specs.Refusals.{Comes, Tried, WantsNone, attempted, goes_outside, has_answer, is_blocked, is_end, is_outside, outlook, phase_at, recorded_as, wants_object, wants_table, works};
-ghost use Rattle.lock_machine.specs.Shows.{AdvancesQuietly, AsksFor, Attempts, RecordsGiven, Tells, has_moved};
+ghost use Rattle.lock_machine.specs.Refusals.{Comes, OnMemory, Tried, WantsNone, attempted, goes_outside, has_answer, is_blocked, is_end, is_outside, outlook, phase_at, recorded_as, wants_object, wants_table, works};
+ghost use Rattle.lock_machine.specs.Shows.{AdvancesQuietly, AsksFor, Attempts, MayAdvance, MayAsk, RecordsGiven, Tells, has_moved};
 ghost use Rattle.lock_machine.specs.Views.{clocks_of};
+ghost use Rattle.lock_machine.specs.Whole.{settings_in};
 ghost use Rattle.lock_machine.specs.declared.outside.Progress.TheVariants as progress;
 ghost use Rattle.lock_machine.specs.declared.refused.Refused.TheVariants as refused;
 ghost use Rattle.thread_scripts.specs.declared.actor.Step.TheVariants as step;
@@ -20,10 +21,12 @@ impl LockMachine {
     pub fn ask(&mut self, i: usize, step: Step) -> Result<(), Refused>
         requires { i < length self.old.threads }
         ensures event { Comes (works (phase_at self.old i) && not (is_end step)) result self.old self.new (λ o. AsksFor (is_some o) i step self.old self.new) }
+        ensures memory { OnMemory result (MayAsk i step self.old) }
         ensures err { OnErr result (self.new ≡ self.old) }
         ensures count { length self.new.threads ≡ length self.old.threads }
+        ensures settings { settings_in self.new ≡ settings_in self.old }
     {
-        if !self.phase(i).is_working() || is_end(&step) {
+        if !self.phase(i).is_working() || matches!(step, Step::End) {
             return Err(Refused::WrongPhase);
         }
         moved(self.ask_working(i, step)?)
@@ -36,6 +39,7 @@ impl LockMachine {
         ensures memory { WantsNone result }
         ensures err { OnErr result (self.new ≡ self.old) }
         ensures count { length self.new.threads ≡ length self.old.threads }
+        ensures settings { settings_in self.new ≡ settings_in self.old }
     {
         if !self.phase(i).is_working() {
             return Err(Refused::WrongPhase);
@@ -50,6 +54,7 @@ impl LockMachine {
         ensures got { IfOk result (λ a. a ≡ attempted (wants_table (phase_at self.new i))) }
         ensures memory { WantsNone result }
         ensures count { length self.new.threads ≡ length self.old.threads }
+        ensures settings { settings_in self.new ≡ settings_in self.old }
     {
         if !self.phase(i).wants_table() || !self.has_turn(i) {
             return Err(Refused::WrongPhase);
@@ -68,6 +73,7 @@ impl LockMachine {
         ensures got { IfOk result (λ a. a ≡ attempted (wants_object (phase_at self.new i))) }
         ensures memory { WantsNone result }
         ensures count { length self.new.threads ≡ length self.old.threads }
+        ensures settings { settings_in self.new ≡ settings_in self.old }
     {
         let Phase::WantsObject { object, .. } = *self.phase(i) else {
             return Err(Refused::WrongPhase);
@@ -87,6 +93,7 @@ impl LockMachine {
         ensures event { Tried result (λ made. Attempts made i self.old self.new) }
         ensures memory { WantsNone result }
         ensures count { length self.new.threads ≡ length self.old.threads }
+        ensures settings { settings_in self.new ≡ settings_in self.old }
     {
         if self.phase(i).wants_table() {
             self.try_table(i)
@@ -102,6 +109,7 @@ impl LockMachine {
         ensures memory { WantsNone result }
         ensures err { OnErr result (self.new ≡ self.old) }
         ensures count { length self.new.threads ≡ length self.old.threads }
+        ensures settings { settings_in self.new ≡ settings_in self.old }
     {
         let Phase::ToOutside(outing) = *self.phase(i) else {
             return Err(Refused::WrongPhase);
@@ -128,6 +136,7 @@ impl LockMachine {
         ensures event { Comes (is_outside (phase_at self.old i)) result self.old self.new (λ o. RecordsGiven (unwrap_or o progress.Stays) i given self.old self.new) }
         ensures value { result ≡ recorded_as (is_outside (phase_at self.old i)) (outlook self.old i given) }
         ensures count { length self.new.threads ≡ length self.old.threads }
+        ensures settings { settings_in self.new ≡ settings_in self.old }
     {
         let Phase::Outside(outing) = *self.phase(i) else {
             return Err(Refused::WrongPhase);
@@ -145,6 +154,7 @@ impl LockMachine {
         ensures memory { WantsNone result }
         ensures err { OnErr result (self.new ≡ self.old) }
         ensures count { length self.new.threads ≡ length self.old.threads }
+        ensures settings { settings_in self.new ≡ settings_in self.old }
     {
         match *self.phase(i) {
             Phase::Granted { row, object, .. } => self
@@ -159,8 +169,10 @@ impl LockMachine {
     pub fn again(&mut self, i: usize) -> Result<(), Refused>
         requires { i < length self.old.threads }
         ensures event { Comes (is_blocked (phase_at self.old i)) result self.old self.new (λ o. AdvancesQuietly (is_some o) i self.old self.new) }
+        ensures memory { OnMemory result (MayAdvance i self.old) }
         ensures err { OnErr result (self.new ≡ self.old) }
         ensures count { length self.new.threads ≡ length self.old.threads }
+        ensures settings { settings_in self.new ≡ settings_in self.old }
     {
         if !self.phase(i).is_blocked() {
             return Err(Refused::WrongPhase);
@@ -191,10 +203,4 @@ fn attempted(wanted: bool) -> Attempt
     } else {
         Attempt::Got
     }
-}
-
-fn is_end(step: &Step) -> bool
-    ensures { result ≡ is_end step.now }
-{
-    matches!(step, Step::End)
 }

@@ -1,7 +1,8 @@
 -- The prefix law.
 use Rattle.std.proofs.Common.{◌≡◌, ℕ, List, [], ◌∷◌, filter_map, Option, Some, None, Bool, true, false, ◌&&◌, is_some, is_none, nat_le, ◌==◌, sym, refl, ap, ◌∙◌, subst, ⊎_elim}
 use Rattle.std.proofs.lemmas.Bool.{false≢true, ne_eqb, and_parts, and_from, and_left, cond-true, cond-false, cases_Bool}
-use Rattle.lock_model.specs.CallTable.{CallTable, Answer}
+use Rattle.lock_model.specs.CallTable.{CallTable}
+use Rattle.lock_model.specs.declared.turn_end.TurnEnd.{TurnEnd}
 use Rattle.lock_model.specs.History.{Agrees, RowAgrees, IsBeginning, IsPrefixOf, rows_of}
 use Rattle.lock_model.specs.Laws.{HaveEnded, Begins}
 use Rattle.lock_model.specs.Legal.{handed_on}
@@ -99,8 +100,8 @@ prefix_of {A} view agrees i (x ∷ xs) (y ∷ ys) tidy h =
     (subst (λ (l : List Row). IsPrefixOf (filter_map view (rows_of i xs)) (filter_map view l)) (sym (cond-false (y.turn.thread == i) (y ∷ rows_of i ys) (rows_of i ys) (sym same ∙ off))) rest))
     (cases_Bool (x.turn.thread == i))
 
-replied_agrees : (r q : Row) (o : Option Answer) → r.answer ≡ o → RowAgrees r q → Agrees (replied r r.answer) (replied q q.answer)
-replied_agrees r q None e h = subst (λ (a : Option Answer). Agrees (replied r a) (replied q q.answer)) (sym e) tt
+replied_agrees : (r q : Row) (o : Option TurnEnd) → r.answer ≡ o → RowAgrees r q → Agrees (replied r r.answer) (replied q q.answer)
+replied_agrees r q None e h = subst (λ (a : Option TurnEnd). Agrees (replied r a) (replied q q.answer)) (sym e) tt
 replied_agrees r q (Some a) e h = subst (λ (x : Row). Agrees (replied r r.answer) (replied x x.answer)) (sym (h.closed (ap is_none e))) (agrees_refl (replied r r.answer))
 
 -- ## The prefix law

@@ -2,8 +2,9 @@
 use Rattle.std.proofs.Common.{◌≡◌, ℕ, Some, true, false, refl, ap, ◌∙◌, ⊎_elim, ◌⊎◌, inl, inr}
 use Rattle.std.proofs.lemmas.Bool.{cases_Bool, cases_eq}
 use Rattle.lock_model.specs.Came.{CameOutside}
-use Rattle.lock_model.specs.CallTable.{Answer, CallTable}
-use Rattle.lock_model.specs.CallTable.Answer.{Again, Gives}
+use Rattle.lock_model.specs.CallTable.{CallTable}
+use Rattle.lock_model.specs.declared.turn_end.TurnEnd.{TurnEnd}
+use Rattle.lock_model.specs.declared.turn_end.TurnEnd.TheVariants as turn_end
 use Rattle.lock_model.specs.Machine.{Moved, Setup, advance, after_step, answered, attempt, can_advance, can_attempt, move, moves}
 use Rattle.lock_model.specs.Machine.Event.{Advances, Attempts}
 use Rattle.lock_model.specs.State.{Job, State, Thread, thread_of}
@@ -23,9 +24,9 @@ step_came calls t (step.Work n) = refl
 step_came calls t (step.Call c) = refl
 step_came calls t step.End = refl
 
-answered_came : (t : Thread) (c : Call) (n : ℕ) (a : Answer) → (answered t c n a).came ≡ t.came
-answered_came t c n (Gives r) = refl
-answered_came t c n (Again b) = refl
+answered_came : (t : Thread) (c : Call) (n : ℕ) (a : TurnEnd) → (answered t c n a).came ≡ t.came
+answered_came t c n (turn_end.Reply r) = refl
+answered_came t c n (turn_end.Blocked b) = refl
 
 move_came : (setup : Setup) (i : ℕ) (t : Thread) (m : Moved) → moves setup i t ≡ Some m → ((job : Job) → t.phase ≡ Outside job → ⊥) → m.thread.came ≡ t.came
 move_came setup i t m h inside =

@@ -4,8 +4,9 @@ use Rattle.std.proofs.lemmas.Bool.{false≢true, eqb-true, eq-eqb, ne_eqb, and_p
 use Rattle.std.proofs.lemmas.List.{get_or-set_same}
 use Rattle.std.proofs.lemmas.Option.{none-some}
 use Rattle.std.specs.List.{cons_option}
-use Rattle.lock_model.specs.CallTable.{CallTable, Answer, Plan, Way}
-use Rattle.lock_model.specs.CallTable.Answer.{Gives, Again}
+use Rattle.lock_model.specs.CallTable.{CallTable, Plan, Way}
+use Rattle.lock_model.specs.declared.turn_end.TurnEnd.{TurnEnd}
+use Rattle.lock_model.specs.declared.turn_end.TurnEnd.TheVariants as turn_end
 use Rattle.lock_model.specs.CallTable.Plan.{No_object, Object}
 use Rattle.lock_model.specs.CallTable.Way.{Inside, Door, Keeps_table}
 use Rattle.lock_model.specs.Came.{CameIsRows, RoomOutside}
@@ -114,9 +115,9 @@ step_inside calls t (step.Work n) = refl
 step_inside calls t (step.Call c) = refl
 step_inside calls t step.End = refl
 
-answered_inside : (t : Thread) (c : Call) (n : ℕ) (a : Answer) → outside (answered t c n a).phase ≡ false
-answered_inside t c n (Gives r) = refl
-answered_inside t c n (Again b) = refl
+answered_inside : (t : Thread) (c : Call) (n : ℕ) (a : TurnEnd) → outside (answered t c n a).phase ≡ false
+answered_inside t c n (turn_end.Reply r) = refl
+answered_inside t c n (turn_end.Blocked b) = refl
 
 -- a thread that an event leads outside was on its way there, with the same outcomes
 abbrev BeginsFrom : Thread → Phase → Thread → Type 0
@@ -249,9 +250,9 @@ step_came calls t (step.Work n) = refl
 step_came calls t (step.Call c) = refl
 step_came calls t step.End = refl
 
-answered_came : (t : Thread) (c : Call) (n : ℕ) (a : Answer) → (answered t c n a).came ≡ t.came
-answered_came t c n (Gives r) = refl
-answered_came t c n (Again b) = refl
+answered_came : (t : Thread) (c : Call) (n : ℕ) (a : TurnEnd) → (answered t c n a).came ≡ t.came
+answered_came t c n (turn_end.Reply r) = refl
+answered_came t c n (turn_end.Blocked b) = refl
 
 -- what came for the thread of an event
 came_mine : (setup : Setup) (w : World) (s : State) (i : ℕ) (m : Moved) → moves setup i (thread_of s i) ≡ Some m → Right setup.calls w s → (thread_of s i).came ≡ outcomes_of i s.rows

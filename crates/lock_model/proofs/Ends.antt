@@ -2,8 +2,9 @@
 use Rattle.std.proofs.Common.{◌≡◌, ℕ, zero, suc, ◌+◌, ◌-◌, ◌*◌, ◌<◌, ◌≤◌, ◌⊎◌, [], ◌∷◌, ◌++◌, length, Option, Some, None, Bool, true, false, not, ◌||◌, nat_le, sym, refl, ap, ap₂, ◌∙◌, subst, inl, inr, ⊎_elim, arith}
 use Rattle.std.proofs.lemmas.Bool.{false≢true, leb-true, cases_eq}
 use Rattle.std.proofs.lemmas.List.{get_or-set_same, length-append, length-set}
-use Rattle.lock_model.specs.CallTable.{CallTable, Answer, Plan, Way, has_object, keeps_table}
-use Rattle.lock_model.specs.CallTable.Answer.{Gives, Again}
+use Rattle.lock_model.specs.CallTable.{CallTable, Plan, Way, has_object, keeps_table}
+use Rattle.lock_model.specs.declared.turn_end.TurnEnd.{TurnEnd}
+use Rattle.lock_model.specs.declared.turn_end.TurnEnd.TheVariants as turn_end
 use Rattle.lock_model.specs.CallTable.Plan.{No_object, Object}
 use Rattle.lock_model.specs.CallTable.Way.{Inside, Door, Keeps_table}
 use Rattle.lock_model.specs.Machine.{Setup, Moved, Event, after_step, one_if, answered, answer, moves, move, granted, new_job, planned, reached, can_attempt, attempt, is_allowed, happens}
@@ -99,14 +100,14 @@ left_attempt limit bound t u l h =
 
 -- ## Moves
 
-answered_work : (t : Thread) (c : Call) (n : ℕ) (a : Answer) → work_in (answered t c n a).phase ≡ 1
+answered_work : (t : Thread) (c : Call) (n : ℕ) (a : TurnEnd) → work_in (answered t c n a).phase ≡ 1
 unfolding work_in
-answered_work t c n (Gives r) = refl
-answered_work t c n (Again b) = refl
+answered_work t c n (turn_end.Reply r) = refl
+answered_work t c n (turn_end.Blocked b) = refl
 
-answered_asked : (t : Thread) (c : Call) (n : ℕ) (a : Answer) → (answered t c n a).asked ≡ t.asked
-answered_asked t c n (Gives r) = refl
-answered_asked t c n (Again b) = refl
+answered_asked : (t : Thread) (c : Call) (n : ℕ) (a : TurnEnd) → (answered t c n a).asked ≡ t.asked
+answered_asked t c n (turn_end.Reply r) = refl
+answered_asked t c n (turn_end.Blocked b) = refl
 
 abbrev is_end : Step → Bool
 is_end step.End = true

@@ -3,8 +3,9 @@ use Rattle.std.proofs.Common.{◌≡◌, ℕ, zero, suc, ◌+◌, ◌<◌, ◌�
 use Rattle.std.proofs.lemmas.Bool.{false≢true, cases_eq, cases_lt}
 use Rattle.std.proofs.lemmas.List.{get_or-set_same, length-append}
 use Rattle.std.proofs.lemmas.Option.{none-some, slice_get_within}
-use Rattle.lock_model.specs.CallTable.{CallTable, Answer, Plan, Way}
-use Rattle.lock_model.specs.CallTable.Answer.{Gives, Again}
+use Rattle.lock_model.specs.CallTable.{CallTable, Plan, Way}
+use Rattle.lock_model.specs.declared.turn_end.TurnEnd.{TurnEnd}
+use Rattle.lock_model.specs.declared.turn_end.TurnEnd.TheVariants as turn_end
 use Rattle.lock_model.specs.CallTable.Plan.{No_object, Object}
 use Rattle.lock_model.specs.CallTable.Way.{Inside, Door, Keeps_table}
 use Rattle.lock_model.specs.Events.{IsIn, Tried}
@@ -73,10 +74,10 @@ even_step calls t (step.Work n) h = h ∙ sym (calls_push t.asked (step.Work n) 
 even_step calls t (step.Call c) h = (t.asked, (c, refl, h))
 even_step calls t step.End h = tt
 
-even_answered : (t : Thread) (c : Call) (n : ℕ) (a : Answer) → (before : List Step) × ((d : Call) × (t.asked ≡ before ++ step.Call d ∷ []) × (length t.replies ≡ calls_in before))
+even_answered : (t : Thread) (c : Call) (n : ℕ) (a : TurnEnd) → (before : List Step) × ((d : Call) × (t.asked ≡ before ++ step.Call d ∷ []) × (length t.replies ≡ calls_in before))
     → IsEven (answered t c n a).phase (answered t c n a).asked (answered t c n a).replies
-even_answered t c n (Again b) h = h
-even_answered t c n (Gives r) (before, (d, asked, even)) =
+even_answered t c n (turn_end.Blocked b) h = h
+even_answered t c n (turn_end.Reply r) (before, (d, asked, even)) =
     let push = length-append t.replies (r ∷ []) in
     let more = calls_push before (step.Call d) in
     let same : calls_in t.asked ≡ calls_in (before ++ step.Call d ∷ []) = ap calls_in asked in
@@ -297,12 +298,12 @@ follows_step setup i t (step.Work n) q even h = record { even = even_step setup.
 follows_step setup i t (step.Call c) q even h = record { even = even_step setup.calls t (step.Call c) even; steps = steps_asked setup.supply i t.asked t.replies (step.Call c) even q h.steps; outcomes = h.outcomes }
 follows_step setup i t step.End q even h = record { even = even_step setup.calls t step.End even; steps = steps_asked setup.supply i t.asked t.replies step.End even q h.steps; outcomes = h.outcomes }
 
-follows_answered : (setup : Setup) (i : ℕ) (t : Thread) (c : Call) (n : ℕ) (a : Answer) → (before : List Step) × ((d : Call) × (t.asked ≡ before ++ step.Call d ∷ []) × (length t.replies ≡ calls_in before))
+follows_answered : (setup : Setup) (i : ℕ) (t : Thread) (c : Call) (n : ℕ) (a : TurnEnd) → (before : List Step) × ((d : Call) × (t.asked ≡ before ++ step.Call d ∷ []) × (length t.replies ≡ calls_in before))
     → FollowsOne setup.supply i t → FollowsOne setup.supply i (answered t c n a)
-follows_answered setup i t c n (Again b) even h = record { even = even; steps = h.steps; outcomes = h.outcomes }
-follows_answered setup i t c n (Gives r) even h =
+follows_answered setup i t c n (turn_end.Blocked b) even h = record { even = even; steps = h.steps; outcomes = h.outcomes }
+follows_answered setup i t c n (turn_end.Reply r) even h =
     record {
-      even = even_answered t c n (Gives r) even;
+      even = even_answered t c n (turn_end.Reply r) even;
       steps = steps_replied setup.supply i t.asked even.0 even.1.0 t.replies r even.1.1 even.1.2 h.steps;
       outcomes = h.outcomes;
     }

@@ -4,8 +4,9 @@ use Rattle.std.proofs.lemmas.Bool.{false≢true, and_parts, cond_both, cases_eq,
 use Rattle.std.proofs.lemmas.List.{get_or-set_same, append_assoc, append-nil}
 use Rattle.std.proofs.lemmas.Option.{same_Some, none-some}
 use Rattle.det_mutex.specs.Attempt.{takes}
-use Rattle.lock_model.specs.CallTable.{CallTable, Answer, Plan, Way}
-use Rattle.lock_model.specs.CallTable.Answer.{Gives, Again}
+use Rattle.lock_model.specs.CallTable.{CallTable, Plan, Way}
+use Rattle.lock_model.specs.declared.turn_end.TurnEnd.{TurnEnd}
+use Rattle.lock_model.specs.declared.turn_end.TurnEnd.TheVariants as turn_end
 use Rattle.lock_model.specs.CallTable.Plan.{No_object, Object}
 use Rattle.lock_model.specs.CallTable.Way.{Inside, Door, Keeps_table}
 use Rattle.lock_model.specs.History.{Agrees, RowAgrees, IsBeginning, IsPrefixOf}
@@ -66,7 +67,7 @@ first_agrees : (o p : Option Given) → Agrees o (first_of o p)
 first_agrees None p = tt
 first_agrees (Some x) p = refl
 
-open_agrees : (o a : Option Answer) → is_none o ≡ true → Agrees o a
+open_agrees : (o a : Option TurnEnd) → is_none o ≡ true → Agrees o a
 open_agrees None a h = tt
 open_agrees (Some x) a h = absurd (false≢true h)
 
@@ -137,9 +138,9 @@ made_if : (P : Moved → Type 0) (b : Bool) (n m : Moved) → P n → cond b (So
 made_if P true n m l h = subst P (same_Some n m h) l
 made_if P false n m l h = absurd (none-some m h)
 
-grows_answered : (t : Thread) (c : Call) (n : ℕ) (a : Answer) → Grows t (answered t c n a)
-grows_answered t c n (Gives r) = record { asked = prefix_refl t.asked; replies = prefix_push t.replies (r ∷ []); came = prefix_refl t.came }
-grows_answered t c n (Again b) = grows_same t (answered t c n (Again b)) refl refl refl
+grows_answered : (t : Thread) (c : Call) (n : ℕ) (a : TurnEnd) → Grows t (answered t c n a)
+grows_answered t c n (turn_end.Reply r) = record { asked = prefix_refl t.asked; replies = prefix_push t.replies (r ∷ []); came = prefix_refl t.came }
+grows_answered t c n (turn_end.Blocked b) = grows_same t (answered t c n (turn_end.Blocked b)) refl refl refl
 
 -- what holds of each thing that a thread's event can make, by its phase
 pub record AtMoves (setup : Setup) (i : ℕ) (t : Thread) (P : Phase → Moved → Type 0) : Type 0 where

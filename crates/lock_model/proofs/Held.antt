@@ -4,8 +4,9 @@ use Rattle.std.proofs.lemmas.Bool.{false≢true, eq-eqb, ne_eqb, cases_eq, cases
 use Rattle.std.proofs.lemmas.List.{get_or-set_other, get_or-set_same, length-set, length-map, get_or-replicate, length-replicate}
 use Rattle.det_mutex.specs.Attempt.{new_lock, takes, held}
 use Rattle.det_mutex.specs.declared.lock.DetLock.{DetLock}
-use Rattle.lock_model.specs.CallTable.{CallTable, Answer, Plan, Way, has_object, keeps_table}
-use Rattle.lock_model.specs.CallTable.Answer.{Gives, Again}
+use Rattle.lock_model.specs.CallTable.{CallTable, Plan, Way, has_object, keeps_table}
+use Rattle.lock_model.specs.declared.turn_end.TurnEnd.{TurnEnd}
+use Rattle.lock_model.specs.declared.turn_end.TurnEnd.TheVariants as turn_end
 use Rattle.lock_model.specs.CallTable.Plan.{No_object, Object}
 use Rattle.lock_model.specs.CallTable.Way.{Inside, Door, Keeps_table}
 use Rattle.lock_model.specs.Machine.{Setup, Moved, Event, quietly, after_step, one_if, answered, answer, moves, is_number, lock_after, move, failed, granted, new_job, planned, reached, wants, is_allowed, happens}
@@ -53,9 +54,9 @@ keeps_step calls t (step.Work n) = record { table_freed = refl; object_freed = r
 keeps_step calls t (step.Call c) = record { table_freed = refl; object_freed = refl; table = refl; object = refl }
 keeps_step calls t step.End = record { table_freed = refl; object_freed = refl; table = refl; object = refl }
 
-answered_free : (t : Thread) (c : Call) (n : ℕ) (a : Answer) → (holds_table (answered t c n a).phase ≡ false) × (object_held (answered t c n a).phase ≡ None)
-answered_free t c n (Gives r) = (refl, refl)
-answered_free t c n (Again b) = (refl, refl)
+answered_free : (t : Thread) (c : Call) (n : ℕ) (a : TurnEnd) → (holds_table (answered t c n a).phase ≡ false) × (object_held (answered t c n a).phase ≡ None)
+answered_free t c n (turn_end.Reply r) = (refl, refl)
+answered_free t c n (turn_end.Blocked b) = (refl, refl)
 
 frees_answer : (calls : CallTable) (t : Thread) (job : Job) → FreesLocks (answer calls t job)
 frees_answer calls t job =

@@ -5,8 +5,9 @@ use Rattle.std.proofs.lemmas.List.{get_or-set_other, get_or-set_same, get_or_pas
 use Rattle.std.proofs.lemmas.Option.{same_Some, none-some}
 use Rattle.det_mutex.specs.Attempt.{takes}
 use Rattle.det_mutex.specs.declared.lock.DetLock.{DetLock}
-use Rattle.lock_model.specs.CallTable.{CallTable, Answer, Plan, Way, keeps_table, goes_outside}
-use Rattle.lock_model.specs.CallTable.Answer.{Gives, Again}
+use Rattle.lock_model.specs.CallTable.{CallTable, Plan, Way, keeps_table, goes_outside}
+use Rattle.lock_model.specs.declared.turn_end.TurnEnd.{TurnEnd}
+use Rattle.lock_model.specs.declared.turn_end.TurnEnd.TheVariants as turn_end
 use Rattle.lock_model.specs.CallTable.Plan.{No_object, Object}
 use Rattle.lock_model.specs.CallTable.Way.{Inside, Door, Keeps_table}
 use Rattle.lock_model.specs.Legal.{IsRight, changed, handed_on, carried_after}
@@ -153,12 +154,12 @@ beside_row calls c o r n i mine turn =
       busy = λ k apart. opened_other o n k (λ e. apart (sym (also ∙ mine) ∙ e)) ∙ sym (opened_other o r k (λ e. apart (sym mine ∙ e)));
     }
 
-opened_at : (o : ℕ → Bool) (r : Row) (i : ℕ) (a : Option Answer) → r.turn.thread ≡ i → r.answer ≡ a → opened o r i ≡ is_none a
+opened_at : (o : ℕ → Bool) (r : Row) (i : ℕ) (a : Option TurnEnd) → r.turn.thread ≡ i → r.answer ≡ a → opened o r i ≡ is_none a
 opened_at o r i a mine e = ap (opened o r) (sym mine) ∙ (opened_mine o r ∙ ap is_none e)
 
-handed_at : (calls : CallTable) (c : ℕ → Carried) (r : Row) (i : ℕ) (a : Option Answer) → r.turn.thread ≡ i → r.answer ≡ a → handed_on calls c r i ≡ carried_after calls (c i) a
+handed_at : (calls : CallTable) (c : ℕ → Carried) (r : Row) (i : ℕ) (a : Option TurnEnd) → r.turn.thread ≡ i → r.answer ≡ a → handed_on calls c r i ≡ carried_after calls (c i) a
 handed_at calls c r i a mine e =
-    ap (handed_on calls c r) (sym mine) ∙ (handed_mine calls c r ∙ ap₂ (λ (b : Carried) (x : Option Answer). carried_after calls b x) (ap c mine) e)
+    ap (handed_on calls c r) (sym mine) ∙ (handed_mine calls c r ∙ ap₂ (λ (b : Carried) (x : Option TurnEnd). carried_after calls b x) (ap c mine) e)
 
 -- ## `record`
 
@@ -249,9 +250,9 @@ keeps_goes (Object n Inside) h = absurd (false≢true h)
 keeps_goes (Object n Door) h = absurd (false≢true h)
 keeps_goes (Object n Keeps_table) h = refl
 
-ready_answered : (calls : CallTable) (v : World) (l : DetLock) (i : ℕ) (t : Thread) (c : Call) (n : ℕ) (b : Carried) (a : Answer) → Ready calls v l i (answered t c n a).phase (carried_after calls b (Some a)) false
-ready_answered calls v l i t c n b (Gives r) = (refl, refl)
-ready_answered calls v l i t c n b (Again d) = (refl, refl)
+ready_answered : (calls : CallTable) (v : World) (l : DetLock) (i : ℕ) (t : Thread) (c : Call) (n : ℕ) (b : Carried) (a : TurnEnd) → Ready calls v l i (answered t c n a).phase (carried_after calls b (Some a)) false
+ready_answered calls v l i t c n b (turn_end.Reply r) = (refl, refl)
+ready_answered calls v l i t c n b (turn_end.Blocked d) = (refl, refl)
 
 some_of : {A : Type 0} (o : Option A) → is_some o ≡ true → (x : A) × (o ≡ Some x)
 some_of None h = absurd (false≢true h)

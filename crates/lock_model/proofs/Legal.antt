@@ -2,7 +2,8 @@
 use Rattle.std.proofs.Common.{◌≡◌, ℕ, suc, List, [], ◌∷◌, Option, Some, None, Bool, true, false, is_some, is_none, sym, refl, ap, ◌∙◌, subst, ⊎_elim}
 use Rattle.std.proofs.lemmas.Bool.{true≢false, false≢true, cases_Bool}
 use Rattle.std.proofs.lemmas.Option.{same_Some, none-some}
-use Rattle.lock_model.specs.CallTable.{CallTable, Answer, keeps_table, goes_outside}
+use Rattle.lock_model.specs.CallTable.{CallTable, keeps_table, goes_outside}
+use Rattle.lock_model.specs.declared.turn_end.TurnEnd.{TurnEnd}
 use Rattle.lock_model.specs.Legal.{IsRight, IsLegal, changed, completed, handed_on}
 use Rattle.lock_model.specs.Machine.{Setup, Event, fits_job}
 use Rattle.lock_model.specs.Runs.{run}
@@ -55,7 +56,7 @@ legal_from calls s chosen k w carried busy [] h = tt
 legal_from calls s chosen k w carried busy (r ∷ rs) h =
     legal_row calls s chosen k w carried r rs r.answer refl h.1 (λ n v. legal_from calls s chosen n (next_world calls w (carried r.turn.thread) r r.answer) (handed_on calls carried r) (opened busy r) rs h.2)
   where
-    legal_row : (calls : CallTable) (s : State) (chosen : ℕ → Option Given) (k : ℕ) (w : World) (carried : ℕ → Carried) (r : Row) (rs : List Row) (o : Option Answer) → r.answer ≡ o
+    legal_row : (calls : CallTable) (s : State) (chosen : ℕ → Option Given) (k : ℕ) (w : World) (carried : ℕ → Carried) (r : Row) (rs : List Row) (o : Option TurnEnd) → r.answer ≡ o
         → Part calls s w (carried r.turn.thread) r rs o
         → ((n : ℕ) (u : Unit {0}) → IsLegal calls chosen n (next_world calls w (carried r.turn.thread) r r.answer) (handed_on calls carried r) rs)
         → IsLegal calls chosen k w carried (r ∷ rs)

@@ -3,8 +3,9 @@ use Rattle.std.proofs.Common.{◌≡◌, ℕ, ◌+◌, ◌-◌, ◌<◌, List, [
 use Rattle.std.proofs.lemmas.Bool.{cases_eq}
 use Rattle.std.proofs.lemmas.List.{get_or-set_same, length-append}
 use Rattle.std.proofs.lemmas.Option.{none-some}
-use Rattle.lock_model.specs.CallTable.{Answer, CallTable, Plan, Way}
-use Rattle.lock_model.specs.CallTable.Answer.{Again, Gives}
+use Rattle.lock_model.specs.CallTable.{CallTable, Plan, Way}
+use Rattle.lock_model.specs.declared.turn_end.TurnEnd.{TurnEnd}
+use Rattle.lock_model.specs.declared.turn_end.TurnEnd.TheVariants as turn_end
 use Rattle.lock_model.specs.CallTable.Plan.{No_object, Object}
 use Rattle.lock_model.specs.CallTable.Way.{Door, Inside, Keeps_table}
 use Rattle.lock_model.specs.Held.{HasAsked, HaveAsked, call_in, call_of, is_end, last_call, last_step}
@@ -51,9 +52,9 @@ step_asked calls t (step.Work n) = record { call = λ d e. absurd (none-some d e
 step_asked calls t (step.Call c) = record { call = λ d e. ap call_of (last_pushed t.asked (step.Call c)) ∙ e; works = λ e. absurd (none-some c (ap call_in (sym e))) }
 step_asked calls t step.End = record { call = λ d e. absurd (none-some d e); works = λ e. absurd (none-some 0 (ap (λ (p : Phase). live_clock_in p 0) e)) }
 
-answered_asked : (t : Thread) (c : Call) (n : ℕ) (a : Answer) → call_in t.phase ≡ Some c → HasAsked t → HasAsked (answered t c n a)
-answered_asked t c n (Gives r) at h = record { call = λ d e. absurd (none-some d e); works = λ e. no_end (last_step t.asked) c (h.call c at) }
-answered_asked t c n (Again b) at h = in_call t (answered t c n (Again b)) c refl at refl h
+answered_asked : (t : Thread) (c : Call) (n : ℕ) (a : TurnEnd) → call_in t.phase ≡ Some c → HasAsked t → HasAsked (answered t c n a)
+answered_asked t c n (turn_end.Reply r) at h = record { call = λ d e. absurd (none-some d e); works = λ e. no_end (last_step t.asked) c (h.call c at) }
+answered_asked t c n (turn_end.Blocked b) at h = in_call t (answered t c n (turn_end.Blocked b)) c refl at refl h
 
 moved_asked : (setup : Setup) (i : ℕ) (t : Thread) (m : Moved) → moves setup i t ≡ Some m → HasAsked t → HasAsked m.thread
 moved_asked setup i t m e h =

@@ -15,8 +15,9 @@ use Rattle.posix_terms.specs.declared.reply.Answer as posix
 use Rattle.posix_terms.specs.declared.reply.Answer.TheVariants as answer
 use Rattle.posix_terms.specs.declared.transcript.Settings.{Settings}
 use Rattle.posix_terms.proofs.Outside.{after_any_outcome, locks_some}
-use Rattle.lock_model.specs.CallTable.{Answer, CallTable, goes_outside, keeps_table}
-use Rattle.lock_model.specs.CallTable.Answer.{Again, Gives}
+use Rattle.lock_model.specs.CallTable.{CallTable, goes_outside, keeps_table}
+use Rattle.lock_model.specs.declared.turn_end.TurnEnd.{TurnEnd}
+use Rattle.lock_model.specs.declared.turn_end.TurnEnd.TheVariants as turn_end
 use Rattle.lock_model.specs.Legal as machine
 use Rattle.lock_model.specs.Machine.{first_of}
 use Rattle.lock_model.specs.Numbers.{world_with}
@@ -29,7 +30,7 @@ shown_back : (a : posix.Answer) (b : Carried) → shown_answer (Some (answered_w
 shown_back (answer.Reply r) b = refl
 shown_back answer.Again b = refl
 
-carried_back : (a : posix.Answer) (b more : Carried) → Again more ≡ answered_with a b → more ≡ b
+carried_back : (a : posix.Answer) (b more : Carried) → turn_end.Blocked more ≡ answered_with a b → more ≡ b
 carried_back (answer.Reply r) b more e = cc
 carried_back answer.Again b more e = cc
 
@@ -86,23 +87,23 @@ not_none x a is = ap is_none is
 
 -- the answer of a row is that of the step, with any outcome that the row may have
 answers_now : (settings : Settings) (w : World) (b : Carried) (r : Row) (o : Option Outcome) → machine.IsRight (real_calls settings) w b r → MayBe (asks w.object r.call b) (outcome_in r.outcome) o
-    → (a : Answer) → r.answer ≡ Some a → a ≡ answer_in (step settings w.object r.call o b)
+    → (a : TurnEnd) → r.answer ≡ Some a → a ≡ answer_in (step settings w.object r.call o b)
 answers_now settings w b r o right may a is =
     let whole = right.whole (not_none r.answer a is) ∙ goes_is settings w r.call b in
     let same : o ≡ outcome_in r.outcome = settled (asks w.object r.call b) r.outcome o may whole in
     right.answer a is ∙ ap (λ (x : Option Outcome). answer_in (step settings w.object r.call x b)) (sym same)
 
-answer_shown : (now : Stepped) (o : Option Answer) (given : posix.Answer) → ((a : Answer) → o ≡ Some a → a ≡ answer_in now) → shown_answer o ≡ Some given → given ≡ now.answer
+answer_shown : (now : Stepped) (o : Option TurnEnd) (given : posix.Answer) → ((a : TurnEnd) → o ≡ Some a → a ≡ answer_in now) → shown_answer o ≡ Some given → given ≡ now.answer
 answer_shown now None given right e = cc
 answer_shown now (Some a) given right e =
-    let back : Some given ≡ Some now.answer = sym e ∙ ap (λ (x : Answer). shown_answer (Some x)) (right a refl) ∙ shown_back now.answer now.carried in cc
+    let back : Some given ≡ Some now.answer = sym e ∙ ap (λ (x : TurnEnd). shown_answer (Some x)) (right a refl) ∙ shown_back now.answer now.carried in cc
 
 -- a thread carries the same in both definitions after a row, if it did so before
-carried_same : (settings : Settings) (now : Stepped) (o : Option Answer) (x y : Carried) → x ≡ y → ((a : Answer) → o ≡ Some a → a ≡ answer_in now)
+carried_same : (settings : Settings) (now : Stepped) (o : Option TurnEnd) (x y : Carried) → x ≡ y → ((a : TurnEnd) → o ≡ Some a → a ≡ answer_in now)
     → machine.carried_after (real_calls settings) x o ≡ carried_after y (shown_answer o) now
 carried_same settings now None x y same right = same
-carried_same settings now (Some (Gives reply)) x y same right = refl
-carried_same settings now (Some (Again more)) x y same right = carried_back now.answer now.carried more (right (Again more) refl)
+carried_same settings now (Some (turn_end.Reply reply)) x y same right = refl
+carried_same settings now (Some (turn_end.Blocked more)) x y same right = carried_back now.answer now.carried more (right (turn_end.Blocked more) refl)
 
 second : (b c : Bool) → (b && c) ≡ true → c ≡ true
 second true c e = e
@@ -114,7 +115,7 @@ outcome_right (Some r) None right = tt
 outcome_right None (Some g) right = absurd (false≢true (right g refl))
 outcome_right None None right = refl
 
-answer_some : (o : Option Answer) (given : posix.Answer) → shown_answer o ≡ Some given → is_none o ≡ false
+answer_some : (o : Option TurnEnd) (given : posix.Answer) → shown_answer o ≡ Some given → is_none o ≡ false
 answer_some None given e = cc
 answer_some (Some a) given e = refl
 
@@ -182,7 +183,7 @@ legal_shown settings k w c d (r ∷ rows) same h = λ o may.
     let M : Carried → Type 0 = λ b. machine.IsRight calls w b r in
     let right : M (d i) = subst M (same i) (h (λ j. None)).0 in
     let now : Stepped = step settings w.object r.call o (d i) in
-    let answers : (a : Answer) → r.answer ≡ Some a → a ≡ answer_in now = answers_now settings w (d i) r o right may in
+    let answers : (a : TurnEnd) → r.answer ≡ Some a → a ≡ answer_in now = answers_now settings w (d i) r o right may in
     let chosen_here : Option Given = given_of (asks w.object r.call (d i)) o in
     let out : (x : Given) → r.outcome ≡ Some x → is_some (asks w.object r.call (d i)) ≡ true = λ x is. sym (goes_is settings w r.call (d i)) ∙ (right.outcome x is).0 in
     let W : Bool → Bool → Carried → World = λ g keeps b. machine.changed calls w r.call b (machine.completed g r.outcome chosen_here) keeps in

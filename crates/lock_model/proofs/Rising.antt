@@ -4,8 +4,9 @@ use Rattle.std.proofs.lemmas.Bool.{true≢false, false≢true, cases_eq, cases_B
 use Rattle.std.proofs.lemmas.List.{get_or-set_other, get_or-set_same}
 use Rattle.det_mutex.specs.Attempt.{takes}
 use Rattle.det_mutex.specs.declared.lock.DetLock.{DetLock}
-use Rattle.lock_model.specs.CallTable.{CallTable, Answer, Plan, Way}
-use Rattle.lock_model.specs.CallTable.Answer.{Gives, Again}
+use Rattle.lock_model.specs.CallTable.{CallTable, Plan, Way}
+use Rattle.lock_model.specs.declared.turn_end.TurnEnd.{TurnEnd}
+use Rattle.lock_model.specs.declared.turn_end.TurnEnd.TheVariants as turn_end
 use Rattle.lock_model.specs.CallTable.Plan.{No_object, Object}
 use Rattle.lock_model.specs.CallTable.Way.{Inside, Door, Keeps_table}
 use Rattle.lock_model.specs.Legal.{handed_on}
@@ -155,9 +156,9 @@ step_waiting calls t (step.Work n) = refl
 step_waiting calls t (step.Call c) = refl
 step_waiting calls t step.End = refl
 
-answered_waiting : (t : Thread) (c : Call) (n : ℕ) (a : Answer) → is_waiting (answered t c n a).phase ≡ false
-answered_waiting t c n (Gives r) = refl
-answered_waiting t c n (Again b) = refl
+answered_waiting : (t : Thread) (c : Call) (n : ℕ) (a : TurnEnd) → is_waiting (answered t c n a).phase ≡ false
+answered_waiting t c n (turn_end.Reply r) = refl
+answered_waiting t c n (turn_end.Blocked b) = refl
 
 -- who makes an event that needs no turn does not wait after it
 moved_waiting : (setup : Setup) (i : ℕ) (t : Thread) (m : Moved) → moves setup i t ≡ Some m → is_waiting m.thread.phase ≡ false

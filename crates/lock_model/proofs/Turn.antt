@@ -3,8 +3,9 @@ use Rattle.std.proofs.Common.{◌≡◌, ℕ, zero, suc, ◌+◌, ◌<◌, ◌�
 use Rattle.std.proofs.lemmas.Bool.{false≢true, ltb-true, leb-true, eqb-true, lt-ltb, eq-eqb, and_parts, and_from, or_cases, or_left, or_right, cases_eq, cases_lt}
 use Rattle.std.proofs.lemmas.List.{get_or-set_same, get_or_past}
 use Rattle.std.proofs.lemmas.Option.{same_Some, none-some}
-use Rattle.lock_model.specs.CallTable.{CallTable, Answer, has_object, keeps_table}
-use Rattle.lock_model.specs.CallTable.Answer.{Gives, Again}
+use Rattle.lock_model.specs.CallTable.{CallTable, has_object, keeps_table}
+use Rattle.lock_model.specs.declared.turn_end.TurnEnd.{TurnEnd}
+use Rattle.lock_model.specs.declared.turn_end.TurnEnd.TheVariants as turn_end
 use Rattle.lock_model.specs.Machine.{Setup, Moved, quietly, after_step, ask, fits_job, with_outcome, record_outcome, one_if, answered, answer, again, moves_in, within, moves, move}
 use Rattle.thread_scripts.specs.declared.actor.Step.{Step}
 use Rattle.thread_scripts.specs.declared.actor.Step.TheVariants as step
@@ -177,9 +178,9 @@ later_record : (calls : CallTable) (t : Thread) (job : Job) (o : Option Given) (
 later_record calls t job None m h = absurd (none-some m h)
 later_record calls t job (Some o) m h = later_if (fits_job calls job o) t (with_outcome t job o) m (record { clock = omega arith; object_late = tt; table_late = tt }) h
 
-answered_clock : (t : Thread) (c : Call) (n : ℕ) (a : Answer) → (answered t c n a).clock ≡ n
-answered_clock t c n (Gives r) = refl
-answered_clock t c n (Again b) = refl
+answered_clock : (t : Thread) (c : Call) (n : ℕ) (a : TurnEnd) → (answered t c n a).clock ≡ n
+answered_clock t c n (turn_end.Reply r) = refl
+answered_clock t c n (turn_end.Blocked b) = refl
 
 later_answer : (calls : CallTable) (t : Thread) (job : Job) → IsLater t.clock (answer calls t job)
 later_answer calls t job =

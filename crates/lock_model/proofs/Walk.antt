@@ -2,7 +2,8 @@
 use Rattle.std.proofs.Common.{◌≡◌, ℕ, List, [], ◌∷◌, ◌++◌, map, Option, Some, None, Bool, true, false, is_none, if◌then◌else◌, ◌==◌, sym, refl, ap, ◌∙◌, subst, ⊎_elim}
 use Rattle.std.proofs.lemmas.Bool.{false≢true, eqb-true, eq-eqb, ne_eqb, and_parts, and_from, and_cases, cond-true, cond-false, cond_both, cases_eq, cases_Bool}
 use Rattle.det_mutex.specs.declared.lock.DetLock.{DetLock}
-use Rattle.lock_model.specs.CallTable.{CallTable, Answer, keeps_table, goes_outside}
+use Rattle.lock_model.specs.CallTable.{CallTable, keeps_table, goes_outside}
+use Rattle.lock_model.specs.declared.turn_end.TurnEnd.{TurnEnd}
 use Rattle.lock_model.specs.CallTable.Plan.{Object}
 use Rattle.lock_model.specs.Legal.{IsRight, changed, handed_on, carried_after}
 use Rattle.lock_model.specs.Machine.{Effect, fits_job, is_number, world_after, is_open, first_of, filled_by, row_after}
@@ -35,12 +36,12 @@ pub record Pending (calls : CallTable) (s : State) (w : World) (b : Carried) (r 
   pub outcome : job.outcome ≡ r.outcome
   pub keeps : keeps_table job.plan ≡ true → (rs ≡ []) × (is_number s.table.holder r.turn.thread ≡ true)
 
-abbrev pub Part : CallTable → State → World → Carried → Row → List Row → Option Answer → Type 0
+abbrev pub Part : CallTable → State → World → Carried → Row → List Row → Option TurnEnd → Type 0
 Part calls s w b r rs None = Pending calls s w b r rs
 Part calls s w b r rs (Some a) = IsRight calls w b r
 
 -- the world after a row. A call that keeps the table changes it at its answer
-abbrev pub next_world : CallTable → World → Carried → Row → Option Answer → World
+abbrev pub next_world : CallTable → World → Carried → Row → Option TurnEnd → World
 next_world calls w b r None = changed calls w r.call b None (keeps_table (calls.plan w r.call b))
 next_world calls w b r (Some a) = changed calls w r.call b r.outcome (keeps_table (calls.plan w r.call b))
 
@@ -98,7 +99,7 @@ opened_mine busy r = cond-true (r.turn.thread == r.turn.thread) _ _ (eq-eqb r.tu
 
 -- ## The same rows, in another state
 
-Part-map : (calls : CallTable) (s z : State) (w : World) (b : Carried) (r : Row) (rs us : List Row) (o : Option Answer)
+Part-map : (calls : CallTable) (s z : State) (w : World) (b : Carried) (r : Row) (rs us : List Row) (o : Option TurnEnd)
     → (Pending calls s w b r rs → Pending calls z w b r us) → Part calls s w b r rs o → Part calls z w b r us o
 Part-map calls s z w b r rs us None f h = f h
 Part-map calls s z w b r rs us (Some a) f h = h
@@ -165,7 +166,7 @@ walk_tail calls s z i e w carried also busy oped d q (r ∷ rs) part last beside
 
 -- ## All rows, up to the open row of thread i
 
-Part-off : (calls : CallTable) (s z : State) (i : ℕ) (e : Effect) (w : World) (b : Carried) (r : Row) (rs : List Row) (o : Option Answer) → r.answer ≡ o
+Part-off : (calls : CallTable) (s z : State) (i : ℕ) (e : Effect) (w : World) (b : Carried) (r : Row) (rs : List Row) (o : Option TurnEnd) → r.answer ≡ o
     → is_open i r ≡ false → PartOther calls s z i e → Part calls s w b r rs o → Part calls z w b r (map (row_after i e) rs) o
 Part-off calls s z i e w b r rs (Some a) q off part h = h
 Part-off calls s z i e w b r rs None q off part h =
@@ -200,7 +201,7 @@ walk_found calls s z i e w carried busy (r ∷ rs) part at never free h =
     let none = none_is r.answer parts.1 in
     subst (λ (x : Row). Walk calls z w carried busy (x ∷ map (row_after i e) rs)) (sym (row_open i e r is))
     (at w carried busy r rs (eqb-true t i parts.0) none h.0 (subst (Part calls s w (carried t) r rs) none h.1)
-    (subst (λ (o : Option Answer). Walk calls s (next_world calls w (carried t) r o) (handed_on calls carried r) (opened busy r) rs) none h.2)))
+    (subst (λ (o : Option TurnEnd). Walk calls s (next_world calls w (carried t) r o) (handed_on calls carried r) (opened busy r) rs) none h.2)))
     (λ (off : is_open i r ≡ false).
     subst (λ (x : Row). Walk calls z w carried busy (x ∷ map (row_after i e) rs)) (sym (row_closed i e r off)) (
       h.0,

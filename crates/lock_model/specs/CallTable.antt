@@ -1,9 +1,9 @@
 -- What calls do: any functions of what the calls before have made.
 use Rattle.std.specs.Prelude.{ℕ, Option, Bool, true, false}
 use Rattle.lock_model.specs.Terms.{World, Request}
+use Rattle.lock_model.specs.declared.turn_end.TurnEnd.{TurnEnd}
 use Rattle.posix_terms.specs.declared.call.Call.{Call}
 use Rattle.posix_terms.specs.declared.outcome.Given.{Given}
-use Rattle.posix_terms.specs.declared.reply.Reply.{Reply}
 use Rattle.posix_terms.specs.Step.{Carried}
 use Rattle.posix_terms.specs.declared.transcript.Turn.{Turn}
 
@@ -40,11 +40,6 @@ abbrev pub goes_outside : Plan → Bool
 goes_outside No_object = false
 goes_outside (Object number way) = way_goes way
 
--- a reply, or that the call was blocked and is made again
-pub data Answer : Type 0 where
-  Gives : (reply : Reply) → Answer
-  Again : (carried : Carried) → Answer
-
 -- each by the world that the call finds and what it carries from its blocked turns
 pub record CallTable : Type 0 where
   -- what a call carries at its first turn
@@ -59,4 +54,4 @@ pub record CallTable : Type 0 where
   pub asks : World → Call → Carried → Turn → Request
   -- an outcome that this request can have, at the turn of its call
   pub fits : Request → Turn → Given → Bool
-  pub answer : World → Call → Option Given → Carried → Answer
+  pub answer : World → Call → Option Given → Carried → TurnEnd

@@ -1,7 +1,8 @@
 -- Setups for runs worked out by hand. Whatever the world, all calls take the same locks and give the same answer.
 use Rattle.std.specs.Prelude.{ℕ, ◌^◌, List, [], ◌∷◌, map, true}
-use Rattle.lock_model.specs.CallTable.{CallTable, Answer, Plan}
-use Rattle.lock_model.specs.CallTable.Answer.{Gives, Again}
+use Rattle.lock_model.specs.CallTable.{CallTable, Plan}
+use Rattle.lock_model.specs.declared.turn_end.TurnEnd.{TurnEnd}
+use Rattle.lock_model.specs.declared.turn_end.TurnEnd.TheVariants as turn_end
 use Rattle.lock_model.specs.CallTable.Plan.{Object}
 use Rattle.lock_model.specs.CallTable.Way.{Inside}
 use Rattle.lock_model.specs.Machine.{Setup}
@@ -26,7 +27,7 @@ pub record Words : Type 0 where
   pub carried : Carried
   pub request : Request
 
-abbrev pub alike : Words → Plan → Answer → CallTable
+abbrev pub alike : Words → Plan → TurnEnd → CallTable
 alike x plan a =
     record {
       nothing_carried = x.carried;
@@ -39,7 +40,7 @@ alike x plan a =
     }
 
 -- each thread makes these steps, and three outcomes come for it
-abbrev pub setting : Words → Plan → Answer → ℕ → List Step → Setup
+abbrev pub setting : Words → Plan → TurnEnd → ℕ → List Step → Setup
 setting x plan a limit steps =
     record {
       calls = alike x plan a;
@@ -49,15 +50,15 @@ setting x plan a limit steps =
 
 -- each thread makes one call
 abbrev pub one_call : Words → Plan → Setup
-one_call x plan = setting x plan (Gives x.reply) (2 ^ 62) (step.Call x.call ∷ step.End ∷ [])
+one_call x plan = setting x plan (turn_end.Reply x.reply) (2 ^ 62) (step.Call x.call ∷ step.End ∷ [])
 
 -- each thread makes three
 abbrev pub three_calls : Words → Plan → Setup
-three_calls x plan = setting x plan (Gives x.reply) (2 ^ 62) (step.Call x.call ∷ step.Call x.call ∷ step.Call x.call ∷ step.End ∷ [])
+three_calls x plan = setting x plan (turn_end.Reply x.reply) (2 ^ 62) (step.Call x.call ∷ step.Call x.call ∷ step.Call x.call ∷ step.End ∷ [])
 
 -- each thread makes one call, which is blocked at every turn; the clocks end at 10
 abbrev pub blocked_call : Words → Setup
-blocked_call x = setting x (Object 0 Inside) (Again x.carried) 10 (step.Call x.call ∷ step.End ∷ [])
+blocked_call x = setting x (Object 0 Inside) (turn_end.Blocked x.carried) 10 (step.Call x.call ∷ step.End ∷ [])
 
 abbrev pub turns : List Row → List Turn
 turns rows = map (λ (r : Row). r.turn) rows

@@ -1,7 +1,8 @@
 -- A history is legal: each answer is the one that the calls before it, in the order of the rows, lead to.
 use Rattle.std.specs.Prelude.{◌≡◌, ℕ, suc, List, [], ◌∷◌, Option, Some, None, Bool, true, false, is_none, is_some, if◌then◌else◌, ◌==◌}
-use Rattle.lock_model.specs.CallTable.{CallTable, Answer, goes_outside, keeps_table}
-use Rattle.lock_model.specs.CallTable.Answer.{Gives, Again}
+use Rattle.lock_model.specs.CallTable.{CallTable, goes_outside, keeps_table}
+use Rattle.lock_model.specs.declared.turn_end.TurnEnd.{TurnEnd}
+use Rattle.lock_model.specs.declared.turn_end.TurnEnd.TheVariants as turn_end
 use Rattle.lock_model.specs.Machine.{first_of}
 use Rattle.lock_model.specs.State.{Row}
 use Rattle.lock_model.specs.Terms.{World}
@@ -10,10 +11,10 @@ use Rattle.posix_terms.specs.declared.outcome.Given.{Given}
 use Rattle.posix_terms.specs.Step.{Carried}
 
 -- what a thread carries after an answer
-abbrev pub carried_after : CallTable → Carried → Option Answer → Carried
+abbrev pub carried_after : CallTable → Carried → Option TurnEnd → Carried
 carried_after calls b None = b
-carried_after calls b (Some (Again more)) = more
-carried_after calls b (Some (Gives reply)) = calls.nothing_carried
+carried_after calls b (Some (turn_end.Blocked more)) = more
+carried_after calls b (Some (turn_end.Reply reply)) = calls.nothing_carried
 
 -- what each thread carries after a row
 abbrev pub handed_on : CallTable → (ℕ → Carried) → Row → ℕ → Carried
@@ -27,7 +28,7 @@ changed calls w c b (Some o) true = calls.kept_change w c b o
 
 -- a row is right where its call found this world and carried this: its answer is the call's; it has an outcome only where the call goes outside, and one that fits; and once answered it has one wherever the call goes outside
 pub record IsRight (calls : CallTable) (w : World) (b : Carried) (r : Row) : Type 0 where
-  pub answer : (a : Answer) → r.answer ≡ Some a → a ≡ calls.answer w r.call r.outcome b
+  pub answer : (a : TurnEnd) → r.answer ≡ Some a → a ≡ calls.answer w r.call r.outcome b
   pub outcome : (o : Given) → r.outcome ≡ Some o → (goes_outside (calls.plan w r.call b) ≡ true) × (calls.fits (calls.asks w r.call b r.turn) r.turn o ≡ true)
   pub whole : is_none r.answer ≡ false → is_some r.outcome ≡ goes_outside (calls.plan w r.call b)
 

@@ -2,8 +2,9 @@
 use Rattle.std.specs.Prelude.{ℕ, ◌+◌, [], ◌∷◌, ◌++◌, length, map, set, Option, Some, None, Bool, true, false, not, ◌&&◌, ◌||◌, is_some, is_none, if◌then◌else◌, nat_lt, nat_le, ◌==◌, slice_get}
 use Rattle.det_mutex.specs.Attempt.{takes, held, freed}
 use Rattle.det_mutex.specs.declared.lock.DetLock.{DetLock}
-use Rattle.lock_model.specs.CallTable.{CallTable, Answer, Plan, Way, has_object, keeps_table}
-use Rattle.lock_model.specs.CallTable.Answer.{Gives, Again}
+use Rattle.lock_model.specs.CallTable.{CallTable, Plan, Way, has_object, keeps_table}
+use Rattle.lock_model.specs.declared.turn_end.TurnEnd.{TurnEnd}
+use Rattle.lock_model.specs.declared.turn_end.TurnEnd.TheVariants as turn_end
 use Rattle.lock_model.specs.CallTable.Plan.{No_object, Object}
 use Rattle.lock_model.specs.CallTable.Way.{Inside, Door, Keeps_table}
 use Rattle.lock_model.specs.Programs.{Supply}
@@ -36,7 +37,7 @@ pub record Setup : Type 0 where
 -- what such an event does beside its thread: to the row of the thread that has no answer, to the locks that the thread holds (freed at these times), and to the world, where the thread holds the table
 pub record Effect : Type 0 where
   pub outcome : Option Given
-  pub answer : Option Answer
+  pub answer : Option TurnEnd
   pub object_freed : Option ℕ
   pub table_freed : Option ℕ
   pub world : Option World
@@ -95,9 +96,9 @@ late_change calls job (Some o) true = Some (calls.kept_change job.found job.call
 late_change calls job None true = None
 late_change calls job outcome false = None
 
-abbrev pub answered : Thread → Call → ℕ → Answer → Thread
-answered t c clock (Gives r) = record t { phase = Working; clock = clock; replies = t.replies ++ r ∷ [] }
-answered t c clock (Again b) = record t { phase = Blocked c b; clock = clock }
+abbrev pub answered : Thread → Call → ℕ → TurnEnd → Thread
+answered t c clock (turn_end.Reply r) = record t { phase = Working; clock = clock; replies = t.replies ++ r ∷ [] }
+answered t c clock (turn_end.Blocked b) = record t { phase = Blocked c b; clock = clock }
 
 -- `answer`: frees the object's lock, and then the table's where the call still holds it, each for 1
 abbrev pub answer : CallTable → Thread → Job → Moved

@@ -9,20 +9,21 @@ use Rattle.posix_terms.specs.declared.outcome.Outcome.{Outcome}
 use Rattle.posix_terms.specs.declared.reply.Answer as posix
 use Rattle.posix_terms.specs.declared.reply.Answer.TheVariants as answer
 use Rattle.posix_terms.specs.declared.transcript.Settings.{Settings}
-use Rattle.lock_model.specs.CallTable.{CallTable, Answer, Plan, Way}
-use Rattle.lock_model.specs.CallTable.Answer.{Gives, Again}
+use Rattle.lock_model.specs.CallTable.{CallTable, Plan, Way}
+use Rattle.lock_model.specs.declared.turn_end.TurnEnd.{TurnEnd}
+use Rattle.lock_model.specs.declared.turn_end.TurnEnd.TheVariants as turn_end
 use Rattle.lock_model.specs.CallTable.Plan.{No_object, Object}
 use Rattle.lock_model.specs.CallTable.Way.{Door, Inside, Keeps_table}
 use Rattle.lock_model.specs.Machine.{Limits}
 use Rattle.lock_model.specs.Numbers.{number_of, world_with}
 use Rattle.lock_model.specs.Terms.{Request, World}
 
-abbrev pub answered_with : posix.Answer → Carried → Answer
-answered_with (answer.Reply r) b = Gives r
-answered_with answer.Again b = Again b
+abbrev pub answered_with : posix.Answer → Carried → TurnEnd
+answered_with (answer.Reply r) b = turn_end.Reply r
+answered_with answer.Again b = turn_end.Blocked b
 
 -- how a turn of a call ended
-abbrev pub answer_in : Stepped → Answer
+abbrev pub answer_in : Stepped → TurnEnd
 answer_in stepped = answered_with stepped.answer stepped.carried
 
 -- by whether it goes outside, and whether it keeps the table then

@@ -3,15 +3,15 @@ use Rattle.std.specs.Prelude.{Option, Some, None}
 use Rattle.posix_terms.specs.declared.reply.Answer as posix
 use Rattle.posix_terms.specs.declared.reply.Answer.TheVariants as answer
 use Rattle.posix_terms.specs.declared.transcript.HistoryRow.{HistoryRow}
-use Rattle.lock_model.specs.CallTable.{Answer}
-use Rattle.lock_model.specs.CallTable.Answer.{Gives, Again}
+use Rattle.lock_model.specs.declared.turn_end.TurnEnd.{TurnEnd}
+use Rattle.lock_model.specs.declared.turn_end.TurnEnd.TheVariants as turn_end
 use Rattle.lock_model.specs.RealCalls.{outcome_in}
 use Rattle.lock_model.specs.State.{Row}
 
-abbrev pub shown_answer : Option Answer → Option posix.Answer
+abbrev pub shown_answer : Option TurnEnd → Option posix.Answer
 shown_answer None = None
-shown_answer (Some (Gives reply)) = Some (answer.Reply reply)
-shown_answer (Some (Again carried)) = Some answer.Again
+shown_answer (Some (turn_end.Reply reply)) = Some (answer.Reply reply)
+shown_answer (Some (turn_end.Blocked carried)) = Some answer.Again
 
 -- what a run tells of a row: not what the thread carries from a blocked turn
 abbrev pub shown : Row → HistoryRow

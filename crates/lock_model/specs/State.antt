@@ -2,7 +2,8 @@
 use Rattle.std.specs.Prelude.{ℕ, List, [], replicate, get_or, map, Option, Some, None}
 use Rattle.det_mutex.specs.Attempt.{new_lock}
 use Rattle.det_mutex.specs.declared.lock.DetLock.{DetLock}
-use Rattle.lock_model.specs.CallTable.{Answer, Plan, Way}
+use Rattle.lock_model.specs.CallTable.{Plan, Way}
+use Rattle.lock_model.specs.declared.turn_end.TurnEnd.{TurnEnd}
 use Rattle.thread_scripts.specs.declared.actor.Step.{Step}
 use Rattle.lock_model.specs.Terms.{World}
 use Rattle.posix_terms.specs.declared.call.Call.{Call}
@@ -45,7 +46,7 @@ pub record Row : Type 0 where
   pub turn : Turn
   pub call : Call
   pub outcome : Option Given
-  pub answer : Option Answer
+  pub answer : Option TurnEnd
 
 -- the locks of the table and of each object number, the rows in the order of the grants, and what the granted calls have made
 pub record State : Type 0 where

@@ -1,15 +1,15 @@
 -- What one thread sees of its rows.
 use Rattle.std.specs.Prelude.{ℕ, List, filter_map, Option, Some, None}
-use Rattle.lock_model.specs.CallTable.{Answer}
-use Rattle.lock_model.specs.CallTable.Answer.{Gives, Again}
+use Rattle.lock_model.specs.declared.turn_end.TurnEnd.{TurnEnd}
+use Rattle.lock_model.specs.declared.turn_end.TurnEnd.TheVariants as turn_end
 use Rattle.lock_model.specs.History.{rows_of}
 use Rattle.lock_model.specs.State.{Row}
 use Rattle.posix_terms.specs.declared.outcome.Given.{Given}
 use Rattle.posix_terms.specs.declared.transcript.Row.{Row as TranscriptRow}
 
-abbrev pub replied : Row → Option Answer → Option TranscriptRow
-replied r (Some (Gives x)) = Some (record { call = r.call; turn = r.turn; reply = x })
-replied r (Some (Again b)) = None
+abbrev pub replied : Row → Option TurnEnd → Option TranscriptRow
+replied r (Some (turn_end.Reply x)) = Some (record { call = r.call; turn = r.turn; reply = x })
+replied r (Some (turn_end.Blocked b)) = None
 replied r None = None
 
 -- of the rows of thread i, the outcomes that came
@@ -17,7 +17,7 @@ abbrev pub outcomes_of : ℕ → List Row → List Given
 outcomes_of i rows = filter_map (λ (r : Row). r.outcome) (rows_of i rows)
 
 -- the answers that were given
-abbrev pub answers_of : ℕ → List Row → List Answer
+abbrev pub answers_of : ℕ → List Row → List TurnEnd
 answers_of i rows = filter_map (λ (r : Row). r.answer) (rows_of i rows)
 
 -- and the rows that were answered with a reply

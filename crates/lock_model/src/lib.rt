@@ -4,6 +4,8 @@
 //! A *run* is any list of events that the machine allows; the *plain run* is the one deterministic schedule.
 #![tactic(auto)]
 
+mod turn_end;
+
 ghost use Rattle.std.specs.Prelude.{◌≡◌, ◌∷◌, []};
 ghost use Rattle.lock_model.specs.Came.{CameGrows, CameIsRows, CameOutside, OutsideStays, OverUnderCame, PlainArises, PlainCount, PlainLeads, RoomOutside, SameUnderCame};
 ghost use Rattle.lock_model.specs.CallTable.Plan.{No_object, Object};
@@ -15,6 +17,8 @@ ghost use Rattle.lock_model.specs.RealLaws.{RealEnd, RealLegal, RealLegalOfArise
 ghost use Rattle.lock_model.specs.Schedule.{IsOver, plain_run};
 ghost use Rattle.lock_model.specs.ScriptPrograms.{NeverLacks};
 ghost use Rattle.lock_model.specs.Transcripts.{transcript};
+
+pub use turn_end::TurnEnd;
 
 /// The prefix law. Whatever the order of events, at every moment the rows of all threads together are the beginning
 /// of the plain run's rows, where an outcome or an answer that is not there yet agrees with any, and an answered row

@@ -3,6 +3,7 @@ use Rattle.std.proofs.Common.{◌≡◌, ℕ, suc, List, [], ◌∷◌, length, 
 use Rattle.std.proofs.lemmas.Bool.{and_parts, false≢true}
 use Rattle.lock_machine.specs.Conditions.{setup_under}
 use Rattle.lock_machine.specs.Requests.{AskTheirKind, IsOfKind, kind_asked}
+use Rattle.lock_machine.specs.Whole.{settings_in}
 use Rattle.lock_model.specs.Came.{CameIsRows}
 use Rattle.lock_model.specs.History as lock
 use Rattle.lock_model.specs.Laws.{LegalOfArisen}
@@ -26,7 +27,7 @@ use Rattle.posix_terms.specs.declared.transcript.Settings.{Settings}
 use Rattle.logged_machine.specs.Covered.{kind_before, kinds_in}
 use Rattle.logged_machine.specs.Kept.{IsKept}
 use Rattle.logged_machine.specs.Records.{outcomes_of}
-use Rattle.logged_machine.specs.Runs.{settings_in, terms_with}
+use Rattle.logged_machine.specs.Runs.{terms_with}
 use Rattle.logged_machine.specs.Shown.{Shown}
 
 same_kind : (a b : OutKind) → is_kind a b ≡ true → a ≡ b

@@ -1,8 +1,7 @@
 -- What a thread asks outside.
-use Rattle.std.proofs.Common.{is_some, ◌≡◌, ℕ, ◌<◌, List, length, map, get_or, slice_get, Option, Some, None, sym, refl, ap, ◌∙◌, subst}
+use Rattle.std.proofs.Common.{is_some, ◌≡◌, ℕ, List, get_or, slice_get, Some, sym, ap, ◌∙◌, subst}
 use Rattle.std.proofs.lemmas.Option.{get_or_from_slice_get, none-some, same_Some, slice_get-map}
 use Rattle.std.specs.Prelude.{option_map}
-use Rattle.descriptor_table.specs.declared.plan.Op.TheVariants as op
 use Rattle.lock_machine.specs.Refusals.{phase_at}
 use Rattle.lock_machine.specs.Shows.{IsOut, PhaseShows}
 use Rattle.lock_machine.specs.Whole.{Whole, thread_at}
@@ -12,11 +11,9 @@ use Rattle.lock_machine.specs.declared.thread.Phase.TheVariants as phase
 use Rattle.lock_model.specs.Held.{job_in, row_of}
 use Rattle.lock_model.specs.Rows.{shown}
 use Rattle.lock_model.specs.Runs.{own}
-use Rattle.lock_model.specs.State as lock
-use Rattle.lock_model.specs.State.{Job, Row, State, thread_of}
+use Rattle.lock_model.specs.State.{Job, State, thread_of}
 use Rattle.posix_terms.specs.Step.{asks}
 use Rattle.posix_terms.specs.declared.call.Call.{Call}
-use Rattle.posix_terms.specs.declared.request.Request.{Request}
 use Rattle.posix_terms.specs.declared.transcript.HistoryRow.{HistoryRow}
 use Rattle.logged_machine.specs.Requests.{IsRequest, out_of}
 use Rattle.logged_machine.specs.Runs.{IsEnd, terms_with}

@@ -1,14 +1,13 @@
 -- What a machine shows is a beginning of what the plain run has.
-use Rattle.std.proofs.Common.{◌≡◌, ℕ, ◌<◌, ◌≤◌, List, [], ◌∷◌, ◌++◌, length, map, filter_map, Option, Some, None, Bool, true, false, is_none, cond, ◌==◌, if◌then◌else◌, sym, refl, ap, ◌∙◌, subst, ⊎_elim}
+use Rattle.std.proofs.Common.{◌≡◌, ℕ, ◌<◌, ◌≤◌, List, [], ◌∷◌, length, map, filter_map, Option, Some, None, Bool, true, false, is_none, ◌==◌, if◌then◌else◌, sym, refl, ap, ◌∙◌, subst, ⊎_elim}
 use Rattle.std.proofs.lemmas.Bool.{cases_lt}
 use Rattle.std.proofs.lemmas.List.{get_or_past, map-append}
 use Rattle.lock_machine.specs.Conditions.{setup_under, start_under}
 use Rattle.lock_machine.specs.Shows.{PhaseShows, Shows}
 use Rattle.lock_machine.specs.Whole.{Whole, thread_at}
 use Rattle.lock_machine.specs.declared.thread.Phase.{Phase}
-use Rattle.lock_machine.specs.declared.thread.Phase.TheVariants as phase
-use Rattle.lock_model.specs.CallTable.{Answer}
-use Rattle.lock_model.specs.CallTable.Answer.{Again, Gives}
+use Rattle.lock_model.specs.declared.turn_end.TurnEnd.{TurnEnd}
+use Rattle.lock_model.specs.declared.turn_end.TurnEnd.TheVariants as turn_end
 use Rattle.lock_model.specs.History as lock
 use Rattle.lock_model.specs.History.{Agrees, IsPrefixOf}
 use Rattle.lock_model.specs.Laws.{Begins, OwnFinite, PrefixLawOfOwn, SomeEnd}
@@ -25,14 +24,15 @@ use Rattle.lock_model.specs.Transcripts as seen
 use Rattle.posix_terms.specs.declared.limits.TheConstants.Limits as limit
 use Rattle.posix_terms.specs.declared.outcome.Given.{Given}
 use Rattle.posix_terms.specs.declared.outcome.Outcome.{Outcome}
+use Rattle.posix_terms.specs.declared.reply.Answer as replied
+use Rattle.posix_terms.specs.declared.reply.Answer.TheVariants as answer
 use Rattle.posix_terms.specs.declared.transcript.HistoryRow.{HistoryRow}
 use Rattle.posix_terms.specs.declared.transcript.Row as posix
 use Rattle.posix_terms.specs.declared.transcript.Turn.{Turn}
 use Rattle.thread_scripts.specs.declared.actor.Step.{Step}
-use Rattle.logged_machine.specs.Begins.{BeginsPlainRun, HaveEnded, IsBeginning, RowAgrees, steps_and_records}
-use Rattle.logged_machine.specs.History.{AreRising, IsBeforeAll, outcome_before, outcomes_in, reply_before, rows_of, transcript_of}
+use Rattle.logged_machine.specs.Begins.{BeginsPlainRun, HaveEnded, IsAllOf, IsBeginning, RowAgrees, steps_and_records}
+use Rattle.logged_machine.specs.History.{AreRising, IsBeforeAll, answer_before, answers_in, outcome_before, outcomes_in, reply_before, rows_of, transcript_of}
 use Rattle.logged_machine.specs.Kept.{IsKept}
-use Rattle.logged_machine.specs.Records.{outcomes_of}
 use Rattle.logged_machine.specs.Runs.{terms_with}
 use Rattle.logged_machine.specs.Shown.{Shown}
 
@@ -42,12 +42,12 @@ agrees_outcome : (o p : Option Given) → Agrees o p → Agrees (outcome_in o) (
 agrees_outcome None p h = tt
 agrees_outcome (Some g) p h = ap outcome_in h
 
-agrees_answer : (o p : Option Answer) → Agrees o p → Agrees (shown_answer o) (shown_answer p)
+agrees_answer : (o p : Option TurnEnd) → Agrees o p → Agrees (shown_answer o) (shown_answer p)
 agrees_answer None p h = tt
-agrees_answer (Some (Gives r)) p h = ap shown_answer h
-agrees_answer (Some (Again b)) p h = ap shown_answer h
+agrees_answer (Some (turn_end.Reply r)) p h = ap shown_answer h
+agrees_answer (Some (turn_end.Blocked b)) p h = ap shown_answer h
 
-answered_shown : (o : Option Answer) → is_none (shown_answer o) ≡ false → is_none o ≡ false
+answered_shown : (o : Option TurnEnd) → is_none (shown_answer o) ≡ false → is_none o ≡ false
 answered_shown None h = h
 answered_shown (Some a) h = refl
 
@@ -78,13 +78,13 @@ transcript_shown : (i : ℕ) (rs : List Row) → transcript_of i (map shown rs) 
 transcript_shown i [] = refl
 transcript_shown i (r ∷ rs) = by_test (r.turn.thread == i) r.answer (transcript_shown i rs)
   where
-    by_answer : (o : Option Answer) → transcript_of i (map shown rs) ≡ seen.transcript i rs
+    by_answer : (o : Option TurnEnd) → transcript_of i (map shown rs) ≡ seen.transcript i rs
         → reply_before (shown (record r { answer = o })) (shown_answer o) (transcript_of i (map shown rs)) ≡ filter_map (λ (x : Row). seen.replied x x.answer) (record r { answer = o } ∷ lock.rows_of i rs)
     by_answer None h = h
-    by_answer (Some (Gives x)) h = ap (λ (ts : List posix.Row). record { call = r.call; turn = r.turn; reply = x } ∷ ts) h
-    by_answer (Some (Again b)) h = h
+    by_answer (Some (turn_end.Reply x)) h = ap (λ (ts : List posix.Row). record { call = r.call; turn = r.turn; reply = x } ∷ ts) h
+    by_answer (Some (turn_end.Blocked b)) h = h
 
-    by_test : (b : Bool) (o : Option Answer) → transcript_of i (map shown rs) ≡ seen.transcript i rs
+    by_test : (b : Bool) (o : Option TurnEnd) → transcript_of i (map shown rs) ≡ seen.transcript i rs
         → (if b then reply_before (shown (record r { answer = o })) (shown_answer o) (transcript_of i (map shown rs)) else transcript_of i (map shown rs)) ≡ filter_map (λ (x : Row). seen.replied x x.answer) (if b then record r { answer = o } ∷ lock.rows_of i rs else lock.rows_of i rs)
     by_test true o h = by_answer o h
     by_test false o h = h
@@ -101,6 +101,25 @@ outcomes_shown i (r ∷ rs) = by_test (r.turn.thread == i) r.outcome (outcomes_s
     by_test : (b : Bool) (o : Option Given) → map (λ (g : Given). g.outcome) (seen.outcomes_of i rs) ≡ outcomes_in i (map shown rs)
         → map (λ (g : Given). g.outcome) (filter_map (λ (x : Row). x.outcome) (if b then record r { outcome = o } ∷ lock.rows_of i rs else lock.rows_of i rs)) ≡ (if b then outcome_before (outcome_in o) (outcomes_in i (map shown rs)) else outcomes_in i (map shown rs))
     by_test true o h = by_outcome o h
+    by_test false o h = h
+
+abbrev shown_as : TurnEnd → replied.Answer
+shown_as (turn_end.Reply r) = answer.Reply r
+shown_as (turn_end.Blocked b) = answer.Again
+
+answers_shown : (i : ℕ) (rs : List Row) → map shown_as (seen.answers_of i rs) ≡ answers_in i (map shown rs)
+answers_shown i [] = refl
+answers_shown i (r ∷ rs) = by_test (r.turn.thread == i) r.answer (answers_shown i rs)
+  where
+    by_answer : (o : Option TurnEnd) → map shown_as (seen.answers_of i rs) ≡ answers_in i (map shown rs)
+        → map shown_as (filter_map (λ (x : Row). x.answer) (record r { answer = o } ∷ lock.rows_of i rs)) ≡ answer_before (shown_answer o) (answers_in i (map shown rs))
+    by_answer None h = h
+    by_answer (Some (turn_end.Reply x)) h = ap (λ (os : List replied.Answer). answer.Reply x ∷ os) h
+    by_answer (Some (turn_end.Blocked b)) h = ap (λ (os : List replied.Answer). answer.Again ∷ os) h
+
+    by_test : (b : Bool) (o : Option TurnEnd) → map shown_as (seen.answers_of i rs) ≡ answers_in i (map shown rs)
+        → map shown_as (filter_map (λ (x : Row). x.answer) (if b then record r { answer = o } ∷ lock.rows_of i rs else lock.rows_of i rs)) ≡ (if b then answer_before (shown_answer o) (answers_in i (map shown rs)) else answers_in i (map shown rs))
+    by_test true o h = by_answer o h
     by_test false o h = h
 
 -- ## Turns
@@ -127,6 +146,17 @@ ended_shown w s h ended i = ⊎_elim inside past (cases_lt i (length w.threads))
     past : length w.threads ≤ i → (thread_of s i).phase ≡ Ended
     past l = ap (λ t. t.phase) (get_or_past s.threads i nobody (subst (λ (n : ℕ). n ≤ i) (sym h.count) l))
 
+all_of : (D : Type 0) (m : Shown D) (s last : State) → map shown s.rows ≡ m.whole.rows → ((i : ℕ) → (thread_of s i).asked ≡ (let t = thread_at m.whole i in t.asked)) → s ≡ last → IsAllOf D m last
+all_of D m s last rows asked same =
+    let own : m.whole.rows ≡ map shown last.rows = sym rows ∙ ap (λ (z : State). map shown z.rows) same in
+    record {
+      rows = own;
+      steps = λ i. sym (asked i) ∙ ap (λ (z : State). (thread_of z i).asked) same;
+      outcomes = λ i. ap (outcomes_in i) own;
+      answers = λ i. ap (answers_in i) own;
+      transcripts = λ i. ap (transcript_of i) own;
+    }
+
 pub begins_plain : (D : Type 0) (m : Shown D) → IsKept D m → PrefixLawOfOwn → SomeEnd → OwnFinite → BeginsPlainRun D m
 begins_plain D m h law some finite =
     let w = m.whole in
@@ -152,8 +182,12 @@ begins_plain D m h law some finite =
           let mine = prefix_map (λ (g : Given). g.outcome) (seen.outcomes_of i s.rows) (seen.outcomes_of i last.rows) (b.outcomes i) in
           let there = subst (λ (ys : List Outcome). IsPrefixOf (map (λ (g : Given). g.outcome) (seen.outcomes_of i s.rows)) ys) (outcomes_shown i last.rows) mine in
           subst (λ (xs : List Outcome). IsPrefixOf xs (outcomes_in i (map shown last.rows))) (outcomes_shown i s.rows ∙ ap (outcomes_in i) rows) there;
+      answers = λ i.
+          let mine = prefix_map shown_as (seen.answers_of i s.rows) (seen.answers_of i last.rows) (b.answers i) in
+          let there = subst (λ (ys : List replied.Answer). IsPrefixOf (map shown_as (seen.answers_of i s.rows)) ys) (answers_shown i last.rows) mine in
+          subst (λ (xs : List replied.Answer). IsPrefixOf xs (answers_in i (map shown last.rows))) (answers_shown i s.rows ∙ ap (answers_in i) rows) there;
       transcripts = λ i.
           let there = subst (λ (ys : List posix.Row). IsPrefixOf (seen.transcript i s.rows) ys) (sym (transcript_shown i last.rows)) (b.transcripts i) in
           subst (λ (xs : List posix.Row). IsPrefixOf xs (transcript_of i (map shown last.rows))) (sym (transcript_shown i s.rows) ∙ ap (transcript_of i) rows) there;
-      whole = λ ended. sym rows ∙ ap (λ (z : State). map shown z.rows) (b.whole (ended_shown w s h.ends.1 ended));
+      whole = λ ended. all_of D m s last rows asked (b.whole (ended_shown w s h.ends.1 ended));
     }

@@ -1,10 +1,9 @@
 -- The runs that lead to a machine, whatever comes next.
-use Rattle.std.proofs.Common.{◌≡◌, ℕ, ◌<◌, length, List, Option, Some, None, Bool, true, false, sym, refl, ap, ◌∙◌, subst}
-use Rattle.std.specs.Prelude.{◌∷◌, ◌++◌, []}
+use Rattle.std.proofs.Common.{◌≡◌, ℕ, length, List, Option, Some, None, true, false, sym, refl, subst}
 use Rattle.lock_machine.specs.Conditions.{Conditions, setup_under, start_under}
-use Rattle.lock_machine.specs.Shows.{AdvancesQuietly, AsksFor, Attempts as TriesLock, IsGranted, IsOut, PhaseShows, Quietly, Shows, StandsAt, Tells, ThreadShows}
+use Rattle.lock_machine.specs.Shows.{AdvancesQuietly, AsksFor, Attempts as TriesLock, IsGranted, IsOut, MayAdvance, MayAsk, PhaseShows, Shows, StandsAt, Tells}
 use Rattle.lock_machine.specs.Threads.{Thread}
-use Rattle.lock_machine.specs.Whole.{Whole, thread_at}
+use Rattle.lock_machine.specs.Whole.{Whole, settings_in, thread_at}
 use Rattle.lock_machine.specs.declared.thread.Outing.{Outing}
 use Rattle.lock_machine.specs.declared.thread.Phase.{Phase}
 use Rattle.lock_machine.specs.declared.thread.Phase.TheVariants as phase
@@ -12,14 +11,14 @@ use Rattle.lock_model.specs.Laws.{ArisesByEvent}
 use Rattle.lock_model.specs.Machine.{Event, happens, is_allowed}
 use Rattle.lock_model.specs.Machine.Event.{Advances, Attempts}
 use Rattle.lock_model.specs.Programs.{Supply}
-use Rattle.lock_model.specs.RealLaws.{real_setup, real_start}
+use Rattle.lock_model.specs.RealLaws.{real_start}
 use Rattle.lock_model.specs.Runs.{Arises, own}
 use Rattle.lock_model.specs.State as lock
 use Rattle.lock_model.specs.State.{Job, Row, State, thread_of}
-use Rattle.object_store.specs.declared.patience.TurnEnd.{TurnEnd}
+use Rattle.lock_model.specs.declared.turn_end.TurnEnd.{TurnEnd}
 use Rattle.posix_terms.specs.declared.transcript.Settings.{Settings}
 use Rattle.thread_scripts.specs.declared.actor.Step.{Step}
-use Rattle.logged_machine.specs.Runs.{Coming, Grows, IsEnd, IsForbidden, settings_in, setup_with, supply_with, terms_with}
+use Rattle.logged_machine.specs.Runs.{Coming, Grows, IsEnd, IsForbidden, IsPermitted, setup_with, supply_with, terms_with}
 use Rattle.logged_machine.specs.Events as machine
 use Rattle.logged_machine.specs.Runs.Coming.{Asks, Nothing}
 use Rattle.posix_terms.specs.declared.reply.Answer.{Answer}
@@ -114,6 +113,9 @@ pub ask_forbidden : (i : ℕ) (x : Step) (old new : Whole) → AsksFor false i x
 ask_forbidden i x old new h s at =
     (h (terms_with old (supply_with (Asks x) s)) s (stands_with old s (supply_with (Asks x) s) at) refl).can
 
+pub ask_permitted : (i : ℕ) (x : Step) (old : Whole) → MayAsk i x old → IsPermitted (Asks x) (Advances i) old
+ask_permitted i x old h s at = h (terms_with old (supply_with (Asks x) s)) s (stands_with old s (supply_with (Asks x) s) at) refl
+
 -- ## Events in which nothing comes
 
 pub quiet_made : (i : ℕ) (old new : Whole) → AdvancesQuietly true i old new → IsMade Nothing (Advances i) old new
@@ -121,6 +123,9 @@ quiet_made i old new h s at = let q = h (terms_with old (own s)) s at in (q.can,
 
 pub quiet_forbidden : (i : ℕ) (old new : Whole) → AdvancesQuietly false i old new → IsForbidden Nothing (Advances i) old
 quiet_forbidden i old new h s at = (h (terms_with old (own s)) s at).can
+
+pub quiet_permitted : (i : ℕ) (old : Whole) → MayAdvance i old → IsPermitted Nothing (Advances i) old
+quiet_permitted i old h s at = h (terms_with old (own s)) s at
 
 pub attempt_made : (i : ℕ) (old new : Whole) → TriesLock true i old new → IsMade Nothing (Attempts i) old new
 attempt_made i old new h s at = let q = h (terms_with old (own s)) s at in (q.0, q.1)

@@ -1,11 +1,10 @@
 -- What is true of each machine stays so by an event.
-use Rattle.std.proofs.Common.{◌≡◌, ℕ, ◌<◌, length, List, Option, Some, None, Bool, true, false, ◌&&◌, not, sym, refl, ap, ap₂, ◌∙◌, subst}
-use Rattle.std.proofs.lemmas.Bool.{and_parts, false≢true, true≢false}
-use Rattle.input_log.specs.declared.log.Header.{Header}
+use Rattle.std.proofs.Common.{◌≡◌, ℕ, length, List, Option, Bool, true, false, sym, refl, ap, ◌∙◌, subst}
+use Rattle.std.proofs.lemmas.Bool.{false≢true, true≢false}
 use Rattle.lock_machine.specs.Refusals.{goes_outside, has_answer, is_blocked, is_outside, phase_at, works}
-use Rattle.lock_machine.specs.Conditions.{setup_under, start_under}
-use Rattle.lock_machine.specs.Shows.{PhaseShows, Shows}
-use Rattle.lock_machine.specs.Whole.{Whole, thread_at}
+use Rattle.lock_machine.specs.Conditions.{start_under}
+use Rattle.lock_machine.specs.Shows.{PhaseShows}
+use Rattle.lock_machine.specs.Whole.{Whole, settings_in, thread_at}
 use Rattle.lock_machine.specs.Threads.{Thread}
 use Rattle.lock_machine.specs.declared.thread.Phase.{Phase}
 use Rattle.lock_machine.specs.declared.thread.Phase.TheVariants as phase
@@ -17,6 +16,7 @@ use Rattle.lock_model.specs.Runs.{own}
 use Rattle.lock_model.specs.State as lock
 use Rattle.lock_model.specs.State.{Job, Row, State, thread_of}
 use Rattle.lock_model.specs.State.Phase.{Blocked, Ended, Granted, Outside, Recorded, ToOutside, WantsObject, WantsTable, Working}
+use Rattle.logged_machine.specs.DoorsThere.{DoorsThere}
 use Rattle.logged_machine.specs.Kept.{IsKept, header_of}
 use Rattle.logged_machine.specs.Runs.{Coming, IsEnd, setup_with, supply_with, terms_with}
 use Rattle.logged_machine.specs.Shown.{Shown}
@@ -91,29 +91,83 @@ answering_quiet i w h = inside_quiet i w (answering_inside (phase_at w i) h)
 pub blocked_quiet : (i : ℕ) (w : Whole) → is_blocked (phase_at w i) ≡ true → IsQuiet (Advances i) w
 blocked_quiet i w h = inside_quiet i w (blocked_inside (phase_at w i) h)
 
+-- ## Which threads go there
+
+abbrev going_in : lock.Phase → Bool
+going_in (ToOutside job) = true
+going_in p = false
+
+shown_going : (w : Whole) (s : State) (i : ℕ) (t : Thread) (u : lock.Thread) (p : Phase) → PhaseShows (terms_with w (own s)) i s.rows t u p → goes_outside p ≡ false → going_in u.phase ≡ false
+shown_going w s i t u phase.Working h q = ap going_in h
+shown_going w s i t u (phase.WantsTable call turns) h q = ap going_in h
+shown_going w s i t u (phase.WantsObject call turns clock object) h q = ap going_in h.1.0
+shown_going w s i t u (phase.Granted place object ends) h q = ap going_in h.1.0
+shown_going w s i t u (phase.ToOutside o) h q = absurd (true≢false q)
+shown_going w s i t u (phase.Outside o) h q = ap going_in h.1.0
+shown_going w s i t u (phase.Recorded o) h q = ap going_in h.1.0
+shown_going w s i t u (phase.Blocked turns) h q = ap going_in h.1
+shown_going w s i t u phase.Ended h q = ap going_in h
+
+-- no call goes outside in this event, whichever run leads to the machine
+abbrev pub StaysHome : Event → Whole → Type 0
+StaysHome e w = (s : State) → IsEnd w s → (k : ℕ) → e ≡ Advances k → (job : Job) → (thread_of s k).phase ≡ ToOutside job → ⊥
+
+pub attempt_home : (i : ℕ) (w : Whole) → StaysHome (Attempts i) w
+attempt_home i w s h k is job there = true≢false (ap is_attempt is)
+
+inside_home : (i : ℕ) (w : Whole) → goes_outside (phase_at w i) ≡ false → StaysHome (Advances i) w
+inside_home i w inside s h k is job there =
+    let here : (thread_of s i).phase ≡ ToOutside job = subst (λ (n : ℕ). (thread_of s n).phase ≡ ToOutside job) (sym (ap thread_in is)) there in
+    true≢false (ap going_in (sym here) ∙ shown_going w s i (thread_at w i) (thread_of s i) (phase_at w i) (h.1.threads i).phase inside)
+
+working_home_in : (p : Phase) → works p ≡ true → goes_outside p ≡ false
+working_home_in phase.Working h = refl
+working_home_in p h = absurd (false≢true h)
+
+answering_home_in : (p : Phase) → has_answer p ≡ true → goes_outside p ≡ false
+answering_home_in (phase.Granted row object ends) h = refl
+answering_home_in (phase.Recorded o) h = refl
+answering_home_in p h = absurd (false≢true h)
+
+blocked_home_in : (p : Phase) → is_blocked p ≡ true → goes_outside p ≡ false
+blocked_home_in (phase.Blocked turns) h = refl
+blocked_home_in p h = absurd (false≢true h)
+
+pub working_home : (i : ℕ) (w : Whole) → works (phase_at w i) ≡ true → StaysHome (Advances i) w
+working_home i w h = inside_home i w (working_home_in (phase_at w i) h)
+
+pub answering_home : (i : ℕ) (w : Whole) → has_answer (phase_at w i) ≡ true → StaysHome (Advances i) w
+answering_home i w h = inside_home i w (answering_home_in (phase_at w i) h)
+
+pub blocked_home : (i : ℕ) (w : Whole) → is_blocked (phase_at w i) ≡ true → StaysHome (Advances i) w
+blocked_home i w h = inside_home i w (blocked_home_in (phase_at w i) h)
+
 -- ## The header
 
-pub header_stays : (old new : Whole) (c : Coming) (s z : State) → length new.threads ≡ length old.threads → Shows (terms_with old (supply_with c s)) new z → header_of old ≡ header_of new
-header_stays old new c s z count h = λ k. record { threads = sym count k; patience = h.patience k; door_cost = h.door_cost k }
+-- as many threads with the same settings have the same header
+pub header_stays : (old new : Whole) → length new.threads ≡ length old.threads → settings_in new ≡ settings_in old → header_of new ≡ header_of old
+header_stays old new count same = λ k. let settings = same k in record { threads = count k; patience = settings.patience; door_cost = settings.door_cost }
 
 -- ## The event
 
 -- a machine that made an event in which nothing came; its doors may be others
-pub kept_quietly : (D : Type 0) (m : Shown D) (w : Whole) (doors : List (Option D)) (c : Coming) (e : Event) → ArisesByEvent → CameOutside → IsKept D m → length w.threads ≡ length m.whole.threads → IsMade c e m.whole w → IsQuiet e m.whole → length doors ≡ length m.doors
-    → IsKept D (record m { whole = w; doors = doors })
-kept_quietly D m w doors c e arises outside h count made quiet same_doors =
+pub kept_quietly : (D : Type 0) (m : Shown D) (w : Whole) (doors : List (Option D)) (c : Coming) (e : Event) → ArisesByEvent → CameOutside → (h : IsKept D m) → length w.threads ≡ length m.whole.threads → settings_in w ≡ settings_in m.whole → IsMade c e m.whole w → IsQuiet e m.whole → length doors ≡ length m.doors
+    → (let z = happens (setup_with m.whole c h.end) e h.end in IsEnd w z → DoorsThere D z doors) → IsKept D (record m { whole = w; doors = doors })
+kept_quietly D m w doors c e arises outside h count settings made quiet same_doors there =
     let s = h.end in
     let setup = setup_with m.whole c s in
     let shows = (made s h.ends).1 in
     let z = happens setup e s in
+    let behind = ends_at m.whole w (supply_with c s) z count (arises setup (start_under (terms_with m.whole (supply_with c s))) s e h.ends.0) shows in
     record {
       end = z;
-      ends = ends_at m.whole w (supply_with c s) z count (arises setup (start_under (terms_with m.whole (supply_with c s))) s e h.ends.0) shows;
-      header = h.header ∙ header_stays m.whole w c s z count shows;
+      ends = behind;
+      header = h.header ∙ sym (header_stays m.whole w count settings);
       sound = h.sound;
       came = λ i. outside setup s e i (quiet s h.ends i) ∙ h.came i;
       unclosed = h.unclosed;
       failed = h.failed;
       strayed = h.strayed;
       doors = same_doors ∙ h.doors;
+      there = there behind;
     }

@@ -8,3 +8,11 @@ pub mod Going
 pub mod Coming
 pub mod Starting
 pub mod Asking
+pub mod EndsLast
+pub mod Numbered
+pub mod NoNewDoors
+pub mod DoorCalls
+pub mod Naming
+pub mod DoorsHeld
+pub mod DoorEvents
+pub mod DoorsKept

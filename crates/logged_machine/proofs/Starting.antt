@@ -1,12 +1,12 @@
 -- A machine at its start.
-use Rattle.std.proofs.Common.{◌≡◌, ℕ, zero, suc, arith, ◌<◌, ◌≤◌, List, [], length, get_or, replicate, Option, None, true, sym, refl, ap, ◌∙◌, subst, ⊎_elim}
+use Rattle.std.proofs.Common.{◌≡◌, ℕ, zero, suc, arith, ◌<◌, ◌≤◌, [], get_or, replicate, Option, None, true, sym, refl, ap, subst, ⊎_elim}
 use Rattle.std.proofs.lemmas.Bool.{cases_lt}
 use Rattle.std.proofs.lemmas.List.{append-nil, get_or_past, length-replicate}
 use Rattle.input_log.specs.Format.{header_text}
 use Rattle.input_log.specs.Grammar.{in_range}
 use Rattle.input_log.specs.Writing.{IsSound, begun}
 use Rattle.input_log.specs.declared.log.Header.{Header}
-use Rattle.lock_machine.specs.Conditions.{Conditions, setup_under, start_under}
+use Rattle.lock_machine.specs.Conditions.{Conditions, setup_under}
 use Rattle.lock_machine.specs.Shows.{StandsAt}
 use Rattle.lock_machine.specs.Starting.{ShowsAtStart, first_thread, first_whole}
 use Rattle.lock_model.specs.Laws.{ArisesAtStart}
@@ -17,12 +17,11 @@ use Rattle.lock_model.specs.State as lock
 use Rattle.lock_model.specs.State.{State, nobody, thread_of}
 use Rattle.lock_model.specs.State.Phase.{Working}
 use Rattle.posix_terms.specs.declared.limits.TheConstants.Limits as limit
-use Rattle.posix_terms.specs.declared.outcome.Given.{Given}
 use Rattle.posix_terms.specs.declared.transcript.Settings.{Settings}
 use Rattle.logged_machine.specs.Kept.{IsKept, header_of}
-use Rattle.logged_machine.specs.Runs.{IsEnd, terms_with}
-use Rattle.logged_machine.specs.Shown.{Shown}
+use Rattle.logged_machine.specs.Runs.{IsEnd}
 use Rattle.logged_machine.specs.Starting.{first_shown, header_for}
+use Rattle.logged_machine.proofs.DoorsKept.{first_doors}
 
 abbrev new_thread : lock.Thread
 new_thread = record { phase = Working; clock = 1; asked = []; replies = []; came = [] }
@@ -65,4 +64,5 @@ first_kept D settings n arises shows range =
       failed = refl;
       strayed = refl;
       doors = let none : Option D = None in length-replicate limit.OBJECTS none;
+      there = first_doors D n;
     }

@@ -1,5 +1,5 @@
 -- When what a machine shows is the beginning of the plain run.
-use Rattle.std.specs.Prelude.{◌≡◌, ℕ, ◌<◌, List, [], ◌∷◌, length, map, Option, false, is_none}
+use Rattle.std.specs.Prelude.{◌≡◌, ℕ, ◌<◌, List, [], ◌∷◌, length, map, false, is_none}
 use Rattle.lock_machine.specs.Conditions.{setup_under, start_under}
 use Rattle.lock_machine.specs.Whole.{Whole, thread_at}
 use Rattle.lock_machine.specs.declared.thread.Phase.TheVariants as phase
@@ -9,7 +9,7 @@ use Rattle.lock_model.specs.Rows.{shown}
 use Rattle.lock_model.specs.Schedule.{EndsIn}
 use Rattle.lock_model.specs.State.{State, thread_of}
 use Rattle.posix_terms.specs.declared.transcript.HistoryRow.{HistoryRow}
-use Rattle.logged_machine.specs.History.{outcomes_in, rows_of, transcript_of}
+use Rattle.logged_machine.specs.History.{answers_in, outcomes_in, rows_of, transcript_of}
 use Rattle.logged_machine.specs.Records.{outcomes_of}
 use Rattle.logged_machine.specs.Runs.{terms_with}
 use Rattle.logged_machine.specs.Shown.{Shown}
@@ -35,15 +35,24 @@ steps_and_records m = record { next = λ i. let t = thread_at m.whole i in liste
 abbrev pub HaveEnded : Whole → Type 0
 HaveEnded w = (i : ℕ) → i < length w.threads → (let t = thread_at w i in t.phase) ≡ phase.Ended
 
+-- what the machine shows is all that last has
+pub record IsAllOf (D : Type 0) (m : Shown D) (last : State) : Type 0 where
+  pub rows : m.whole.rows ≡ map shown last.rows
+  pub steps : (i : ℕ) → (let t = thread_at m.whole i in t.asked) ≡ (thread_of last i).asked
+  pub outcomes : (i : ℕ) → outcomes_in i m.whole.rows ≡ outcomes_in i (map shown last.rows)
+  pub answers : (i : ℕ) → answers_in i m.whole.rows ≡ answers_in i (map shown last.rows)
+  pub transcripts : (i : ℕ) → transcript_of i m.whole.rows ≡ transcript_of i (map shown last.rows)
+
 -- last is where the plain run ends of just those steps, under just those outcomes, and what the machine shows is a beginning of what that has
 pub record BeginsPlainRun (D : Type 0) (m : Shown D) : Type 0 where
   pub last : State
   pub ends : EndsIn (setup_under (terms_with m.whole (steps_and_records m))) (start_under (terms_with m.whole (steps_and_records m))) last
-  -- the rows of all threads together, and those of each; its steps, its outcomes and its transcript
+  -- the rows of all threads together, and those of each; its steps, its outcomes, its answers and its transcript
   pub together : IsBeginning m.whole.rows (map shown last.rows)
   pub rows : (i : ℕ) → IsBeginning (rows_of i m.whole.rows) (rows_of i (map shown last.rows))
   pub steps : (i : ℕ) → IsPrefixOf (let t = thread_at m.whole i in t.asked) (thread_of last i).asked
   pub outcomes : (i : ℕ) → IsPrefixOf (outcomes_in i m.whole.rows) (outcomes_in i (map shown last.rows))
+  pub answers : (i : ℕ) → IsPrefixOf (answers_in i m.whole.rows) (answers_in i (map shown last.rows))
   pub transcripts : (i : ℕ) → IsPrefixOf (transcript_of i m.whole.rows) (transcript_of i (map shown last.rows))
   -- and where all threads have ended, all of it
-  pub whole : HaveEnded m.whole → m.whole.rows ≡ map shown last.rows
+  pub whole : HaveEnded m.whole → IsAllOf D m last

@@ -1,5 +1,5 @@
 -- The doors of a machine, by object number.
-use Rattle.std.specs.Prelude.{ℕ, Bool, true, false, not, ◌&&◌, List, Option, Some, None, get_or, set, Result, Ok, Err}
+use Rattle.std.specs.Prelude.{◌≡◌, ℕ, Bool, true, false, not, ◌&&◌, List, Option, Some, None, is_some, get_or, set, Result, Ok, Err}
 use Rattle.descriptor_table.specs.declared.plan.Errand.{Errand}
 use Rattle.lock_machine.specs.declared.thread.Outing.{Outing}
 use Rattle.lock_machine.specs.declared.thread.Phase.{Phase}
@@ -46,6 +46,11 @@ brings_back out.Shutdown = true
 brings_back out.Accept = true
 brings_back k = false
 
+-- those for which one goes out: a door that is closed does not come back
+abbrev pub takes_along : OutKind → Bool
+takes_along out.Close = true
+takes_along k = brings_back k
+
 abbrev pub just_where : Bool → Bool → Bool
 just_where true b = b
 just_where false b = not b
@@ -65,6 +70,11 @@ is_answer p outcome old new = true
 abbrev pub taken_along : Phase → Option ℕ
 taken_along (phase.ToOutside o) = o.errand.door
 taken_along p = None
+
+-- a door goes out just where the request is of a kind for which one does
+abbrev pub GoesAlong : {D : Type 0} → Option D → Phase → Type 0
+GoesAlong door (phase.ToOutside o) = is_some door ≡ takes_along o.errand.kind
+GoesAlong door p = Unit {0}
 
 -- where it goes
 abbrev pub without_if : {A B D : Type 0} → Result A B → Option ℕ → List (Option D) → List (Option D)

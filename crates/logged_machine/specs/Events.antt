@@ -1,5 +1,5 @@
 -- When a machine refuses an event, and what it makes of one.
-use Rattle.std.specs.Prelude.{◌≡◌, ℕ, Bool, true, false, List, Option, Some, None, Result, Ok, Err, length}
+use Rattle.std.specs.Prelude.{◌≡◌, ℕ, Bool, true, false, Option, Some, None, Result, Ok, Err}
 use Rattle.input_log.specs.Format.{record_text}
 use Rattle.input_log.specs.Writing.{FailsInside, with_record}
 use Rattle.lock_machine.specs.declared.refused.Refused as calls
@@ -18,11 +18,10 @@ use Rattle.object_store.specs.Errands.{door_taken}
 use Rattle.input_log.specs.declared.log.Record.{Record}
 use Rattle.posix_terms.specs.declared.reply.Answer.{Answer}
 use Rattle.lock_machine.specs.declared.thread.Outing.{Outing}
-use Rattle.posix_terms.specs.declared.outcome.Given.{Given}
 use Rattle.posix_terms.specs.declared.outcome.Outcome.{Outcome}
 use Rattle.logged_machine.specs.Doors.{doors_after}
 use Rattle.logged_machine.specs.Records.{record_of}
-use Rattle.logged_machine.specs.Runs.{Coming, Grows, IsEnd, IsForbidden, setup_with}
+use Rattle.logged_machine.specs.Runs.{Coming, Grows, IsEnd, IsForbidden, IsPermitted, setup_with}
 use Rattle.logged_machine.specs.Runs.Coming.{Brings, Nothing}
 use Rattle.logged_machine.specs.Shown.{Shown}
 use Rattle.logged_machine.specs.declared.refused.NotRecorded.{NotRecorded}
@@ -37,6 +36,11 @@ refusal_of calls_refused.WrongPhase = refused.WrongPhase
 refusal_of calls_refused.ClockFull = refused.ClockFull
 refusal_of calls_refused.Memory = refused.Memory
 
+-- what the lock machine answers, as the machine tells it
+abbrev pub told_of : {A : Type 0} → Result A calls.Refused → Result A Refused
+told_of (Ok a) = Ok a
+told_of (Err e) = Err (refusal_of e)
+
 -- whether a machine is stopped
 abbrev pub IsRunning : Result (Unit {0}) Refused → Option Stop → Type 0
 IsRunning (Ok done) o = o ≡ None
@@ -50,7 +54,7 @@ Comes right c e (Ok a) old new = (old.stop ≡ None) × (right ≡ true) × Grow
 Comes right c e (Err (refused.Stopped cause)) old new = (old.stop ≡ Some cause) × (new ≡ old)
 Comes right c e (Err refused.WrongPhase) old new = (old.stop ≡ None) × (right ≡ false) × (new ≡ old)
 Comes right c e (Err refused.ClockFull) old new = (old.stop ≡ None) × (right ≡ true) × IsForbidden c e old.whole × (new ≡ old)
-Comes right c e (Err refused.Memory) old new = (old.stop ≡ None) × (new ≡ old)
+Comes right c e (Err refused.Memory) old new = (old.stop ≡ None) × (right ≡ true) × IsPermitted c e old.whole × (new ≡ old)
 Comes right c e (Err refused.Sink) old new = ⊥
 
 -- an event that wants no memory is not refused for the lack of it

@@ -1,10 +1,11 @@
 -- What is true of each machine at any time.
-use Rattle.std.specs.Prelude.{◌≡◌, ℕ, Bool, true, false, List, length, Option, Some, None, if◌then◌else◌}
+use Rattle.std.specs.Prelude.{◌≡◌, ℕ, Bool, true, false, length, Option, Some, if◌then◌else◌}
 use Rattle.input_log.specs.Writing.{IsSound}
 use Rattle.input_log.specs.declared.log.Header.{Header}
 use Rattle.lock_machine.specs.Whole.{Whole}
 use Rattle.lock_model.specs.State.{State, thread_of}
 use Rattle.posix_terms.specs.declared.limits.TheConstants.Limits as limit
+use Rattle.logged_machine.specs.DoorsThere.{DoorsThere}
 use Rattle.logged_machine.specs.Records.{outcomes_of}
 use Rattle.logged_machine.specs.Runs.{IsEnd}
 use Rattle.logged_machine.specs.Shown.{Shown}
@@ -28,7 +29,7 @@ pub record StopsFor (failures : ℕ) (stopped : Option Stop) : Type 0 where
   pub strayed : is_strayed stopped ≡ false
 
 -- a run leads to it, whose outcomes are by thread those that its log has; the log's writer failed just where that was why the machine was
--- stopped, and no machine itself finds that threads strayed
+-- stopped, and no machine itself finds that threads strayed; and each door is where it belongs
 pub record IsKept (D : Type 0) (m : Shown D) : Type 0 where
   pub end : State
   pub ends : IsEnd m.whole end
@@ -39,3 +40,4 @@ pub record IsKept (D : Type 0) (m : Shown D) : Type 0 where
   pub failed : m.log.failed ≡ is_sink m.stop
   pub strayed : is_strayed m.stop ≡ false
   pub doors : length m.doors ≡ limit.OBJECTS
+  pub there : DoorsThere D end m.doors

@@ -1,6 +1,7 @@
 pub mod Shown
 pub mod Runs
 pub mod Records
+pub mod DoorsThere
 pub mod Kept
 pub mod Doors
 pub mod Events
@@ -8,5 +9,6 @@ pub mod Starting
 pub mod History
 pub mod Covered
 pub mod Begins
+pub mod Faithful
 pub mod Finishing
 pub mod Requests

@@ -1,18 +1,14 @@
 -- The runs that lead to a machine, and how they grow.
-use Rattle.std.specs.Prelude.{◌≡◌, ℕ, List, [], ◌∷◌, ◌++◌, length, Some, Bool, true, false}
+use Rattle.std.specs.Prelude.{◌≡◌, [], ◌∷◌, ◌++◌, length, Some, true, false}
 use Rattle.lock_machine.specs.Conditions.{Conditions, setup_under}
 use Rattle.lock_machine.specs.Shows.{StandsAt}
-use Rattle.lock_machine.specs.Whole.{Whole}
+use Rattle.lock_machine.specs.Whole.{Whole, settings_in}
 use Rattle.lock_model.specs.Machine.{Event, Setup, happens, is_allowed}
 use Rattle.lock_model.specs.Programs.{Supply}
 use Rattle.lock_model.specs.Runs.{own}
 use Rattle.lock_model.specs.State.{State, thread_of}
 use Rattle.posix_terms.specs.declared.outcome.Given.{Given}
-use Rattle.posix_terms.specs.declared.transcript.Settings.{Settings}
 use Rattle.thread_scripts.specs.declared.actor.Step.{Step}
-
-abbrev pub settings_in : Whole → Settings
-settings_in w = record { patience = w.patience; door_cost = w.door_cost }
 
 -- its threads and settings, and where what comes next is from
 abbrev pub terms_with : Whole → Supply → Conditions
@@ -44,3 +40,7 @@ Grows c e old new = (s : State) → IsEnd old s → (is_allowed (setup_with old 
 -- whatever run leads to the machine: at its end a number forbids this event
 abbrev pub IsForbidden : Coming → Event → Whole → Type 0
 IsForbidden c e w = (s : State) → IsEnd w s → is_allowed (setup_with w c s) e s ≡ false
+
+-- whatever run leads to the machine: at its end no number forbids it
+abbrev pub IsPermitted : Coming → Event → Whole → Type 0
+IsPermitted c e w = (s : State) → IsEnd w s → is_allowed (setup_with w c s) e s ≡ true

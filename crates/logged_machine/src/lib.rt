@@ -9,10 +9,12 @@ mod history;
 mod machine;
 mod outside;
 mod refused;
+mod settings;
 mod stop;
 
 pub use finish::Finished;
 pub use lock_machine::{Attempt, Left, Outing, Phase};
 pub use machine::Machine;
 pub use refused::{NotRecorded, Refused};
+pub use settings::are_in_range;
 pub use stop::Stop;

@@ -2,15 +2,18 @@ ghost use Rattle.std.specs.Prelude.{◌≡◌, ◌<◌, ◌≤◌, true, IfOk, I
 ghost use Rattle.input_log.specs.Grammar.{in_range};
 ghost use Rattle.input_log.specs.Writing.{begun};
 ghost use Rattle.logical_clocks.specs.TurnOrder.{has_turn, turn_holder};
+ghost use Rattle.lock_machine.specs.Phases.{ShowsPhase};
 ghost use Rattle.lock_machine.specs.Views.{clocks_of};
 ghost use Rattle.lock_machine.specs.Whole.{thread_at};
+ghost use Rattle.lock_model.specs.State.{State, live_clocks, thread_of};
 ghost use Rattle.posix_terms.specs.declared.limits.TheConstants.Limits as limit;
 ghost use Rattle.logged_machine.specs.Kept.{StopsFor};
+ghost use Rattle.logged_machine.specs.Runs.{IsEnd};
 ghost use Rattle.logged_machine.specs.Starting.{first_shown, header_for};
 
 use crate::stop::Stop;
 use input_log::{LogSink, LogWriter};
-use lock_machine::{LockMachine, Phase, machines_begin};
+use lock_machine::{LockMachine, Phase, machines_show};
 use lock_model::arising_states;
 use posix_terms::{HistoryRow, Limits, Settings};
 use std::alloc::{AllocError, Global};
@@ -61,7 +64,7 @@ impl<S: LogSink, D: Drop> Machine<S, D> {
         ensures back { IfErr result (λ writer. writer ≡ log) }
     {
         arising_states();
-        machines_begin();
+        machines_show();
         match (LockMachine::new(alloc, threads, settings), no_doors(alloc)) {
             (Ok(calls), Ok(doors)) => Ok(Machine {
                 calls,
@@ -81,26 +84,33 @@ impl<S: LogSink, D: Drop> Machine<S, D> {
         self.stop
     }
 
-    /// How many threads there are.
+    /// How many threads there are: 1 to 8.
     pub fn len(&self) -> usize
-        ensures { result ≡ length self.now.whole.threads }
+        ensures count { result ≡ length self.now.whole.threads }
+        ensures some { 1 ≤ result }
+        ensures within_limit { result ≤ limit.THREADS }
     {
         self.calls.len()
     }
 
-    /// Where thread i is between its events.
+    /// Where thread i is between its events. Whichever run leads to the machine, this shows the phase that the thread has at its end (`shown`).
     pub fn phase(&self, i: usize) -> &Phase
         requires { i < length self.now.whole.threads }
-        ensures { result.now ≡ (thread_at self.now.whole i).phase }
+        ensures phase { result.now ≡ (thread_at self.now.whole i).phase }
+        ensures shown { (s : State) → IsEnd self.now.whole s → ShowsPhase result.now (thread_of s i).phase }
     {
+        machines_show();
         self.calls.phase(i)
     }
 
-    /// Whether thread i has the turn. An attempt without it is refused.
+    /// Whether thread i has the turn. An attempt without it is refused. It is the turn of the definition, at the end of whichever run leads to the
+    /// machine (`shown`).
     pub fn has_turn(&self, i: usize) -> bool
         requires { i < length self.now.whole.threads }
-        ensures { result ≡ has_turn (clocks_of self.now.whole.threads) i }
+        ensures turn { result ≡ has_turn (clocks_of self.now.whole.threads) i }
+        ensures shown { (s : State) → IsEnd self.now.whole s → result ≡ has_turn (live_clocks s) i }
     {
+        machines_show();
         self.calls.has_turn(i)
     }
 
@@ -108,7 +118,9 @@ impl<S: LogSink, D: Drop> Machine<S, D> {
     pub fn turn_holder(&self) -> Option<usize>
         ensures holder { result ≡ turn_holder (clocks_of self.now.whole.threads) }
         ensures inside { IfSome result (λ i. i < length self.now.whole.threads) }
+        ensures shown { (s : State) → IsEnd self.now.whole s → result ≡ turn_holder (live_clocks s) }
     {
+        machines_show();
         self.calls.turn_holder()
     }
 }

@@ -26,15 +26,14 @@ pub enum Refused {
     Sink,
 }
 
-impl From<LockRefused> for Refused {
-    ghost from_gives = { λ r e. e ≡ refusal_of r };
-
-    fn from(refused: LockRefused) -> Refused {
-        match refused {
-            LockRefused::WrongPhase => Refused::WrongPhase,
-            LockRefused::ClockFull => Refused::ClockFull,
-            LockRefused::Memory => Refused::Memory,
-        }
+// A refusal of the lock machine.
+pub fn refusal_of(refused: LockRefused) -> Refused
+    ensures { result ≡ refusal_of refused }
+{
+    match refused {
+        LockRefused::WrongPhase => Refused::WrongPhase,
+        LockRefused::ClockFull => Refused::ClockFull,
+        LockRefused::Memory => Refused::Memory,
     }
 }
 

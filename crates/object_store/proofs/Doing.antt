@@ -50,9 +50,6 @@ use Rattle.descriptor_table.proofs.SoundLemmas.{known_at}
 use Rattle.lock_model.specs.Terms.{World}
 use Rattle.object_store.specs.Acting.{held_by, offset_of_key}
 use Rattle.object_store.specs.Bodies.{Kept, first_kept, kept_as, keeping}
-use Rattle.object_store.specs.Patience.{shown_ending}
-use Rattle.object_store.specs.declared.patience.Ending.{Ending}
-use Rattle.object_store.specs.declared.patience.Ending.TheVariants as ending
 use Rattle.object_store.specs.Store.{EndsTurn, IsPlanned, Replies, Stands, Stored, TableMade, kept_at}
 use Rattle.object_store.proofs.Numbering.{lowest_is_free}
 use Rattle.object_store.proofs.Shapes.{IsMaking, planned_fits, suits}
@@ -242,10 +239,10 @@ released_is h w c node settings carried st planned_is =
 
 -- ## How turns end
 
-abbrev Turns : Settings → World → Carried → Stepped → acts.Ending → Type 0
+abbrev Turns : Settings → World → Carried → Stepped → Option Reply → Type 0
 Turns settings w carried stepped e = (stepped.answer, stepped.carried) ≡ ended settings w.object carried e
 
-turn_ends : (h : Stored) (w : World) (node : ℕ) (act : Op) (settings : Settings) (carried : Carried) (done : Acted) (stepped : Stepped) (e : acts.Ending) → IsActed h.table node act done (ended settings w.object carried done.ending) stepped → e ≡ done.ending → Turns settings w carried stepped e
+turn_ends : (h : Stored) (w : World) (node : ℕ) (act : Op) (settings : Settings) (carried : Carried) (done : Acted) (stepped : Stepped) (e : Option Reply) → IsActed h.table node act done (ended settings w.object carried done.ending) stepped → e ≡ done.ending → Turns settings w carried stepped e
 turn_ends h w node act settings carried done _ e now same =
     ap₂ (λ (a : Answer) (b : Carried). (a, b)) now.answer_is now.carried_is ∙ ap (ended settings w.object carried) (sym same)
 
@@ -270,12 +267,12 @@ carries_nothing settings s (Some (result.Fail e)) carried (Ok (Asks a)) r is = b
 carries_nothing settings s None carried (Ok (Asks a)) r is = refl
 carries_nothing settings s outcome carried (Err e) r is = refl
 
-pub replies_end : (old : Stored) (c : Call) (r : Reply) (new : Stored) → Replies old c r new → EndsTurn old c (ending.Reply r) new
+pub replies_end : (old : Stored) (c : Call) (r : Reply) (new : Stored) → Replies old c r new → EndsTurn old c (Some r) new
 replies_end old c r new replies settings w carried st =
     let now = replies settings w carried st in
     (ap₂ (λ (a : Answer) (b : Carried). (a, b)) now.0 (carries_nothing settings w.object None carried (effect_of w.object c carried) r now.0), now.1)
 
-pub ends_reply : (old : Stored) (c : Call) (r : Reply) (new : Stored) → EndsTurn old c (ending.Reply r) new → Replies old c r new
+pub ends_reply : (old : Stored) (c : Call) (r : Reply) (new : Stored) → EndsTurn old c (Some r) new → Replies old c r new
 ends_reply old c r new ends settings w carried st = let now = ends settings w carried st in (ap (λ (p : Answer × Carried). p.0) now.0, now.1)
 
 -- ## Calls that the table answers
@@ -315,9 +312,9 @@ pub known_of : (h : Stored) (w : World) (c : Call) (node : ℕ) (act : Op) (keep
 known_of h w c node act keep st is = subst (LocksKnown h.table (read_count c)) is (known-planned h.table c st.sound)
 
 -- the table was changed, and the object
-pub made_ends : (h : Stored) (c : Call) (node : ℕ) (act : Op) (u : TableState) (given : NewNumbers) (bodies : List Kept) (e : Ending) → Rests act → IsKind act → IsPlanned h c node act → TableMade h c None u → TellsAsStep h.table c None given
+pub made_ends : (h : Stored) (c : Call) (node : ℕ) (act : Op) (u : TableState) (given : NewNumbers) (bodies : List Kept) (e : Option Reply) → Rests act → IsKind act → IsPlanned h c node act → TableMade h c None u → TellsAsStep h.table c None given
     → let done = acted h.table node act c None given (held_for act (kept_at h node)) (offset_in h act) in
-    shown_ending e ≡ done.ending → Rewrites h node done.content bodies → EndsTurn h c e (record { table = u; bodies = bodies })
+    e ≡ done.ending → Rewrites h node done.content bodies → EndsTurn h c e (record { table = u; bodies = bodies })
 made_ends h c node act u given bodies e rests kind (keep, is) made tells same rewrites settings w carried st =
     let stepped = step settings w.object c None carried in
     let told : numbers_told c stepped.answer ≡ given = sym (tells settings w.object None carried (λ keeps. refl) st.shows) in
@@ -325,17 +322,17 @@ made_ends h c node act u given bodies e rests kind (keep, is) made tells same re
     let now : P given = subst P told (acted_kind h w c node act settings carried st (keep, is) kind) in
     let done = acted h.table node act c None given (held_for act (kept_at h node)) (offset_in h act) in
     let leaves = subst (λ (p : Plan). Leaves h.table u p w.object stepped.after) is (made_leaves h w c None u settings carried st made) in
-    (turn_ends h w node act settings carried done stepped (shown_ending e) now same, still_stands h w st u node act keep stepped.after leaves (known_of h w c node act keep st is).0 done.content now.content_is bodies rewrites (rests_still h.table node act keep rests))
+    (turn_ends h w node act settings carried done stepped e now same, still_stands h w st u node act keep stepped.after leaves (known_of h w c node act keep st is).0 done.content now.content_is bodies rewrites (rests_still h.table node act keep rests))
 
 -- the object alone was changed
-pub stays_ends : (h : Stored) (c : Call) (node : ℕ) (act : Op) (bodies : List Kept) (done : Acted) (e : Ending) → Rests act → IsKind act → IsPlanned h c node act → Changes h.table c None h.table → ((given : NewNumbers) → acted h.table node act c None given (held_for act (kept_at h node)) (offset_in h act) ≡ done)
-    → shown_ending e ≡ done.ending → Rewrites h node done.content bodies → EndsTurn h c e (record h { bodies = bodies })
+pub stays_ends : (h : Stored) (c : Call) (node : ℕ) (act : Op) (bodies : List Kept) (done : Acted) (e : Option Reply) → Rests act → IsKind act → IsPlanned h c node act → Changes h.table c None h.table → ((given : NewNumbers) → acted h.table node act c None given (held_for act (kept_at h node)) (offset_in h act) ≡ done)
+    → e ≡ done.ending → Rewrites h node done.content bodies → EndsTurn h c e (record h { bodies = bodies })
 stays_ends h c node act bodies done e rests kind (keep, is) same done_is ends rewrites settings w carried st =
     let stepped = step settings w.object c None carried in
     let P : Acted → Type 0 = λ d. IsActed h.table node act d (ended settings w.object carried d.ending) stepped in
     let now : P done = subst P (done_is (numbers_told c stepped.answer)) (acted_kind h w c node act settings carried st (keep, is) kind) in
     let leaves = subst (λ (p : Plan). Leaves h.table h.table p w.object stepped.after) is (stays_leaves h w c settings carried st same) in
-    (turn_ends h w node act settings carried done stepped (shown_ending e) now ends, still_stands h w st h.table node act keep stepped.after leaves (known_of h w c node act keep st is).0 done.content now.content_is bodies rewrites (rests_still h.table node act keep rests))
+    (turn_ends h w node act settings carried done stepped e now ends, still_stands h w st h.table node act keep stepped.after leaves (known_of h w c node act keep st is).0 done.content now.content_is bodies rewrites (rests_still h.table node act keep rests))
 
 -- the key whose offset an act moves
 pub data Moves : Op → ℕ → Type 0 where
@@ -359,34 +356,34 @@ moves_still t node _ keep _ (ByWrite to) birth apart = apart
 moves_still t node _ keep _ (BySeek from) birth apart = apart
 
 -- the offset is moved
-pub moved_ends : (h : Stored) (c : Call) (node : ℕ) (act : Op) (key : ℕ) (bodies : List Kept) (done : Acted) (e : Ending) → Moves act key → IsKind act → IsPlanned h c node act → Changes h.table c None h.table → ((given : NewNumbers) → acted h.table node act c None given (held_for act (kept_at h node)) (offset_in h act) ≡ done)
-    → shown_ending e ≡ done.ending → Rewrites h node done.content bodies → EndsTurn h c e (record { table = record h.table { descriptions = with_offset h.table.descriptions key done.offset }; bodies = bodies })
+pub moved_ends : (h : Stored) (c : Call) (node : ℕ) (act : Op) (key : ℕ) (bodies : List Kept) (done : Acted) (e : Option Reply) → Moves act key → IsKind act → IsPlanned h c node act → Changes h.table c None h.table → ((given : NewNumbers) → acted h.table node act c None given (held_for act (kept_at h node)) (offset_in h act) ≡ done)
+    → e ≡ done.ending → Rewrites h node done.content bodies → EndsTurn h c e (record { table = record h.table { descriptions = with_offset h.table.descriptions key done.offset }; bodies = bodies })
 moved_ends h c node act key bodies done e moves kind (keep, is) same done_is ends rewrites settings w carried st =
     let stepped = step settings w.object c None carried in
     let P : Acted → Type 0 = λ d. IsActed h.table node act d (ended settings w.object carried d.ending) stepped in
     let now : P done = subst P (done_is (numbers_told c stepped.answer)) (acted_kind h w c node act settings carried st (keep, is) kind) in
     let leaves = subst (λ (p : Plan). Leaves h.table h.table p w.object stepped.after) is (stays_leaves h w c settings carried st same) in
     let known = known_of h w c node act keep st is in (
-      turn_ends h w node act settings carried done stepped (shown_ending e) now ends,
+      turn_ends h w node act settings carried done stepped e now ends,
       moved_stands h w st h.table node act keep stepped.after leaves known.0 done.content now.content_is bodies rewrites refl key done.offset (moves_known h.table (read_count c) act key moves known.1) (moves_at h.table stepped.after act key done.offset moves now.offset_is) (moves_still h.table node act keep key moves),
     )
 
 -- the offset is left where it was
-pub rested_ends : (h : Stored) (c : Call) (node : ℕ) (act : Op) (key : ℕ) (bodies : List Kept) (done : Acted) (e : Ending) → Moves act key → IsKind act → IsPlanned h c node act → Changes h.table c None h.table → ((given : NewNumbers) → acted h.table node act c None given (held_for act (kept_at h node)) (offset_in h act) ≡ done)
-    → done.offset ≡ offset_of_key h key → shown_ending e ≡ done.ending → Rewrites h node done.content bodies → EndsTurn h c e (record h { bodies = bodies })
+pub rested_ends : (h : Stored) (c : Call) (node : ℕ) (act : Op) (key : ℕ) (bodies : List Kept) (done : Acted) (e : Option Reply) → Moves act key → IsKind act → IsPlanned h c node act → Changes h.table c None h.table → ((given : NewNumbers) → acted h.table node act c None given (held_for act (kept_at h node)) (offset_in h act) ≡ done)
+    → done.offset ≡ offset_of_key h key → e ≡ done.ending → Rewrites h node done.content bodies → EndsTurn h c e (record h { bodies = bodies })
 rested_ends h c node act key bodies done e moves kind (keep, is) same done_is rests ends rewrites settings w carried st =
     let stepped = step settings w.object c None carried in
     let P : Acted → Type 0 = λ d. IsActed h.table node act d (ended settings w.object carried d.ending) stepped in
     let now : P done = subst P (done_is (numbers_told c stepped.answer)) (acted_kind h w c node act settings carried st (keep, is) kind) in
     let leaves = subst (λ (p : Plan). Leaves h.table h.table p w.object stepped.after) is (stays_leaves h w c settings carried st same) in
     let known = known_of h w c node act keep st is in (
-      turn_ends h w node act settings carried done stepped (shown_ending e) now ends,
+      turn_ends h w node act settings carried done stepped e now ends,
       rested_stands h w st h.table node act keep stepped.after leaves known.0 done.content now.content_is bodies rewrites refl key (moves_known h.table (read_count c) act key moves known.1) (moves_at h.table stepped.after act key done.offset moves now.offset_is ∙ ap (λ (n : ℕ). Some n) rests) (moves_still h.table node act keep key moves),
     )
 
 -- what referred to an object does so no more, and the object holds what it held
 pub released_ends : (h : Stored) (c : Call) (node : ℕ) (u : TableState) (r : Reply) → IsPlanned h c node op.Release → TableMade h c None u
-    → ((given : NewNumbers) (content : Content) → let done = acted h.table node op.Release c None given content 0 in (done.ending ≡ acts.Replies r) × (done.content ≡ content)) → Replies h c r (record h { table = u })
+    → ((given : NewNumbers) (content : Content) → let done = acted h.table node op.Release c None given content 0 in (done.ending ≡ Some r) × (done.content ≡ content)) → Replies h c r (record h { table = u })
 released_ends h c node u r (keep, is) made done_is settings w carried st =
     let stepped = step settings w.object c None carried in
     let content = content_of w.object (birth_at h.table node) in
@@ -395,7 +392,7 @@ released_ends h c node u r (keep, is) made done_is settings w carried st =
     let both = done_is (numbers_told c stepped.answer) content in
     let leaves = subst (λ (p : Plan). Leaves h.table u p w.object stepped.after) is (made_leaves h w c None u settings carried st made) in
     let rewrites : Rewrites h node done.content h.bodies = record { here = subst (λ (x : Content). x ≡ kept_as x (kept_at h node)) (sym both.1) found.0; others = λ k apart. refl } in (
-      ap (λ (p : Answer × Carried). p.0) (turn_ends h w node op.Release settings carried done stepped (acts.Replies r) found.1 (sym both.0)),
+      ap (λ (p : Answer × Carried). p.0) (turn_ends h w node op.Release settings carried done stepped (Some r) found.1 (sym both.0)),
       still_stands h w st u node op.Release keep stepped.after leaves (known_of h w c node op.Release keep st is).0 done.content found.1.content_is h.bodies rewrites (rests_still h.table node op.Release keep tt),
     )
 

@@ -1,5 +1,5 @@
 -- Each act of the store, as the table plans it, makes its call.
-use Rattle.std.proofs.Common.{◌≡◌, ℕ, ◌+◌, ◌<◌, ◌==◌, List, [], length, None, Result, Ok, Err, Bool, true, false, refl, sym, ap, ◌∙◌, subst}
+use Rattle.std.proofs.Common.{◌≡◌, ℕ, ◌+◌, ◌<◌, ◌==◌, List, [], length, None, Result, Ok, Err, Bool, true, false, refl, sym, ap, ◌∙◌, subst, Option, Some}
 use Rattle.std.proofs.lemmas.Bool.{true≢false}
 use Rattle.std.specs.Prelude.{ℤ, ◌+ℤ◌, pos, slice_index_or, slice_set, if◌then◌else◌}
 use Rattle.posix_terms.specs.Ends.{is_end, side_of}
@@ -41,10 +41,8 @@ use Rattle.descriptor_table.proofs.PlanLemmas.{plans-as_step}
 use Rattle.lock_model.specs.RealCalls.{answered_with}
 use Rattle.lock_model.specs.Terms.{World}
 use Rattle.posix_terms.specs.declared.transcript.Settings.{Settings}
-use Rattle.object_store.specs.declared.patience.Ending.{Ending}
-use Rattle.object_store.specs.declared.patience.Ending.TheVariants as ending
-use Rattle.object_store.specs.declared.patience.TurnEnd.{TurnEnd}
-use Rattle.object_store.specs.declared.patience.TurnEnd.TheVariants as end
+use Rattle.lock_model.specs.declared.turn_end.TurnEnd.{TurnEnd}
+use Rattle.lock_model.specs.declared.turn_end.TurnEnd.TheVariants as end
 use Rattle.object_store.specs.declared.patience.TurnStart.TheVariants as start
 use Rattle.object_store.specs.Bodies.{Kept, first_kept, keeping}
 use Rattle.object_store.specs.Patience.{Waits}
@@ -101,11 +99,11 @@ unchanged t _ _ (Accepts descriptor asked waits d) of = absurd of
 still : (h : Stored) (c : Call) (node : ℕ) (act : Op) → IsPlanned h c node act → OfContent act → Changes h.table c None h.table
 still h c node act planned of = unchanged h.table c act (act_of h c node act planned) of
 
-as_is : (h new : Stored) (c : Call) (x e : Ending) (z : Stored) → e ≡ x → new ≡ z → EndsTurn h c x z → EndsTurn h c e new
-as_is h new c x e z answers leaves ends = subst (λ (y : Ending). EndsTurn h c y new) (sym answers) (subst (λ (y : Stored). EndsTurn h c x y) (sym leaves) ends)
+as_is : (h new : Stored) (c : Call) (x e : Option Reply) (z : Stored) → e ≡ x → new ≡ z → EndsTurn h c x z → EndsTurn h c e new
+as_is h new c x e z answers leaves ends = subst (λ (y : Option Reply). EndsTurn h c y new) (sym answers) (subst (λ (y : Stored). EndsTurn h c x y) (sym leaves) ends)
 
-replied_as : (h new : Stored) (c : Call) (x r : Reply) (z : Stored) → r ≡ x → new ≡ z → EndsTurn h c (ending.Reply x) z → Replies h c r new
-replied_as h new c x r z answers leaves ends = ends_reply h c r new (as_is h new c (ending.Reply x) (ending.Reply r) z (ap ending.Reply answers) leaves ends)
+replied_as : (h new : Stored) (c : Call) (x r : Reply) (z : Stored) → r ≡ x → new ≡ z → EndsTurn h c (Some x) z → Replies h c r new
+replied_as h new c x r z answers leaves ends = ends_reply h c r new (as_is h new c (Some x) (Some r) z (ap Some answers) leaves ends)
 
 -- ## Reading
 
@@ -123,7 +121,7 @@ stream_offset t node n from (part.Socket side) k offset its =
     let own = side_of from.«end» in read_offset from (λ left. Pair (with_waiting k.pair own left)) (Pair k.pair) offset (pair_read k.pair own n (is_open t node (part.Socket (peer_of own))))
 stream_offset t node n from (part.Door door) k offset its = refl
 
-read_stream_ends : (h new : Stored) (c : Call) (node n : ℕ) (from : Opened) (which : End) (e : Ending) → IsPlanned h c node (op.Read from n) → node < length h.bodies → from.«end» ≡ which → is_end which part.Only ≡ false
+read_stream_ends : (h new : Stored) (c : Call) (node n : ℕ) (from : Opened) (which : End) (e : Option Reply) → IsPlanned h c node (op.Read from n) → node < length h.bodies → from.«end» ≡ which → is_end which part.Only ≡ false
     → ActsOn (read_acted h.table node from n (held_by which (kept_at h node)) (offset_of_key h from.key)) h node e new → EndsTurn h c e new
 read_stream_ends h new c node n from which e planned inside through its (answers, leaves) =
     let done = read_acted h.table node from n (held_by which (kept_at h node)) (offset_of_key h from.key) in
@@ -132,11 +130,11 @@ read_stream_ends h new c node n from which e planned inside through its (answers
     (λ given. ap (λ (x : End). read_acted h.table node from n (held_by x (kept_at h node)) (offset_of_key h from.key)) through)
     (stream_offset h.table node n from which (kept_at h node) (offset_of_key h from.key) its) answers (bodies_set h node done.content inside))
 
-read_by : (h new : Stored) (c : Call) (node n : ℕ) (from : Opened) (which : End) (e : Ending) → IsPlanned h c node (op.Read from n) → node < length h.bodies → from.«end» ≡ which → HasRead which h node from n e new → EndsTurn h c e new
+read_by : (h new : Stored) (c : Call) (node n : ℕ) (from : Opened) (which : End) (e : Option Reply) → IsPlanned h c node (op.Read from n) → node < length h.bodies → from.«end» ≡ which → HasRead which h node from n e new → EndsTurn h c e new
 read_by h new c node n from part.Only e planned inside through (answers, leaves) =
     let done = read_acted h.table node from n (File (body_at h node)) (offset_of_key h from.key) in
     as_is h new c _ e _ answers leaves
-    (moved_ends h c node (op.Read from n) from.key h.bodies done (ending.Reply (reply.Data (bytes_at (body_at h node) (offset_of_key h from.key) n))) (ByRead from n) tt planned (still h c node (op.Read from n) planned tt)
+    (moved_ends h c node (op.Read from n) from.key h.bodies done (Some (reply.Data (bytes_at (body_at h node) (offset_of_key h from.key) n))) (ByRead from n) tt planned (still h c node (op.Read from n) planned tt)
     (λ given. ap (λ (x : End). read_acted h.table node from n (held_by x (kept_at h node)) (offset_of_key h from.key)) through) refl (bodies_same h node done.content refl))
 read_by h new c node n from part.Read e planned inside through acts_on = read_stream_ends h new c node n from part.Read e planned inside through refl acts_on
 read_by h new c node n from part.Write e planned inside through acts_on = read_stream_ends h new c node n from part.Write e planned inside through refl acts_on
@@ -145,35 +143,35 @@ read_by h new c node n from (part.Socket Side1) e planned inside through acts_on
 read_by h new c node n from (part.Door door) e planned inside through (answers, leaves) =
     let done = read_acted h.table node from n (DoorTo door) (offset_of_key h from.key) in
     as_is h new c _ e _ answers leaves
-    (rested_ends h c node (op.Read from n) from.key h.bodies done (ending.Reply reply.Done) (ByRead from n) tt planned (still h c node (op.Read from n) planned tt)
+    (rested_ends h c node (op.Read from n) from.key h.bodies done (Some reply.Done) (ByRead from n) tt planned (still h c node (op.Read from n) planned tt)
     (λ given. ap (λ (x : End). read_acted h.table node from n (held_by x (kept_at h node)) (offset_of_key h from.key)) through) refl refl (bodies_same h node done.content refl))
 
-pub read_ends : (h new : Stored) (c : Call) (node n : ℕ) (from : Opened) (e : Ending) → IsPlanned h c node (op.Read from n) → node < length h.bodies → HasRead from.«end» h node from n e new → EndsTurn h c e new
+pub read_ends : (h new : Stored) (c : Call) (node n : ℕ) (from : Opened) (e : Option Reply) → IsPlanned h c node (op.Read from n) → node < length h.bodies → HasRead from.«end» h node from n e new → EndsTurn h c e new
 read_ends h new c node n from e planned inside has = read_by h new c node n from from.«end» e planned inside refl has
 
-pub pread_ends : (h : Stored) (c : Call) (node n start : ℕ) (r : Reply) → IsPlanned h c node (op.Pread n start) → r ≡ reply.Data (bytes_at (body_at h node) start n) → EndsTurn h c (ending.Reply r) h
+pub pread_ends : (h : Stored) (c : Call) (node n start : ℕ) (r : Reply) → IsPlanned h c node (op.Pread n start) → r ≡ reply.Data (bytes_at (body_at h node) start n) → EndsTurn h c (Some r) h
 pread_ends h c node n start r planned answers =
     let done = acted h.table node (op.Pread n start) c None numbers.None (File (body_at h node)) 0 in
     let x = reply.Data (bytes_at (body_at h node) start n) in
-    as_is h h c (ending.Reply x) (ending.Reply r) h (ap ending.Reply answers) refl (stays_ends h c node (op.Pread n start) h.bodies done (ending.Reply x) tt tt planned (still h c node (op.Pread n start) planned tt) (λ given. refl) refl (bodies_same h node done.content refl))
+    as_is h h c (Some x) (Some r) h (ap Some answers) refl (stays_ends h c node (op.Pread n start) h.bodies done (Some x) tt tt planned (still h c node (op.Pread n start) planned tt) (λ given. refl) refl (bodies_same h node done.content refl))
 
 pub fstat_makes : (h : Stored) (c : Call) (node links : ℕ) (r : Reply) → IsPlanned h c node (op.Fstat links) → r ≡ reply.Stat kind.File (length (body_at h node)) links → Replies h c r h
 fstat_makes h c node links r planned answers =
     let done = acted h.table node (op.Fstat links) c None numbers.None (File (body_at h node)) 0 in
     let x = reply.Stat kind.File (length (body_at h node)) links in
-    replied_as h h c x r h answers refl (stays_ends h c node (op.Fstat links) h.bodies done (ending.Reply x) tt tt planned (still h c node (op.Fstat links) planned tt) (λ given. refl) refl (bodies_same h node done.content refl))
+    replied_as h h c x r h answers refl (stays_ends h c node (op.Fstat links) h.bodies done (Some x) tt tt planned (still h c node (op.Fstat links) planned tt) (λ given. refl) refl (bodies_same h node done.content refl))
 
 pub ftruncate_makes : (h new : Stored) (c : Call) (node size : ℕ) (r : Reply) → IsPlanned h c node (op.Ftruncate size) → node < length h.bodies → r ≡ reply.Done → new ≡ rewritten h node (resized (body_at h node) size) → Replies h c r new
 ftruncate_makes h new c node size r planned inside answers leaves =
     let done = acted h.table node (op.Ftruncate size) c None numbers.None (File (body_at h node)) 0 in
     replied_as h new c reply.Done r _ answers leaves
-    (stays_ends h c node (op.Ftruncate size) (slice_set h.bodies node (keeping done.content (kept_at h node))) done (ending.Reply reply.Done) tt tt planned (still h c node (op.Ftruncate size) planned tt) (λ given. refl) refl (bodies_set h node done.content inside))
+    (stays_ends h c node (op.Ftruncate size) (slice_set h.bodies node (keeping done.content (kept_at h node))) done (Some reply.Done) tt tt planned (still h c node (op.Ftruncate size) planned tt) (λ given. refl) refl (bodies_set h node done.content inside))
 
 pub shutdown_makes : (h new : Stored) (c : Call) (node : ℕ) (side : Side) (how : ShutdownHow) (r : Reply) → IsPlanned h c node (op.Shutdown side how) → node < length h.bodies → r ≡ reply.Done → new ≡ holding h node (Pair (shut (kept_at h node).pair side how)) → Replies h c r new
 shutdown_makes h new c node side how r planned inside answers leaves =
     let done = acted h.table node (op.Shutdown side how) c None numbers.None (Pair (kept_at h node).pair) 0 in
     replied_as h new c reply.Done r _ answers leaves
-    (stays_ends h c node (op.Shutdown side how) (slice_set h.bodies node (keeping done.content (kept_at h node))) done (ending.Reply reply.Done) tt tt planned (still h c node (op.Shutdown side how) planned tt) (λ given. refl) refl (bodies_set h node done.content inside))
+    (stays_ends h c node (op.Shutdown side how) (slice_set h.bodies node (keeping done.content (kept_at h node))) done (Some reply.Done) tt tt planned (still h c node (op.Shutdown side how) planned tt) (λ given. refl) refl (bodies_set h node done.content inside))
 
 -- ## Writing
 
@@ -196,7 +194,7 @@ write_acts h c descriptor bytes node to which given call_is through =
     ap (λ (x : Call). acted h.table node (op.Write to) x None given (held_by to.«end» (kept_at h node)) (offset_of_key h to.key)) call_is
     ∙ ap (λ (x : End). write_acted h.table node to bytes (held_by x (kept_at h node)) (offset_of_key h to.key)) through
 
-write_stream_ends : (h new : Stored) (c : Call) (descriptor : ℤ) (bytes : List ℕ) (node : ℕ) (to : Opened) (which : End) (e : Ending) → IsPlanned h c node (op.Write to) → c ≡ call.Write descriptor bytes → node < length h.bodies → to.«end» ≡ which → is_end which part.Only ≡ false
+write_stream_ends : (h new : Stored) (c : Call) (descriptor : ℤ) (bytes : List ℕ) (node : ℕ) (to : Opened) (which : End) (e : Option Reply) → IsPlanned h c node (op.Write to) → c ≡ call.Write descriptor bytes → node < length h.bodies → to.«end» ≡ which → is_end which part.Only ≡ false
     → ActsOn (write_acted h.table node to bytes (held_by which (kept_at h node)) (offset_of_key h to.key)) h node e new → EndsTurn h c e new
 write_stream_ends h new c descriptor bytes node to which e planned call_is inside through its (answers, leaves) =
     let done = write_acted h.table node to bytes (held_by which (kept_at h node)) (offset_of_key h to.key) in
@@ -205,30 +203,30 @@ write_stream_ends h new c descriptor bytes node to which e planned call_is insid
     (stream_written_offset h.table node to bytes which (kept_at h node) (offset_of_key h to.key) its) answers (bodies_set h node done.content inside))
 
 -- to a file
-write_none_ends : (h : Stored) (c : Call) (descriptor : ℤ) (bytes : List ℕ) (node : ℕ) (to : Opened) → IsPlanned h c node (op.Write to) → c ≡ call.Write descriptor bytes → to.«end» ≡ part.Only → (length bytes == 0) ≡ true → EndsTurn h c (ending.Reply (reply.Count 0)) h
+write_none_ends : (h : Stored) (c : Call) (descriptor : ℤ) (bytes : List ℕ) (node : ℕ) (to : Opened) → IsPlanned h c node (op.Write to) → c ≡ call.Write descriptor bytes → to.«end» ≡ part.Only → (length bytes == 0) ≡ true → EndsTurn h c (Some (reply.Count 0)) h
 write_none_ends h c descriptor bytes node to planned call_is through none =
     let done : Acted = replied (reply.Count 0) (File (body_at h node)) (offset_of_key h to.key) in
-    rested_ends h c node (op.Write to) to.key h.bodies done (ending.Reply (reply.Count 0)) (ByWrite to) tt planned (still h c node (op.Write to) planned tt) (λ given. write_acts h c descriptor bytes node to part.Only given call_is through ∙ rw none refl) refl refl (bodies_same h node done.content refl)
+    rested_ends h c node (op.Write to) to.key h.bodies done (Some (reply.Count 0)) (ByWrite to) tt planned (still h c node (op.Write to) planned tt) (λ given. write_acts h c descriptor bytes node to part.Only given call_is through ∙ rw none refl) refl refl (bodies_same h node done.content refl)
 
 write_some_ends : (h new : Stored) (c : Call) (descriptor : ℤ) (bytes : List ℕ) (node : ℕ) (to : Opened) (r : Reply) (w : Result (List ℕ × ℕ) Errno) → IsPlanned h c node (op.Write to) → c ≡ call.Write descriptor bytes → to.«end» ≡ part.Only → (length bytes == 0) ≡ false → node < length h.bodies
-    → written (body_at h node) (start_at h to node) bytes ≡ w → Writes w h (λ count. moved h to.key (start_at h to node + count)) node r new → EndsTurn h c (ending.Reply r) new
+    → written (body_at h node) (start_at h to node) bytes ≡ w → Writes w h (λ count. moved h to.key (start_at h to node + count)) node r new → EndsTurn h c (Some r) new
 write_some_ends h new c descriptor bytes node to r (Ok (file, count)) planned call_is through some inside is (answers, leaves) =
     let done : Acted = replied (reply.Count count) (File file) (start_at h to node + count) in
-    as_is h new c (ending.Reply (reply.Count count)) (ending.Reply r) _ (ap ending.Reply answers) leaves
-    (moved_ends h c node (op.Write to) to.key (slice_set h.bodies node (keeping done.content (kept_at h node))) done (ending.Reply (reply.Count count)) (ByWrite to) tt planned (still h c node (op.Write to) planned tt)
+    as_is h new c (Some (reply.Count count)) (Some r) _ (ap Some answers) leaves
+    (moved_ends h c node (op.Write to) to.key (slice_set h.bodies node (keeping done.content (kept_at h node))) done (Some (reply.Count count)) (ByWrite to) tt planned (still h c node (op.Write to) planned tt)
     (λ given. write_acts h c descriptor bytes node to part.Only given call_is through ∙ rw (is, some) refl) refl (bodies_set h node done.content inside))
 write_some_ends h new c descriptor bytes node to r (Err e) planned call_is through some inside is (answers, leaves) =
     let done : Acted = replied (reply.Fail e) (File (body_at h node)) (offset_of_key h to.key) in
-    as_is h new c (ending.Reply (reply.Fail e)) (ending.Reply r) h (ap ending.Reply answers) leaves
-    (rested_ends h c node (op.Write to) to.key h.bodies done (ending.Reply (reply.Fail e)) (ByWrite to) tt planned (still h c node (op.Write to) planned tt)
+    as_is h new c (Some (reply.Fail e)) (Some r) h (ap Some answers) leaves
+    (rested_ends h c node (op.Write to) to.key h.bodies done (Some (reply.Fail e)) (ByWrite to) tt planned (still h c node (op.Write to) planned tt)
     (λ given. write_acts h c descriptor bytes node to part.Only given call_is through ∙ rw (is, some) refl) refl refl (bodies_same h node done.content refl))
 
-write_file_ends : (h new : Stored) (c : Call) (descriptor : ℤ) (bytes : List ℕ) (node : ℕ) (to : Opened) (r : Reply) (b : Bool) → IsPlanned h c node (op.Write to) → c ≡ call.Write descriptor bytes → to.«end» ≡ part.Only → (length bytes == 0) ≡ b → node < length h.bodies → WritesFile b h node to bytes r new → EndsTurn h c (ending.Reply r) new
-write_file_ends h new c descriptor bytes node to r true planned call_is through none inside (answers, leaves) = as_is h new c (ending.Reply (reply.Count 0)) (ending.Reply r) h (ap ending.Reply answers) leaves (write_none_ends h c descriptor bytes node to planned call_is through none)
+write_file_ends : (h new : Stored) (c : Call) (descriptor : ℤ) (bytes : List ℕ) (node : ℕ) (to : Opened) (r : Reply) (b : Bool) → IsPlanned h c node (op.Write to) → c ≡ call.Write descriptor bytes → to.«end» ≡ part.Only → (length bytes == 0) ≡ b → node < length h.bodies → WritesFile b h node to bytes r new → EndsTurn h c (Some r) new
+write_file_ends h new c descriptor bytes node to r true planned call_is through none inside (answers, leaves) = as_is h new c (Some (reply.Count 0)) (Some r) h (ap Some answers) leaves (write_none_ends h c descriptor bytes node to planned call_is through none)
 write_file_ends h new c descriptor bytes node to r false planned call_is through some inside writes = write_some_ends h new c descriptor bytes node to r (written (body_at h node) (start_at h to node) bytes) planned call_is through some inside refl writes
 
-write_by : (h new : Stored) (c : Call) (descriptor : ℤ) (bytes : List ℕ) (node : ℕ) (to : Opened) (which : End) (e : Ending) → IsPlanned h c node (op.Write to) → c ≡ call.Write descriptor bytes → node < length h.bodies → to.«end» ≡ which → HasWritten which h node to bytes e new → EndsTurn h c e new
-write_by h new c descriptor bytes node to part.Only e planned call_is inside through (r, is, writes) = as_is h new c (ending.Reply r) e new is refl (write_file_ends h new c descriptor bytes node to r (length bytes == 0) planned call_is through refl inside writes)
+write_by : (h new : Stored) (c : Call) (descriptor : ℤ) (bytes : List ℕ) (node : ℕ) (to : Opened) (which : End) (e : Option Reply) → IsPlanned h c node (op.Write to) → c ≡ call.Write descriptor bytes → node < length h.bodies → to.«end» ≡ which → HasWritten which h node to bytes e new → EndsTurn h c e new
+write_by h new c descriptor bytes node to part.Only e planned call_is inside through (r, is, writes) = as_is h new c (Some r) e new is refl (write_file_ends h new c descriptor bytes node to r (length bytes == 0) planned call_is through refl inside writes)
 write_by h new c descriptor bytes node to part.Read e planned call_is inside through acts_on = write_stream_ends h new c descriptor bytes node to part.Read e planned call_is inside through refl acts_on
 write_by h new c descriptor bytes node to part.Write e planned call_is inside through acts_on = write_stream_ends h new c descriptor bytes node to part.Write e planned call_is inside through refl acts_on
 write_by h new c descriptor bytes node to (part.Socket Side0) e planned call_is inside through acts_on = write_stream_ends h new c descriptor bytes node to (part.Socket Side0) e planned call_is inside through refl acts_on
@@ -236,26 +234,26 @@ write_by h new c descriptor bytes node to (part.Socket Side1) e planned call_is 
 write_by h new c descriptor bytes node to (part.Door door) e planned call_is inside through (answers, leaves) =
     let done = write_acted h.table node to bytes (DoorTo door) (offset_of_key h to.key) in
     as_is h new c _ e _ answers leaves
-    (rested_ends h c node (op.Write to) to.key h.bodies done (ending.Reply reply.Done) (ByWrite to) tt planned (still h c node (op.Write to) planned tt) (λ given. write_acts h c descriptor bytes node to (part.Door door) given call_is through) refl refl (bodies_same h node done.content refl))
+    (rested_ends h c node (op.Write to) to.key h.bodies done (Some reply.Done) (ByWrite to) tt planned (still h c node (op.Write to) planned tt) (λ given. write_acts h c descriptor bytes node to (part.Door door) given call_is through) refl refl (bodies_same h node done.content refl))
 
-pub write_ends : (h new : Stored) (c : Call) (descriptor : ℤ) (bytes : List ℕ) (node : ℕ) (to : Opened) (e : Ending) → IsPlanned h c node (op.Write to) → c ≡ call.Write descriptor bytes → node < length h.bodies → HasWritten to.«end» h node to bytes e new → EndsTurn h c e new
+pub write_ends : (h new : Stored) (c : Call) (descriptor : ℤ) (bytes : List ℕ) (node : ℕ) (to : Opened) (e : Option Reply) → IsPlanned h c node (op.Write to) → c ≡ call.Write descriptor bytes → node < length h.bodies → HasWritten to.«end» h node to bytes e new → EndsTurn h c e new
 write_ends h new c descriptor bytes node to e planned call_is inside has = write_by h new c descriptor bytes node to to.«end» e planned call_is inside refl has
 
 pub pwrite_none_makes : (h : Stored) (c : Call) (descriptor : ℤ) (bytes : List ℕ) (position : ℤ) (node start : ℕ) → IsPlanned h c node (op.Pwrite start) → c ≡ call.Pwrite descriptor bytes position → (length bytes == 0) ≡ true → Replies h c (reply.Count 0) h
 pwrite_none_makes h c descriptor bytes position node start planned call_is none =
     let done : Acted = replied (reply.Count 0) (File (body_at h node)) 0 in
-    ends_reply h c (reply.Count 0) h (stays_ends h c node (op.Pwrite start) h.bodies done (ending.Reply (reply.Count 0)) tt tt planned (still h c node (op.Pwrite start) planned tt) (λ given. rw (call_is, none) refl) refl (bodies_same h node done.content refl))
+    ends_reply h c (reply.Count 0) h (stays_ends h c node (op.Pwrite start) h.bodies done (Some (reply.Count 0)) tt tt planned (still h c node (op.Pwrite start) planned tt) (λ given. rw (call_is, none) refl) refl (bodies_same h node done.content refl))
 
 pwrite_by : (h new : Stored) (c : Call) (descriptor : ℤ) (bytes : List ℕ) (position : ℤ) (node start : ℕ) (r : Reply) (w : Result (List ℕ × ℕ) Errno) → IsPlanned h c node (op.Pwrite start) → c ≡ call.Pwrite descriptor bytes position → (length bytes == 0) ≡ false → node < length h.bodies
     → written (body_at h node) start bytes ≡ w → Writes w h (λ count. h) node r new → Replies h c r new
 pwrite_by h new c descriptor bytes position node start r (Ok (file, count)) planned call_is some inside is (answers, leaves) =
     let done : Acted = replied (reply.Count count) (File file) 0 in
     replied_as h new c (reply.Count count) r _ answers leaves
-    (stays_ends h c node (op.Pwrite start) (slice_set h.bodies node (keeping done.content (kept_at h node))) done (ending.Reply (reply.Count count)) tt tt planned (still h c node (op.Pwrite start) planned tt) (λ given. rw (call_is, is, some) refl) refl (bodies_set h node done.content inside))
+    (stays_ends h c node (op.Pwrite start) (slice_set h.bodies node (keeping done.content (kept_at h node))) done (Some (reply.Count count)) tt tt planned (still h c node (op.Pwrite start) planned tt) (λ given. rw (call_is, is, some) refl) refl (bodies_set h node done.content inside))
 pwrite_by h new c descriptor bytes position node start r (Err e) planned call_is some inside is (answers, leaves) =
     let done : Acted = replied (reply.Fail e) (File (body_at h node)) 0 in
     replied_as h new c (reply.Fail e) r h answers leaves
-    (stays_ends h c node (op.Pwrite start) h.bodies done (ending.Reply (reply.Fail e)) tt tt planned (still h c node (op.Pwrite start) planned tt) (λ given. rw (call_is, is, some) refl) refl (bodies_same h node done.content refl))
+    (stays_ends h c node (op.Pwrite start) h.bodies done (Some (reply.Fail e)) tt tt planned (still h c node (op.Pwrite start) planned tt) (λ given. rw (call_is, is, some) refl) refl (bodies_same h node done.content refl))
 
 pub pwrite_makes : (h new : Stored) (c : Call) (descriptor : ℤ) (bytes : List ℕ) (position : ℤ) (node start : ℕ) (r : Reply) → IsPlanned h c node (op.Pwrite start) → c ≡ call.Pwrite descriptor bytes position → (length bytes == 0) ≡ false → node < length h.bodies
     → Writes (written (body_at h node) start bytes) h (λ count. h) node r new → Replies h c r new
@@ -268,11 +266,11 @@ seek_by : (h new : Stored) (c : Call) (descriptor offset : ℤ) (whence : Whence
 seek_by h new c descriptor offset whence node from r (Ok to) planned call_is is (answers, leaves) =
     let done : Acted = replied (reply.Number (pos to)) (File (body_at h node)) to in
     replied_as h new c (reply.Number (pos to)) r _ answers leaves
-    (moved_ends h c node (op.Lseek from) from.key h.bodies done (ending.Reply (reply.Number (pos to))) (BySeek from) tt planned (still h c node (op.Lseek from) planned tt) (λ given. rw (call_is, is) refl) refl (bodies_same h node done.content refl))
+    (moved_ends h c node (op.Lseek from) from.key h.bodies done (Some (reply.Number (pos to))) (BySeek from) tt planned (still h c node (op.Lseek from) planned tt) (λ given. rw (call_is, is) refl) refl (bodies_same h node done.content refl))
 seek_by h new c descriptor offset whence node from r (Err e) planned call_is is (answers, leaves) =
     let done : Acted = replied (reply.Fail e) (File (body_at h node)) (offset_of_key h from.key) in
     replied_as h new c (reply.Fail e) r h answers leaves
-    (rested_ends h c node (op.Lseek from) from.key h.bodies done (ending.Reply (reply.Fail e)) (BySeek from) tt planned (still h c node (op.Lseek from) planned tt) (λ given. rw (call_is, is) refl) refl refl (bodies_same h node done.content refl))
+    (rested_ends h c node (op.Lseek from) from.key h.bodies done (Some (reply.Fail e)) (BySeek from) tt planned (still h c node (op.Lseek from) planned tt) (λ given. rw (call_is, is) refl) refl refl (bodies_same h node done.content refl))
 
 pub lseek_makes : (h new : Stored) (c : Call) (descriptor offset : ℤ) (whence : Whence) (node : ℕ) (from : Opened) (r : Reply) → IsPlanned h c node (op.Lseek from) → c ≡ call.Lseek descriptor offset whence
     → Seeks (offset_of (pos (base_of whence (offset_of_key h from.key) (length (body_at h node))) +ℤ offset)) h from.key r new → Replies h c r new
@@ -281,7 +279,7 @@ lseek_makes h new c descriptor offset whence node from r planned call_is seeks =
 
 -- ## Opening and releasing
 
-released_done : (t : TableState) (node : ℕ) (c : Call) (given : NewNumbers) (content : Content) → HasAct c op.Release → let done : Acted = acted t node op.Release c None given content 0 in (done.ending ≡ acts.Replies (release_reply c)) × (done.content ≡ content)
+released_done : (t : TableState) (node : ℕ) (c : Call) (given : NewNumbers) (content : Content) → HasAct c op.Release → let done : Acted = acted t node op.Release c None given content 0 in (done.ending ≡ Some (release_reply c)) × (done.content ≡ content)
 released_done t node _ given content (Closes descriptor) = (refl, refl)
 released_done t node _ given content (Replaces descriptor target) = (refl, refl)
 released_done t node _ given content (Unnames path) = (refl, refl)
@@ -296,17 +294,17 @@ cut_rewrites h node false inside = bodies_same h node (File (body_at h node)) re
 pub open_makes : (h : Stored) (c : Call) (node : ℕ) (cut : Bool) (u : TableState) (given : NewNumbers) → IsPlanned h c node (op.Open cut) → TableMade h c None u → TellsAsStep h.table c None given → node < length h.bodies
     → Replies h c (numbers_reply given) (record { table = u; bodies = cut_bodies h node cut })
 open_makes h c node cut u given planned made tells inside =
-    ends_reply h c (numbers_reply given) _ (made_ends h c node (op.Open cut) u given (cut_bodies h node cut) (ending.Reply (numbers_reply given)) tt tt planned made tells refl (cut_rewrites h node cut inside))
+    ends_reply h c (numbers_reply given) _ (made_ends h c node (op.Open cut) u given (cut_bodies h node cut) (Some (numbers_reply given)) tt tt planned made tells refl (cut_rewrites h node cut inside))
 
 pub pipe_makes : (h : Stored) (c : Call) (node : ℕ) (u : TableState) (given : NewNumbers) → IsPlanned h c node op.Pipe → TableMade h c None u → TellsAsStep h.table c None given → node < length h.bodies
     → Replies h c (numbers_reply given) (record { table = u; bodies = slice_set h.bodies node (keeping (Pipe []) (kept_at h node)) })
 pipe_makes h c node u given planned made tells inside =
-    ends_reply h c (numbers_reply given) _ (made_ends h c node op.Pipe u given (slice_set h.bodies node (keeping (Pipe []) (kept_at h node))) (ending.Reply (numbers_reply given)) tt tt planned made tells refl (bodies_set h node (Pipe []) inside))
+    ends_reply h c (numbers_reply given) _ (made_ends h c node op.Pipe u given (slice_set h.bodies node (keeping (Pipe []) (kept_at h node))) (Some (numbers_reply given)) tt tt planned made tells refl (bodies_set h node (Pipe []) inside))
 
 pub pair_makes : (h : Stored) (c : Call) (node : ℕ) (u : TableState) (given : NewNumbers) → IsPlanned h c node op.Socketpair → TableMade h c None u → TellsAsStep h.table c None given → node < length h.bodies
     → Replies h c (numbers_reply given) (record { table = u; bodies = slice_set h.bodies node (keeping (Pair new_pair) (kept_at h node)) })
 pair_makes h c node u given planned made tells inside =
-    ends_reply h c (numbers_reply given) _ (made_ends h c node op.Socketpair u given (slice_set h.bodies node (keeping (Pair new_pair) (kept_at h node))) (ending.Reply (numbers_reply given)) tt tt planned made tells refl (bodies_set h node (Pair new_pair) inside))
+    ends_reply h c (numbers_reply given) _ (made_ends h c node op.Socketpair u given (slice_set h.bodies node (keeping (Pair new_pair) (kept_at h node))) (Some (numbers_reply given)) tt tt planned made tells refl (bodies_set h node (Pair new_pair) inside))
 
 -- ## The store after a change of its table
 
@@ -400,11 +398,11 @@ turn_replied h new c r patience turns alone replies settings w same st =
       change = done.1;
     }
 
-pub act_replied : (h new : Stored) (c : Call) (r : Reply) (patience turns : ℕ) → AsksNothing h c → EndsTurn h c (ending.Reply r) new → Makes patience turns h c (start.Ended (end.Reply r)) new
+pub act_replied : (h new : Stored) (c : Call) (r : Reply) (patience turns : ℕ) → AsksNothing h c → EndsTurn h c (Some r) new → Makes patience turns h c (start.Ended (end.Reply r)) new
 act_replied h new c r patience turns alone ends = turn_replied h new c r patience turns alone (ends_reply h c r new ends)
 
 -- it has to wait
-pub act_waits : (h new : Stored) (c : Call) (patience turns : ℕ) (e : TurnEnd) → AsksNothing h c → EndsTurn h c ending.Waits new → Waits patience turns e → Makes patience turns h c (start.Ended e) new
+pub act_waits : (h new : Stored) (c : Call) (patience turns : ℕ) (e : TurnEnd) → AsksNothing h c → EndsTurn h c None new → Waits patience turns e → Makes patience turns h c (start.Ended e) new
 act_waits h new c patience turns e alone ends waits settings w same st =
     let done = ends settings w turns st in
     record {

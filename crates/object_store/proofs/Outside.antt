@@ -38,14 +38,13 @@ use Rattle.descriptor_table.specs.declared.plan.Op.TheVariants as op
 use Rattle.descriptor_table.specs.declared.plan.Plan.{Plan}
 use Rattle.descriptor_table.specs.declared.plan.Plan.TheVariants as plan
 use Rattle.descriptor_table.proofs.ActLemmas.{acts-as_step}
-use Rattle.lock_model.specs.CallTable.Answer.{Gives}
 use Rattle.lock_model.specs.Numbers.{world_with}
 use Rattle.lock_model.specs.Terms.{World}
 use Rattle.object_store.specs.Bodies.{Kept, kept_as}
 use Rattle.object_store.specs.Errands.{waits_by, waits_outside}
 use Rattle.object_store.specs.Patience.{EndsOutside, as_answer}
-use Rattle.object_store.specs.declared.patience.TurnEnd.{TurnEnd}
-use Rattle.object_store.specs.declared.patience.TurnEnd.TheVariants as end
+use Rattle.lock_model.specs.declared.turn_end.TurnEnd.{TurnEnd}
+use Rattle.lock_model.specs.declared.turn_end.TurnEnd.TheVariants as end
 use Rattle.object_store.specs.declared.patience.TurnStart.TheVariants as start
 use Rattle.object_store.specs.Store.{LeavesTable, Makes, Opens, Stands, Stored, TableMade, at_port, kept_at, opens_door}
 use Rattle.object_store.proofs.Errands.{door_known}
@@ -148,7 +147,7 @@ waited_apart settings s carried same = by_test (nat_lt (carried + 1) settings.pa
     by_test false same = cc
 
 -- so the answer to EAGAIN tells which of both it is
-told_waits : (settings : Settings) (s after : State) (carried : Carried) (a b : Bool) → (let x : Stepped = if a && true then waited settings s carried else failed after EAGAIN in x.answer) ≡ (ended settings s carried (if b && true then acts.Waits else acts.Replies (reply.Fail EAGAIN))).0 → b ≡ a
+told_waits : (settings : Settings) (s after : State) (carried : Carried) (a b : Bool) → (let x : Stepped = if a && true then waited settings s carried else failed after EAGAIN in x.answer) ≡ (ended settings s carried (if b && true then None else Some (reply.Fail EAGAIN))).0 → b ≡ a
 told_waits settings s after carried true true same = refl
 told_waits settings s after carried true false same = absurd (waited_apart settings s carried same)
 told_waits settings s after carried false true same = absurd (waited_apart settings s carried (sym same))
@@ -156,7 +155,7 @@ told_waits settings s after carried false false same = refl
 
 -- by what the call does
 effect_waits : (settings : Settings) (s : State) (c : Call) (carried : Carried) (r : Request) (b : Bool) (e : Result Effect Errno) → posix.request_of c e ≡ Some r
-    → (let x : Stepped = concluded settings s (Some (outcome.Fail EAGAIN)) carried e in x.answer) ≡ (ended settings s carried (if b && true then acts.Waits else acts.Replies (reply.Fail EAGAIN))).0 → b ≡ waits_by e
+    → (let x : Stepped = concluded settings s (Some (outcome.Fail EAGAIN)) carried e in x.answer) ≡ (ended settings s carried (if b && true then None else Some (reply.Fail EAGAIN))).0 → b ≡ waits_by e
 effect_waits settings s c carried r b (Ok (Asks a)) asked same = told_waits settings s a.otherwise carried a.waits b same
 effect_waits settings s c carried r b (Ok Blocks) asked same = absurd (none-some r asked)
 effect_waits settings s c carried r b (Ok (Completes after reply)) asked same = absurd (none-some r asked)
@@ -217,7 +216,7 @@ goes_out h new c node errand keep patience turns is leaves settings w same st =
 -- a success
 pub succeeds : (patience turns : ℕ) (errand : Errand) (given : NewNumbers) (o : Outcome) (value : ℕ) (bytes : List ℕ) (r : Reply) → o ≡ outcome.Ok value bytes → r ≡ told_outside errand.kind given value bytes → EndsOutside patience turns errand given o (end.Reply r)
 succeeds patience turns errand given o value bytes r is told settings s same =
-    ap (λ (x : Outcome). as_answer (ended settings s turns (outside_ending errand given (Some x)))) is ∙ ap Gives (sym told)
+    ap (λ (x : Outcome). as_answer (ended settings s turns (outside_ending errand given (Some x)))) is ∙ ap end.Reply (sym told)
 
 pub same_outcome : (patience turns : ℕ) (errand : Errand) (given : NewNumbers) (o x : Outcome) (e : TurnEnd) → o ≡ x → EndsOutside patience turns errand given x e → EndsOutside patience turns errand given o e
 same_outcome patience turns errand given o x e is ends = subst (λ (y : Outcome). EndsOutside patience turns errand given y e) (sym is) ends
@@ -288,7 +287,7 @@ door_kept out.Shutdown value content kept opens = absurd (false≢true opens)
 door_kept out.Close value content kept opens = absurd (false≢true opens)
 
 -- a failure is a reply, or makes the call wait
-failing : (settings : Settings) (s : State) (carried : Carried) (e : Errno) (b : Bool) → let a : Answer = (ended settings s carried (if b then acts.Waits else acts.Replies (reply.Fail e))).0 in (a ≡ answer.Again) ⊎ ((x : Errno) × (a ≡ answer.Reply (reply.Fail x)))
+failing : (settings : Settings) (s : State) (carried : Carried) (e : Errno) (b : Bool) → let a : Answer = (ended settings s carried (if b then None else Some (reply.Fail e))).0 in (a ≡ answer.Again) ⊎ ((x : Errno) × (a ≡ answer.Reply (reply.Fail x)))
 failing settings s carried e true = by_test (nat_lt (carried + 1) settings.patience)
   where
     by_test : (b : Bool) → let x : Stepped = if b then record { after = s; answer = answer.Again; carried = carried + 1 } else record { after = s; answer = answer.Reply (reply.Fail EINTR); carried = nothing_carried } in (x.answer ≡ answer.Again) ⊎ ((y : Errno) × (x.answer ≡ answer.Reply (reply.Fail y)))

@@ -1,5 +1,5 @@
 -- What the acts of calls make of the table and the bodies.
-use Rattle.std.specs.Prelude.{◌≡◌, ℕ, ◌+◌, ◌==◌, List, [], take, length, slice_set, pos, Bool, true, false, Result, Ok, Err, if◌then◌else◌}
+use Rattle.std.specs.Prelude.{◌≡◌, ℕ, ◌+◌, ◌==◌, List, [], take, length, slice_set, pos, Bool, true, false, Result, Ok, Err, if◌then◌else◌, Option, Some}
 use Rattle.posix_terms.specs.declared.call.Call.{Call}
 use Rattle.posix_terms.specs.declared.call.Call.TheVariants as call
 use Rattle.posix_terms.specs.declared.errno.Errno.{Errno}
@@ -20,9 +20,7 @@ use Rattle.posix_terms.specs.declared.errno.Errno.TheVariants.{EPIPE}
 use Rattle.descriptor_table.specs.Acts as acts
 use Rattle.descriptor_table.specs.Acts.{Acted, read_acted, write_acted}
 use Rattle.object_store.specs.Bodies.{Kept, keeping}
-use Rattle.object_store.specs.Patience.{shown_ending, stopped_ending}
-use Rattle.object_store.specs.declared.patience.Ending.{Ending}
-use Rattle.object_store.specs.declared.patience.Ending.TheVariants as ending
+use Rattle.object_store.specs.Patience.{stopped_ending}
 use Rattle.object_store.specs.Store.{Stored, body_at, kept_at}
 
 -- an act that does not go outside
@@ -80,15 +78,15 @@ held_by (part.Socket side) k = Pair k.pair
 held_by (part.Door door) k = DoorTo door
 
 -- an act on a stream ended so, and left this in its object
-abbrev pub ActsOn : Acted → Stored → ℕ → Ending → Stored → Type 0
-ActsOn done old node e new = (shown_ending e ≡ done.ending) × (new ≡ holding old node done.content)
+abbrev pub ActsOn : Acted → Stored → ℕ → Option Reply → Stored → Type 0
+ActsOn done old node e new = (e ≡ done.ending) × (new ≡ holding old node done.content)
 
-abbrev pub HasRead : End → Stored → ℕ → Opened → ℕ → Ending → Stored → Type 0
+abbrev pub HasRead : End → Stored → ℕ → Opened → ℕ → Option Reply → Stored → Type 0
 HasRead part.Only old node from count e new =
     let bytes = bytes_at (body_at old node) (offset_of_key old from.key) count in
-    (e ≡ ending.Reply (reply.Data bytes)) × (new ≡ moved old from.key (offset_of_key old from.key + length bytes))
+    (e ≡ Some (reply.Data bytes)) × (new ≡ moved old from.key (offset_of_key old from.key + length bytes))
 -- a door is read outside, and none here
-HasRead (part.Door door) old node from count e new = (e ≡ ending.Reply reply.Done) × (new ≡ old)
+HasRead (part.Door door) old node from count e new = (e ≡ Some reply.Done) × (new ≡ old)
 HasRead which old node from count e new = ActsOn (read_acted old.table node from count (held_by which (kept_at old node)) (offset_of_key old from.key)) old node e new
 
 -- to a file; of no bytes it does nothing
@@ -96,21 +94,21 @@ abbrev pub WritesFile : Bool → Stored → ℕ → Opened → List ℕ → Repl
 WritesFile true old node to bytes r new = (r ≡ reply.Count 0) × (new ≡ old)
 WritesFile false old node to bytes r new = Writes (written (body_at old node) (start_at old to node) bytes) old (λ count. moved old to.key (start_at old to node + count)) node r new
 
-abbrev pub HasWritten : End → Stored → ℕ → Opened → List ℕ → Ending → Stored → Type 0
-HasWritten part.Only old node to bytes e new = (r : Reply) × (e ≡ ending.Reply r) × WritesFile (length bytes == 0) old node to bytes r new
+abbrev pub HasWritten : End → Stored → ℕ → Opened → List ℕ → Option Reply → Stored → Type 0
+HasWritten part.Only old node to bytes e new = (r : Reply) × (e ≡ Some r) × WritesFile (length bytes == 0) old node to bytes r new
 -- nor written here
-HasWritten (part.Door door) old node to bytes e new = (e ≡ ending.Reply reply.Done) × (new ≡ old)
+HasWritten (part.Door door) old node to bytes e new = (e ≡ Some reply.Done) × (new ≡ old)
 HasWritten which old node to bytes e new = ActsOn (write_acted old.table node to bytes (held_by which (kept_at old node)) (offset_of_key old to.key)) old node e new
 
 -- ## Streams, by what their bodies answer
 
 -- of a read, which put these bytes into its place
-abbrev pub ending_of_read : PipeAnswer → List ℕ → Bool → acts.Ending
-ending_of_read (pipe.Data count) bytes nonblock = acts.Replies (reply.Data (take count bytes))
-ending_of_read pipe.End bytes nonblock = acts.Replies (reply.Data [])
+abbrev pub ending_of_read : PipeAnswer → List ℕ → Bool → Option Reply
+ending_of_read (pipe.Data count) bytes nonblock = Some (reply.Data (take count bytes))
+ending_of_read pipe.End bytes nonblock = Some (reply.Data [])
 ending_of_read _ bytes nonblock = stopped_ending nonblock
 
-abbrev pub ending_of_write : PipeAnswer → Bool → acts.Ending
-ending_of_write (pipe.Count count) nonblock = acts.Replies (reply.Count count)
-ending_of_write pipe.Broken nonblock = acts.Replies (reply.Fail EPIPE)
+abbrev pub ending_of_write : PipeAnswer → Bool → Option Reply
+ending_of_write (pipe.Count count) nonblock = Some (reply.Count count)
+ending_of_write pipe.Broken nonblock = Some (reply.Fail EPIPE)
 ending_of_write _ nonblock = stopped_ending nonblock

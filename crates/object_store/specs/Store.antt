@@ -1,5 +1,5 @@
 -- The shared table with the bodies of its objects, and the world that they stand for.
-use Rattle.std.specs.Prelude.{◌≡◌, ℕ, ◌≤◌, Bool, true, false, List, nat_le, replicate, slice_index_or, Option, Some, None}
+use Rattle.std.specs.Prelude.{◌≡◌, ℕ, ◌≤◌, ◌<◌, Bool, true, false, List, nat_le, replicate, slice_index_or, Option, Some, None}
 use Rattle.std.specs.FinMap as map
 use Rattle.posix_terms.specs.Object.{Content}
 use Rattle.posix_terms.specs.Locked.{keeps_table, locked_object}
@@ -19,7 +19,7 @@ use Rattle.posix_terms.specs.declared.transcript.Settings.{Settings}
 use Rattle.file_descriptions.specs.Descriptions.{AreSound}
 use Rattle.file_descriptions.specs.declared.description.Description.{Description}
 use Rattle.descriptor_table.specs.Agreement.{ChangesAsStep, NumbersStay, OffsetsStay, object_of, request_of}
-use Rattle.descriptor_table.specs.Plans.{bytes_asked, planned}
+use Rattle.descriptor_table.specs.Plans.{bytes_asked, planned, read_count, reply_bytes}
 use Rattle.descriptor_table.specs.Shows as shown
 use Rattle.descriptor_table.specs.Table.{IsSound, TableState, empty_table}
 use Rattle.descriptor_table.specs.declared.plan.Errand.{Errand}
@@ -33,9 +33,11 @@ use Rattle.lock_model.specs.Terms.{World}
 use Rattle.descriptor_table.specs.Acts as acts
 use Rattle.object_store.specs.Bodies.{Kept, first_kept, kept_as}
 use Rattle.object_store.specs.Errands.{door_taken, waits_outside}
-use Rattle.object_store.specs.Patience.{ended, shown_ending, turn_bytes}
-use Rattle.object_store.specs.declared.patience.Ending.{Ending}
-use Rattle.object_store.specs.declared.patience.TurnEnd.{TurnEnd}
+use Rattle.object_store.specs.Patience.{turn_bytes}
+use Rattle.lock_model.specs.declared.turn_end.TurnEnd.{TurnEnd}
+use Rattle.lock_model.specs.declared.turn_end.TurnEnd.TheVariants as end
+use Rattle.object_store.specs.declared.patience.AtTable.{AtTable}
+use Rattle.object_store.specs.declared.patience.AtTable.TheVariants as at
 use Rattle.object_store.specs.declared.patience.TurnStart.{TurnStart}
 use Rattle.object_store.specs.declared.patience.TurnStart.TheVariants as start
 
@@ -84,7 +86,7 @@ pub record GoesOut (settings : Settings) (w : World) (turns : ℕ) (old : Stored
 -- a turn that asks nothing outside: so it ended, and now they stand for the world behind it
 pub record EndsAt (settings : Settings) (w : World) (turns : ℕ) (c : Call) (e : TurnEnd) (new : Stored) : Type 0 where
   pub request : asks w.object c turns ≡ None
-  pub answer_is : answer_in (step settings w.object c None turns) ≡ ended e
+  pub answer_is : answer_in (step settings w.object c None turns) ≡ e
   pub change : Stands new (world_with w (step settings w.object c None turns).after)
 
 -- how a turn of a call starts that was blocked for so many turns
@@ -96,6 +98,11 @@ StartsIn settings w turns old c (start.GoesOut errand) new = GoesOut settings w 
 abbrev pub Makes : ℕ → ℕ → Stored → Call → TurnStart → Stored → Type 0
 Makes patience turns old c x new = (settings : Settings) (w : World) → settings.patience ≡ patience → Stands old w → StartsIn settings w turns old c x new
 
+-- what a call comes to with the table alone: its turn, at whatever patience and however often it was blocked; or it locks an object, and nothing has changed
+abbrev pub ComesTo : Stored → Call → AtTable → Stored → Type 0
+ComesTo old c (at.Answers r) new = (number_locked old c ≡ None) × ((patience turns : ℕ) → Makes patience turns old c (start.Ended (end.Reply r)) new) × (reply_bytes r ≤ read_count c)
+ComesTo old c (at.Locks n) new = (number_locked old c ≡ Some n) × (n < limit.OBJECTS) × (new ≡ old)
+
 -- a turn that ended brings no more bytes than the call may read. One that goes outside asks no more, and leaves the room for them as it was
 abbrev pub UsesRoom : ℕ → List ℕ → List ℕ → TurnStart → Type 0
 UsesRoom most old new (start.Ended e) = turn_bytes e ≤ most
@@ -105,14 +112,14 @@ UsesRoom most old new (start.GoesOut errand) = (new ≡ old) × (bytes_asked err
 abbrev pub Opens : ℕ → ℕ → Stored → Call → Outcome → TurnEnd → Stored → Type 0
 Opens patience turns old c o e new =
     (settings : Settings) (w : World) (r : Request) → settings.patience ≡ patience → Stands old w → keeps_table c ≡ true → asks w.object c turns ≡ Some r → fits r.kind r.asked o ≡ true →
-    (answer_in (step settings w.object c (Some o) turns) ≡ ended e) × Stands new (world_with w (step settings w.object c (Some o) turns).after)
+    (answer_in (step settings w.object c (Some o) turns) ≡ e) × Stands new (world_with w (step settings w.object c (Some o) turns).after)
 
 -- the act of a turn was made, in whatever world they stood for and whatever the call carried: so it ended
-abbrev pub EndsTurn : Stored → Call → Ending → Stored → Type 0
+abbrev pub EndsTurn : Stored → Call → Option Reply → Stored → Type 0
 EndsTurn old c e new =
     (settings : Settings) (w : World) (carried : Carried) → Stands old w →
     let stepped = step settings w.object c None carried in
-    ((stepped.answer, stepped.carried) ≡ acts.ended settings w.object carried (shown_ending e)) × Stands new (world_with w stepped.after)
+    ((stepped.answer, stepped.carried) ≡ acts.ended settings w.object carried e) × Stands new (world_with w stepped.after)
 
 -- the call was made, which is not blocked at any turn: this is its reply
 abbrev pub Replies : Stored → Call → Reply → Stored → Type 0

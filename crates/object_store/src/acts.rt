@@ -12,7 +12,6 @@ ghost use Rattle.descriptor_table.specs.declared.plan.Op.TheVariants as op;
 ghost use Rattle.object_store.specs.Patience.{act_bytes};
 ghost use Rattle.object_store.specs.Store.{EndsTurn, IsPlanned, Replies, body_at};
 
-use crate::patience::Ending;
 use crate::store::Store;
 use descriptor_table::{NewNumbers, Opened};
 use memory_files::FileBody;
@@ -125,7 +124,7 @@ impl Store {
 // What calls do whose operands the plan does not hold.
 impl Store {
     // A write, which of no bytes does nothing.
-    pub(crate) fn write_call(&mut self, call: &Call, node: usize, to: Opened) -> Ending
+    pub(crate) fn write_call(&mut self, call: &Call, node: usize, to: Opened) -> Option<Reply>
         requires inside { node < limit.OBJECTS }
         requires known { ContainsKey self.old.table.descriptions to.key }
         requires planned { IsPlanned self.old call.now node (op.Write to) }

@@ -9,9 +9,10 @@ ghost use Rattle.object_store.specs.Patience.{EndsOutside, turn_bytes};
 ghost use Rattle.object_store.specs.Store.{LeavesTable, Opens, at_port, opens_door};
 
 use crate::acts::numbers_reply;
-use crate::patience::{TurnEnd, fail_outside};
+use crate::patience::fail_outside;
 use crate::store::Store;
 use descriptor_table::{Errand, NewNumbers, Op, Plan};
+use lock_model::TurnEnd;
 use posix_terms::{Call, Errno, Outcome, Reply};
 
 // Calls that go outside.

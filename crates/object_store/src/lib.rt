@@ -11,6 +11,7 @@ mod store;
 mod streams;
 
 pub use laws::locks_and_doors;
-pub use patience::{TurnEnd, TurnStart, copied, end_outside};
+pub use lock_model::TurnEnd;
+pub use patience::{AtTable, TurnStart, copied, end_outside};
 pub use room::Room;
 pub use store::Store;

@@ -5,19 +5,20 @@ ghost use Rattle.posix_terms.specs.declared.outcome.Outcome.TheVariants.{Fail as
 ghost use Rattle.descriptor_table.specs.Plans.{bytes_asked, reply_bytes};
 ghost use Rattle.descriptor_table.specs.declared.plan.NewNumbers.{NewNumbers};
 ghost use Rattle.descriptor_table.specs.declared.plan.NewNumbers.TheVariants as numbers;
-ghost use Rattle.object_store.specs.Patience.{EndsOutside, Waits, act_bytes, shown_ending, stopped_ending, turn_bytes};
+ghost use Rattle.object_store.specs.Patience.{EndsOutside, Waits, act_bytes, stopped_ending, turn_bytes};
 
 use descriptor_table::Errand;
+use lock_model::TurnEnd;
 use posix_terms::{Bytes, Errno, OutKind, Outcome, Reply};
 use std::mem::replace;
 
-/// How a turn of a call ended.
+/// What a call comes to once its thread has the table.
 #[derive(Drop)]
-pub enum TurnEnd {
-    /// With this reply, which is the call's last word.
-    Reply(Reply),
-    /// It could not go on, and was blocked for so many turns now.
-    Blocked(u32),
+pub enum AtTable {
+    /// The table alone answers it: its turn ended with this reply.
+    Answers(Reply),
+    /// It has to lock the object with this number, too.
+    Locks(usize),
 }
 
 /// How far a turn of a call came at its grant.
@@ -29,22 +30,15 @@ pub enum TurnStart {
     GoesOut(Errand),
 }
 
-// How the act of a turn ended: with a reply, or it has to wait.
-#[derive(Drop)]
-pub enum Ending {
-    Reply(Reply),
-    Waits,
-}
-
-// What cannot go on waits, or fails where its description is not to block.
-pub(crate) fn stopped(nonblock: bool) -> Ending
-    ensures shown { shown_ending result ≡ stopped_ending nonblock }
+// The reply of an act that cannot go on: none where it waits, and a failure where its description is not to block.
+pub(crate) fn stopped(nonblock: bool) -> Option<Reply>
+    ensures shown { result ≡ stopped_ending nonblock }
     ensures few { act_bytes result ≡ 0 }
 {
     if nonblock {
-        Ending::Reply(Reply::Fail(Errno::EAGAIN))
+        Some(Reply::Fail(Errno::EAGAIN))
     } else {
-        Ending::Waits
+        None
     }
 }
 

@@ -1,4 +1,4 @@
-ghost use Rattle.std.specs.Prelude.{◌≡◌, ◌+◌, ◌≤◌, ◌<◌, ◌^◌, IfOk, true};
+ghost use Rattle.std.specs.Prelude.{◌≡◌, ◌+◌, ◌≤◌, ◌<◌, ◌^◌, IfOk, true, unwrap_or};
 ghost use Rattle.descriptor_table.specs.Plans.{bytes_asked, reply_bytes};
 ghost use Rattle.descriptor_table.specs.declared.plan.NewNumbers.TheVariants as numbers;
 ghost use Rattle.posix_terms.specs.Outcomes.{fits};
@@ -6,9 +6,10 @@ ghost use Rattle.object_store.specs.Patience.{EndsOutside, turn_bytes};
 ghost use Rattle.object_store.specs.Space.{HasSpaceFor, LeavesSpace, no_space};
 ghost use Rattle.object_store.specs.Store.{Makes};
 
-use crate::patience::{TurnEnd, TurnStart, copied, end_outside};
+use crate::patience::{TurnStart, copied, end_outside};
 use crate::store::Store;
 use descriptor_table::{Errand, read_count};
+use lock_model::TurnEnd;
 use posix_terms::{Call, Outcome, Reply};
 use std::alloc::{AllocError, Global};
 use std::marker::Model;
@@ -41,16 +42,28 @@ impl Room {
         }
     }
 
-    /// Another, for as many bytes as a call may read.
-    pub fn for_call(&self, call: &Call) -> Result<Room, AllocError>
-        ensures { IfOk result (HasSpaceFor call.now) }
+    /// Another, for as many bytes as a call may read; none where there is room for them here.
+    pub fn for_call(&self, call: &Call) -> Result<Option<Room>, AllocError>
+        ensures { IfOk result (λ other. HasSpaceFor call.now (unwrap_or other self.now)) }
     {
-        let alloc = *self.told.allocator();
         let count = read_count(call);
-        Ok(Room {
+        if count <= self.told.len() && self.told.len() <= self.row.len() {
+            return Ok(None);
+        }
+        let alloc = *self.told.allocator();
+        Ok(Some(Room {
             told: vec![in alloc; 0; count]?,
             row: vec![in alloc; 0; count]?,
-        })
+        }))
+    }
+
+    /// Takes the place of another, if there is one.
+    pub fn change(&mut self, other: Option<Room>)
+        ensures { self.new ≡ unwrap_or other self.old }
+    {
+        if let Some(other) = other {
+            *self = other;
+        }
     }
 
     /// Makes a turn of a call, as [`Store::make`], with room for the bytes of its reply.

@@ -6,11 +6,12 @@ ghost use Rattle.descriptor_table.specs.Agreement.{TellsAsStep};
 ghost use Rattle.descriptor_table.specs.Changes.{IsAtPort};
 ghost use Rattle.object_store.specs.Acting.{acts_inside};
 ghost use Rattle.object_store.specs.Patience.{act_bytes};
-ghost use Rattle.object_store.specs.Store.{EndsTurn, IsPlanned, UsesRoom, Makes, Replies, TableMade, first_stored, number_locked};
+ghost use Rattle.object_store.specs.Store.{ComesTo, EndsTurn, IsPlanned, UsesRoom, Makes, Replies, TableMade, first_stored, number_locked};
 
 use crate::body::Body;
-use crate::patience::{Ending, TurnEnd, TurnStart, blocked};
+use crate::patience::{AtTable, TurnStart, blocked};
 use descriptor_table::{NewNumbers, Op, Plan, Table};
+use lock_model::TurnEnd;
 use posix_terms::{Call, Limits, Outcome, Reply};
 use std::alloc::{AllocError, Global};
 use std::marker::Model;
@@ -65,6 +66,20 @@ impl Store {
         }
     }
 
+    /// Makes the turn of a call that the table alone answers. Of any other call it tells the number of the object that it has to lock
+    /// beside the table, and changes nothing.
+    pub fn settle_or_lock(&mut self, call: &Call) -> AtTable
+        requires descriptions { self.old.table.descriptions.made < 2 ^ 127 }
+        requires objects { self.old.table.made_objects < 2 ^ 127 }
+        ensures comes { ComesTo self.old call.now result self.new }
+        ensures births { (self.new.table.descriptions.made ≤ self.old.table.descriptions.made + 2) × (self.new.table.made_objects ≤ self.old.table.made_objects + 1) }
+    {
+        match self.table.plan(call) {
+            Plan::Reply(reply) => AtTable::Answers(self.settle(call, reply)),
+            Plan::Node { node, .. } => AtTable::Locks(node),
+        }
+    }
+
     /// Makes one turn of a call that was blocked for so many turns before. A call that cannot go on is blocked
     /// until it was for as many turns as its patience, and then fails with EINTR; where its description has
     /// O_NONBLOCK it fails at once with EAGAIN. A call that goes outside gets its errand, with the number of the
@@ -94,8 +109,8 @@ impl Store {
             }
             Plan::Node { node, op, .. } => {
                 TurnStart::Ended(match self.act(call, node, op, room) {
-                    Ending::Reply(reply) => TurnEnd::Reply(reply),
-                    Ending::Waits => blocked(patience, turns),
+                    Some(reply) => TurnEnd::Reply(reply),
+                    None => blocked(patience, turns),
                 })
             }
         }
@@ -142,7 +157,7 @@ impl Store {
     }
 
     // Makes a turn of a call that acts on the object with this number.
-    fn act(&mut self, call: &Call, node: usize, op: Op, room: &mut Vec<u8>) -> Ending
+    fn act(&mut self, call: &Call, node: usize, op: Op, room: &mut Vec<u8>) -> Option<Reply>
         requires descriptions { self.old.table.descriptions.made < 2 ^ 127 }
         requires objects { self.old.table.made_objects < 2 ^ 127 }
         requires planned { IsPlanned self.old call.now node op }
@@ -159,18 +174,18 @@ impl Store {
         match op {
             Op::Read { from, count } => self.read(node, from, taken(room, count)),
             Op::Write { to } => self.write_call(call, node, to),
-            Op::Open { cut } => Ending::Reply(self.open(call, node, cut)),
-            Op::Release => Ending::Reply(self.release(call)),
+            Op::Open { cut } => Some(self.open(call, node, cut)),
+            Op::Release => Some(self.release(call)),
             Op::Pread { count, position } => {
-                Ending::Reply(self.pread(node, position, taken(room, count)))
+                Some(self.pread(node, position, taken(room, count)))
             }
-            Op::Ftruncate { size } => Ending::Reply(self.ftruncate(node, size)),
-            Op::Fstat { links } => Ending::Reply(self.fstat(node, links)),
-            Op::Pwrite { position } => Ending::Reply(self.pwrite_call(call, node, position)),
-            Op::Lseek { at } => Ending::Reply(self.lseek_call(call, node, at)),
-            Op::Pipe => Ending::Reply(self.open_pipe(call, node)),
-            Op::Socketpair => Ending::Reply(self.open_pair(call, node)),
-            Op::Shutdown { side, how } => Ending::Reply(self.shutdown(node, side, how)),
+            Op::Ftruncate { size } => Some(self.ftruncate(node, size)),
+            Op::Fstat { links } => Some(self.fstat(node, links)),
+            Op::Pwrite { position } => Some(self.pwrite_call(call, node, position)),
+            Op::Lseek { at } => Some(self.lseek_call(call, node, at)),
+            Op::Pipe => Some(self.open_pipe(call, node)),
+            Op::Socketpair => Some(self.open_pair(call, node)),
+            Op::Shutdown { side, how } => Some(self.shutdown(node, side, how)),
             Op::Ask(_) => unreachable!(),
         }
     }

@@ -11,11 +11,11 @@ ghost use Rattle.descriptor_table.specs.Acts.{has_read, has_written, is_open, re
 ghost use Rattle.descriptor_table.specs.Plans.{reply_bytes};
 ghost use Rattle.descriptor_table.specs.declared.plan.Op.TheVariants as op;
 ghost use Rattle.object_store.specs.Acting.{ActsOn, HasRead, HasWritten, ending_of_read, ending_of_write, holding, offset_of_key};
-ghost use Rattle.object_store.specs.Patience.{act_bytes, shown_ending};
+ghost use Rattle.object_store.specs.Patience.{act_bytes};
 ghost use Rattle.object_store.specs.Store.{IsPlanned, Replies, kept_at};
 
 use crate::acts::numbers_reply;
-use crate::patience::{Ending, stopped};
+use crate::patience::stopped;
 use crate::store::Store;
 use descriptor_table::Opened;
 use pipes::PipeAnswer;
@@ -24,22 +24,22 @@ use posix_terms::{Bytes, Call, End, Errno, Reply, ShutdownHow, Side};
 // A read and a write, and what calls do with a pipe or a pair of sockets, whose lock they took.
 impl Store {
     // POSIX.1-2017, `read`, of as many bytes as there is room for.
-    pub(crate) fn read(&mut self, node: usize, from: Opened, into: Vec<u8>) -> Ending
+    pub(crate) fn read(&mut self, node: usize, from: Opened, into: Vec<u8>) -> Option<Reply>
         requires inside { node < limit.OBJECTS }
         requires known { ContainsKey self.old.table.descriptions from.key }
         ensures read { HasRead from.«end» self.old node from (length into.items) result self.new }
         ensures few { act_bytes result ≤ length into.items }
     {
         match from.end {
-            End::Only => Ending::Reply(self.read_file(node, from, into)),
+            End::Only => Some(self.read_file(node, from, into)),
             End::Read | End::Write => self.read_pipe(node, from, into),
             End::Socket(side) => self.read_pair(node, from, side, into),
             // A door is read outside.
-            End::Door(_) => Ending::Reply(Reply::Done),
+            End::Door(_) => Some(Reply::Done),
         }
     }
 
-    fn read_pipe(&mut self, node: usize, from: Opened, into: Vec<u8>) -> Ending
+    fn read_pipe(&mut self, node: usize, from: Opened, into: Vec<u8>) -> Option<Reply>
         requires inside { node < limit.OBJECTS }
         ensures acts { ActsOn (read_acted self.old.table node from (length into.items) (Pipe (kept_at self.old node).pipe) (offset_of_key self.old from.key)) self.old node result self.new }
         ensures few { act_bytes result ≤ length into.items }
@@ -50,7 +50,7 @@ impl Store {
         read_ending(answer, bytes, from.flags.nonblock)
     }
 
-    fn read_pair(&mut self, node: usize, from: Opened, side: Side, into: Vec<u8>) -> Ending
+    fn read_pair(&mut self, node: usize, from: Opened, side: Side, into: Vec<u8>) -> Option<Reply>
         requires inside { node < limit.OBJECTS }
         ensures acts { ActsOn (has_read from (λ left. Pair (with_waiting (kept_at self.old node).pair side left)) (Pair (kept_at self.old node).pair) (offset_of_key self.old from.key) (pair_read (kept_at self.old node).pair side (length into.items) (is_open self.old.table node (part.Socket (peer_of side))))) self.old node result self.new }
         ensures few { act_bytes result ≤ length into.items }
@@ -62,23 +62,23 @@ impl Store {
     }
 
     // POSIX.1-2017, `write`; to a file, of no bytes it does nothing.
-    pub(crate) fn write(&mut self, node: usize, to: Opened, bytes: &[u8]) -> Ending
+    pub(crate) fn write(&mut self, node: usize, to: Opened, bytes: &[u8]) -> Option<Reply>
         requires inside { node < limit.OBJECTS }
         requires known { ContainsKey self.old.table.descriptions to.key }
         ensures written { HasWritten to.«end» self.old node to bytes.now result self.new }
         ensures few { act_bytes result ≡ 0 }
     {
         match to.end {
-            End::Only if bytes.is_empty() => Ending::Reply(Reply::Count(0)),
-            End::Only => Ending::Reply(self.write_file(node, to, bytes)),
+            End::Only if bytes.is_empty() => Some(Reply::Count(0)),
+            End::Only => Some(self.write_file(node, to, bytes)),
             End::Read | End::Write => self.write_pipe(node, to, bytes),
             End::Socket(side) => self.write_pair(node, to, side, bytes),
             // A door is written outside.
-            End::Door(_) => Ending::Reply(Reply::Done),
+            End::Door(_) => Some(Reply::Done),
         }
     }
 
-    fn write_pipe(&mut self, node: usize, to: Opened, bytes: &[u8]) -> Ending
+    fn write_pipe(&mut self, node: usize, to: Opened, bytes: &[u8]) -> Option<Reply>
         requires inside { node < limit.OBJECTS }
         ensures acts { ActsOn (write_acted self.old.table node to bytes.now (Pipe (kept_at self.old node).pipe) (offset_of_key self.old to.key)) self.old node result self.new }
         ensures few { act_bytes result ≡ 0 }
@@ -88,7 +88,7 @@ impl Store {
         write_ending(answer, to.flags.nonblock)
     }
 
-    fn write_pair(&mut self, node: usize, to: Opened, side: Side, bytes: &[u8]) -> Ending
+    fn write_pair(&mut self, node: usize, to: Opened, side: Side, bytes: &[u8]) -> Option<Reply>
         requires inside { node < limit.OBJECTS }
         ensures acts { ActsOn (has_written to (λ left. Pair (with_waiting (kept_at self.old node).pair (peer_of side) left)) (Pair (kept_at self.old node).pair) (offset_of_key self.old to.key) (length bytes.now) (pair_write (kept_at self.old node).pair side bytes.now (is_open self.old.table node (part.Socket (peer_of side))))) self.old node result self.new }
         ensures few { act_bytes result ≡ 0 }
@@ -187,32 +187,32 @@ impl Store {
 }
 
 // The end of a read that was answered so.
-fn read_ending(answer: PipeAnswer, bytes: Vec<u8>, nonblock: bool) -> Ending
-    ensures shown { shown_ending result ≡ ending_of_read answer bytes.items nonblock }
+fn read_ending(answer: PipeAnswer, bytes: Vec<u8>, nonblock: bool) -> Option<Reply>
+    ensures shown { result ≡ ending_of_read answer bytes.items nonblock }
     ensures few { act_bytes result ≤ length bytes.items }
 {
     let mut bytes = bytes;
     match answer {
         PipeAnswer::Data(count) => {
             bytes.truncate(count);
-            Ending::Reply(Reply::Data(Bytes::from_vec(bytes)))
+            Some(Reply::Data(Bytes::from_vec(bytes)))
         }
         PipeAnswer::End => {
             bytes.truncate(0);
-            Ending::Reply(Reply::Data(Bytes::from_vec(bytes)))
+            Some(Reply::Data(Bytes::from_vec(bytes)))
         }
         PipeAnswer::Count(_) | PipeAnswer::Broken | PipeAnswer::Block => stopped(nonblock),
     }
 }
 
 // The end of a write that was answered so.
-fn write_ending(answer: PipeAnswer, nonblock: bool) -> Ending
-    ensures shown { shown_ending result ≡ ending_of_write answer nonblock }
+fn write_ending(answer: PipeAnswer, nonblock: bool) -> Option<Reply>
+    ensures shown { result ≡ ending_of_write answer nonblock }
     ensures few { act_bytes result ≡ 0 }
 {
     match answer {
-        PipeAnswer::Count(count) => Ending::Reply(Reply::Count(count as u64)),
-        PipeAnswer::Broken => Ending::Reply(Reply::Fail(Errno::EPIPE)),
+        PipeAnswer::Count(count) => Some(Reply::Count(count as u64)),
+        PipeAnswer::Broken => Some(Reply::Fail(Errno::EPIPE)),
         PipeAnswer::Data(_) | PipeAnswer::End | PipeAnswer::Block => stopped(nonblock),
     }
 }

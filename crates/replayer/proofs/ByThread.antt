@@ -8,8 +8,8 @@ use Rattle.std.specs.List.{cons_option}
 use Rattle.call_machine.specs.History.{reply_before, transcript_of, transcripts_of}
 use Rattle.input_log.specs.Grammar.{number_of}
 use Rattle.input_log.specs.declared.log.Record.{Record}
-use Rattle.lock_model.specs.CallTable.{Answer}
-use Rattle.lock_model.specs.CallTable.Answer.{Gives, Again}
+use Rattle.lock_model.specs.declared.turn_end.TurnEnd.{TurnEnd}
+use Rattle.lock_model.specs.declared.turn_end.TurnEnd.TheVariants as turn_end
 use Rattle.lock_model.specs.History.{rows_of}
 use Rattle.lock_model.specs.RealCalls.{outcome_in}
 use Rattle.lock_model.specs.Rows.{shown, shown_answer}
@@ -56,10 +56,10 @@ transcripts_length n rows = made_length (λ k. transcripts_of k rows) (λ k. tra
 
 -- ## Rows as a run tells them
 
-answer_told : (r : Row) (a : Option Answer) (ts us : List TranscriptRow) → ts ≡ us → reply_before (shown r) (shown_answer a) ts ≡ cons_option (replied r a) us
+answer_told : (r : Row) (a : Option TurnEnd) (ts us : List TranscriptRow) → ts ≡ us → reply_before (shown r) (shown_answer a) ts ≡ cons_option (replied r a) us
 answer_told r None ts us e = e
-answer_told r (Some (Gives x)) ts us e = ap (λ (l : List TranscriptRow). record { call = r.call; turn = r.turn; reply = x } ∷ l) e
-answer_told r (Some (Again b)) ts us e = e
+answer_told r (Some (turn_end.Reply x)) ts us e = ap (λ (l : List TranscriptRow). record { call = r.call; turn = r.turn; reply = x } ∷ l) e
+answer_told r (Some (turn_end.Blocked b)) ts us e = e
 
 row_told : (b : Bool) (r : Row) (rows : List Row) (ts : List TranscriptRow) → ts ≡ filter_map (λ (q : Row). replied q q.answer) rows
     → (if b then reply_before (shown r) (shown_answer r.answer) ts else ts) ≡ filter_map (λ (q : Row). replied q q.answer) (if b then r ∷ rows else rows)

@@ -4,8 +4,8 @@ use Rattle.std.proofs.lemmas.Bool.{false≢true, cases_Bool, cond-true, cond-fal
 use Rattle.std.proofs.lemmas.List.{get_or_past, length-replicate}
 use Rattle.std.proofs.lemmas.Option.{none-some, same_Some, slice_get_within}
 use Rattle.call_machine.specs.Plain.{has_ended}
-use Rattle.call_machine.specs.Strays.{diverging, if_stray}
-use Rattle.lock_machine.specs.Strays.{is_stray, stray_in}
+use Rattle.call_machine.specs.Diverging.{diverging, if_diverging}
+use Rattle.lock_machine.specs.Diverging.{is_diverging, diverging_in}
 use Rattle.lock_model.specs.Machine.{Setup}
 use Rattle.lock_model.specs.Schedule.{IsOver, after_event, plain, plain_run}
 use Rattle.lock_model.specs.State.{Job, Phase, State, Thread, live_clocks, nobody, start, thread_of}
@@ -59,26 +59,26 @@ run_on setup (suc n) m (suc k) s e = run_on setup n m k (plain setup s) (omega (
 pub over_at : (setup : Setup) (first : State) (n m : ℕ) → IsOver setup (plain_run setup n first) → plain_run setup (m + n) first ≡ plain_run setup n first
 over_at setup first n m over = run_on setup n m (m + n) first (omega arith) ∙ over_stays setup m (plain_run setup n first) over
 
--- ## A thread that strayed
+-- ## A thread that diverged
 
-stray_outside : (setup : Setup) (p : Phase) (g : Option Given) → stray_in setup p g ≡ true → (job : Job) × (p ≡ Outside job)
-stray_outside setup (Outside job) g h = (job, refl)
-stray_outside setup p g h = absurd (false≢true h)
+divergence_outside : (setup : Setup) (p : Phase) (g : Option Given) → diverging_in setup p g ≡ true → (job : Job) × (p ≡ Outside job)
+divergence_outside setup (Outside job) g h = (job, refl)
+divergence_outside setup p g h = absurd (false≢true h)
 
-if_stray_outside : (setup : Setup) (s : State) (o : Option ℕ) (i : ℕ) → if_stray setup s o ≡ Some i → (job : Job) × ((thread_of s i).phase ≡ Outside job)
-if_stray_outside setup s None i h = absurd (none-some i h)
-if_stray_outside setup s (Some j) i h =
+if_diverging_outside : (setup : Setup) (s : State) (o : Option ℕ) (i : ℕ) → if_diverging setup s o ≡ Some i → (job : Job) × ((thread_of s i).phase ≡ Outside job)
+if_diverging_outside setup s None i h = absurd (none-some i h)
+if_diverging_outside setup s (Some j) i h =
     ⊎_elim
-    (λ (yes : is_stray setup s j ≡ true).
-    let same : j ≡ i = same_Some j i (sym (cond-true (is_stray setup s j) (Some j) None yes) ∙ h) in
-    subst (λ (k : ℕ). (job : Job) × ((thread_of s k).phase ≡ Outside job)) same (stray_outside setup (thread_of s j).phase _ yes))
-    (λ (no : is_stray setup s j ≡ false). absurd (none-some i (sym (cond-false (is_stray setup s j) (Some j) None no) ∙ h)))
-    (cases_Bool (is_stray setup s j))
+    (λ (yes : is_diverging setup s j ≡ true).
+    let same : j ≡ i = same_Some j i (sym (cond-true (is_diverging setup s j) (Some j) None yes) ∙ h) in
+    subst (λ (k : ℕ). (job : Job) × ((thread_of s k).phase ≡ Outside job)) same (divergence_outside setup (thread_of s j).phase _ yes))
+    (λ (no : is_diverging setup s j ≡ false). absurd (none-some i (sym (cond-false (is_diverging setup s j) (Some j) None no) ∙ h)))
+    (cases_Bool (is_diverging setup s j))
 
 -- is outside
-pub strayed_outside : (setup : Setup) (s : State) (i : ℕ) → diverging setup s ≡ Some i → (job : Job) × ((thread_of s i).phase ≡ Outside job)
+pub diverged_outside : (setup : Setup) (s : State) (i : ℕ) → diverging setup s ≡ Some i → (job : Job) × ((thread_of s i).phase ≡ Outside job)
 unfolding diverging
-strayed_outside setup s i h = if_stray_outside setup s _ i h
+diverged_outside setup s i h = if_diverging_outside setup s _ i h
 
 none_behind : (xs : List Given) (o : Given) → slice_get xs (length xs) ≡ Some o → ⊥
 none_behind xs o h = omega (arith, slice_get_within xs (length xs) o h)

@@ -1,6 +1,6 @@
 -- The laws of other crates that the law of a run's own log rests on.
 use Rattle.std.proofs.Common.{◌≡◌, ℕ, List}
-use Rattle.call_machine.specs.Covered.{HasSpelling, NoneStrays, RecordsCame}
+use Rattle.call_machine.specs.Covered.{HasSpelling, NoneDiverges, RecordsCame}
 use Rattle.input_log.specs.Faults.{Fault, HasFault}
 use Rattle.input_log.specs.Grammar.{Spells}
 use Rattle.input_log.specs.declared.log.LogText.{LogText}
@@ -23,7 +23,7 @@ pub record Known : Type 0 where
   -- their logs
   pub came : RecordsCame
   pub spelled : HasSpelling
-  pub straight : NoneStrays
+  pub straight : NoneDiverges
   -- what a text spells
   pub one_value : (text : List ℕ) (a b : LogText) → Spells text a → Spells text b → a ≡ b
   pub no_fault : (text : List ℕ) (log : LogText) (fault : Fault) → Spells text log → HasFault text fault → ⊥

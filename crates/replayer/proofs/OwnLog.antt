@@ -3,10 +3,11 @@ use Rattle.std.proofs.Common.{◌≡◌, ℕ, ◌+◌, ◌<◌, ◌≤◌, Bool,
 use Rattle.std.proofs.lemmas.Bool.{cases_lt, eq-eqb, false≢true}
 use Rattle.std.proofs.lemmas.List.{get_or_past}
 use Rattle.call_machine.specs.History.{transcripts_of}
-use Rattle.call_machine.specs.Plain.{IsPlainRun, are_settings, are_threads, has_ended, log_of, plain_of, stop_by, stop_of, stuck_in}
+use Rattle.call_machine.specs.Plain.{IsPlainRun, are_threads, has_ended, log_of, plain_of, stop_by, stop_of, stuck_in}
+use Rattle.logged_machine.specs.Starting.{are_settings}
 use Rattle.call_machine.specs.Logs.{plain_records}
 use Rattle.call_machine.specs.Setup.{Inputs, first_state, script_of, setup_of}
-use Rattle.call_machine.specs.Strays.{diverging}
+use Rattle.call_machine.specs.Diverging.{diverging}
 use Rattle.logged_machine.specs.declared.stop.Stop.TheVariants as stop
 use Rattle.call_machine.specs.declared.plain.Plain.{Plain}
 use Rattle.input_log.specs.Faults.{bad_magic, bad_record, bad_version, torn}
@@ -40,7 +41,7 @@ use Rattle.replayer.specs.declared.fault.ReplayFault.TheVariants as replay_fault
 use Rattle.replayer.specs.declared.replayed.Replayed.{Replayed}
 use Rattle.replayer.proofs.ByThread.{came_counted, none_unused, number_counted, outcomes_at, outcomes_length, same_transcript, transcripts_at, transcripts_length}
 use Rattle.replayer.proofs.Known.{Known}
-use Rattle.replayer.proofs.CameAgain.{came_past, came_rows, outside_turn, over_at, plain_count, stays_outside, strayed_outside}
+use Rattle.replayer.proofs.CameAgain.{came_past, came_rows, outside_turn, over_at, plain_count, stays_outside, diverged_outside}
 
 -- ## The log at the front of its spelling
 
@@ -183,11 +184,11 @@ run_under known input n ends result h =
     }
 
 -- where the run did not diverge, the other comes to the same state
-without_stray : Known → (input : Inputs) (n : ℕ) (ends : List Bool) (result : Result Replayed ReplayFault)
+without_divergence : Known → (input : Inputs) (n : ℕ) (ends : List Bool) (result : Result Replayed ReplayFault)
     → IsOver (setup_of input) (plain_run (setup_of input) n (first_state input))
     → IsRunUnder input (log_of input n ends) (plain_run (setup_of input) n (first_state input)) result
     → let last = plain_run (setup_of input) n (first_state input) in Retells (plain_of input n last) (stop_of last None) result
-without_stray known input n ends result over h =
+without_divergence known input n ends result over h =
     let log = log_of input n ends in
     let first = first_state input in
     let last = plain_run (setup_of input) n first in
@@ -199,12 +200,12 @@ without_stray known input n ends result over h =
     subst (λ (z : State). Tells log (plain_of (inputs_of log input.scripts) h.count z) (stop_by z (turn_holder (live_clocks z))) result) one h.tells in
     retold input log n h.count last result (turn_holder (live_clocks last)) (used known input n (length input.scripts)) tells
 
--- where it diverged, the other goes on, and the thread that strayed stays outside
-with_stray : Known → (input : Inputs) (n : ℕ) (ends : List Bool) (result : Result Replayed ReplayFault) (i : ℕ)
+-- where it diverged, the other goes on, and the thread that diverged stays outside
+with_divergence : Known → (input : Inputs) (n : ℕ) (ends : List Bool) (result : Result Replayed ReplayFault) (i : ℕ)
     → diverging (setup_of input) (plain_run (setup_of input) n (first_state input)) ≡ Some i
     → IsRunUnder input (log_of input n ends) (plain_run (setup_of input) n (first_state input)) result
     → let last = plain_run (setup_of input) n (first_state input) in Retells (plain_of input n last) (stop_of last (Some i)) result
-with_stray known input n ends result i strays h =
+with_divergence known input n ends result i diverges h =
     let log = log_of input n ends in
     let threads = length input.scripts in
     let first = first_state input in
@@ -212,10 +213,10 @@ with_stray known input n ends result i strays h =
     let last = plain_run setup n first in
     let under = under_came setup last in
     let other = plain_of (inputs_of log input.scripts) h.count h.last in
-    let stray = strayed_outside setup last i strays in
+    let divergence = diverged_outside setup last i diverges in
     let far : plain_run under (n + h.count) first ≡ h.last = over_at under first h.count n (subst (IsOver under) (sym h.reached) h.over) ∙ h.reached in
-    let out : (thread_of h.last i).phase ≡ Outside stray.0 = ap (λ (z : State). (thread_of z i).phase) (sym far) ∙ stays_outside known setup threads limit.OBJECTS first_world n h.count i stray.0 stray.1 in
-    let turn = outside_turn known h.last i stray.0 out in
+    let out : (thread_of h.last i).phase ≡ Outside divergence.0 = ap (λ (z : State). (thread_of z i).phase) (sym far) ∙ stays_outside known setup threads limit.OBJECTS first_world n h.count i divergence.0 divergence.1 in
+    let turn = outside_turn known h.last i divergence.0 out in
     let tells : Tells log other (stop_by h.last (Some turn.0)) result = subst (λ (o : Option ℕ). Tells log other (stop_by h.last o) result) turn.1 h.tells in
     let to = known.leads setup first n in
     let there : EndsIn under first h.last = record { count = h.count; reached = h.reached; over = h.over } in
@@ -230,8 +231,8 @@ own_log_of : Known → (input : Inputs) (n : ℕ) (ends : List Bool) (result : R
     → (diverging (setup_of input) (plain_run (setup_of input) n (first_state input)) ≡ None → IsOver (setup_of input) (plain_run (setup_of input) n (first_state input)))
     → IsRunUnder input (log_of input n ends) (plain_run (setup_of input) n (first_state input)) result
     → let last = plain_run (setup_of input) n (first_state input) in Retells (plain_of input n last) (stop_of last o) result
-own_log_of known input n ends result None is over h = without_stray known input n ends result (over is) h
-own_log_of known input n ends result (Some i) is over h = with_stray known input n ends result i is h
+own_log_of known input n ends result None is over h = without_divergence known input n ends result (over is) h
+own_log_of known input n ends result (Some i) is over h = with_divergence known input n ends result i is h
 
 -- of the run that came to just this state
 own_log_at : Known → (input : Inputs) (n : ℕ) (result : Result Replayed ReplayFault)

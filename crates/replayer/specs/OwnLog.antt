@@ -17,7 +17,7 @@ pub record AreBeginnings (a b : List (List Row)) : Type 0 where
   pub count : length a ≡ length b
   pub each : (i : ℕ) → IsPrefixOf (slice_index_or a i []) (slice_index_or b i [])
 
--- What a replay tells of the log that this run wrote, which stopped so: what the run's threads saw, its history where it came to its end, and its stop. Where the run diverged, the replay, which has no outcome for the thread that strayed, goes on as far as the others come, and tells what its first stuck thread lacks. Want of memory says nothing
+-- What a replay tells of the log that this run wrote, which stopped so: what the run's threads saw, its history where it came to its end, and its stop. Where the run diverged, the replay, which has no outcome for the thread that diverged, goes on as far as the others come, and tells what its first stuck thread lacks. Want of memory says nothing
 abbrev pub Retells : Plain → Option Stop → Result Replayed ReplayFault → Type 0
 Retells plain stopped (Err replay_fault.Memory) = Unit {0}
 Retells plain None result = result ≡ Ok (record { transcripts = plain.transcripts; history = plain.history })

@@ -8,6 +8,8 @@ mod calls;
 #[cfg(test)]
 mod faults;
 #[cfg(test)]
+mod made;
+#[cfg(test)]
 mod registers;
 #[cfg(test)]
 mod runs;

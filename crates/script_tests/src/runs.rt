@@ -5,7 +5,7 @@ use std::process::Abort;
 use std::test::Fail;
 use thread_scripts::{
     Actor, ScriptActor, Step, accepted_exactly, bad_line_is_the_first, jumps_lead_to_labels,
-    runs_end, script_stays, too_long_is_counted,
+    read_scripts_keep_rules, runs_end, script_stays, too_long_is_counted,
 };
 
 /// A script that writes `hello` to a file and reads it back.
@@ -130,6 +130,7 @@ fn states_the_laws() {
     bad_line_is_the_first();
     accepted_exactly();
     jumps_lead_to_labels();
+    read_scripts_keep_rules();
     runs_end();
     script_stays();
 }

@@ -6,7 +6,7 @@ use Rattle.std.proofs.lemmas.Slice.Eq.{bytes_eq-Decides}
 use Rattle.thread_scripts.specs.Faults.{Fault}
 use Rattle.thread_scripts.specs.Grammar.{gathered, line_before, readings_from}
 use Rattle.thread_scripts.specs.Labels.{is_name, label_in, labels_from, place_after, place_of}
-use Rattle.thread_scripts.specs.Laws.{target_of}
+use Rattle.thread_scripts.specs.Rules.{target_of}
 use Rattle.thread_scripts.specs.Lines.{line_of, line_with, word_named, words_say}
 use Rattle.thread_scripts.specs.Words.{words_of}
 use Rattle.thread_scripts.specs.declared.lines.Word.{Word}

@@ -5,3 +5,4 @@ pub mod Front
 pub mod Gathering
 pub mod Jumps
 pub mod Targets
+pub mod Keeping

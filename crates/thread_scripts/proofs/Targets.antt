@@ -2,7 +2,7 @@
 use Rattle.std.proofs.Common.{◌≡◌, ◌∙◌, ℕ, Bool, true, false, if◌then◌else◌, ◌==◌, List, [], ◌∷◌, Option, Some, None, option_map, refl}
 use Rattle.thread_scripts.specs.Calls.{◌>>=◌, call_line, data_operand, number_operand}
 use Rattle.thread_scripts.specs.Labels.{place_of}
-use Rattle.thread_scripts.specs.Laws.{target_of}
+use Rattle.thread_scripts.specs.Rules.{target_of}
 use Rattle.thread_scripts.specs.Lines.{add_line, end_line, label_at, label_line, line_with, set_bytes_line, set_line, work_line}
 use Rattle.thread_scripts.specs.Numbers.{byte_register_of, register_of}
 use Rattle.thread_scripts.specs.declared.lines.Word.{Word}

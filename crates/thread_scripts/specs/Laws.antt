@@ -1,10 +1,11 @@
 -- What the script language keeps to.
-use Rattle.std.specs.Prelude.{◌≡◌, ◌≢◌, ℕ, ◌+◌, ◌<◌, ◌≤◌, ◌↔◌, ◌⊎◌, List, length, map, filter_map, slice_get, Option, Some, None, Ok, Err, option_and_then}
+use Rattle.std.specs.Prelude.{◌≡◌, true, ◌≢◌, ℕ, ◌+◌, ◌<◌, ◌≤◌, ◌↔◌, ◌⊎◌, List, length, map, filter_map, slice_get, Option, Some, None, Ok, Err, option_and_then}
 use Rattle.posix_terms.specs.declared.limits.TheConstants.Limits.{SCRIPT_LINES}
 use Rattle.posix_terms.specs.declared.reply.Reply.{Reply}
 use Rattle.thread_scripts.specs.Faults.{bad_line, too_long}
 use Rattle.thread_scripts.specs.Grammar.{readings_of, script_of}
 use Rattle.thread_scripts.specs.Meaning.{lines_left, next_of}
+use Rattle.thread_scripts.specs.Rules.{is_script, target_of}
 use Rattle.thread_scripts.specs.Words.{lines_of}
 use Rattle.thread_scripts.specs.declared.line.Line.{Line}
 use Rattle.thread_scripts.specs.declared.line.Line.TheVariants as line
@@ -34,16 +35,13 @@ BadLineIsFirst = (text : List ℕ) (k : ℕ) → (script_of text ≡ Err (bad_li
 abbrev pub AcceptedExactly : Type 0
 AcceptedExactly = (text : List ℕ) (lines : List Line) → (script_of text ≡ Ok lines) ↔ ((length (lines_of text) ≤ SCRIPT_LINES) × AreGood (readings_of (lines_of text)) lines)
 
--- where a line may jump to
-abbrev pub target_of : Line → Option ℕ
-target_of (line.Jump place) = Some place
-target_of (line.JumpIfZero register place) = Some place
-target_of (line.JumpIfFailed place) = Some place
-target_of _ = None
-
 -- the lines that a script may jump to are labels
 abbrev pub JumpsLeadToLabels : Type 0
 JumpsLeadToLabels = (text : List ℕ) (lines : List Line) (k place : ℕ) → script_of text ≡ Ok lines → option_and_then target_of (slice_get lines k) ≡ Some place → slice_get lines place ≡ Some line.Label
+
+-- a script that was read is one by the rules for lines that are made in code
+abbrev pub ReadScriptsKeepRules : Type 0
+ReadScriptsKeepRules = (text : List ℕ) (lines : List Line) → script_of text ≡ Ok lines → is_script lines ≡ true
 
 -- each step but the end executes a line, and so a run of steps ends
 abbrev pub RunsEnd : Type 0

@@ -8,4 +8,5 @@ pub mod Faults
 pub mod Grammar
 pub mod Meaning
 pub mod Saving
+pub mod Rules
 pub mod Laws

@@ -58,7 +58,7 @@ impl Model for ScriptActor {
 }
 
 impl ScriptActor {
-    ghost use Rattle.thread_scripts.specs.Meaning.{start_of};
+    ghost use Rattle.thread_scripts.specs.Meaning.{next_of, start_of};
 
     /// The actor before the script's first line. It takes no memory.
     pub fn new(script: Script) -> ScriptActor
@@ -67,6 +67,19 @@ impl ScriptActor {
         ScriptActor {
             state: ScriptState::new(script),
         }
+    }
+
+    /// The next step, as [`Actor::next`] gives it, for a caller that gives up where there is no memory for it: nothing is saved, and the
+    /// actor is of no more use then.
+    #[tactic(auto, using(crate::proofs::Ending::next_ends, crate::proofs::Ending::next_script))]
+    pub fn next_unsaved(&mut self, last: Option<&Reply>) -> Result<Step, Memory>
+        ensures step { IfOk result (λ step. step ≡ (next_of (option_copied last.entry) self.old).0) }
+        ensures after { OnOk result (self.new ≡ (next_of (option_copied last.entry) self.old).1) }
+    {
+        let Ok(step) = self.state.advance(last) else {
+            return Err(Memory);
+        };
+        Ok(step)
     }
 }
 

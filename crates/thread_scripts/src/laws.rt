@@ -1,4 +1,4 @@
-ghost use Rattle.thread_scripts.specs.Laws.{AcceptedExactly, BadLineIsFirst, JumpsLeadToLabels, RunsEnd, ScriptStays, TooLongIsCounted};
+ghost use Rattle.thread_scripts.specs.Laws.{AcceptedExactly, BadLineIsFirst, JumpsLeadToLabels, ReadScriptsKeepRules, RunsEnd, ScriptStays, TooLongIsCounted};
 
 /// The law of texts that are too long: those with more than 1,000 lines, whatever these are.
 pub fn too_long_is_counted()
@@ -19,6 +19,11 @@ pub fn accepted_exactly()
 /// The law of jumps: in a script that was read, each leads to a label's line.
 pub fn jumps_lead_to_labels()
     ensures { JumpsLeadToLabels }
+{}
+
+/// The law of scripts that were read: they keep the rules for lines that are made in code.
+pub fn read_scripts_keep_rules()
+    ensures { ReadScriptsKeepRules }
 {}
 
 /// The law of runs: each step but the end leaves fewer lines to be executed.

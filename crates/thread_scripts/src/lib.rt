@@ -3,6 +3,7 @@
 #![tactic(auto)]
 
 mod actor;
+mod boxed;
 mod calls;
 mod fault;
 mod grammar;
@@ -11,17 +12,19 @@ mod laws;
 mod line;
 mod lines;
 mod numbers;
+mod rules;
 mod script;
 mod state;
 mod texts;
 mod words;
 
 pub use actor::{Actor, ScriptActor, ScriptState, Step};
+pub use boxed::BoxedActor;
 pub use fault::{Memory, ScriptFault};
 pub use grammar::parse;
 pub use laws::{
-    accepted_exactly, bad_line_is_the_first, jumps_lead_to_labels, runs_end, script_stays,
-    too_long_is_counted,
+    accepted_exactly, bad_line_is_the_first, jumps_lead_to_labels, read_scripts_keep_rules,
+    runs_end, script_stays, too_long_is_counted,
 };
 pub use line::{
     ByteRegister, CallLine, Data, DescriptorLine, DoorLine, Line, Number, NumberRegister, PathLine,

@@ -46,17 +46,20 @@ pub type ByteRegister = Register<4>;
 #[derive(Clone, Copy, Debug, PartialEq, Eq)]
 pub enum Number {
     Value(i64),
+    /// What the register holds when the line is executed.
     Register(NumberRegister),
 }
 
 /// Bytes as a line gives them.
 #[derive(Debug, PartialEq, Eq, Drop)]
 pub enum Data {
+    /// At most 32,767 bytes.
     Text(Bytes),
+    /// What the register holds when the line is executed.
     Register(ByteRegister),
 }
 
-/// A call that moves bytes, as a line gives it.
+/// A call that moves bytes, as a line gives it. Counts are bytes, and positions bytes from the beginning.
 #[derive(Debug, PartialEq, Eq, Drop)]
 pub enum TransferLine {
     Read {
@@ -84,7 +87,9 @@ pub enum TransferLine {
 pub enum DescriptorLine {
     Close { descriptor: Number },
     Dup { descriptor: Number },
+    /// The new descriptor has the lowest free number that is at least this.
     DupFrom { descriptor: Number, least: Number },
+    /// The new descriptor has this number.
     Dup2 { descriptor: Number, target: Number },
 }
 
@@ -96,6 +101,7 @@ pub enum StatusLine {
         offset: Number,
         whence: Whence,
     },
+    /// Makes a file this many bytes long.
     Ftruncate {
         descriptor: Number,
         size: Number,
@@ -106,6 +112,7 @@ pub enum StatusLine {
     Getfl {
         descriptor: Number,
     },
+    /// Sets both flags: one that is false is cleared.
     Setfl {
         descriptor: Number,
         append: bool,
@@ -124,7 +131,7 @@ pub enum StreamLine {
     },
 }
 
-/// A call on paths, as a line gives it.
+/// A call on paths, as a line gives it. The bytes of a path are `!` to `~`.
 #[derive(Debug, PartialEq, Eq, Drop)]
 pub enum PathLine {
     Open {
@@ -150,17 +157,20 @@ pub enum PathLine {
 /// A call that opens a door to the outside, as a line gives it.
 #[derive(Debug, PartialEq, Eq, Drop)]
 pub enum DoorLine {
+    /// A file of the host. The bytes of its path are `!` to `~`, and `exclusive` and `nonblock` are false.
     HostOpen {
         path: Bytes,
         access: Access,
         flags: OpenFlags,
     },
+    /// A listener at a port, or with 0 at any.
     Listen {
         port: Number,
     },
     Connect {
         port: Number,
     },
+    /// Takes a connection of a listener.
     Accept {
         descriptor: Number,
     },
@@ -179,11 +189,14 @@ pub enum CallLine {
 
 /// A line of a script that does something. A jump has the place of its label's line: how many lines
 /// lie before that.
+///
+/// Lines that a program makes in code become a script by [`Script::of`](crate::Script::of).
 #[derive(Debug, PartialEq, Eq, Drop)]
 pub enum Line {
     Call(CallLine),
-    /// Work of so many units of the thread's clock.
+    /// Work of so many units of the thread's clock. In a text at most 1,000,000, in code of any length.
     Work(u64),
+    /// The thread ends. Behind the last line it ends as well.
     End,
     Set {
         register: NumberRegister,
@@ -198,10 +211,12 @@ pub enum Line {
         register: ByteRegister,
         value: Data,
     },
+    /// Where jumps lead. In code it has no name: a jump names its place.
     Label,
     Jump {
         place: usize,
     },
+    /// Jumps where the register is 0.
     JumpIfZero {
         register: NumberRegister,
         place: usize,

@@ -132,7 +132,7 @@ fn an_outcome_of_another_request_diverges(rt: HostRuntime) -> Result<(), Fail> {
 struct Shut;
 
 impl Gate for Shut {
-    ghost may_answer = { λ _ _ answer. answer ≡ false };
+    ghost may_answer = { λ _ _ _ answer _. answer ≡ false };
 
     fn enter(&mut self, _thread: usize, _number: u64) -> bool {
         false

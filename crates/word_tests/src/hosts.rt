@@ -1,4 +1,4 @@
-ghost use Rattle.std.specs.Prelude.{◌≡◌};
+ghost use Rattle.std.specs.Prelude.{◌≡◌, ◌<◌};
 
 use crate::doors::{Came, is_so, plain};
 use host_doors::{DoorStop, HostDoor, HostDoors, Opened, Outside};
@@ -8,7 +8,7 @@ use posix_terms::{
 use std::fs::remove_file;
 use std::process::{self, Abort};
 use std::test::Fail;
-use std::thread::sleep;
+use std::thread::{Threads, join, sleep};
 use std::time::Duration;
 
 fn host(rt: HostRuntime) -> HostDoors<HostRuntime>
@@ -206,56 +206,221 @@ fn a_host_file_is_written_and_read(rt: HostRuntime) -> Result<(), Fail> {
     Ok(())
 }
 
-const MADE_STEPS: &[Step] = &[
-    Step::Read(1, Came::Success(0, b"")),
-    Step::Write(b"x", Came::Failure(Errno::EIO)),
-];
-
-// A file is made for reading alone.
-#[test]
-fn a_host_file_is_made(rt: HostRuntime) -> Result<(), Fail> {
-    let path = free_path(rt, "made")?;
-    let path = path.as_str();
-    let create = OpenFlags {
-        create: true,
-        ..NO_FLAGS
-    };
-    assert_file(&rt, rt, path, Access::ReadOnly, create, MADE_STEPS)?;
-    remove_file(&rt, path)?;
-    Ok(())
-}
-
-/// Whether these three bytes are written to a file that is opened for writing with these flags.
-fn is_written(rt: HostRuntime, path: &str, flags: OpenFlags, bytes: &[u8]) -> bool {
-    match door_of(open_file(rt, path.as_bytes(), Access::WriteOnly, flags)) {
-        Some(mut file) => is_so(&write(rt, bytes, &mut file), &Came::Success(3, b"")),
-        None => false,
+fn error_of(outcome: &Outcome) -> Option<Errno> {
+    match outcome {
+        Outcome::Fail(error) => Some(*error),
+        Outcome::Ok { .. } => None,
     }
 }
 
-/// Asserts that a file which has `before` is written at its end, and anew where it is cut.
-fn assert_flags(rt: &impl Abort, runtime: HostRuntime, path: &str) {
-    let append = OpenFlags {
-        append: true,
-        ..NO_FLAGS
+/// What comes of writing `XY` to a file that is opened so: the error of the opening or of the write, or none.
+fn error_of_writing(
+    rt: HostRuntime,
+    path: &str,
+    access: Access,
+    flags: OpenFlags,
+) -> Result<Option<Errno>, DoorStop> {
+    let made = open_file(rt, path.as_bytes(), access, flags)?;
+    let Some(mut door) = made.door else {
+        return Ok(error_of(&made.outcome));
     };
-    assert!(rt; is_written(runtime, path, append, b"end"));
-    assert!(rt; file_has(runtime, path, b"beforeend"));
-    let cut = OpenFlags {
-        truncate: true,
-        ..append
-    };
-    assert!(rt; is_written(runtime, path, cut, b"new"));
-    assert!(rt; file_has(runtime, path, b"new"));
+    Ok(error_of(&write(rt, b"XY", &mut door)?))
 }
+
+/// Three flags of an opening, what a file that had `before` holds once `XY` was written to it, and what one
+/// that was missing holds then. It stays missing where there is nothing.
+struct FlagsRow {
+    create: bool,
+    truncate: bool,
+    append: bool,
+    existing: &'static [u8],
+    missing: Option<&'static [u8]>,
+}
+
+impl FlagsRow {
+    fn flags(&self) -> OpenFlags {
+        OpenFlags {
+            create: self.create,
+            truncate: self.truncate,
+            append: self.append,
+            ..NO_FLAGS
+        }
+    }
+}
+
+/// A file that is opened so has what its row says, and the write has this error.
+fn is_row(
+    rt: HostRuntime,
+    path: &str,
+    access: Access,
+    row: &FlagsRow,
+    error: Option<Errno>,
+) -> Result<bool, Fail> {
+    std::fs::write(&rt, path, b"before")?;
+    let on_existing = error_of_writing(rt, path, access, row.flags())?;
+    let existing = file_has(rt, path, row.existing);
+    remove_file(&rt, path)?;
+    let on_missing = error_of_writing(rt, path, access, row.flags())?;
+    let missing = match row.missing {
+        Some(bytes) => on_missing == error && file_has(rt, path, bytes),
+        None => on_missing == Some(Errno::ENOENT),
+    };
+    let _ = remove_file(&rt, path);
+    Ok(on_existing == error && existing && missing)
+}
+
+/// Where a file is opened for writing, with or without reading.
+const WRITTEN: &[FlagsRow] = &[
+    FlagsRow {
+        create: false,
+        truncate: false,
+        append: false,
+        existing: b"XYfore",
+        missing: None,
+    },
+    FlagsRow {
+        create: true,
+        truncate: false,
+        append: false,
+        existing: b"XYfore",
+        missing: Some(b"XY"),
+    },
+    FlagsRow {
+        create: false,
+        truncate: true,
+        append: false,
+        existing: b"XY",
+        missing: None,
+    },
+    FlagsRow {
+        create: true,
+        truncate: true,
+        append: false,
+        existing: b"XY",
+        missing: Some(b"XY"),
+    },
+    FlagsRow {
+        create: false,
+        truncate: false,
+        append: true,
+        existing: b"beforeXY",
+        missing: None,
+    },
+    FlagsRow {
+        create: true,
+        truncate: false,
+        append: true,
+        existing: b"beforeXY",
+        missing: Some(b"XY"),
+    },
+    FlagsRow {
+        create: false,
+        truncate: true,
+        append: true,
+        existing: b"XY",
+        missing: None,
+    },
+    FlagsRow {
+        create: true,
+        truncate: true,
+        append: true,
+        existing: b"XY",
+        missing: Some(b"XY"),
+    },
+];
+
+/// Where it is opened for reading alone, and the write fails.
+const NOT_WRITTEN: &[FlagsRow] = &[
+    FlagsRow {
+        create: false,
+        truncate: false,
+        append: false,
+        existing: b"before",
+        missing: None,
+    },
+    FlagsRow {
+        create: true,
+        truncate: false,
+        append: false,
+        existing: b"before",
+        missing: Some(b""),
+    },
+    FlagsRow {
+        create: false,
+        truncate: true,
+        append: false,
+        existing: b"before",
+        missing: None,
+    },
+    FlagsRow {
+        create: true,
+        truncate: true,
+        append: true,
+        existing: b"before",
+        missing: Some(b""),
+    },
+    FlagsRow {
+        create: false,
+        truncate: false,
+        append: true,
+        existing: b"before",
+        missing: None,
+    },
+];
 
 #[test]
 fn a_host_file_opens_by_its_flags(rt: HostRuntime) -> Result<(), Fail> {
     let path = free_path(rt, "flags")?;
     let path = path.as_str();
-    std::fs::write(&rt, path, b"before")?;
-    assert_flags(&rt, rt, path);
+    for row in WRITTEN.iter() {
+        assert!(rt; is_row(rt, path, Access::WriteOnly, row, None)?);
+        assert!(rt; is_row(rt, path, Access::ReadWrite, row, None)?);
+    }
+    for row in NOT_WRITTEN.iter() {
+        assert!(rt; is_row(rt, path, Access::ReadOnly, row, Some(Errno::EIO))?);
+    }
+    Ok(())
+}
+
+const UNREAD_STEPS: &[Step] = &[
+    Step::Write(b"x", Came::Success(1, b"")),
+    Step::Read(1, Came::Failure(Errno::EIO)),
+];
+
+#[test]
+fn a_host_file_for_writing_alone_is_not_read(rt: HostRuntime) -> Result<(), Fail> {
+    let path = free_path(rt, "unread")?;
+    let path = path.as_str();
+    let create = OpenFlags {
+        create: true,
+        ..NO_FLAGS
+    };
+    assert_file(&rt, rt, path, Access::WriteOnly, create, UNREAD_STEPS)?;
     remove_file(&rt, path)?;
+    Ok(())
+}
+
+/// Whether a file of 32,767 bytes is read at once, and all of them.
+fn is_read_at_once(rt: HostRuntime, path: &str) -> Result<bool, Fail> {
+    let bytes = vec![in rt.alloc(); 7; 32_767]?;
+    std::fs::write(&rt, path, bytes.as_slice())?;
+    let mut door = door_of(open_file(rt, path.as_bytes(), Access::ReadOnly, NO_FLAGS)).ok_or(
+        "the file opens",
+    )?;
+    match read(rt, 32_767, &mut door)? {
+        Outcome::Ok {
+            value,
+            bytes: found,
+        } => Ok(value == 32_767 && found.as_slice() == bytes.as_slice()),
+        Outcome::Fail(_) => Ok(false),
+    }
+}
+
+#[test]
+fn the_longest_read_of_a_host_file(rt: HostRuntime) -> Result<(), Fail> {
+    let path = free_path(rt, "long")?;
+    assert!(rt; is_read_at_once(rt, path.as_str())?);
+    remove_file(&rt, path.as_str())?;
     Ok(())
 }
 
@@ -410,6 +575,107 @@ const ONE_WAY: &[Talk] = &[
 fn one_direction_of_a_stream_is_shut(rt: HostRuntime) -> Result<(), Fail> {
     let (mut near, mut far) = connected(rt)?;
     assert_talk(&rt, rt, &mut near, &mut far, ONE_WAY);
+    Ok(())
+}
+
+const GONE_STEPS: &[Step] = &[
+    Step::Read(1, Came::Failure(Errno::ECONNRESET)),
+    Step::Write(b"y", Came::Failure(Errno::EPIPE)),
+];
+
+// A peer that goes away with bytes that it has not read resets the connection.
+#[test]
+fn a_peer_goes_away(rt: HostRuntime) -> Result<(), Fail> {
+    let (mut near, far) = connected(rt)?;
+    assert!(rt; is_so(&write(rt, b"x", &mut near), &Came::Success(1, b"")));
+    assert!(rt; closes(rt, far));
+    assert_steps(&rt, rt, &mut near, GONE_STEPS);
+    Ok(())
+}
+
+/// The failure that writes to a stream come to, or none where there are too many before it.
+fn write_until_failure(rt: HostRuntime, mut door: HostDoor) -> Result<Option<Errno>, Fail> {
+    for _ in 0..10_000 {
+        let outcome = write(rt, &[7; 4_096], &mut door)?;
+        if let Some(error) = error_of(&outcome) {
+            return Ok(Some(error));
+        }
+    }
+    Ok(None)
+}
+
+fn close_late(rt: HostRuntime, door: HostDoor) -> bool {
+    sleep(&rt, Duration::from_millis(50));
+    closes(rt, door)
+}
+
+/// What the writes to a stream come to where its peer, which reads nothing, goes away while they wait.
+fn cut_off(
+    threads: &impl Threads,
+    rt: HostRuntime,
+    near: HostDoor,
+    far: HostDoor,
+) -> Result<Option<Errno>, Fail> {
+    let (failed, closed) = join(
+        threads,
+        move || write_until_failure(rt, near),
+        move || close_late(rt, far),
+    );
+    let error = failed?;
+    if !closed {
+        return Err("the peer goes away".into());
+    }
+    Ok(error)
+}
+
+#[test]
+fn a_peer_goes_away_while_a_write_waits(rt: HostRuntime) -> Result<(), Fail> {
+    let (near, far) = connected(rt)?;
+    let error = cut_off(&rt, rt, near, far)?;
+    assert!(rt; error == Some(Errno::ECONNRESET) || error == Some(Errno::EPIPE));
+    Ok(())
+}
+
+/// A thread with an outside of its own, which reads this from a file.
+fn reads(mut outside: HostDoors<HostRuntime>, mut door: HostDoor, wanted: &Came) -> bool
+    requires room { outside.given < 1000 }
+    requires few { outside.failures < 1000 }
+{
+    is_so(
+        &outside.read(0, 0, &plain(OutKind::Read, 9), &mut door),
+        wanted,
+    )
+}
+
+/// The door to a file with these bytes.
+fn file_with(rt: HostRuntime, path: &str, bytes: &[u8]) -> Result<HostDoor, Fail> {
+    std::fs::write(&rt, path, bytes)?;
+    let made = open_file(rt, path.as_bytes(), Access::ReadOnly, NO_FLAGS);
+    Ok(door_of(made).ok_or("the file opens")?)
+}
+
+const ONE: Came = Came::Success(3, b"one");
+
+const OTHER: Came = Came::Success(5, b"other");
+
+fn both_read(threads: &impl Threads, rt: HostRuntime, one: HostDoor, other: HostDoor) -> bool {
+    let (here, there) = (host(rt), host(rt));
+    let (first, second) = join(
+        threads,
+        move || reads(here, one, &ONE),
+        move || reads(there, other, &OTHER),
+    );
+    first && second
+}
+
+#[test]
+fn two_threads_read_two_host_files(rt: HostRuntime) -> Result<(), Fail> {
+    let (one, other) = (free_path(rt, "one")?, free_path(rt, "other")?);
+    let first = file_with(rt, one.as_str(), b"one")?;
+    let second = file_with(rt, other.as_str(), b"other")?;
+    assert!(rt; both_read(&rt, rt, first, second));
+    remove_file(&rt, one.as_str())?;
+    remove_file(&rt, other.as_str())?;
     Ok(())
 }
 

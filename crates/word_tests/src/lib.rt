@@ -7,6 +7,8 @@ mod calls;
 #[cfg(test)]
 mod doors;
 #[cfg(test)]
+mod gates;
+#[cfg(test)]
 mod hosts;
 #[cfg(test)]
 mod logs;

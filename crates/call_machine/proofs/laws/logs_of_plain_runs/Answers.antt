@@ -1,4 +1,4 @@
-use Rattle.call_machine.proofs.Covering.{has_spelling, none_strays, records_came}
+use Rattle.call_machine.proofs.Covering.{has_spelling, none_diverges, records_came}
 use Rattle.call_machine.proofs.laws.logs_of_plain_runs.Goals as goal
 
 pub returns-clause-came : goal.returns-clause-came
@@ -7,7 +7,7 @@ returns-clause-came c = records_came c.one_event.ensures
 pub returns-clause-spelled : goal.returns-clause-spelled
 returns-clause-spelled c =
     let came = c.outcomes_that_came.ensures in
-    has_spelling (record { events = c.one_event.ensures; little = c.requests_are_little.ensures; arises = came.arises; count = came.count; room = came.room })
+    has_spelling (record { events = c.one_event.ensures; little = c.requests_asked.ensures.little; arises = came.arises; count = came.count; room = came.room })
 
 pub returns-clause-straight : goal.returns-clause-straight
-returns-clause-straight c = let came = c.outcomes_that_came.ensures in none_strays (record { same = came.same; stays = came.stays; grows = came.grows })
+returns-clause-straight c = let came = c.outcomes_that_came.ensures in none_diverges (record { same = came.same; stays = came.stays; grows = came.grows })

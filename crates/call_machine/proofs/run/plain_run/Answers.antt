@@ -1,6 +1,7 @@
 use Rattle.std.proofs.Common.{◌≡◌, true, length, rules}
 use Rattle.call_machine.specs.Driven.{Ends}
-use Rattle.call_machine.specs.Plain.{are_settings, are_threads}
+use Rattle.call_machine.specs.Plain.{are_threads}
+use Rattle.logged_machine.specs.Starting.{are_settings}
 use Rattle.call_machine.specs.Playing.{played_of}
 use Rattle.call_machine.specs.Setup.{Inputs}
 use Rattle.call_machine.proofs.Concluding.{begins_of, plain_covered, plain_legal, plain_rising, plain_run_is}
@@ -16,39 +17,39 @@ pub returns-clause-run : goal.returns-clause-run
 returns-clause-run c =
     let input : Inputs = record { scripts = c.args.scripts.items; outcomes = c.args.outcomes.items; settings = c.args.settings } in
     let p = played_of c.run.new.self in
-    let strayed = c.in_ok-strayed.strayed in
+    let diverged = c.in_ok-diverged.diverged in
     let count : c.len-3.result ≡ length c.args.scripts.items = search rules in
-    let e : Ends input strayed p = c.in_ok-strayed.ensures input (begins_of c.laws.ensures.starts input c.len-3.result (played_of c.in_ok-driver.driver) count c.in_ok-driver.ensures) in
+    let e : Ends input diverged p = c.in_ok-diverged.ensures input (begins_of c.laws.ensures.starts input c.len-3.result (played_of c.in_ok-driver.driver) count c.in_ok-driver.ensures) in
     let plain = c.in_ok-finish.field-0 in
     let threads : are_threads input ≡ true = search rules in
     let settings : are_settings input.settings ≡ true = search rules in
-    plain_run_is c.laws.ensures.clocks input strayed p plain e c.in_ok-finish.ensures threads settings
+    plain_run_is c.laws.ensures.clocks input diverged p plain e c.in_ok-finish.ensures threads settings
 
 pub returns-clause-legal : goal.returns-clause-legal
 returns-clause-legal c =
     let input : Inputs = record { scripts = c.args.scripts.items; outcomes = c.args.outcomes.items; settings = c.args.settings } in
     let p = played_of c.run.new.self in
-    let strayed = c.in_ok-strayed.strayed in
+    let diverged = c.in_ok-diverged.diverged in
     let count : c.len-3.result ≡ length c.args.scripts.items = search rules in
-    let e : Ends input strayed p = c.in_ok-strayed.ensures input (begins_of c.laws.ensures.starts input c.len-3.result (played_of c.in_ok-driver.driver) count c.in_ok-driver.ensures) in
-    plain_legal c.laws.ensures.clocks c.laws.ensures.legal input strayed p c.in_ok-finish.field-0 e c.in_ok-finish.ensures
+    let e : Ends input diverged p = c.in_ok-diverged.ensures input (begins_of c.laws.ensures.starts input c.len-3.result (played_of c.in_ok-driver.driver) count c.in_ok-driver.ensures) in
+    plain_legal c.laws.ensures.clocks c.laws.ensures.legal input diverged p c.in_ok-finish.field-0 e c.in_ok-finish.ensures
 
 pub returns-clause-rising : goal.returns-clause-rising
 returns-clause-rising c =
     let input : Inputs = record { scripts = c.args.scripts.items; outcomes = c.args.outcomes.items; settings = c.args.settings } in
     let p = played_of c.run.new.self in
-    let strayed = c.in_ok-strayed.strayed in
+    let diverged = c.in_ok-diverged.diverged in
     let count : c.len-3.result ≡ length c.args.scripts.items = search rules in
-    let e : Ends input strayed p = c.in_ok-strayed.ensures input (begins_of c.laws.ensures.starts input c.len-3.result (played_of c.in_ok-driver.driver) count c.in_ok-driver.ensures) in
-    plain_rising c.laws.ensures.clocks c.laws.ensures.rising input strayed p c.in_ok-finish.field-0 e c.in_ok-finish.ensures
+    let e : Ends input diverged p = c.in_ok-diverged.ensures input (begins_of c.laws.ensures.starts input c.len-3.result (played_of c.in_ok-driver.driver) count c.in_ok-driver.ensures) in
+    plain_rising c.laws.ensures.clocks c.laws.ensures.rising input diverged p c.in_ok-finish.field-0 e c.in_ok-finish.ensures
 
 pub returns-clause-covered : goal.returns-clause-covered
 returns-clause-covered c =
     let input : Inputs = record { scripts = c.args.scripts.items; outcomes = c.args.outcomes.items; settings = c.args.settings } in
     let p = played_of c.run.new.self in
-    let strayed = c.in_ok-strayed.strayed in
+    let diverged = c.in_ok-diverged.diverged in
     let count : c.len-3.result ≡ length c.args.scripts.items = search rules in
-    let e : Ends input strayed p = c.in_ok-strayed.ensures input (begins_of c.laws.ensures.starts input c.len-3.result (played_of c.in_ok-driver.driver) count c.in_ok-driver.ensures) in
+    let e : Ends input diverged p = c.in_ok-diverged.ensures input (begins_of c.laws.ensures.starts input c.len-3.result (played_of c.in_ok-driver.driver) count c.in_ok-driver.ensures) in
     let threads : are_threads input ≡ true = search rules in
     let settings : are_settings input.settings ≡ true = search rules in
-    plain_covered c.laws.ensures.clocks c.laws.ensures.came c.laws.ensures.spelled c.laws.ensures.rows input strayed p c.in_ok-finish.field-0 e c.in_ok-finish.ensures threads settings
+    plain_covered c.laws.ensures.clocks c.laws.ensures.came c.laws.ensures.spelled c.laws.ensures.rows input diverged p c.in_ok-finish.field-0 e c.in_ok-finish.ensures threads settings

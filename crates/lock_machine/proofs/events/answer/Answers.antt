@@ -1,4 +1,4 @@
-use Rattle.std.proofs.Common.{◌≡◌, ◌+◌, List, Some, true, refl, sym, ap, ◌∙◌, length, rules}
+use Rattle.std.proofs.Common.{◌≡◌, ◌+◌, List, Some, true, refl, ap, ◌∙◌, length, rules}
 use Rattle.std.proofs.Math.ListN.{set}
 use Rattle.std.proofs.lemmas.List.{get_or-set_same}
 use Rattle.std.proofs.lemmas.Option.{slice_get_read}

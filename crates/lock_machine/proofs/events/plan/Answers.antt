@@ -1,15 +1,20 @@
-use Rattle.std.proofs.Common.{Ok, ◌≡◌, None, rules}
-use Rattle.object_store.specs.Store.{number_locked}
+use Rattle.std.proofs.Common.{◌≡◌, ℕ, None, rules}
+use Rattle.object_store.specs.Store.{Makes, number_locked}
+use Rattle.object_store.specs.declared.patience.TurnStart.TheVariants as start
+use Rattle.lock_model.specs.declared.turn_end.TurnEnd.TheVariants as end
 use Rattle.lock_machine.specs.Events.{parts}
 use Rattle.lock_machine.specs.Threads.{timed}
-use Rattle.lock_machine.proofs.Granting.{planned_none}
+use Rattle.lock_machine.proofs.Granting.{planned_none, seated}
 use Rattle.lock_machine.proofs.events.plan.Goals as goal
 
-pub returns-in-None-clause-event : goal.returns-in-None-clause-event
-returns-in-None-clause-event c =
+pub returns-in-Answers-clause-event : goal.returns-in-Answers-clause-event
+returns-in-Answers-clause-event c =
+    let patience = c.args.patience in
+    let thread = c.args.thread.now in
     let shared = c.args.shared.now in
+    let new = c.settle_or_lock.new.self in
     let none : number_locked shared.store c.args.call ≡ None = search rules in
-    planned_none c.args.patience (Ok tt) (number_locked shared.store c.args.call) c.args.turn c.args.call c.args.turns
-    (λ clock. parts (timed c.args.thread.now clock) shared.lock shared.store shared.rows.items)
-    (λ clock. parts (timed c.grant.new.thread clock) c.grant.new.shared.lock c.grant.new.shared.store c.grant.new.shared.rows.items)
-    none c.grant.ensures.event
+    let makes : (patience turns : ℕ) → Makes patience turns shared.store c.args.call (start.Ended (end.Reply c.in-Answers.reply)) new = search rules in
+    λ clock.
+    planned_none patience (number_locked shared.store c.args.call) c.args.turn c.args.call c.args.turns _ _ none
+    (seated patience c.args.turn c.args.call c.args.turns None (start.Ended (end.Reply c.in-Answers.reply)) (timed thread clock) c.seat.result shared.lock shared.store new shared.rows.items c.seat.new.history.items (makes patience c.args.turns) c.seat.ensures.phase c.seat.ensures.row)

@@ -1,4 +1,4 @@
-use Rattle.std.proofs.Common.{◌≡◌, ◌+◌, ◌^◌, List, Some, None, true, refl, sym, ap, ◌∙◌, subst, length, arith, rules}
+use Rattle.std.proofs.Common.{◌≡◌, ◌+◌, ◌^◌, List, Some, None, true, refl, sym, ap, ◌∙◌, subst, length, rules}
 use Rattle.std.proofs.lemmas.Option.{slice_get_read}
 use Rattle.std.specs.Prelude.{nat_le, slice_get}
 use Rattle.std.proofs.Math.ListN.{set}
@@ -10,7 +10,6 @@ use Rattle.posix_terms.specs.declared.transcript.HistoryRow.{HistoryRow}
 use Rattle.lock_machine.specs.Outings.{AnswersOutside, answer_cost, outside_parts, table_freed}
 use Rattle.lock_machine.specs.Held.{phase_behind}
 use Rattle.lock_machine.specs.Threads.{timed}
-use Rattle.lock_machine.proofs.ClockLemmas.{kept_clock}
 use Rattle.lock_machine.proofs.Parting.{concludes_made, concludes_pending, holds_locks, got_set, object_holder}
 use Rattle.lock_machine.proofs.Bearing.{few_born}
 use Rattle.lock_machine.proofs.outside.answer_outside.Goals as goal

@@ -1,4 +1,4 @@
-use Rattle.std.proofs.Common.{◌≡◌, List, [], sym, ap₂, subst, rules}
+use Rattle.std.proofs.Common.{◌≡◌, List, [], sym, ap₂, subst}
 use Rattle.std.specs.Coded.{×_prop, le_prop}
 use Rattle.thread_scripts.specs.declared.actor.Step.{Step}
 use Rattle.lock_machine.specs.Rooms.{HasSpace}

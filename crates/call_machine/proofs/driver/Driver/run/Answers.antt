@@ -2,7 +2,7 @@ use Rattle.std.proofs.Common.{subst}
 use Rattle.call_machine.specs.Driven.{Plainly}
 use Rattle.call_machine.specs.Playing.{played_of}
 use Rattle.call_machine.specs.declared.drive.Went.{Went}
-use Rattle.call_machine.proofs.Scheduling.{at_the_start, comes_astray, comes_on, comes_to_end, goes_down}
+use Rattle.call_machine.proofs.Scheduling.{at_the_start, comes_diverging, comes_on, comes_to_end, goes_down}
 use Rattle.call_machine.proofs.driver.Driver.run.Goals as goal
 
 pub loop-i-init : goal.loop-i-init
@@ -24,7 +24,7 @@ returns-in-Over c input h =
     let Q : Went → Type 0 = λ w. Plainly w (played_of c.loop-i.self) (played_of c.step.new.self) in
     comes_to_end input (played_of c.loop-i.self) (played_of c.step.new.self) (c.loop-i.invariant input h) (subst Q c.in-Over.is c.in_ok-step.ensures)
 
-pub returns-in-Strays : goal.returns-in-Strays
-returns-in-Strays c input h =
+pub returns-in-Diverges : goal.returns-in-Diverges
+returns-in-Diverges c input h =
     let Q : Went → Type 0 = λ w. Plainly w (played_of c.loop-i.self) (played_of c.step.new.self) in
-    comes_astray input c.in-Strays.i (played_of c.loop-i.self) (played_of c.step.new.self) (c.loop-i.invariant input h) (subst Q c.in-Strays.is c.in_ok-step.ensures)
+    comes_diverging input c.in-Diverges.i (played_of c.loop-i.self) (played_of c.step.new.self) (c.loop-i.invariant input h) (subst Q c.in-Diverges.is c.in_ok-step.ensures)

@@ -1,7 +1,7 @@
 use Rattle.std.proofs.Common.{◌≡◌, ◌<◌, Bool, length, sym, subst, ◌∙◌, rules}
 use Rattle.call_machine.specs.Playing.{Attempted, Makes, played_of}
 use Rattle.lock_machine.specs.declared.outside.Progress.{Progress}
-use Rattle.call_machine.proofs.Scheduling.{advanced_next, attempted_next, none_at_first, one_more_none, over_next, refused_next, strayed_next}
+use Rattle.call_machine.proofs.Scheduling.{advanced_next, attempted_next, none_at_first, one_more_none, over_next, refused_next, diverged_next}
 use Rattle.call_machine.proofs.driver.Driver.step.Goals as goal
 
 pub loop-i-init : goal.loop-i-init
@@ -16,14 +16,14 @@ returns-in-Moves c =
     let Q : Progress → Type 0 = λ p. Makes p c.loop-i.i now new in
     advanced_next c.laws.ensures.least c.loop-i.i old now new inside c.loop-i.invariant (subst Q c.in-Moves.is c.in_ok-advance.ensures.event)
 
-pub returns-in-Strays : goal.returns-in-Strays
-returns-in-Strays c =
+pub returns-in-Diverges : goal.returns-in-Diverges
+returns-in-Diverges c =
     let old = played_of c.args.self.now in
     let now = played_of c.loop-i.self in
     let new = played_of c.advance.new.self in
     let inside : c.loop-i.i < length old.players = search rules in
     let Q : Progress → Type 0 = λ p. Makes p c.loop-i.i now new in
-    strayed_next c.laws.ensures.events c.laws.ensures.least c.loop-i.i old now new inside c.loop-i.invariant (subst Q c.in-Strays.is c.in_ok-advance.ensures.event)
+    diverged_next c.laws.ensures.events c.laws.ensures.least c.loop-i.i old now new inside c.loop-i.invariant (subst Q c.in-Diverges.is c.in_ok-advance.ensures.event)
 
 pub loop-i-preserved : goal.loop-i-preserved
 loop-i-preserved c =

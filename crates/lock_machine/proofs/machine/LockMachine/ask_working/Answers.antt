@@ -1,9 +1,13 @@
-use Rattle.lock_machine.specs.Threads.{joined}
+use Rattle.lock_machine.specs.Threads.{joined, timed}
 use Rattle.std.proofs.lemmas.List.{length-set}
 use Rattle.std.proofs.Common.{ℕ, ◌<◌, List, length, rules, set, sym, ◌≡◌, true, IfOk, OnErr, subst, refl}
 use Rattle.posix_terms.specs.declared.transcript.HistoryRow.{HistoryRow}
-use Rattle.lock_machine.proofs.Inside.{clock_inside, count_kept, inside_of, item_in, lives_in, whole_by}
-use Rattle.lock_machine.specs.Whole.{Whole}
+use Rattle.logical_clocks.specs.ThreadClocks.{clock_at}
+use Rattle.std.proofs.lemmas.Result.{on_err_weaker}
+use Rattle.lock_machine.proofs.AskShows.{call_time, may_ask, on_err}
+use Rattle.lock_machine.proofs.Inside.{clock_inside, count_kept, inside_of, item_in, lives_in, thread_seen, whole_by}
+use Rattle.lock_machine.specs.Asking.{HasTime}
+use Rattle.lock_machine.specs.Whole.{Whole, thread_at}
 use Rattle.lock_machine.specs.Refusals.{Rests}
 use Rattle.lock_machine.specs.Shows.{AsksFor}
 use Rattle.lock_machine.specs.declared.thread.Phase.TheVariants as phase
@@ -105,3 +109,19 @@ returns-clause-err c =
     subst (λ (rows : List HistoryRow). OnErr c.ask.result (record v { threads = joined (set m.threads.items c.args.i c.ask.new.self) c.ask.new.clocks; rows = rows } ≡ c.args.self.now)) (sym kept)
     (subst (λ (w : Whole). OnErr c.ask.result (record v { threads = joined (set m.threads.items c.args.i c.ask.new.self) c.ask.new.clocks } ≡ w)) view
     (ask_errs v m.threads.items m.clocks c.ask.new.clocks c.args.i x c.ask.new.self c.ask.result item c.ask.ensures.err))
+
+pub returns-clause-memory : goal.returns-clause-memory
+returns-clause-memory c =
+    let m = c.self.inside in
+    let w = c.args.self.now in
+    let i = c.args.i in
+    let x = c.index_mut.result.now in
+    let v : Whole = whole_by m.patience m.door_cost m.threads.items m.clocks m.shared.lock m.objects.items m.shared.store m.shared.rows.items in
+    let inside = inside_of m.threads.items m.clocks v w i refl c.self.view_is c.requires.inside in
+    let seen : thread_at w i ≡ timed x (clock_at m.clocks i) = thread_seen m.threads.items m.clocks v w i x refl c.self.view_is inside c.index_mut.ensures.value in
+    on_err_weaker c.ask.result (λ (time : HasTime c.args.step (timed x (clock_at m.clocks i))). may_ask w i c.args.step c.requires.working (subst (HasTime c.args.step) (sym seen) time)) c.ask.ensures.time
+
+pub returns-in_err-reserve_rows-clause-memory : goal.returns-in_err-reserve_rows-clause-memory
+returns-in_err-reserve_rows-clause-memory c =
+    let w = c.args.self.now in
+    on_err c.from_residual.result (may_ask w c.args.i c.args.step c.requires.working (call_time c.args.step (thread_at w c.args.i) c.in_err-reserve_rows.ensures.call))

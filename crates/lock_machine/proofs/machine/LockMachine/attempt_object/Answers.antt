@@ -4,7 +4,7 @@ use Rattle.lock_machine.proofs.Inside.{inside_of, item_in, turn_of, whole_by, cl
 use Rattle.lock_machine.specs.Whole.{Whole}
 use Rattle.lock_machine.specs.Refusals.{Rests}
 use Rattle.lock_machine.specs.Shows.{Attempts, WantsIn}
-use Rattle.std.proofs.Common.{Bool, Ok, ◌≡◌, ◌≤◌, length, get_or, rules, IfOk, false, subst, refl, ℕ, ◌<◌, set, sym}
+use Rattle.std.proofs.Common.{Bool, Ok, ◌≡◌, ◌≤◌, length, get_or, rules, false, subst, refl, ℕ, ◌<◌, set, sym}
 use Rattle.det_mutex.specs.Attempt.{new_lock}
 use Rattle.lock_machine.proofs.AttemptEvents.{reach_done, reach_none}
 use Rattle.lock_machine.proofs.EventShows.{item_agrees, item_of, wants_at}

@@ -1,4 +1,4 @@
-use Rattle.std.proofs.Common.{Bool, Ok, ◌≡◌, true, rules, IfOk, subst, refl, ℕ, ◌<◌, length, set, sym}
+use Rattle.std.proofs.Common.{Bool, Ok, ◌≡◌, true, rules, subst, refl, ℕ, ◌<◌, length, set, sym}
 use Rattle.std.proofs.lemmas.List.{length-set}
 use Rattle.lock_machine.specs.Refusals.{Rests, wants_table}
 use Rattle.lock_machine.specs.Shows.{Attempts}

@@ -1,7 +1,6 @@
-use Rattle.std.proofs.Common.{◌≡◌, map, sym, ap, ◌∙◌, rules}
+use Rattle.std.proofs.Common.{◌≡◌, map, sym, ap, ◌∙◌}
 use Rattle.lock_machine.specs.Whole.{Whole}
 use Rattle.lock_machine.specs.Threads.{Thread}
-use Rattle.lock_machine.specs.declared.thread.Thread as declared
 use Rattle.lock_machine.proofs.Inside.{whole_by}
 use Rattle.lock_machine.proofs.Joining.{asked-joined}
 use Rattle.lock_machine.proofs.machine.LockMachine.finish.Goals as goal

@@ -3,6 +3,7 @@ use Rattle.std.proofs.lemmas.List.{length-set}
 use Rattle.std.proofs.Common.{subst, ◌≡◌, ◌∙◌, refl, ℕ, ◌<◌, List, length, rules, set, sym, IfOk, OnErr}
 use Rattle.std.specs.Vec.{vec_len}
 use Rattle.posix_terms.specs.declared.transcript.HistoryRow.{HistoryRow}
+use Rattle.lock_machine.proofs.AskShows.{may_again, on_err}
 use Rattle.lock_machine.proofs.Inside.{inside_of, item_in, whole_by, count_kept}
 use Rattle.lock_machine.specs.Whole.{Whole}
 use Rattle.lock_machine.specs.Refusals.{Rests}
@@ -90,3 +91,9 @@ returns-clause-err c =
     subst (λ (rows : List HistoryRow). OnErr c.again.result (record v { threads = joined (set m.threads.items c.args.i c.again.new.self) m.clocks; rows = rows } ≡ c.args.self.now)) (sym kept)
     (subst (λ (w : Whole). OnErr c.again.result (record v { threads = joined (set m.threads.items c.args.i c.again.new.self) m.clocks } ≡ w)) view
     (again_errs v m.threads.items m.clocks c.args.i x c.again.new.self c.again.result item c.again.ensures.err))
+
+pub returns-clause-memory : goal.returns-clause-memory
+returns-clause-memory c = on_err c.again.result (may_again c.args.self.now c.args.i c.requires.blocked)
+
+pub returns-in_err-reserve-clause-memory : goal.returns-in_err-reserve-clause-memory
+returns-in_err-reserve-clause-memory c = on_err c.from_residual.result (may_again c.args.self.now c.args.i c.requires.blocked)

@@ -1,7 +1,5 @@
 use Rattle.std.proofs.Common.{None, sym, subst}
 use Rattle.logged_machine.specs.Kept.{IsKept}
-use Rattle.logged_machine.specs.Shown.{Shown}
-use Rattle.logged_machine.specs.Starting.{first_shown}
 use Rattle.logged_machine.proofs.Starting.{first_kept}
 use Rattle.logged_machine.proofs.machine.Machine.new.Goals as goal
 
@@ -10,4 +8,4 @@ invariant_of-result g c =
     let x = c.in-Ok-Ok.ensures in
     let y = c.in-Ok-Ok.ensures' in
     subst (IsKept g.row.D.Denot) (λ k. record { whole = sym x k; log = sym c.requires.begun k; doors = sym y k; stop = None })
-    (first_kept g.row.D.Denot c.args.settings c.args.threads c.arising_states.ensures.at_start c.machines_begin.ensures c.requires.range)
+    (first_kept g.row.D.Denot c.args.settings c.args.threads c.arising_states.ensures.at_start c.machines_show.ensures.start c.requires.range)

@@ -1,5 +1,4 @@
-use Rattle.std.proofs.Common.{◌≡◌, List, Some, get_or, sym, ap, ◌∙◌, subst}
-use Rattle.lock_machine.specs.Refusals.{phase_at}
+use Rattle.std.proofs.Common.{List, Some, get_or, sym, ap, ◌∙◌, subst}
 use Rattle.posix_terms.specs.declared.transcript.HistoryRow.{HistoryRow}
 use Rattle.logged_machine.specs.Requests.{IsRequest, out_of}
 use Rattle.logged_machine.specs.Shown.{Shown}

@@ -1,20 +1,19 @@
-use Rattle.std.proofs.Common.{◌≡◌, ◌≤◌, ℕ, true, arith, sym, subst, rules}
+use Rattle.std.proofs.Common.{◌≡◌, ◌≤◌, ℕ, true, arith, sym, subst, rules, Option, Some, None}
 use Rattle.descriptor_table.specs.Plans.{planned, read_count}
 use Rattle.descriptor_table.specs.declared.plan.Op.TheVariants as op
 use Rattle.descriptor_table.specs.declared.plan.Plan.TheVariants as plan
 use Rattle.object_store.specs.Acting.{acts_inside}
 use Rattle.object_store.specs.Patience.{act_bytes, turn_bytes}
 use Rattle.object_store.specs.Store.{EndsTurn, IsPlanned, LeavesTable, Makes, Replies, Stored}
+use Rattle.posix_terms.specs.declared.reply.Reply.{Reply}
 use Rattle.posix_terms.specs.declared.call.Call.{Call}
-use Rattle.object_store.specs.declared.patience.Ending.{Ending}
-use Rattle.object_store.specs.declared.patience.Ending.TheVariants as ending
-use Rattle.object_store.specs.declared.patience.TurnEnd.{TurnEnd}
-use Rattle.object_store.specs.declared.patience.TurnEnd.TheVariants as end
+use Rattle.lock_model.specs.declared.turn_end.TurnEnd.{TurnEnd}
+use Rattle.lock_model.specs.declared.turn_end.TurnEnd.TheVariants as end
 use Rattle.object_store.specs.declared.patience.TurnStart.TheVariants as start
 use Rattle.object_store.proofs.Making.{AsksNothing, act_alone, act_replied, act_waits, reply_alone, turn_replied}
 use Rattle.object_store.proofs.Outside.{goes_out}
 use Rattle.object_store.proofs.store.Store.make.Goals as goal
-use Rattle.object_store.proofs.store.Store.make.Goals.{in-Reply-act, in-Waits}
+use Rattle.object_store.proofs.store.Store.make.Goals.{in-Some, in-None}
 
 pub returns-in-Reply-clause-makes : goal.returns-in-Reply-clause-makes
 returns-in-Reply-clause-makes c =
@@ -51,25 +50,25 @@ returns-after-act c = record { makes = makes; room = few; births = c.act.ensures
     alone : AsksNothing c.args.self.now c.args.call.now
     alone = act_alone c.args.self.now c.args.call.now c.in-Node.node c.in-Node.op planned_is inside
 
-    ends_turn : (e : Ending) → c.act.result ≡ e → EndsTurn h call e c.act.new.self
-    ends_turn e is = subst (λ (x : Ending). EndsTurn h call x c.act.new.self) is c.act.ensures.ends
+    ends_turn : (e : Option Reply) → c.act.result ≡ e → EndsTurn h call e c.act.new.self
+    ends_turn e is = subst (λ (x : Option Reply). EndsTurn h call x c.act.new.self) is c.act.ensures.ends
 
     ends_as : (e : TurnEnd) → c.match-act.result ≡ e → Makes c.args.patience c.args.turns h call (start.Ended e) c.act.new.self → Makes c.args.patience c.args.turns h call (start.Ended c.match-act.result) c.act.new.self
     ends_as e is makes = subst (λ (x : TurnEnd). Makes c.args.patience c.args.turns h call (start.Ended x) c.act.new.self) (sym is) makes
 
-    brings : (e : Ending) → c.act.result ≡ e → act_bytes e ≤ read_count call
-    brings e is = subst (λ (x : Ending). act_bytes x ≤ read_count call) is c.act.ensures.few
+    brings : (e : Option Reply) → c.act.result ≡ e → act_bytes e ≤ read_count call
+    brings e is = subst (λ (x : Option Reply). act_bytes x ≤ read_count call) is c.act.ensures.few
 
     few : turn_bytes c.match-act.result ≤ read_count c.args.call.now
     few =
         elim c.match-act.branch [
-          | in-Reply-act w ↦ subst (λ (x : TurnEnd). turn_bytes x ≤ read_count call) (sym w.result-is) (brings (ending.Reply w.in-Reply-act.reply) w.in-Reply-act.is)
-          | in-Waits w ↦ subst (λ (x : TurnEnd). turn_bytes x ≤ read_count call) (sym w.result-is) (subst (λ (n : ℕ). n ≤ read_count call) (sym w.blocked.ensures.few) (omega arith))
+          | in-Some w ↦ subst (λ (x : TurnEnd). turn_bytes x ≤ read_count call) (sym w.result-is) (brings (Some w.in-Some.reply) w.in-Some.is)
+          | in-None w ↦ subst (λ (x : TurnEnd). turn_bytes x ≤ read_count call) (sym w.result-is) (subst (λ (n : ℕ). n ≤ read_count call) (sym w.blocked.ensures.few) (omega arith))
         ]
 
     makes : Makes c.args.patience c.args.turns c.args.self.now c.args.call.now (start.Ended c.match-act.result) c.act.new.self
     makes =
         elim c.match-act.branch [
-          | in-Reply-act w ↦ ends_as (end.Reply w.in-Reply-act.reply) w.result-is (act_replied h c.act.new.self call w.in-Reply-act.reply c.args.patience c.args.turns alone (ends_turn (ending.Reply w.in-Reply-act.reply) w.in-Reply-act.is))
-          | in-Waits w ↦ ends_as w.blocked.result w.result-is (act_waits h c.act.new.self call c.args.patience c.args.turns w.blocked.result alone (ends_turn ending.Waits w.in-Waits.is) w.blocked.ensures.waits)
+          | in-Some w ↦ ends_as (end.Reply w.in-Some.reply) w.result-is (act_replied h c.act.new.self call w.in-Some.reply c.args.patience c.args.turns alone (ends_turn (Some w.in-Some.reply) w.in-Some.is))
+          | in-None w ↦ ends_as w.blocked.result w.result-is (act_waits h c.act.new.self call c.args.patience c.args.turns w.blocked.result alone (ends_turn None w.in-None.is) w.blocked.ensures.waits)
         ]

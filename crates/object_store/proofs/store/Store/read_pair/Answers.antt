@@ -7,7 +7,6 @@ use Rattle.descriptor_table.specs.Acts.{is_open}
 use Rattle.pipes.specs.Pipe.{read_answer}
 use Rattle.stream_sockets.specs.Pair.{left_by_read, read_into}
 use Rattle.object_store.specs.Acting.{ending_of_read, holding, offset_of_key}
-use Rattle.object_store.specs.Patience.{shown_ending}
 use Rattle.object_store.specs.Store.{kept_at}
 use Rattle.object_store.proofs.Streaming.{read_content, read_ending}
 use Rattle.object_store.proofs.store.Store.read_pair.Goals as goal
@@ -25,7 +24,7 @@ returns-clause-acts c =
     let kept : take c.args.into.len (c.take_pair-answer.new.into ++ drop (length c.take_pair-answer.new.into) place) ≡ c.take_pair-answer.new.into =
     ap (λ (k : ℕ). take k (c.take_pair-answer.new.into ++ drop (length c.take_pair-answer.new.into) place)) (sym whole)
     ∙ take-append_seam c.take_pair-answer.new.into (drop (length c.take_pair-answer.new.into) place) in
-    let as_answered : shown_ending c.read_ending.result ≡ ending_of_read c.take_pair-answer.result c.take_pair-answer.new.into c.args.from.flags.nonblock =
+    let as_answered : c.read_ending.result ≡ ending_of_read c.take_pair-answer.result c.take_pair-answer.new.into c.args.from.flags.nonblock =
     c.read_ending.ensures.shown ∙ ap (λ (l : List ℕ). ending_of_read c.take_pair-answer.result l c.args.from.flags.nonblock) kept in
     let told = as_answered ∙ ap₂ (λ a b. ending_of_read a b c.args.from.flags.nonblock) answered filled in
     let left : c.take_pair-answer.new.self ≡ holding h c.args.node (Pair (left_by_read p c.args.side r)) = search rules in (

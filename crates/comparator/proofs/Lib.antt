@@ -1,0 +1,2 @@
+pub mod SameCalls
+pub mod SameRows

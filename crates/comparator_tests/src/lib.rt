@@ -1,0 +1,5 @@
+//! The tests of `comparator`.
+#![tactic(auto)]
+
+#[cfg(test)]
+mod comparisons;

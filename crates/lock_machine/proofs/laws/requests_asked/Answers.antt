@@ -1,0 +1,8 @@
+use Rattle.lock_machine.proofs.Requests.{asked_kind, asked_little}
+use Rattle.lock_machine.proofs.laws.requests_asked.Goals as goal
+
+pub returns-clause-little : goal.returns-clause-little
+returns-clause-little c = asked_little
+
+pub returns-clause-kinds : goal.returns-clause-kinds
+returns-clause-kinds c = asked_kind

@@ -1,0 +1,8 @@
+use Rattle.std.proofs.Common.{◌≡◌}
+use Rattle.recorder.specs.Seats.{IsReady}
+use Rattle.recorder.proofs.seat.Seat.play.Given as goal
+
+abbrev pub invariant-loop : goal.invariant-loop
+invariant-loop g l =
+    (goal.iterator-loop g).can_next l.iterator' × (goal.iterator-loop g).is_finite l.iterator'
+    × ((l.self.from ≡ l.initial.self.from) × (l.self.began ≡ l.initial.self.began) × IsReady l.self)

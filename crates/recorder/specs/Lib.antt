@@ -1,0 +1,4 @@
+pub mod Seats
+pub mod Each
+pub mod Recorded
+pub mod Starting

@@ -1,0 +1,79 @@
+-- A worker at its thread: its actor, its outside and its notes.
+use Rattle.std.specs.Prelude.{◌≡◌, ℕ, ◌≤◌, Bool, true, false, not, List, [], ◌∷◌, length}
+use Rattle.lock_machine.specs.Waiting.{is_call}
+use Rattle.posix_terms.specs.declared.limits.TheConstants.Limits as limit
+use Rattle.thread_scripts.specs.declared.actor.ScriptState.{ScriptState}
+use Rattle.thread_scripts.specs.declared.actor.Step.{Step}
+use Rattle.thread_scripts.specs.declared.actor.Step.TheVariants as step
+use Rattle.worker_notes.specs.Leads.{Giving, LeadsTo}
+use Rattle.worker_notes.specs.Plays.{AreHeard, AreHeardSoFar, IsHeard, PlaysTo, gave_end}
+use Rattle.worker_notes.specs.declared.own.Brought.{Brought}
+use Rattle.worker_notes.specs.declared.own.Noted.{Noted}
+use Rattle.worker_notes.specs.declared.own.Own.{Own}
+use Rattle.recorder.specs.declared.asked.Asked.{Asked}
+use Rattle.recorder.specs.declared.asked.Asked.TheVariants as asked
+
+-- where actor and outside stood at entry and stand now, the notes, how many calls were made outside, and whether the actor or the outside
+-- may be ahead of the notes
+pub record Sitting (O : Type 0) : Type 0 where
+  pub from : ScriptState
+  pub began : O
+  pub now : ScriptState
+  pub outside : O
+  pub steps : List Noted
+  pub brought : List Brought
+  pub ended : Bool
+  pub number : ℕ
+  pub ahead : Bool
+
+-- the notes lead from where both stood to where they stand
+pub record IsSeated (O : Type 0) (gives : Giving O) (count faults : O → ℕ) (v : Sitting O) : Type 0 where
+  pub plays : PlaysTo v.ahead v.from v.steps v.now
+  pub heard : AreHeardSoFar v.steps
+  pub leads : LeadsTo gives v.ahead v.began v.brought v.outside
+  pub given : count v.outside ≤ v.number
+  pub failures : faults v.outside ≤ v.number
+  pub few : v.number ≤ limit.OUTCOMES
+  pub counted : v.ahead ≡ false → length v.brought ≡ v.number
+  pub ends : v.ended ≡ true → (v.ahead ≡ false) × gave_end v.steps
+
+-- nothing is ahead of the notes, and the actor has not ended
+abbrev pub IsStill : {O : Type 0} → Sitting O → Type 0
+IsStill v = (v.ahead ≡ false) × (v.ended ≡ false)
+
+-- the next step can be asked: each call has its reply
+abbrev pub IsReady : {O : Type 0} → Sitting O → Type 0
+IsReady v = IsStill v × AreHeard v.steps
+
+-- the last step is a call, and those before it have their replies
+abbrev pub EndsInCall : List Noted → Type 0
+EndsInCall [] = ⊥
+EndsInCall (n ∷ []) = is_call n.step ≡ true
+EndsInCall (n ∷ m ∷ notes) = IsHeard n × EndsInCall (m ∷ notes)
+
+-- the call that was asked last has no reply yet
+abbrev pub IsCalling : {O : Type 0} → Sitting O → Type 0
+IsCalling v = IsStill v × EndsInCall v.steps
+
+-- ## Behind a step
+
+abbrev pub kind_of : Step → Asked
+kind_of (step.Work n) = asked.Work
+kind_of (step.Call c) = asked.Call
+kind_of step.End = asked.End
+
+-- how a worker stands when such a step was asked
+abbrev pub StandsBehind : {O : Type 0} → Asked → Sitting O → Type 0
+StandsBehind asked.Work v = IsReady v
+StandsBehind asked.Call v = IsCalling v
+StandsBehind asked.End v = Unit {0}
+
+-- ## What it brings back
+
+-- it is true to its notes: they lead from its actor's state at entry to its state at the end, or one step further, and from its outside at
+-- entry to its outside at the end, or one call further; and neither is further where the actor gave its end
+pub record IsTrueTo (O : Type 0) (gives : Giving O) (from : ScriptState) (began : O) (own : Own) (now : ScriptState) (outside : O) : Type 0 where
+  pub plays : PlaysTo (not own.ended) from own.steps.items now
+  pub heard : AreHeardSoFar own.steps.items
+  pub leads : LeadsTo gives (not own.ended) began own.outcomes.items outside
+  pub ends : own.ended ≡ true → gave_end own.steps.items

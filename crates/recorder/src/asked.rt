@@ -1,0 +1,41 @@
+ghost use Rattle.std.specs.Prelude.{◌≡◌, IfOk};
+ghost use Rattle.lock_machine.specs.Refusals.{is_end};
+ghost use Rattle.recorder.specs.Seats.{kind_of};
+
+use std::alloc::AllocError;
+use thread_scripts::Step;
+
+// What kind of step was asked.
+#[derive(Clone, Copy)]
+pub enum Asked {
+    Work,
+    Call,
+    End,
+}
+
+pub fn kind(step: &Step) -> Asked
+    ensures { result ≡ kind_of step.now }
+{
+    match step {
+        Step::Work(_) => Asked::Work,
+        Step::Call(_) => Asked::Call,
+        Step::End => Asked::End,
+    }
+}
+
+pub fn is_end(step: &Step) -> bool
+    ensures { result ≡ is_end step.now }
+{
+    matches!(step, Step::End)
+}
+
+// A copy of the step.
+pub fn copied(step: &Step) -> Result<Step, AllocError>
+    ensures { IfOk result (λ copy. copy ≡ step.now) }
+{
+    Ok(match step {
+        Step::Work(amount) => Step::Work(*amount),
+        Step::Call(call) => Step::Call(call.try_clone()?),
+        Step::End => Step::End,
+    })
+}

@@ -1,0 +1,171 @@
+ghost use Rattle.std.specs.Prelude.{◌≡◌, ◌⊎◌, ◌↔◌, IsTrue, true, false, Some, None, is_some, is_ok, if◌then◌else◌};
+ghost use Rattle.logged_machine.specs.Finishing.{have_ended, is_ended};
+ghost use Rattle.logged_machine.specs.Kept.{header_of};
+ghost use Rattle.logged_machine.specs.declared.stop.Stop.TheVariants as cause;
+ghost use Rattle.recorder.specs.Recorded.{AreAnswered, AreEnded, AreTold, IsRun, IsToldBy, Shows};
+ghost use Rattle.worker_notes.specs.Agrees.{Agree};
+
+use crate::ended::Ended;
+use crate::history::History;
+use crate::threads::Gathered;
+use crate::transcripts::transcripts;
+use input_log::{Header, LogSink};
+use lock_machine::Phase;
+use logged_machine::{Finished, Machine, Stop};
+use posix_terms::{HistoryRow, Transcripts};
+use std::alloc::{AllocError, Global};
+use worker_notes::{Own, agree};
+
+// What is told of a run whose workers have all come back.
+pub fn conclude<A: Drop, O: Drop, S: LogSink + Drop, D: Drop>(
+    alloc: Global,
+    threads: usize,
+    header: Header,
+    machine: Machine<S, D>,
+    gathered: Gathered<A, O>,
+) -> Ended<A, O, S>
+    ensures actors { result.actors ≡ gathered.actors }
+    ensures outsides { result.outsides ≡ gathered.outsides }
+    ensures own { result.own ≡ gathered.own }
+    ensures run { IsRun D header result.history gathered.own.items (S.taken result.sink) (S.failures result.sink) result.stop }
+    ensures agrees { (result.stop ≡ Some cause.Strayed) ⊎ Agree result.history.rows result.history.asked gathered.own.items }
+    ensures transcripts { AreTold threads result.history.rows result.stop result.transcripts }
+    ensures ended { result.stop ≡ None → AreEnded gathered.own.items }
+    ensures answered { result.stop ≡ None → AreAnswered result.history.rows }
+{
+    let mut machine = machine;
+    let told = transcripts(alloc, threads, machine.history());
+    let complete = is_complete(&told, &machine, gathered.own.as_slice());
+    stop_unless(complete, &mut machine);
+    let finished = finish(machine);
+    let agrees = agrees(header, &finished, gathered.own.as_slice());
+    let stop = judged(agrees, finished.stop);
+    let Finished { history, sink, .. } = finished;
+    let Gathered {
+        actors,
+        outsides,
+        own,
+    } = gathered;
+    Ended {
+        transcripts: told_or_none(alloc, told),
+        own,
+        actors,
+        outsides,
+        history: History::new(history),
+        sink,
+        stop,
+    }
+}
+
+// Whether the run came to its end, and there was memory for its transcripts.
+fn is_complete<S: LogSink, D: Drop>(
+    told: &Result<Transcripts, AllocError>,
+    machine: &Machine<S, D>,
+    own: &[Own],
+) -> bool
+    ensures told { result ≡ true → is_ok told.now ≡ true }
+    ensures threads { result ≡ true → have_ended machine.now.whole.threads ≡ true }
+    ensures rows { result ≡ true → AreAnswered machine.now.whole.rows }
+    ensures own { result ≡ true → AreEnded own.now }
+{
+    told.is_ok() && has_ended(machine, own)
+}
+
+// Stops the machine of a run that did not come to its end, if it is not stopped already. It is, unless there was no memory for the
+// transcripts.
+fn stop_unless<S: LogSink, D: Drop>(complete: bool, machine: &mut Machine<S, D>)
+    ensures stopped { complete ≡ false → is_some machine.new.stop ≡ true }
+    ensures rest { machine.new.whole ≡ machine.old.whole }
+{
+    if !complete {
+        let _first = machine.stop(Stop::Memory);
+    }
+}
+
+// Whether the machine was that of these threads and settings, and its history agrees with the notes.
+fn agrees<S: LogSink>(header: Header, finished: &Finished<S>, own: &[Own]) -> bool
+    ensures { IsTrue result ↔ ((finished.now.header ≡ header) × Agree finished.now.history.rows.items finished.now.history.asked own.now) }
+{
+    let history = &finished.history;
+    same_header(finished.header, header) && agree(history.rows.as_slice(), &history.asked, own)
+}
+
+fn same_header(one: Header, other: Header) -> bool
+    ensures { IsTrue result ↔ (one ≡ other) }
+{
+    one.threads == other.threads
+        && (one.patience == other.patience && one.door_cost == other.door_cost)
+}
+
+// Why the run stopped; where the notes do not agree it is that the threads strayed.
+fn judged(agrees: bool, stop: Option<Stop>) -> Option<Stop>
+    ensures { result ≡ (if agrees then stop else Some cause.Strayed) }
+{
+    if agrees { stop } else { Some(Stop::Strayed) }
+}
+
+// What the machine leaves, and what is true of it.
+fn finish<S: LogSink, D: Drop>(machine: Machine<S, D>) -> Finished<S>
+    ensures shows { Shows D machine (record { rows = result.history.rows.items; asked = result.history.asked }) (S.taken result.sink) (S.failures result.sink) result.stop }
+    ensures header { result.header ≡ header_of machine.whole }
+{
+    machine.finish()
+}
+
+// The transcripts, or none where there was no memory for them.
+fn told_or_none(alloc: Global, transcripts: Result<Transcripts, AllocError>) -> Transcripts
+    ensures { IsToldBy transcripts result }
+{
+    match transcripts {
+        Ok(transcripts) => transcripts,
+        Err(_) => Transcripts::from_vec(Vec::new(alloc)),
+    }
+}
+
+// Whether all threads have ended, each by its actor's `End`, with no row that was not answered.
+fn has_ended<S: LogSink, D: Drop>(machine: &Machine<S, D>, own: &[Own]) -> bool
+    ensures threads { result ≡ true → have_ended machine.now.whole.threads ≡ true }
+    ensures rows { result ≡ true → AreAnswered machine.now.whole.rows }
+    ensures own { result ≡ true → AreEnded own.now }
+{
+    have_ended(machine) && (are_answered(machine.history()) && are_ended(own))
+}
+
+fn have_ended<S: LogSink, D: Drop>(machine: &Machine<S, D>) -> bool
+    ensures { result ≡ have_ended machine.now.whole.threads }
+{
+    for i in 0..machine.len() {
+        if !is_ended(machine.phase(i)) {
+            return false;
+        }
+    }
+    true
+}
+
+fn is_ended(phase: &Phase) -> bool
+    ensures { result ≡ is_ended phase.now }
+{
+    matches!(phase, Phase::Ended)
+}
+
+fn are_answered(rows: &[HistoryRow]) -> bool
+    ensures { result ≡ true → AreAnswered rows.now }
+{
+    for row in rows {
+        if row.answer.is_none() {
+            return false;
+        }
+    }
+    true
+}
+
+fn are_ended(own: &[Own]) -> bool
+    ensures { result ≡ true → AreEnded own.now }
+{
+    for notes in own {
+        if !notes.ended {
+            return false;
+        }
+    }
+    true
+}

@@ -1,0 +1,165 @@
+ghost use Rattle.std.specs.Prelude.{◌≡◌, ◌+◌, ◌-◌, ◌^◌, ◌<◌, ◌≤◌, IfOk, OnErr};
+ghost use Rattle.host_doors.specs.Counting.{failures_after};
+
+use crate::leave::Leave;
+use host_doors::{DoorStop, Opened, Outside};
+use posix_terms::{OutKind, Outcome, Request};
+
+// What came of a request outside, with the door that went out, unless it was closed, and the one that was opened, if any.
+#[derive(Drop)]
+pub struct Reached<D> {
+    pub outcome: Outcome,
+    pub back: Option<D>,
+    pub opened: Option<D>,
+}
+
+// Makes the request of thread i outside, which is to get the outcome of this number.
+pub fn reach<O: Outside>(
+    outside: &mut O,
+    i: usize,
+    number: u32,
+    request: &Request,
+    door: Option<O::Door>,
+) -> Result<Reached<O::Door>, Leave>
+    requires room { O.given outside.old < 2 ^ 64 - 1 }
+    requires few { O.failures outside.old < 2 ^ 64 - 1 }
+    ensures gives { IfOk result (λ r. O.gives outside.old number request.now r.outcome outside.new) }
+    ensures given { O.given outside.new ≤ O.given outside.old + 1 }
+    ensures failures { O.failures outside.new ≤ O.failures outside.old + 1 }
+    ensures same { OnErr result (outside.new ≡ outside.old) }
+{
+    let reached = match door {
+        None => open(outside, i, number, request)?,
+        Some(door) => pass(outside, i, number, request, door)?,
+    };
+    Ok(reached)
+}
+
+// Opens a file or a listener, or connects: what takes no door along.
+fn open<O: Outside>(
+    outside: &mut O,
+    i: usize,
+    number: u32,
+    request: &Request,
+) -> Result<Reached<O::Door>, Leave>
+    requires room { O.given outside.old < 2 ^ 64 - 1 }
+    requires few { O.failures outside.old < 2 ^ 64 - 1 }
+    ensures gives { IfOk result (λ r. O.gives outside.old number request.now r.outcome outside.new) }
+    ensures given { O.given outside.new ≤ O.given outside.old + 1 }
+    ensures failures { O.failures outside.new ≤ O.failures outside.old + 1 }
+    ensures same { OnErr result (outside.new ≡ outside.old) }
+{
+    let opened = match request.kind {
+        OutKind::Open => outside.open(i, number as u64, request),
+        OutKind::Listen => outside.listen(i, number as u64, request),
+        OutKind::Connect => outside.connect(i, number as u64, request),
+        // The machine gives a door out with each other request, which is not proved: without one nothing can answer it.
+        _ => Err(DoorStop::Diverged),
+    };
+    match opened {
+        Ok(Opened { outcome, door }) => Ok(Reached {
+            outcome,
+            back: None,
+            opened: door,
+        }),
+        Err(why) => Err(left(i, number, why)),
+    }
+}
+
+// Makes a request that takes a door along.
+fn pass<O: Outside>(
+    outside: &mut O,
+    i: usize,
+    number: u32,
+    request: &Request,
+    door: O::Door,
+) -> Result<Reached<O::Door>, Leave>
+    requires room { O.given outside.old < 2 ^ 64 - 1 }
+    requires few { O.failures outside.old < 2 ^ 64 - 1 }
+    ensures gives { IfOk result (λ r. O.gives outside.old number request.now r.outcome outside.new) }
+    ensures given { O.given outside.new ≤ O.given outside.old + 1 }
+    ensures failures { O.failures outside.new ≤ O.failures outside.old + 1 }
+    ensures same { OnErr result (outside.new ≡ outside.old) }
+{
+    match request.kind {
+        OutKind::Close => match outside.close(i, number as u64, request, door) {
+            Ok(outcome) => Ok(Reached {
+                outcome,
+                back: None,
+                opened: None,
+            }),
+            Err(why) => Err(left(i, number, why)),
+        },
+        OutKind::Accept => accept(outside, i, number, request, door),
+        _ => lend(outside, i, number, request, door),
+    }
+}
+
+// Takes a connection of a listener.
+fn accept<O: Outside>(
+    outside: &mut O,
+    i: usize,
+    number: u32,
+    request: &Request,
+    door: O::Door,
+) -> Result<Reached<O::Door>, Leave>
+    requires room { O.given outside.old < 2 ^ 64 - 1 }
+    requires few { O.failures outside.old < 2 ^ 64 - 1 }
+    ensures gives { IfOk result (λ r. O.gives outside.old number request.now r.outcome outside.new) }
+    ensures given { O.given outside.new ≤ O.given outside.old + 1 }
+    ensures failures { O.failures outside.new ≤ O.failures outside.old + 1 }
+    ensures same { OnErr result (outside.new ≡ outside.old) }
+{
+    let mut door = door;
+    match outside.accept(i, number as u64, request, &mut door) {
+        Ok(accepted) => Ok(Reached {
+            outcome: accepted.outcome,
+            back: Some(door),
+            opened: accepted.door,
+        }),
+        Err(why) => Err(left(i, number, why)),
+    }
+}
+
+// Reads, writes, seeks or shuts down.
+fn lend<O: Outside>(
+    outside: &mut O,
+    i: usize,
+    number: u32,
+    request: &Request,
+    door: O::Door,
+) -> Result<Reached<O::Door>, Leave>
+    requires room { O.given outside.old < 2 ^ 64 - 1 }
+    requires few { O.failures outside.old < 2 ^ 64 - 1 }
+    ensures gives { IfOk result (λ r. O.gives outside.old number request.now r.outcome outside.new) }
+    ensures given { O.given outside.new ≤ O.given outside.old + 1 }
+    ensures failures { O.failures outside.new ≤ O.failures outside.old + 1 }
+    ensures same { OnErr result (outside.new ≡ outside.old) }
+{
+    let mut door = door;
+    let came = match request.kind {
+        OutKind::Read => outside.read(i, number as u64, request, &mut door),
+        OutKind::Write => outside.write(i, number as u64, request, &mut door),
+        OutKind::Seek => outside.seek(i, number as u64, request, &mut door),
+        OutKind::Shutdown => outside.shutdown(i, number as u64, request, &mut door),
+        // No other request takes a door along.
+        _ => Err(DoorStop::Diverged),
+    };
+    match came {
+        Ok(outcome) => Ok(Reached {
+            outcome,
+            back: Some(door),
+            opened: None,
+        }),
+        Err(why) => Err(left(i, number, why)),
+    }
+}
+
+// Why thread i leaves whose outside gave no outcome of this number.
+fn left(i: usize, number: u32, why: DoorStop) -> Leave {
+    match why {
+        DoorStop::EndOfLog => Leave::EndOfLog(i),
+        DoorStop::Diverged => Leave::Diverged(i, number),
+        DoorStop::Memory => Leave::Memory,
+    }
+}

@@ -1,0 +1,287 @@
+ghost use Rattle.std.specs.Prelude.{◌≡◌, ◌≤◌, ◌⊎◌, true, false, [], All, IfOk, IfErr, OnOk, None, Some, is_some, vec_len, vec_capacity};
+ghost use Rattle.input_log.specs.Format.{header_text};
+ghost use Rattle.input_log.specs.Grammar.{in_range};
+ghost use Rattle.logged_machine.specs.Starting.{first_shown, header_for};
+ghost use Rattle.logged_machine.specs.declared.stop.Stop.TheVariants as stop;
+ghost use Rattle.posix_terms.specs.declared.limits.TheConstants.Limits as limit;
+ghost use Rattle.recorder.specs.Each.{AreLedFrom, ArePlayedFrom, AreTrue, IsUnused};
+ghost use Rattle.input_log.specs.Writing.{TakesPart};
+ghost use Rattle.recorder.specs.Recorded.{AreAnswered, AreEnded, AreTold, HasNoLog, IsRecorded, IsRun, transcripts_of};
+ghost use Rattle.recorder.specs.Starting.{IsBack, IsRefusal, refusal};
+ghost use Rattle.worker_notes.specs.Agrees.{Agree};
+
+use crate::conclude::conclude;
+use crate::ended::{Ended, NotStarted, StartFault};
+use crate::history::History;
+use crate::room::{Room, room_for};
+use crate::shared::Shared;
+use crate::threads::run_all;
+use host_doors::Outside;
+use input_log::{Header, LogSink, LogWriter};
+use logged_machine::{Machine, Stop};
+use posix_terms::{Settings, Transcript, Transcripts};
+use std::alloc::Global;
+use std::sync::{Mutex, Wait};
+use std::thread::Threads;
+use thread_scripts::{Actor, BoxedActor};
+use worker_notes::Own;
+
+/// Runs 1 to 8 actors, each in a thread of its own and with its own outside, against one table of descriptors, and records what comes from
+/// outside into a log. It waits until all have ended, or until the run was stopped. Calls to the outside are made while other threads go on.
+///
+/// The run is that of a machine: its history is legal, its turns rise, and what the sink took covers it (`run`). Where the sink failed at the
+/// log's header nobody is started, and the stop is `Sink`; it is `Sink` only where the sink failed (`fails`). The stop is the machine's
+/// own, and `Strayed` takes its place just where the machine had other threads or settings, or its history says of a thread something else
+/// than its worker noted: the steps that were asked, the replies, and what came from outside, with the requests of the rows' calls.
+///
+/// Unless the stop is `Strayed`, the steps that each thread asked are those that its actor's script gives under the replies of its rows, and the
+/// actor stands behind them (`steps`); the requests of its rows' calls, with their outcomes, are calls that its outside gave, and this stands
+/// behind them (`calls`). Where the run was stopped, an actor may stand one step further, and an outside one call further. Whatever the
+/// stop is, the same is true of the notes (`told`). Where nothing stopped the run, all actors gave their end, all calls were
+/// answered, and the log has its end.
+///
+/// A thread that cannot be started stops the run, as does every want of memory from then on; all others then leave at their next event.
+/// Nothing is promised of time, nor that an actor or an outside returns.
+pub fn run_recorded<O: Outside + Send + Drop, S: LogSink + Send + Drop, R: Threads + Wait + Sync>(
+    rt: &R,
+    alloc: Global,
+    actors: Vec<BoxedActor>,
+    outsides: Vec<O>,
+    sink: S,
+    settings: Settings,
+) -> Result<Ended<BoxedActor, O, S>, NotStarted<BoxedActor, O, S>>
+    requires taken { S.taken sink ≡ [] }
+    requires sound { S.failures sink ≡ 0 }
+    requires unused { All (IsUnused O.given O.failures) outsides.items }
+    ensures started { OnOk result (refusal (vec_len actors) (vec_len outsides) settings ≡ None) }
+    ensures run { IfOk result (λ e. IsRecorded O.Door settings (vec_len actors) e.history e.own.items (S.taken e.sink) (S.failures e.sink) e.stop) }
+    ensures agrees { IfOk result (λ e. (e.stop ≡ Some stop.Strayed) ⊎ Agree e.history.rows e.history.asked e.own.items) }
+    ensures transcripts { IfOk result (λ e. AreTold (vec_len actors) e.history.rows e.stop e.transcripts) }
+    ensures ended { IfOk result (λ e. e.stop ≡ None → AreEnded e.own.items) }
+    ensures answered { IfOk result (λ e. e.stop ≡ None → AreAnswered e.history.rows) }
+    ensures fails { IfOk result (λ e. e.stop ≡ Some stop.Sink → S.failures e.sink ≡ 1) }
+    ensures steps { IfOk result (λ e. (e.stop ≡ Some stop.Strayed) ⊎ ArePlayedFrom ⟦<BoxedActor as Actor>⟧.state (is_some e.stop) 0 e.history.rows e.history.asked actors.items e.actors.items) }
+    ensures calls { IfOk result (λ e. (e.stop ≡ Some stop.Strayed) ⊎ AreLedFrom O.gives (is_some e.stop) 0 e.history.rows outsides.items e.outsides.items) }
+    ensures told { IfOk result (λ e. AreTrue O.gives ⟦<BoxedActor as Actor>⟧.state actors.items outsides.items e.own.items e.actors.items e.outsides.items) }
+    ensures back { IfErr result (λ n. (n.actors ≡ actors) × (n.outsides ≡ outsides)) }
+    ensures fault { IfErr result (λ n. IsRefusal n.fault (vec_len actors) (vec_len outsides) settings) }
+    ensures sink { IfErr result (λ n. IsBack S.taken S.failures n.fault (vec_len actors) settings sink n.sink) }
+{
+    record_actors(rt, alloc, actors, outsides, sink, settings)
+}
+
+/// As [`run_recorded`], with actors of one type.
+pub fn record_actors<
+    A: Actor + Send + Drop,
+    O: Outside + Send + Drop,
+    S: LogSink + Send + Drop,
+    R: Threads + Wait + Sync,
+>(
+    rt: &R,
+    alloc: Global,
+    actors: Vec<A>,
+    outsides: Vec<O>,
+    sink: S,
+    settings: Settings,
+) -> Result<Ended<A, O, S>, NotStarted<A, O, S>>
+    requires taken { S.taken sink ≡ [] }
+    requires sound { S.failures sink ≡ 0 }
+    requires unused { All (IsUnused O.given O.failures) outsides.items }
+    ensures started { OnOk result (refusal (vec_len actors) (vec_len outsides) settings ≡ None) }
+    ensures run { IfOk result (λ e. IsRecorded O.Door settings (vec_len actors) e.history e.own.items (S.taken e.sink) (S.failures e.sink) e.stop) }
+    ensures agrees { IfOk result (λ e. (e.stop ≡ Some stop.Strayed) ⊎ Agree e.history.rows e.history.asked e.own.items) }
+    ensures transcripts { IfOk result (λ e. AreTold (vec_len actors) e.history.rows e.stop e.transcripts) }
+    ensures ended { IfOk result (λ e. e.stop ≡ None → AreEnded e.own.items) }
+    ensures answered { IfOk result (λ e. e.stop ≡ None → AreAnswered e.history.rows) }
+    ensures fails { IfOk result (λ e. e.stop ≡ Some stop.Sink → S.failures e.sink ≡ 1) }
+    ensures steps { IfOk result (λ e. (e.stop ≡ Some stop.Strayed) ⊎ ArePlayedFrom A.state (is_some e.stop) 0 e.history.rows e.history.asked actors.items e.actors.items) }
+    ensures calls { IfOk result (λ e. (e.stop ≡ Some stop.Strayed) ⊎ AreLedFrom O.gives (is_some e.stop) 0 e.history.rows outsides.items e.outsides.items) }
+    ensures told { IfOk result (λ e. AreTrue O.gives A.state actors.items outsides.items e.own.items e.actors.items e.outsides.items) }
+    ensures back { IfErr result (λ n. (n.actors ≡ actors) × (n.outsides ≡ outsides)) }
+    ensures fault { IfErr result (λ n. IsRefusal n.fault (vec_len actors) (vec_len outsides) settings) }
+    ensures sink { IfErr result (λ n. IsBack S.taken S.failures n.fault (vec_len actors) settings sink n.sink) }
+{
+    run_actors(rt, alloc, actors, outsides, sink, settings)
+}
+
+// As `record_actors`, but for what follows of the notes.
+fn run_actors<
+    A: Actor + Send + Drop,
+    O: Outside + Send + Drop,
+    S: LogSink + Send + Drop,
+    R: Threads + Wait + Sync,
+>(
+    rt: &R,
+    alloc: Global,
+    actors: Vec<A>,
+    outsides: Vec<O>,
+    sink: S,
+    settings: Settings,
+) -> Result<Ended<A, O, S>, NotStarted<A, O, S>>
+    requires taken { S.taken sink ≡ [] }
+    requires sound { S.failures sink ≡ 0 }
+    requires unused { All (IsUnused O.given O.failures) outsides.items }
+    ensures started { OnOk result (refusal (vec_len actors) (vec_len outsides) settings ≡ None) }
+    ensures run { IfOk result (λ e. IsRecorded O.Door settings (vec_len actors) e.history e.own.items (S.taken e.sink) (S.failures e.sink) e.stop) }
+    ensures agrees { IfOk result (λ e. (e.stop ≡ Some stop.Strayed) ⊎ Agree e.history.rows e.history.asked e.own.items) }
+    ensures transcripts { IfOk result (λ e. AreTold (vec_len actors) e.history.rows e.stop e.transcripts) }
+    ensures ended { IfOk result (λ e. e.stop ≡ None → AreEnded e.own.items) }
+    ensures answered { IfOk result (λ e. e.stop ≡ None → AreAnswered e.history.rows) }
+    ensures told { IfOk result (λ e. AreTrue O.gives A.state actors.items outsides.items e.own.items e.actors.items e.outsides.items) }
+    ensures back { IfErr result (λ n. (n.actors ≡ actors) × (n.outsides ≡ outsides)) }
+    ensures fault { IfErr result (λ n. IsRefusal n.fault (vec_len actors) (vec_len outsides) settings) }
+    ensures sink { IfErr result (λ n. IsBack S.taken S.failures n.fault (vec_len actors) settings sink n.sink) }
+{
+    match room_for(alloc, actors.len(), outsides.len(), settings) {
+        Ok(room) => start(rt, alloc, room, actors, outsides, sink, settings),
+        Err(fault) => Err(NotStarted {
+            fault,
+            actors,
+            outsides,
+            sink,
+        }),
+    }
+}
+
+// Starts a run that has its room: writes the log's header, makes the machine, and lets the actors run.
+fn start<
+    A: Actor + Send + Drop,
+    O: Outside + Send + Drop,
+    S: LogSink + Send + Drop,
+    R: Threads + Wait + Sync,
+>(
+    rt: &R,
+    alloc: Global,
+    room: Room,
+    actors: Vec<A>,
+    outsides: Vec<O>,
+    sink: S,
+    settings: Settings,
+) -> Result<Ended<A, O, S>, NotStarted<A, O, S>>
+    requires taken { S.taken sink ≡ [] }
+    requires sound { S.failures sink ≡ 0 }
+    requires unused { All (IsUnused O.given O.failures) outsides.items }
+    requires some { 1 ≤ vec_len actors }
+    requires within_limit { vec_len actors ≤ limit.THREADS }
+    requires one_each { vec_len outsides ≡ vec_len actors }
+    requires range { in_range (header_for settings (vec_len actors)) ≡ true }
+    requires started { refusal (vec_len actors) (vec_len outsides) settings ≡ None }
+    requires no_own { room.own.items ≡ [] }
+    requires own { vec_len actors ≤ vec_capacity room.own }
+    requires no_transcripts { room.transcripts.items ≡ [] }
+    requires transcripts { vec_len actors ≤ vec_capacity room.transcripts }
+    ensures run { IfOk result (λ e. IsRecorded O.Door settings (vec_len actors) e.history e.own.items (S.taken e.sink) (S.failures e.sink) e.stop) }
+    ensures agrees { IfOk result (λ e. (e.stop ≡ Some stop.Strayed) ⊎ Agree e.history.rows e.history.asked e.own.items) }
+    ensures transcripts { IfOk result (λ e. AreTold (vec_len actors) e.history.rows e.stop e.transcripts) }
+    ensures ended { IfOk result (λ e. e.stop ≡ None → AreEnded e.own.items) }
+    ensures answered { IfOk result (λ e. e.stop ≡ None → AreAnswered e.history.rows) }
+    ensures told { IfOk result (λ e. AreTrue O.gives A.state actors.items outsides.items e.own.items e.actors.items e.outsides.items) }
+    ensures back { IfErr result (λ n. (n.actors ≡ actors) × (n.outsides ≡ outsides)) }
+    ensures fault { IfErr result (λ n. IsRefusal n.fault (vec_len actors) (vec_len outsides) settings) }
+    ensures sink { IfErr result (λ n. IsBack S.taken S.failures n.fault (vec_len actors) settings sink n.sink) }
+{
+    let header = Header {
+        threads: actors.len() as u16,
+        patience: settings.patience,
+        door_cost: settings.door_cost,
+    };
+    let log = match LogWriter::begin(sink, header) {
+        Ok(log) => log,
+        Err((_, sink)) => return Ok(without_log(alloc, header, room, actors, outsides, sink)),
+    };
+    match Machine::new(alloc, actors.len(), settings, log) {
+        Ok(machine) => Ok(run_with(rt, alloc, header, machine, room, actors, outsides)),
+        Err(log) => Err(NotStarted {
+            fault: StartFault::Memory,
+            actors,
+            outsides,
+            sink: log.into_sink(),
+        }),
+    }
+}
+
+// The end of a run whose log's header was not taken: nobody was started.
+#[tactic(auto, using(crate::proofs::Gathering::empty_last, crate::proofs::Gathering::each_idle))]
+fn without_log<A: Actor + Drop, O: Outside + Drop, S: LogSink + Drop>(
+    alloc: Global,
+    header: Header,
+    room: Room,
+    actors: Vec<A>,
+    outsides: Vec<O>,
+    sink: S,
+) -> Ended<A, O, S>
+    requires threads { header.threads ≡ vec_len actors }
+    requires one_each { vec_len outsides ≡ vec_len actors }
+    requires no_own { room.own.items ≡ [] }
+    requires own { vec_len actors ≤ vec_capacity room.own }
+    requires no_transcripts { room.transcripts.items ≡ [] }
+    requires transcripts { vec_len actors ≤ vec_capacity room.transcripts }
+    requires part { TakesPart [] (header_text header) (S.taken sink) }
+    requires failed { S.failures sink ≡ 1 }
+    ensures log { HasNoLog header result.history (S.taken result.sink) (S.failures result.sink) result.stop }
+    ensures agrees { Agree result.history.rows result.history.asked result.own.items }
+    ensures transcripts { result.transcripts ≡ transcripts_of (vec_len actors) [] }
+    ensures told { AreTrue O.gives A.state actors.items outsides.items result.own.items result.actors.items result.outsides.items }
+{
+    let Room {
+        own,
+        transcripts,
+        ..
+    } = room;
+    let mut own = own;
+    let mut transcripts = transcripts;
+    for _ in 0..actors.len() {
+        let Ok(()) = own.push(Own::new(alloc)) else {
+            unreachable!()
+        };
+        let Ok(()) = transcripts.push(Transcript::new(alloc)) else {
+            unreachable!()
+        };
+    }
+    Ended {
+        transcripts: Transcripts::from_vec(transcripts),
+        own,
+        actors,
+        outsides,
+        history: History::none(alloc, header.threads as usize),
+        sink,
+        stop: Some(Stop::Sink),
+    }
+}
+
+// Runs the actors, each in a thread, at this machine.
+fn run_with<
+    A: Actor + Send + Drop,
+    O: Outside + Send + Drop,
+    S: LogSink + Send + Drop,
+    R: Threads + Wait + Sync,
+>(
+    rt: &R,
+    alloc: Global,
+    header: Header,
+    machine: Machine<S, O::Door>,
+    room: Room,
+    actors: Vec<A>,
+    outsides: Vec<O>,
+) -> Ended<A, O, S>
+    requires one_each { vec_len outsides ≡ vec_len actors }
+    requires unused { All (IsUnused O.given O.failures) outsides.items }
+    requires no_own { room.own.items ≡ [] }
+    requires own { vec_len actors ≤ vec_capacity room.own }
+    ensures run { IsRun O.Door header result.history result.own.items (S.taken result.sink) (S.failures result.sink) result.stop }
+    ensures agrees { (result.stop ≡ Some stop.Strayed) ⊎ Agree result.history.rows result.history.asked result.own.items }
+    ensures transcripts { AreTold (vec_len actors) result.history.rows result.stop result.transcripts }
+    ensures ended { result.stop ≡ None → AreEnded result.own.items }
+    ensures answered { result.stop ≡ None → AreAnswered result.history.rows }
+    ensures told { AreTrue O.gives A.state actors.items outsides.items result.own.items result.actors.items result.outsides.items }
+{
+    let threads = actors.len();
+    let Room { own, turns, .. } = room;
+    let shared = Shared {
+        machine: Mutex::new(machine),
+        turns,
+    };
+    let gathered = run_all(rt, alloc, &shared, actors, outsides, own);
+    let Shared { machine, .. } = shared;
+    conclude(alloc, threads, header, machine.into_inner(), gathered)
+}

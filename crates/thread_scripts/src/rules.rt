@@ -1,0 +1,118 @@
+ghost use Rattle.std.specs.Prelude.{◌≡◌};
+ghost use Rattle.std.specs.List.{list_all};
+ghost use Rattle.thread_scripts.specs.Rules.{call_keeps, door_keeps, is_path, is_script, is_short, keeps_rules, leads_to_label, line_keeps, path_keeps, target_of, transfer_keeps};
+
+use crate::line::{CallLine, Data, DoorLine, Line, PathLine, TransferLine};
+use posix_terms::{Bytes, Limits};
+
+/// Where a line may jump to.
+fn target(line: &Line) -> Option<usize>
+    ensures { result ≡ target_of line.now }
+{
+    match line {
+        Line::Jump { place } => Some(*place),
+        Line::JumpIfZero { place, .. } => Some(*place),
+        Line::JumpIfFailed { place } => Some(*place),
+        _ => None,
+    }
+}
+
+/// Whether the line jumps nowhere but to the line of a label.
+fn leads_to_label(lines: &[Line], line: &Line) -> bool
+    ensures { result ≡ leads_to_label lines.now (target_of line.now) }
+{
+    match target(line) {
+        None => true,
+        Some(place) => matches!(lines.get(place), Some(Line::Label)),
+    }
+}
+
+fn is_short(value: &Data) -> bool
+    ensures { result ≡ is_short value.now }
+{
+    match value {
+        Data::Text(bytes) => bytes.as_slice().len() <= Limits::COUNT,
+        Data::Register(_) => true,
+    }
+}
+
+fn is_path(path: &Bytes) -> bool
+    ensures { result ≡ is_path path.now }
+{
+    path.as_slice().iter().all(|byte| byte.is_ascii_graphic())
+}
+
+fn transfer_keeps(line: &TransferLine) -> bool
+    ensures { result ≡ transfer_keeps line.now }
+{
+    match line {
+        TransferLine::Write { bytes, .. } => is_short(bytes),
+        TransferLine::Pwrite { bytes, .. } => is_short(bytes),
+        _ => true,
+    }
+}
+
+fn path_keeps(line: &PathLine) -> bool
+    ensures { result ≡ path_keeps line.now }
+{
+    match line {
+        PathLine::Open { path, .. } => is_path(path),
+        PathLine::Link { old_path, new_path } => is_path(old_path) && is_path(new_path),
+        PathLine::Unlink { path } => is_path(path),
+        PathLine::Mkdir { path } => is_path(path),
+        PathLine::Rmdir { path } => is_path(path),
+    }
+}
+
+fn door_keeps(line: &DoorLine) -> bool
+    ensures { result ≡ door_keeps line.now }
+{
+    match line {
+        DoorLine::HostOpen { path, flags, .. } => is_path(path)
+            && !(flags.exclusive || flags.nonblock),
+        _ => true,
+    }
+}
+
+fn call_keeps(line: &CallLine) -> bool
+    ensures { result ≡ call_keeps line.now }
+{
+    match line {
+        CallLine::Transfer(line) => transfer_keeps(line),
+        CallLine::Path(line) => path_keeps(line),
+        CallLine::Door(line) => door_keeps(line),
+        _ => true,
+    }
+}
+
+/// Whether the bytes, paths and flags of a line keep to their bounds.
+fn line_keeps(line: &Line) -> bool
+    ensures { result ≡ line_keeps line.now }
+{
+    match line {
+        Line::Call(line) => call_keeps(line),
+        Line::SetBytes { value, .. } => is_short(value),
+        _ => true,
+    }
+}
+
+/// Whether a line among these keeps the rules of the language.
+fn keeps_rules(lines: &[Line], line: &Line) -> bool
+    ensures { result ≡ keeps_rules lines.now line.now }
+{
+    line_keeps(line) && leads_to_label(lines, line)
+}
+
+/// Whether each line of a part of a script keeps them.
+fn each_keeps_rules(script: &[Line], part: &[Line]) -> bool
+    ensures { result ≡ list_all (keeps_rules script.now) part.now }
+{
+    part.iter().all(|line| keeps_rules(script, line))
+}
+
+/// Whether lines are a script.
+pub(crate) fn are_script(lines: &[Line]) -> bool
+    ensures { result ≡ is_script lines.now }
+{
+    lines.len() <= Limits::SCRIPT_LINES && each_keeps_rules(lines, lines)
+}

@@ -1,0 +1,4 @@
+pub mod SameCalls
+pub mod Replying
+pub mod Agreeing
+pub mod CallRequests

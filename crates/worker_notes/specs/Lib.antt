@@ -1,0 +1,4 @@
+pub mod Plays
+pub mod Leads
+pub mod Requests
+pub mod Agrees

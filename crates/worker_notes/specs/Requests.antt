@@ -1,0 +1,33 @@
+-- The request with which a call goes outside, if it goes there: it is known of the call alone.
+use Rattle.std.specs.Prelude.{◌≡◌, ℕ, ℤ, pos, negsuc, length, Option, Some, None}
+use Rattle.lock_machine.specs.Requests.{kind_asked}
+use Rattle.posix_terms.specs.Object.{State}
+use Rattle.posix_terms.specs.Step.{Carried, asks}
+use Rattle.posix_terms.specs.declared.call.Call.{Call}
+use Rattle.posix_terms.specs.declared.call.Call.TheVariants as call
+use Rattle.posix_terms.specs.declared.outcome.OutKind.{OutKind}
+use Rattle.posix_terms.specs.declared.request.Request.{Request}
+
+-- a number, or 0 where it is below that, which no call asks for
+abbrev pub counted : ℤ → ℕ
+counted (pos n) = n
+counted (negsuc n) = 0
+
+-- how much it asks: of a read and a write the count of bytes, of a listener and a connection the port, and of others nothing
+abbrev pub amount_asked : Call → ℕ
+amount_asked (call.Read descriptor count) = counted count
+amount_asked (call.Write descriptor bytes) = length bytes
+amount_asked (call.TcpListen port) = counted port
+amount_asked (call.TcpConnect port) = counted port
+amount_asked c = 0
+
+abbrev pub request_of_kind : Call → Option OutKind → Option Request
+request_of_kind c (Some k) = Some (record { kind = k; asked = amount_asked c; call = c })
+request_of_kind c None = None
+
+abbrev pub request_for : Call → Option Request
+request_for c = request_of_kind c (kind_asked c)
+
+-- whatever a call asks by its definition is that request
+abbrev pub AskByTheirCall : Type 0
+AskByTheirCall = (s : State) (c : Call) (carried : Carried) (r : Request) → asks s c carried ≡ Some r → request_for c ≡ Some r

@@ -1,0 +1,65 @@
+ghost use Rattle.std.specs.Prelude.{◌≡◌, [], option_copied, false};
+ghost use Rattle.worker_notes.specs.Plays.{last_reply, with_reply};
+
+use posix_terms::{Outcome, Reply, Request};
+use std::alloc::Global;
+use thread_scripts::Step;
+
+/// A step that the machine took, with its reply, if it was a call and one came.
+#[derive(Debug, Drop)]
+pub struct Noted {
+    pub step: Step,
+    pub reply: Option<Reply>,
+}
+
+/// A request that was made outside, with the outcome that the machine recorded.
+#[derive(Debug, Drop)]
+pub struct Brought {
+    pub request: Request,
+    pub outcome: Outcome,
+}
+
+/// What the worker of one thread noted itself, in order: the steps that the machine took with their replies, and the outcomes that it recorded.
+#[derive(Debug, Drop)]
+pub struct Own {
+    pub steps: Vec<Noted>,
+    pub outcomes: Vec<Brought>,
+    /// whether the machine took the actor's `End`
+    pub ended: bool,
+}
+
+impl Own {
+    /// No notes. It takes no memory.
+    pub fn new(alloc: Global) -> Own
+        ensures steps { result.steps.items ≡ [] }
+        ensures outcomes { result.outcomes.items ≡ [] }
+        ensures ended { result.ended ≡ false }
+    {
+        Own {
+            steps: Vec::new(alloc),
+            outcomes: Vec::new(alloc),
+            ended: false,
+        }
+    }
+}
+
+/// The reply to the last step, if one came.
+pub fn last_reply(steps: &[Noted]) -> Option<&Reply>
+    ensures { option_copied result ≡ last_reply steps.now }
+{
+    match steps.last() {
+        Some(noted) => noted.reply.as_ref(),
+        None => None,
+    }
+}
+
+/// The last step has this reply from now on; where there is no step nothing has.
+#[tactic(auto, using(crate::proofs::Replying::reply_set))]
+pub fn note_reply(steps: &mut Vec<Noted>, reply: Reply)
+    ensures { steps.new.items ≡ with_reply reply steps.old.items }
+{
+    if !steps.is_empty() {
+        let last = steps.len() - 1;
+        steps[last].reply = Some(reply);
+    }
+}

@@ -1,0 +1,35 @@
+ghost use Rattle.std.specs.Prelude.{◌≡◌, ◌↔◌, IsTrue};
+
+use posix_terms::{Call, Outcome, Reply};
+use thread_scripts::Step;
+
+// Each says that `==` tells which values are equal.
+
+pub fn same_call(one: &Call, other: &Call) -> bool
+    ensures { IsTrue result ↔ (one.now ≡ other.now) }
+{
+    one == other
+}
+
+pub fn same_step(one: &Step, other: &Step) -> bool
+    ensures { IsTrue result ↔ (one.now ≡ other.now) }
+{
+    match (one, other) {
+        (Step::Work(m), Step::Work(n)) => *m == *n,
+        (Step::Call(c), Step::Call(d)) => same_call(c, d),
+        (Step::End, Step::End) => true,
+        _ => false,
+    }
+}
+
+pub fn same_reply(one: &Reply, other: &Reply) -> bool
+    ensures { IsTrue result ↔ (one.now ≡ other.now) }
+{
+    one == other
+}
+
+pub fn same_outcome(one: &Outcome, other: &Outcome) -> bool
+    ensures { IsTrue result ↔ (one.now ≡ other.now) }
+{
+    one == other
+}
