@@ -9,7 +9,7 @@ pub record IsFirstDifference {A : Type 0} (xs ys : List A) (n : ℕ) : Type 0 wh
   pub before : take n xs ≡ take n ys
   pub here : slice_get xs n ≢ slice_get ys n
 
--- so it is of the rows of a thread; of a thread that only one run has, it is row 0
+-- so it is of the rows of a thread; of a thread that only one run has, it is the first row
 abbrev pub IsFirstRow : Option (List Row) → Option (List Row) → ℕ → Type 0
 IsFirstRow (Some xs) (Some ys) row = IsFirstDifference xs ys row
 IsFirstRow xs ys row = row ≡ 0

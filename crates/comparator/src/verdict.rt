@@ -10,7 +10,7 @@ pub enum Verdict {
     /// There are as many threads on both sides, and each has the same rows.
     Same,
     /// The least thread that differs, and the least of its rows that does, both counted from 0. Where one transcript is
-    /// shorter, it is the row behind its last; where one side lacks the thread, it is row 0.
+    /// shorter, it is the row behind its last; where one side lacks the thread, it is the first, 0.
     Differs { thread: usize, row: usize },
 }
 

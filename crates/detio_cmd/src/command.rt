@@ -24,7 +24,7 @@ Exit statuses:
   1  a difference, a divergence or the end of a log
   2  wrong usage
   3  a bad script or log
-  4  a file that cannot be read or written, no memory, a full clock";
+  4  a file that cannot be read or written, no memory, a full clock, threads that strayed";
 
 const PLAIN_ABOUT: &str = "Runs 1 to 8 scripts together and prints their transcripts";
 
@@ -85,7 +85,7 @@ The last line is end. host_open, the tcp calls and the calls on what they open g
 nothing comes from under plain: the run stops once the thread that has the turn is at such a call, and
 the last line is
   stop end of log THREAD
-By a log of what came, detio replay runs the scripts further.
+Under detio record they get what the host gives, and by its log detio replay runs the scripts again.
 
 The path /dev/stdin reads a script from standard input.";
 
@@ -98,6 +98,46 @@ prints
   0 0 4 open number 1
   1 0 1 open number 0
   end";
+
+const RECORD_ABOUT: &str =
+    "Runs 1 to 8 scripts as threads, with host files and loopback TCP, and records what comes from them";
+
+const RECORD_LONG_ABOUT: &str =
+    "Runs 1 to 8 scripts as threads, with host files and loopback TCP, and records what comes from them.
+
+Each script is a thread of its own, from 0 in the order given. They share one table of descriptors, and take
+turns by their logical clocks, as under plain: so whatever the machine does, each turn comes at the same
+clock. host_open opens a file of the host by its path. tcp_listen, tcp_connect and tcp_accept work on
+127.0.0.1. Calls to the outside are made while other threads go on. What came of each of them, bytes and
+failures too, goes into the log before the thread hears its reply.
+
+detio replay runs the scripts by that log and prints the same lines, with no host file and no network. A log
+of a run that was cut off is good up to its last whole record.
+
+The log is a new file, or takes the place of the one at its path, once all scripts have been read. It has
+room for 16777216 bytes.
+
+The last line is end where all threads came to their end, or one of
+  stop memory
+  stop sink                     the log could not be written: no room, or the device is full
+  stop clock full
+  stop strayed                  what the threads noted is not what the history says: a fault of this program
+after which the lines before are what each thread saw until then.";
+
+const RECORD_AFTER_HELP: &str = "Example:
+  printf 'host_open out.txt w create\\nwrite 0 x6869\\nclose 0\\n' > hi.script
+  detio record --log hi.log hi.script
+
+prints
+  0 0 host_open number 0
+  0 1 write count 2
+  0 2 close done
+  end
+
+and then
+  rm out.txt
+  detio replay --log hi.log hi.script
+prints the same, and makes no file.";
 
 const REPLAY_ABOUT: &str =
     "Runs scripts by the log of what came from outside and prints their transcripts";
@@ -166,7 +206,7 @@ prints
   end 0";
 
 /// The command line of the program.
-pub fn command<'a>(alloc: Global) -> Result<Command<'a>, AllocError> {
+pub(crate) fn command<'a>(alloc: Global) -> Result<Command<'a>, AllocError> {
     let subcommands = subcommands(alloc)?;
     program(alloc)?.subcommands(subcommands)
 }
@@ -174,6 +214,7 @@ pub fn command<'a>(alloc: Global) -> Result<Command<'a>, AllocError> {
 fn subcommands<'a>(alloc: Global) -> Result<Vec<Command<'a>>, AllocError> {
     let mut subcommands = Vec::new(alloc);
     subcommands.push(plain(alloc)?)?;
+    subcommands.push(record(alloc)?)?;
     subcommands.push(replay(alloc)?)?;
     subcommands.push(show(alloc)?)?;
     Ok(subcommands)
@@ -210,12 +251,7 @@ fn described<'a>(
 }
 
 fn plain<'a>(alloc: Global) -> Result<Command<'a>, AllocError> {
-    let patience = number(
-        alloc,
-        "patience",
-        "1000",
-        "For how many turns a call may be blocked",
-    );
+    let patience = patience(alloc);
     let command = described(
         alloc,
         "plain",
@@ -226,6 +262,15 @@ fn plain<'a>(alloc: Global) -> Result<Command<'a>, AllocError> {
     with_door_cost(alloc, command.arg(patience)?)
 }
 
+fn patience<'a>(alloc: Global) -> Arg<'a> {
+    number(
+        alloc,
+        "patience",
+        "1000",
+        "For how many turns a call may be blocked",
+    )
+}
+
 fn with_door_cost<'a>(alloc: Global, command: Command<'a>) -> Result<Command<'a>, AllocError> {
     let door_cost = number(
         alloc,
@@ -234,6 +279,19 @@ fn with_door_cost<'a>(alloc: Global, command: Command<'a>) -> Result<Command<'a>
         "What a call that goes outside adds to the clock of its thread",
     );
     with_scripts(alloc, command.arg(door_cost)?)
+}
+
+fn record<'a>(alloc: Global) -> Result<Command<'a>, AllocError> {
+    let log = log(alloc, "The log to write");
+    let patience = patience(alloc);
+    let command = described(
+        alloc,
+        "record",
+        RECORD_ABOUT,
+        RECORD_LONG_ABOUT,
+        RECORD_AFTER_HELP,
+    );
+    with_door_cost(alloc, command.arg(log)?.arg(patience)?)
 }
 
 fn replay<'a>(alloc: Global) -> Result<Command<'a>, AllocError> {

@@ -7,7 +7,7 @@ use std::{fs, io};
 // Where a text comes from. One that could not be opened fails when it is read, so that the faults of all
 // scripts are found in one order.
 #[derive(Drop)]
-pub enum Input {
+pub(crate) enum Input {
     Stdin(Stdin),
     File(File),
     Unreadable,
@@ -24,7 +24,7 @@ impl Read for Input {
 }
 
 // The scripts at these paths.
-pub fn open_scripts<'a>(
+pub(crate) fn open_scripts<'a>(
     rt: &HostRuntime,
     paths: &[&'a str],
 ) -> Result<Vec<Source<'a, Input>>, AllocError> {
@@ -37,7 +37,7 @@ pub fn open_scripts<'a>(
 
 // The text at this path. Standard input is read as such, since opening its path again is refused where
 // another user made the pipe behind it.
-pub fn open_source<'a>(rt: &HostRuntime, path: &'a str) -> Source<'a, Input> {
+pub(crate) fn open_source<'a>(rt: &HostRuntime, path: &'a str) -> Source<'a, Input> {
     let reader = if path == "/dev/stdin" {
         Input::Stdin(rt.stdin())
     } else {

@@ -3,19 +3,23 @@
 
 mod command;
 mod input;
+mod record;
 
 use clap::ArgMatches;
 use clap::error::ErrorKind;
 use command::command;
-use commands::{cannot_write, no_memory, plain_over, replay_over, show_over};
+use commands::{cannot_write, no_memory, plain_over, replay_over, settings_of, show_over};
+use host_doors::Outside;
 use input::{open_scripts, open_source};
-use posix_terms::Settings;
+use record::{HostOutsides, NewOutsides, run_record};
 use std::alloc::AllocError;
 use std::io;
 use std::process::ExitCode;
+use std::sync::Wait;
+use std::thread::Threads;
 
 fn main(rt: HostRuntime) -> ExitCode {
-    let status = match run(&rt) {
+    let status = match run(&rt, &rt, HostOutsides { rt }) {
         Ok(status) => status,
         Err(AllocError) => no_memory(&mut rt.stderr()).unwrap_or(4),
     };
@@ -23,24 +27,39 @@ fn main(rt: HostRuntime) -> ExitCode {
 }
 
 // Runs the command that the command line names, and answers the exit status.
-fn run(rt: &HostRuntime) -> Result<u8, AllocError> {
+fn run<O: Outside + Send + Drop, N: NewOutsides<O> + Drop, T: Threads + Wait + Sync>(
+    rt: &HostRuntime,
+    handles: &T,
+    outsides: N,
+) -> Result<u8, AllocError> {
     match words(rt) {
-        Ok(words) => run_words(rt, words.as_slice()),
+        Ok(words) => run_words(rt, handles, outsides, words.as_slice()),
         Err(error) if error.kind() == io::ErrorKind::OutOfMemory => Err(AllocError),
         Err(_) => Ok(not_text(rt)),
     }
 }
 
-fn run_words(rt: &HostRuntime, words: &[String]) -> Result<u8, AllocError> {
+fn run_words<O: Outside + Send + Drop, N: NewOutsides<O> + Drop, T: Threads + Wait + Sync>(
+    rt: &HostRuntime,
+    handles: &T,
+    outsides: N,
+    words: &[String],
+) -> Result<u8, AllocError> {
     match command(rt.alloc())?.try_get_matches_from(words) {
-        Ok(matches) => run_matches(rt, &matches),
+        Ok(matches) => run_matches(rt, handles, outsides, &matches),
         Err(error) => other_usage(rt, error),
     }
 }
 
-fn run_matches(rt: &HostRuntime, matches: &ArgMatches<'_>) -> Result<u8, AllocError> {
+fn run_matches<O: Outside + Send + Drop, N: NewOutsides<O> + Drop, T: Threads + Wait + Sync>(
+    rt: &HostRuntime,
+    handles: &T,
+    outsides: N,
+    matches: &ArgMatches<'_>,
+) -> Result<u8, AllocError> {
     match matches.subcommand() {
         Some(("plain", matches)) => run_plain(rt, matches),
+        Some(("record", matches)) => run_record(rt, handles, outsides, matches),
         Some(("replay", matches)) => run_replay(rt, matches),
         Some(("show", matches)) => Ok(run_show(rt, matches)),
         _ => Ok(2),
@@ -71,10 +90,10 @@ fn other_usage(rt: &HostRuntime, error: clap::Error) -> Result<u8, AllocError> {
 
 // `detio plain`, as the command line has it.
 fn run_plain(rt: &HostRuntime, matches: &ArgMatches<'_>) -> Result<u8, AllocError> {
-    let settings = Settings {
-        patience: matches.get_one::<u32>("patience").unwrap_or(1000),
-        door_cost: matches.get_one::<u32>("door-cost").unwrap_or(100),
-    };
+    let settings = settings_of(
+        matches.get_one::<u32>("patience"),
+        matches.get_one::<u32>("door-cost"),
+    );
     let turns = matches.get_flag("turns");
     let sources = open_scripts(rt, matches.get_strs("script").unwrap_or(&[]))?;
     let status = plain_over(

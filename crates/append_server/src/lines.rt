@@ -1,0 +1,91 @@
+ghost use Rattle.std.specs.Prelude.{◌<◌};
+
+use posix_terms::{Access, Bytes, OpenFlags, ShutdownHow};
+use thread_scripts::{
+    CallLine, Data, DescriptorLine, DoorLine, Line, Number, NumberRegister, Register, StatusLine,
+    StreamLine, TransferLine,
+};
+
+// The lines of this program, each under the name of its call. A descriptor is a number that the script knows, or a register that has it.
+
+pub(crate) fn register(index: usize) -> NumberRegister
+    requires { index < 16 }
+{
+    Register::new(index)
+}
+
+// A register as a number of a line.
+pub(crate) fn held(index: usize) -> Number
+    requires { index < 16 }
+{
+    Number::Register(Register::new(index))
+}
+
+// What the last read brought, which the script has in `b0`.
+pub(crate) fn last_read() -> Data {
+    Data::Register(Register::new(0))
+}
+
+pub(crate) fn listen() -> Line {
+    Line::Call(CallLine::Door(DoorLine::Listen {
+        port: Number::Value(0),
+    }))
+}
+
+pub(crate) fn accept(descriptor: Number) -> Line {
+    Line::Call(CallLine::Door(DoorLine::Accept { descriptor }))
+}
+
+pub(crate) fn connect(port: Number) -> Line {
+    Line::Call(CallLine::Door(DoorLine::Connect { port }))
+}
+
+// Opens a host file to append to it, and makes it where it is not there.
+pub(crate) fn open_to_append(path: Bytes) -> Line {
+    Line::Call(CallLine::Door(DoorLine::HostOpen {
+        path,
+        access: Access::WriteOnly,
+        flags: OpenFlags {
+            create: true,
+            exclusive: false,
+            truncate: false,
+            append: true,
+            nonblock: false,
+        },
+    }))
+}
+
+pub(crate) fn read(descriptor: Number, count: i64) -> Line {
+    Line::Call(CallLine::Transfer(TransferLine::Read {
+        descriptor,
+        count: Number::Value(count),
+    }))
+}
+
+pub(crate) fn write(descriptor: Number, bytes: Data) -> Line {
+    Line::Call(CallLine::Transfer(TransferLine::Write { descriptor, bytes }))
+}
+
+pub(crate) fn fstat(descriptor: Number) -> Line {
+    Line::Call(CallLine::Status(StatusLine::Fstat { descriptor }))
+}
+
+// Says that no more will be written.
+pub(crate) fn end_of_writing(descriptor: Number) -> Line {
+    Line::Call(CallLine::Stream(StreamLine::Shutdown {
+        descriptor,
+        how: ShutdownHow::Write,
+    }))
+}
+
+pub(crate) fn close(descriptor: Number) -> Line {
+    Line::Call(CallLine::Descriptor(DescriptorLine::Close { descriptor }))
+}
+
+// Keeps what the last reply gave, which the script has in `r0`, in another register.
+pub(crate) fn keep_in(register: NumberRegister) -> Line {
+    Line::Set {
+        register,
+        value: Number::Register(Register::new(0)),
+    }
+}

@@ -1,0 +1,130 @@
+use crate::host::free_path;
+use crate::recording::{LogFile, SETTINGS, Told, recorded, replayed};
+use commands::{Source, plain_over, show_over};
+use recorder::hosts;
+use std::alloc::Global;
+use std::fs::{self, remove_file};
+use std::io;
+use std::io::Read;
+use std::test::Fail;
+
+// How many lines a text has.
+fn count_lines(text: &[u8]) -> usize {
+    text.iter().filter(|byte| **byte == b'\n').count()
+}
+
+// Opens a file and closes it 1,600 times.
+const OPENER: &str = "set r2 -1600
+label more
+open /a rw create
+close r0
+add r2 1
+jzero r2 done
+jump more
+label done
+";
+
+#[test]
+fn six_thousand_descriptions_are_made(rt: HostRuntime) -> Result<(), Fail> {
+    let path = free_path(rt, "openers")?;
+    let scripts: &[&str] = &[OPENER, OPENER, OPENER, OPENER];
+    let outsides = hosts(rt, rt.alloc(), scripts.len())?;
+    let log = LogFile {
+        rt: &rt,
+        path: path.as_str(),
+        room: 1_000_000,
+    };
+    let told = recorded(&rt, SETTINGS, log, outsides, scripts)?;
+    assert_eq!(rt; told.status, 0);
+    assert_eq!(rt; count_lines(told.output.as_slice()), 4 * 3200 + 1);
+    remove_file(&rt, path.as_str())?;
+    Ok(())
+}
+
+// Opens a device of the host, writes to it 1,500 times and closes it: 1,502 outcomes.
+const WRITER: &str = "host_open /dev/null w
+set r3 r0
+set r2 -1500
+label more
+write r3 x61
+add r2 1
+jzero r2 done
+jump more
+label done
+close r3
+";
+
+#[test]
+fn a_log_has_more_than_four_thousand_records(rt: HostRuntime) -> Result<(), Fail> {
+    let path = free_path(rt, "writers")?;
+    let scripts: &[&str] = &[WRITER, WRITER, WRITER];
+    let outsides = hosts(rt, rt.alloc(), scripts.len())?;
+    let log = LogFile {
+        rt: &rt,
+        path: path.as_str(),
+        room: 1_000_000,
+    };
+    let told = recorded(&rt, SETTINGS, log, outsides, scripts)?;
+    assert_eq!(rt; told.status, 0);
+    let again = replayed(&rt, path.as_str(), scripts)?;
+    assert!(rt; again.is_as(&told));
+    assert!(rt; shows_lines(&rt, path.as_str(), 1 + 3 * 1502 + 1)?);
+    remove_file(&rt, path.as_str())?;
+    Ok(())
+}
+
+// Whether `show` prints so many lines of the log at this path: a header, the records and an end.
+fn shows_lines(rt: &HostRuntime, path: &str, count: usize) -> Result<bool, Fail> {
+    let text = fs::read(rt, path)?;
+    let log = Source {
+        path: "a.log",
+        reader: text.as_slice(),
+    };
+    let mut output: Vec<u8> = Vec::new(rt.alloc());
+    let mut errors: Vec<u8> = Vec::new(rt.alloc());
+    let status = show_over(rt.alloc(), log, &mut output, &mut errors)?;
+    Ok(status == 0 && count_lines(output.as_slice()) == count)
+}
+
+// So many empty lines.
+#[derive(Drop)]
+struct EmptyLines {
+    left: usize,
+}
+
+impl Read for EmptyLines {
+    fn read(&mut self, buf: &mut [u8]) -> io::Result<usize> {
+        let count = buf.len().min(self.left);
+        for byte in buf.iter_mut().take(count) {
+            *byte = b'\n';
+        }
+        self.left -= count;
+        Ok(count)
+    }
+}
+
+// What `plain` tells of a script of so many empty lines.
+fn told_of_lines(alloc: Global, count: usize) -> Result<Told, Fail> {
+    let mut sources = Vec::new(alloc);
+    sources.push(Source {
+        path: "a.script",
+        reader: EmptyLines { left: count },
+    })?;
+    let mut output: Vec<u8> = Vec::new(alloc);
+    let mut errors: Vec<u8> = Vec::new(alloc);
+    let status = plain_over(alloc, SETTINGS, false, sources, &mut output, &mut errors)?;
+    Ok(Told {
+        status,
+        output,
+        errors,
+    })
+}
+
+#[test]
+fn a_file_is_read_up_to_its_greatest_size(rt: HostRuntime) -> Result<(), Fail> {
+    let at_limit = told_of_lines(rt.alloc(), 16_777_216)?;
+    assert!(rt; at_limit.is(3, "", "script 0: too long\n"));
+    let above = told_of_lines(rt.alloc(), 16_777_217)?;
+    assert!(rt; above.is(4, "", "cannot read a.script\n"));
+    Ok(())
+}

@@ -1,0 +1,145 @@
+ghost use Rattle.std.specs.Prelude.{◌≡◌, All, IfOk, length};
+ghost use Rattle.recorder.specs.Each.{IsUnused};
+
+use commands::{DEFAULTS, LogTo, NewLog, NotCreated, Source, record_over, replay_over};
+use host_doors::Outside;
+use input_log::FileSink;
+use posix_terms::Settings;
+use std::alloc::{AllocError, Global};
+use std::fs::File;
+use std::io::Read;
+use std::sync::Wait;
+use std::test::Fail;
+use std::thread::Threads;
+use std::{fs, io};
+
+// What most of these runs have.
+pub(crate) const SETTINGS: Settings = DEFAULTS;
+
+// What a command printed, and its exit status.
+#[derive(Drop)]
+pub(crate) struct Told {
+    pub status: u8,
+    pub output: Vec<u8>,
+    pub errors: Vec<u8>,
+}
+
+impl Told {
+    // Whether it ended so.
+    pub(crate) fn is(&self, status: u8, output: &str, errors: &str) -> bool {
+        self.status == status
+            && (self.output.as_slice() == output.as_bytes()
+                && self.errors.as_slice() == errors.as_bytes())
+    }
+
+    // Whether another command printed the same and ended the same.
+    pub(crate) fn is_as(&self, other: &Told) -> bool {
+        self.status == other.status
+            && (self.output.as_slice() == other.output.as_slice()
+                && self.errors.as_slice() == other.errors.as_slice())
+    }
+}
+
+// A log in a file, with so much room.
+#[derive(Drop)]
+pub(crate) struct LogFile<'a> {
+    pub rt: &'a HostRuntime,
+    pub path: &'a str,
+    pub room: usize,
+}
+
+impl NewLog<FileSink> for LogFile<'_> {
+    fn create(self) -> Result<FileSink, NotCreated> {
+        match fs::create(self.rt, self.path) {
+            Ok(file) => {
+                FileSink::new(self.rt.alloc(), file, self.room).map_err(|_| NotCreated::Memory)
+            }
+            Err(_) => Err(NotCreated::Failed),
+        }
+    }
+}
+
+// Where a text comes from: a log from its file.
+#[derive(Drop)]
+enum Text<'a> {
+    Script(&'a [u8]),
+    File(File),
+}
+
+impl Read for Text<'_> {
+    fn read(&mut self, buf: &mut [u8]) -> io::Result<usize> {
+        match self {
+            Text::Script(script) => script.read(buf),
+            Text::File(file) => file.read(buf),
+        }
+    }
+}
+
+// These scripts as sources.
+fn sources<'a>(
+    alloc: Global,
+    scripts: &[&'a str],
+) -> Result<Vec<Source<'static, Text<'a>>>, AllocError>
+    ensures one_each { IfOk result (λ sources. length sources.items ≡ length scripts.now) }
+{
+    let mut sources = Vec::new(alloc);
+    for i in 0..scripts.len() {
+        sources.push(Source {
+            path: "a.script",
+            reader: Text::Script(scripts[i].as_bytes()),
+        })?;
+    }
+    Ok(sources)
+}
+
+// What `record` tells of scripts with these outsides, whose log goes here.
+pub(crate) fn recorded<R: Threads + Wait + Sync, O: Outside + Send + Drop>(
+    rt: &R,
+    settings: Settings,
+    log: LogFile<'_>,
+    outsides: Vec<O>,
+    scripts: &[&str],
+) -> Result<Told, Fail>
+    requires one_each { length outsides.items ≡ length scripts.now }
+    requires unused { All (IsUnused O.given O.failures) outsides.items }
+{
+    let alloc = log.rt.alloc();
+    let sources = sources(alloc, scripts)?;
+    let log = LogTo { path: "a.log", log };
+    let mut output: Vec<u8> = Vec::new(alloc);
+    let mut errors: Vec<u8> = Vec::new(alloc);
+    let status = record_over(
+        rt,
+        alloc,
+        settings,
+        true,
+        log,
+        outsides,
+        sources,
+        &mut output,
+        &mut errors,
+    )?;
+    Ok(Told {
+        status,
+        output,
+        errors,
+    })
+}
+
+// What `replay` tells of the log at this path, with these scripts.
+pub(crate) fn replayed(rt: &HostRuntime, path: &str, scripts: &[&str]) -> Result<Told, Fail> {
+    let alloc = rt.alloc();
+    let log = Source {
+        path: "a.log",
+        reader: Text::File(fs::open(rt, path)?),
+    };
+    let sources = sources(alloc, scripts)?;
+    let mut output: Vec<u8> = Vec::new(alloc);
+    let mut errors: Vec<u8> = Vec::new(alloc);
+    let status = replay_over(alloc, true, log, sources, &mut output, &mut errors)?;
+    Ok(Told {
+        status,
+        output,
+        errors,
+    })
+}
