@@ -1,5 +1,5 @@
 use super::runs::{DEFAULTS, Told};
-use commands::{Source, plain_over, replay_over, show_over};
+use commands::{Source, compare_over, plain_over, replay_over, show_over};
 use std::alloc::Global;
 use std::io;
 use std::io::{Read, Write};
@@ -52,7 +52,7 @@ fn sources(alloc: Global, devices: &[Device]) -> io::Result<Vec<Source<'static, 
 }
 
 /// What `plain` tells of scripts on these devices.
-pub fn run(alloc: Global, devices: &[Device]) -> io::Result<Told> {
+pub(crate) fn run(alloc: Global, devices: &[Device]) -> io::Result<Told> {
     let sources = sources(alloc, devices)?;
     let mut output: Vec<u8> = Vec::new(alloc);
     let mut errors: Vec<u8> = Vec::new(alloc);
@@ -65,7 +65,12 @@ pub fn run(alloc: Global, devices: &[Device]) -> io::Result<Told> {
 }
 
 /// What `replay` tells of a log, which is "a.log", and of scripts.
-pub fn replayed(alloc: Global, turns: bool, log: Device, scripts: &[Device]) -> io::Result<Told> {
+pub(crate) fn replayed(
+    alloc: Global,
+    turns: bool,
+    log: Device,
+    scripts: &[Device],
+) -> io::Result<Told> {
     let sources = sources(alloc, scripts)?;
     let log = Source {
         path: "a.log",
@@ -81,8 +86,34 @@ pub fn replayed(alloc: Global, turns: bool, log: Device, scripts: &[Device]) -> 
     })
 }
 
+/// What `compare` tells of two logs, which are "a.log" and "b.log", and of scripts.
+pub(crate) fn compared(
+    alloc: Global,
+    log: Device,
+    other: Device,
+    scripts: &[Device],
+) -> io::Result<Told> {
+    let sources = sources(alloc, scripts)?;
+    let log = Source {
+        path: "a.log",
+        reader: log,
+    };
+    let other = Source {
+        path: "b.log",
+        reader: other,
+    };
+    let mut output: Vec<u8> = Vec::new(alloc);
+    let mut errors: Vec<u8> = Vec::new(alloc);
+    let status = compare_over(alloc, log, other, sources, &mut output, &mut errors)?;
+    Ok(Told {
+        status,
+        output,
+        errors,
+    })
+}
+
 /// What `show` tells of a log, which is "a.log".
-pub fn shown(alloc: Global, log: Device) -> io::Result<Told> {
+pub(crate) fn shown(alloc: Global, log: Device) -> io::Result<Told> {
     let source = Source {
         path: "a.log",
         reader: log,

@@ -3,6 +3,8 @@
 #![tactic(auto)]
 
 #[cfg(test)]
+mod compares;
+#[cfg(test)]
 mod devices;
 #[cfg(test)]
 mod faults;

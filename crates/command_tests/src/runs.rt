@@ -26,14 +26,14 @@ pub struct Told {
 
 impl Told {
     /// Whether just this was told.
-    pub fn is(&self, status: u8, output: &str, errors: &str) -> bool {
+    pub(crate) fn is(&self, status: u8, output: &str, errors: &str) -> bool {
         self.status == status
             && self.output.as_slice() == output.as_bytes()
             && self.errors.as_slice() == errors.as_bytes()
     }
 
     /// The same, or that memory is wanted.
-    pub fn may_be(&self, status: u8, output: &str, errors: &str) -> bool {
+    pub(crate) fn may_be(&self, status: u8, output: &str, errors: &str) -> bool {
         self.is(status, output, errors) || self.is(4, "", "no memory\n")
     }
 }
@@ -58,7 +58,7 @@ fn run(alloc: Global, settings: Settings, turns: bool, scripts: &[&str]) -> io::
 }
 
 /// Whether scripts print this and end with this status. Where memory is wanted they may say so.
-pub fn print(
+pub(crate) fn print(
     alloc: Global,
     settings: Settings,
     turns: bool,
@@ -70,7 +70,7 @@ pub fn print(
 }
 
 /// Whether scripts end with this status and this line on standard error, and print nothing.
-pub fn refuse(
+pub(crate) fn refuse(
     alloc: Global,
     settings: Settings,
     scripts: &[&str],
@@ -81,7 +81,7 @@ pub fn refuse(
 }
 
 /// Whether scripts end well and print this, with memory enough.
-pub fn end_well(
+pub(crate) fn end_well(
     alloc: Global,
     settings: Settings,
     scripts: &[&str],
@@ -91,13 +91,13 @@ pub fn end_well(
 }
 
 /// A text in which `{zeros}` stands for 32,766 bytes of zero in hexadecimal digits: two less than a pipe holds.
-pub fn spelled(alloc: Global, text: &str) -> io::Result<String> {
+pub(crate) fn spelled(alloc: Global, text: &str) -> io::Result<String> {
     let zeros = "00".repeat(alloc, 32_766)?;
     Ok(text.replace(alloc, "{zeros}", zeros.as_str())?)
 }
 
 /// Whether the calls of one script, a call a line with its reply behind ` = `, are printed with these replies.
-pub fn answers(alloc: Global, calls: &str) -> io::Result<bool> {
+pub(crate) fn answers(alloc: Global, calls: &str) -> io::Result<bool> {
     let calls = spelled(alloc, calls)?;
     let mut script = String::new(alloc);
     let mut printed = String::new(alloc);
@@ -121,7 +121,7 @@ pub fn answers(alloc: Global, calls: &str) -> io::Result<bool> {
 }
 
 /// Asserts that the calls of each case, with these before them, are answered so.
-pub fn assert_answers(
+pub(crate) fn assert_answers(
     rt: &impl Abort,
     alloc: Global,
     before: &str,
@@ -135,7 +135,7 @@ pub fn assert_answers(
 }
 
 /// Asserts the same of each line, as a script of its own.
-pub fn assert_each_answers(
+pub(crate) fn assert_each_answers(
     rt: &impl Abort,
     alloc: Global,
     before: &str,

@@ -1,3 +1,3 @@
-pub mod Whole
 pub mod Scripts
 pub mod Playing
+pub mod Printing

@@ -1,7 +1,6 @@
-pub mod Transcripts
-pub mod Commands
-pub mod FirstFaults
-pub mod LogTexts
+pub mod Plains
 pub mod Shows
+pub mod Tells
 pub mod Replays
+pub mod Compares
 pub mod Records

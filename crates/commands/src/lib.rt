@@ -1,22 +1,18 @@
-//! What the commands `plain`, `record`, `replay` and `show` read and write, over any readers and writers.
+//! What the commands `plain`, `record`, `replay`, `compare` and `show` do, over any readers and writers.
 #![tactic(auto)]
 
-mod first_fault;
-mod log_fault;
-mod log_text;
+mod compare;
 mod plain;
-mod printed;
 mod record;
 mod replay;
 mod settings;
 mod show;
-mod source;
-mod transcripts;
+mod told;
 
+pub use command_texts::{Source, cannot_write, no_memory};
+pub use compare::compare_over;
 pub use plain::plain_over;
-pub use printed::{cannot_write, no_memory};
 pub use record::{LogTo, NewLog, NotCreated, record_over};
-pub use replay::replay_over;
+pub use replay::{replay_over, replay_threads_over};
 pub use settings::{DEFAULTS, settings_of};
 pub use show::show_over;
-pub use source::Source;

@@ -1,21 +1,20 @@
-ghost use Rattle.std.specs.Prelude.{◌≡◌, MatchResult, ◌∷◌, [], length, map, IfOk, replicate, true};
-ghost use Rattle.thread_scripts.specs.Faults.{bad_line, too_long};
-ghost use Rattle.thread_scripts.specs.Grammar.{script_of};
+ghost use Rattle.std.specs.Prelude.{◌≡◌, [], length, map, IfOk, replicate, true};
 ghost use Rattle.call_machine.specs.Plain.{counts_fit};
 ghost use Rattle.logged_machine.specs.Starting.{are_settings};
-ghost use Rattle.commands.specs.Commands.{PlainPrints, Prints, RunPrints, ScriptsPrint, bad_settings, inputs_of, script_fault, scripts_from};
-ghost use Rattle.commands.specs.FirstFaults.{IsFirst, IsScript};
+ghost use Rattle.command_texts.specs.Printing.{Prints};
+ghost use Rattle.command_texts.specs.Reading.{scripts_from};
+ghost use Rattle.commands.specs.Plains.{PlainPrints, RunPrints, ScriptsPrint, bad_settings, inputs_of};
 
-use crate::first_fault::FirstFault;
-use crate::printed::{Printed, cannot_read, fault, no_memory, print};
-use crate::source::{Source, Unread, read_all};
-use crate::transcripts::run_printed;
 use call_machine::{PlainFault, plain_run};
-use posix_terms::{Bytes, Limits, Outcomes, Settings};
+use command_texts::{
+    FirstFault, Printed, Source, Unread, bad_line, cannot_read, fault, fits, no_memory, print,
+    read_all, run_printed, scripts, too_long,
+};
+use posix_terms::{Bytes, Outcomes, Settings};
 use std::alloc::{AllocError, Global};
 use std::io;
 use std::io::{Read, Write};
-use thread_scripts::{Script, ScriptFault, parse};
+use thread_scripts::Script;
 
 /// `detio plain`: runs the scripts on the plain schedule and prints their transcripts, with the clocks of
 /// the turns if that is asked, or one line for the first fault; the answer is the exit status. Where there
@@ -56,13 +55,6 @@ fn plain_printed<R: Read + Drop>(
     }
 }
 
-// Whether so many scripts can run together.
-pub fn fits(scripts: usize) -> bool
-    ensures { result ≡ counts_fit scripts scripts }
-{
-    1 <= scripts && scripts <= Limits::THREADS
-}
-
 // What is to be printed for texts that were read.
 fn texts_printed(
     alloc: Global,
@@ -78,29 +70,6 @@ fn texts_printed(
         Err(FirstFault::BadLine(script, line)) => bad_line(alloc, script, line),
         Err(FirstFault::TooLong(script)) => too_long(alloc, script),
         Err(FirstFault::Memory) => Err(AllocError),
-    }
-}
-
-// The scripts of texts, or the first fault.
-pub fn scripts(alloc: Global, texts: &[Bytes]) -> Result<Vec<Script>, FirstFault>
-    ensures { MatchResult result (λ scripts. scripts_from 0 texts.now ≡ Ok scripts.items) (λ fault. IsFirst fault (scripts_from 0 texts.now)) }
-{
-    let mut scripts = Vec::new(alloc);
-    for i in 0..texts.len() {
-        scripts.push(script(alloc, i, texts[i].as_slice())?)?;
-    }
-    Ok(scripts)
-}
-
-// The script of this number.
-fn script(alloc: Global, i: usize, text: &[u8]) -> Result<Script, FirstFault>
-    ensures { IsScript i result (script_of text.now) }
-{
-    match parse(alloc, text) {
-        Ok(script) => Ok(script),
-        Err(ScriptFault::BadLine(line)) => Err(FirstFault::BadLine(i, line)),
-        Err(ScriptFault::TooLong) => Err(FirstFault::TooLong(i)),
-        Err(ScriptFault::Memory) => Err(FirstFault::Memory),
     }
 }
 
@@ -138,18 +107,4 @@ pub fn bad_settings(alloc: Global) -> Result<Printed, AllocError>
     ensures { IfOk result (λ printed. printed ≡ bad_settings) }
 {
     fault(alloc, 2, "patience and door cost are 1 to 1000000\n")
-}
-
-pub fn bad_line(alloc: Global, script: usize, line: usize) -> Result<Printed, AllocError>
-    ensures { IfOk result (λ printed. printed ≡ script_fault script (bad_line line)) }
-{
-    let text = format!(in alloc; "script {script}: bad line {line}\n")?;
-    fault(alloc, 3, text.as_str())
-}
-
-pub fn too_long(alloc: Global, script: usize) -> Result<Printed, AllocError>
-    ensures { IfOk result (λ printed. printed ≡ script_fault script too_long) }
-{
-    let text = format!(in alloc; "script {script}: too long\n")?;
-    fault(alloc, 3, text.as_str())
 }

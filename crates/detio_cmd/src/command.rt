@@ -6,7 +6,7 @@ const ABOUT: &str = "Deterministic record and replay of calls on one table of de
 Scripts of calls run against files, pipes and pairs of sockets in memory. The order of the calls
 comes from logical clocks alone, so a run prints the same each time, on every machine. What calls got
 from outside, from host files and over TCP, stands in a log, and a run is replayed by its log with no
-host file and no network.";
+host file and no network. Two logs are compared by what the threads see when each is replayed.";
 
 const AFTER_HELP: &str = "Example:
   printf 'open /a rw create\\nwrite 0 x6869\\nlseek 0 0 set\\nread 0 9\\n' > hi.script
@@ -20,7 +20,7 @@ prints
   end
 
 Exit statuses:
-  0  the run came to its end, or the log was printed
+  0  the run came to its end, the logs gave the same, or the log was printed
   1  a difference, a divergence or the end of a log
   2  wrong usage
   3  a bad script or log
@@ -160,6 +160,11 @@ as far as they could. The replay diverged where the record of this thread and nu
 than the call asks, or does not fit what it asks, or where no call asked for it. Then a script is not the
 one that was run, or the log is not of that run. The lines before are what each thread saw until then.
 
+With --threads each script runs in a thread of its own, as under detio record. A replay that comes to its
+end prints the same lines. One that stops does so at once, wherever the other threads are: so how much each
+saw, and which stop is told where there are several, can change from run to run. The last line may then also
+be stop memory or stop strayed, as under detio record.
+
 What is no log, and a log of another number of threads, has one line on standard error:
   log: bad magic
   log: bad version
@@ -177,6 +182,36 @@ prints
   0 0 1 host_open fail ENOENT
   0 1 105 open number 0
   end";
+
+const COMPARE_ABOUT: &str =
+    "Tells whether two logs give the threads of the same scripts the same replies";
+
+const COMPARE_LONG_ABOUT: &str =
+    "Tells whether two logs give the threads of the same scripts the same replies.
+
+The scripts are replayed by each of the two logs, as detio replay does, and what each thread saw is compared row
+by row: the call, the turn with its clock, and the reply. One line is printed:
+  same                  each thread saw the same
+  differs THREAD ROW    the first thread that differs, and the first of its rows that does
+
+Both are counted from 0. Where one log gave a thread fewer rows, it is the row behind the last of these. A
+replay that stops, at the end of its log or where it diverges, is compared as far as it came, and why it
+stopped is not: detio replay tells that. So a log that was cut off is compared with the whole one.
+
+What cannot be replayed has one line on standard error, as by detio replay: first for the log of --log, then
+for that of --with.";
+
+const COMPARE_AFTER_HELP: &str = "Example:
+  printf 'host_open notes r\\nopen /b rw create\\n' > open.script
+  printf 'DIOL\\0\\1\\0\\1\\0\\0\\3\\350\\0\\0\\0\\144R\\0\\0\\0\\0\\0\\0\\1' > there.log
+  cp there.log missing.log
+  printf '\\0\\0\\0\\0\\0\\0\\0\\0\\0\\0\\0' >> there.log
+  printf '\\12\\0\\0\\0\\0\\0\\0\\0\\0\\0\\0' >> missing.log
+  detio compare --log there.log --with missing.log open.script
+
+prints
+  differs 0 0
+since the file was there in one run, and not in the other.";
 
 const SHOW_ABOUT: &str = "Prints a log";
 
@@ -216,6 +251,7 @@ fn subcommands<'a>(alloc: Global) -> Result<Vec<Command<'a>>, AllocError> {
     subcommands.push(plain(alloc)?)?;
     subcommands.push(record(alloc)?)?;
     subcommands.push(replay(alloc)?)?;
+    subcommands.push(compare(alloc)?)?;
     subcommands.push(show(alloc)?)?;
     Ok(subcommands)
 }
@@ -303,7 +339,27 @@ fn replay<'a>(alloc: Global) -> Result<Command<'a>, AllocError> {
         REPLAY_LONG_ABOUT,
         REPLAY_AFTER_HELP,
     );
-    with_scripts(alloc, command.arg(log)?)
+    with_scripts(alloc, command.arg(log)?.arg(threads(alloc))?)
+}
+
+fn threads<'a>(alloc: Global) -> Arg<'a> {
+    Arg::new(alloc, "threads")
+        .long("threads")
+        .action(ArgAction::SetTrue)
+        .help("Runs each script in a thread of its own")
+}
+
+fn compare<'a>(alloc: Global) -> Result<Command<'a>, AllocError> {
+    let log = log(alloc, "One log to replay; /dev/stdin is standard input");
+    let with = file(alloc, "with", "The log to compare it with");
+    let command = described(
+        alloc,
+        "compare",
+        COMPARE_ABOUT,
+        COMPARE_LONG_ABOUT,
+        COMPARE_AFTER_HELP,
+    );
+    command.arg(log)?.arg(with)?.arg(scripts(alloc))
 }
 
 fn show<'a>(alloc: Global) -> Result<Command<'a>, AllocError> {
@@ -327,8 +383,13 @@ fn number<'a>(alloc: Global, name: &'a str, default: &'a str, help: &'a str) -> 
 }
 
 fn log<'a>(alloc: Global, help: &'a str) -> Arg<'a> {
-    Arg::new(alloc, "log")
-        .long("log")
+    file(alloc, "log", help)
+}
+
+// An option for a file, which must be there.
+fn file<'a>(alloc: Global, name: &'a str, help: &'a str) -> Arg<'a> {
+    Arg::new(alloc, name)
+        .long(name)
         .value_name("FILE")
         .required(true)
         .help(help)

@@ -8,7 +8,10 @@ mod record;
 use clap::ArgMatches;
 use clap::error::ErrorKind;
 use command::command;
-use commands::{cannot_write, no_memory, plain_over, replay_over, settings_of, show_over};
+use commands::{
+    cannot_write, compare_over, no_memory, plain_over, replay_over, replay_threads_over,
+    settings_of, show_over,
+};
 use host_doors::Outside;
 use input::{open_scripts, open_source};
 use record::{HostOutsides, NewOutsides, run_record};
@@ -60,7 +63,8 @@ fn run_matches<O: Outside + Send + Drop, N: NewOutsides<O> + Drop, T: Threads + 
     match matches.subcommand() {
         Some(("plain", matches)) => run_plain(rt, matches),
         Some(("record", matches)) => run_record(rt, handles, outsides, matches),
-        Some(("replay", matches)) => run_replay(rt, matches),
+        Some(("replay", matches)) => run_replay(rt, handles, matches),
+        Some(("compare", matches)) => run_compare(rt, matches),
         Some(("show", matches)) => Ok(run_show(rt, matches)),
         _ => Ok(2),
     }
@@ -108,17 +112,47 @@ fn run_plain(rt: &HostRuntime, matches: &ArgMatches<'_>) -> Result<u8, AllocErro
 }
 
 // `detio replay`, as the command line has it.
-fn run_replay(rt: &HostRuntime, matches: &ArgMatches<'_>) -> Result<u8, AllocError> {
+fn run_replay<T: Threads + Wait + Sync>(
+    rt: &HostRuntime,
+    handles: &T,
+    matches: &ArgMatches<'_>,
+) -> Result<u8, AllocError> {
     let Some(path) = matches.get_str("log") else {
         return Ok(2);
     };
     let turns = matches.get_flag("turns");
     let log = open_source(rt, path);
     let sources = open_scripts(rt, matches.get_strs("script").unwrap_or(&[]))?;
-    let status = replay_over(
+    let alloc = rt.alloc();
+    let (mut output, mut errors) = (rt.stdout(), rt.stderr());
+    let status = if matches.get_flag("threads") {
+        replay_threads_over(
+            handles,
+            alloc,
+            turns,
+            log,
+            sources,
+            &mut output,
+            &mut errors,
+        )
+    } else {
+        replay_over(alloc, turns, log, sources, &mut output, &mut errors)
+    };
+    Ok(status.unwrap_or(4))
+}
+
+// `detio compare`, as the command line has it.
+fn run_compare(rt: &HostRuntime, matches: &ArgMatches<'_>) -> Result<u8, AllocError> {
+    let (Some(log), Some(other)) = (matches.get_str("log"), matches.get_str("with")) else {
+        return Ok(2);
+    };
+    let log = open_source(rt, log);
+    let other = open_source(rt, other);
+    let sources = open_scripts(rt, matches.get_strs("script").unwrap_or(&[]))?;
+    let status = compare_over(
         rt.alloc(),
-        turns,
         log,
+        other,
         sources,
         &mut rt.stdout(),
         &mut rt.stderr(),

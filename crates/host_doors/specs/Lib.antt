@@ -6,3 +6,4 @@ pub mod Asked
 pub mod Gates
 pub mod Options
 pub mod Channels
+pub mod LogList

@@ -31,39 +31,12 @@ use Rattle.lock_model.proofs.Growth.{at_moves, at_attempt, wanting_within}
 use Rattle.lock_model.proofs.Walk.{Holding, Pending, Part, next_world, opened, opened_other, opened_off, Walk, first_none, none_is}
 use Rattle.lock_model.proofs.Kept.{Right, busy_phase, busy_found, right_event, right_start, run_keeps, first_thread, start_thread}
 use Rattle.lock_model.proofs.Follows.{each_thread}
+use Rattle.lock_model.proofs.OfRows.{of_attempt, of_filled, of_other, of_same}
 
 -- ## The outcomes of one thread's rows
 
-outcomes_mine : (i : ℕ) (r : Row) (rs : List Row) → r.turn.thread ≡ i → outcomes_of i (r ∷ rs) ≡ cons_option r.outcome (outcomes_of i rs)
-outcomes_mine i r rs mine = ap (filter_map (λ (q : Row). q.outcome)) (cond-true _ _ _ (eq-eqb r.turn.thread i mine))
-
-outcomes_off : (i : ℕ) (r : Row) (rs : List Row) → (r.turn.thread ≡ i → ⊥) → outcomes_of i (r ∷ rs) ≡ outcomes_of i rs
-outcomes_off i r rs off = ap (filter_map (λ (q : Row). q.outcome)) (cond-false _ _ _ (ne_eqb r.turn.thread i off))
-
--- rows that keep their turns and, those of thread i, their outcomes
-outcomes_same : (i : ℕ) (f : Row → Row) (rs : List Row) → ((r : Row) → (f r).turn ≡ r.turn) → ((r : Row) → r.turn.thread ≡ i → (f r).outcome ≡ r.outcome) → outcomes_of i (map f rs) ≡ outcomes_of i rs
-outcomes_same i f [] turn same = refl
-outcomes_same i f (r ∷ rs) turn same =
-    let thread : (f r).turn.thread ≡ r.turn.thread = ap (λ (t : Turn). t.thread) (turn r) in
-    let rest = outcomes_same i f rs turn same in
-    ⊎_elim
-    (λ (mine : r.turn.thread ≡ i). outcomes_mine i (f r) (map f rs) (thread ∙ mine) ∙ (ap₂ cons_option (same r mine) rest ∙ sym (outcomes_mine i r rs mine)))
-    (λ (off : r.turn.thread ≡ i → ⊥). outcomes_off i (f r) (map f rs) (λ e. off (sym thread ∙ e)) ∙ (rest ∙ sym (outcomes_off i r rs off)))
-    (cases_eq r.turn.thread i)
-
--- a new row has no outcome
-outcomes_new : (i : ℕ) (rs : List Row) (turn : Turn) (c : Call) → outcomes_of i (rs ++ new_row turn c ∷ []) ≡ outcomes_of i rs
-outcomes_new i [] turn c =
-    ⊎_elim
-    (λ (mine : turn.thread ≡ i). outcomes_mine i (new_row turn c) [] mine)
-    (λ (off : turn.thread ≡ i → ⊥). outcomes_off i (new_row turn c) [] off)
-    (cases_eq turn.thread i)
-outcomes_new i (r ∷ rs) turn c =
-    let rest = outcomes_new i rs turn c in
-    ⊎_elim
-    (λ (mine : r.turn.thread ≡ i). outcomes_mine i r (rs ++ new_row turn c ∷ []) mine ∙ (ap (cons_option r.outcome) rest ∙ sym (outcomes_mine i r rs mine)))
-    (λ (off : r.turn.thread ≡ i → ⊥). outcomes_off i r (rs ++ new_row turn c ∷ []) off ∙ (rest ∙ sym (outcomes_off i r rs off)))
-    (cases_eq r.turn.thread i)
+abbrev outcome_in : Row → Option Given
+outcome_in r = r.outcome
 
 -- ## Attempts
 
@@ -71,27 +44,26 @@ abbrev outside : Phase → Bool
 outside (Outside job) = true
 outside p = false
 
--- after an attempt its thread is not outside, nothing came for it, and the outcomes in the rows are the same
+-- after an attempt its thread is not outside, and nothing came for it
 record AfterTry (s z : State) (i : ℕ) : Type 0 where
   came : (thread_of z i).came ≡ (thread_of s i).came
   inside : outside (thread_of z i).phase ≡ false
-  rows : (k : ℕ) → outcomes_of k z.rows ≡ outcomes_of k s.rows
 
-after_by : (s z : State) (i : ℕ) (u : Thread) → thread_of z i ≡ u → u.came ≡ (thread_of s i).came → outside u.phase ≡ false → ((k : ℕ) → outcomes_of k z.rows ≡ outcomes_of k s.rows) → AfterTry s z i
-after_by s z i u now came inside rows = record { came = ap (λ (t : Thread). t.came) now ∙ came; inside = ap (λ (t : Thread). outside t.phase) now ∙ inside; rows = rows }
+after_by : (s z : State) (i : ℕ) (u : Thread) → thread_of z i ≡ u → u.came ≡ (thread_of s i).came → outside u.phase ≡ false → AfterTry s z i
+after_by s z i u now came inside = record { came = ap (λ (t : Thread). t.came) now ∙ came; inside = ap (λ (t : Thread). outside t.phase) now ∙ inside }
 
 wanting_inside : (p : Phase) → wants p ≡ true → outside p ≡ false
 wanting_inside (Outside job) h = absurd (false≢true h)
 wanting_inside p h = refl
 
 after_planned : (calls : CallTable) (s : State) (i : ℕ) (c : Call) (b : Carried) (turn : Turn) (plan : Plan) (w : World) → i < length s.threads → AfterTry s (planned calls s i (thread_of s i) c b turn plan w) i
-after_planned calls s i c b turn No_object w l = after_by s (planned calls s i (thread_of s i) c b turn No_object w) i _ (get_or-set_same s.threads i _ nobody l) refl refl (λ k. outcomes_new k s.rows turn c)
-after_planned calls s i c b turn (Object n way) w l = after_by s (planned calls s i (thread_of s i) c b turn (Object n way) w) i _ (get_or-set_same s.threads i _ nobody l) refl refl (λ k. refl)
+after_planned calls s i c b turn No_object w l = after_by s (planned calls s i (thread_of s i) c b turn No_object w) i _ (get_or-set_same s.threads i _ nobody l) refl refl
+after_planned calls s i c b turn (Object n way) w l = after_by s (planned calls s i (thread_of s i) c b turn (Object n way) w) i _ (get_or-set_same s.threads i _ nobody l) refl refl
 
 after_reached : (calls : CallTable) (s : State) (i : ℕ) (c : Call) (b : Carried) (turn : Turn) (n : ℕ) (way : Way) (w : World) → i < length s.threads → AfterTry s (reached calls s i (thread_of s i) c b turn n way w) i
-after_reached calls s i c b turn n Inside w l = after_by s (reached calls s i (thread_of s i) c b turn n Inside w) i _ (get_or-set_same s.threads i _ nobody l) refl refl (λ k. outcomes_new k s.rows turn c)
-after_reached calls s i c b turn n Door w l = after_by s (reached calls s i (thread_of s i) c b turn n Door w) i _ (get_or-set_same s.threads i _ nobody l) refl refl (λ k. outcomes_new k s.rows turn c)
-after_reached calls s i c b turn n Keeps_table w l = after_by s (reached calls s i (thread_of s i) c b turn n Keeps_table w) i _ (get_or-set_same s.threads i _ nobody l) refl refl (λ k. outcomes_new k s.rows turn c)
+after_reached calls s i c b turn n Inside w l = after_by s (reached calls s i (thread_of s i) c b turn n Inside w) i _ (get_or-set_same s.threads i _ nobody l) refl refl
+after_reached calls s i c b turn n Door w l = after_by s (reached calls s i (thread_of s i) c b turn n Door w) i _ (get_or-set_same s.threads i _ nobody l) refl refl
+after_reached calls s i c b turn n Keeps_table w l = after_by s (reached calls s i (thread_of s i) c b turn n Keeps_table w) i _ (get_or-set_same s.threads i _ nobody l) refl refl
 
 after_attempt : (setup : Setup) (s : State) (i : ℕ) → can_attempt setup s i ≡ true → AfterTry s (attempt setup i s) i
 after_attempt setup s i can =
@@ -99,7 +71,7 @@ after_attempt setup s i can =
     let l = wanting_within setup s i can in
     at_attempt setup s i (λ p z. AfterTry s z i) can
     (record {
-      fails = λ p h. after_by s (failed s i t) i _ (get_or-set_same s.threads i _ nobody l) refl (wanting_inside t.phase (can_out setup s i can).wanting) (λ k. refl);
+      fails = λ p h. after_by s (failed s i t) i _ (get_or-set_same s.threads i _ nobody l) refl (wanting_inside t.phase (can_out setup s i can).wanting);
       plans = λ c b h. after_planned setup.calls s i c b (record { clock = t.clock; thread = i }) (setup.calls.plan s.world c b) s.world l;
       reaches = λ c b clock n way h g. after_reached setup.calls s i c b (record { clock = clock; thread = i }) n way s.world l;
     })
@@ -184,7 +156,7 @@ AllCame s = (i : ℕ) → (thread_of s i).came ≡ outcomes_of i s.rows
 
 -- where an event brings no outcome
 outcomes_quiet : (i k : ℕ) (e : Effect) (rs : List Row) → e.outcome ≡ None → outcomes_of k (map (row_after i e) rs) ≡ outcomes_of k rs
-outcomes_quiet i k e rs none = outcomes_same k (row_after i e) rs (row_turn i e) (λ r mine. row_quiet r)
+outcomes_quiet i k e rs none = of_same outcome_in k (row_after i e) rs (row_turn i e) (λ r mine. row_quiet r)
   where
     row_quiet : (r : Row) → (row_after i e r).outcome ≡ r.outcome
     row_quiet r =
@@ -192,19 +164,6 @@ outcomes_quiet i k e rs none = outcomes_same k (row_after i e) rs (row_turn i e)
         (λ (is : is_open i r ≡ true). ap (λ (q : Row). q.outcome) (row_open i e r is) ∙ (ap (first_of r.outcome) none ∙ first_none r.outcome))
         (λ (off : is_open i r ≡ false). ap (λ (q : Row). q.outcome) (row_closed i e r off))
         (cases_Bool (is_open i r))
-
--- and for another thread than that of the event
-outcomes_other : (i k : ℕ) (e : Effect) (rs : List Row) → (i ≡ k → ⊥) → outcomes_of k (map (row_after i e) rs) ≡ outcomes_of k rs
-outcomes_other i k e rs apart = outcomes_same k (row_after i e) rs (row_turn i e) (λ r mine. ap (λ (q : Row). q.outcome) (row_other i e r (λ p. apart (sym p ∙ mine))))
-
--- after the open row of thread i it has none
-none_more : (calls : CallTable) (s : State) (i : ℕ) (e : Effect) (w : World) (carried : ℕ → Carried) (busy : ℕ → Bool) (rs : List Row) → busy i ≡ true → Walk calls s w carried busy rs
-    → (outcomes_of i rs ≡ []) × (map (row_after i e) rs ≡ rs)
-none_more calls s i e w carried busy [] b h = (refl, refl)
-none_more calls s i e w carried busy (r ∷ rs) b h =
-    let off : r.turn.thread ≡ i → ⊥ = λ p. false≢true (sym h.0 ∙ (ap busy p ∙ b)) in
-    let rest = none_more calls s i e (next_world calls w (carried r.turn.thread) r r.answer) (handed_on calls carried r) (opened busy r) rs (opened_other busy r i off ∙ b) h.2 in
-    (outcomes_off i r rs off ∙ rest.0, ap₂ ◌∷◌ (row_other i e r off) rest.1)
 
 -- the open row of a thread that is outside has no outcome
 none_yet : (calls : CallTable) (s : State) (i : ℕ) (job : Job) (w : World) (b : Carried) (r : Row) (rs : List Row) → (thread_of s i).phase ≡ Outside job → r.turn.thread ≡ i → Pending calls s w b r rs → r.outcome ≡ None
@@ -215,35 +174,12 @@ none_yet calls s i job w b r rs is mine p =
 -- the outcome that comes for a thread that is outside is that of its last row
 outcomes_record : (calls : CallTable) (s : State) (i : ℕ) (job : Job) (o : Given) (e : Effect) (w : World) (carried : ℕ → Carried) (busy : ℕ → Bool) (rs : List Row)
     → (thread_of s i).phase ≡ Outside job → e.outcome ≡ Some o → busy i ≡ false → Walk calls s w carried busy rs → outcomes_of i (map (row_after i e) rs) ≡ outcomes_of i rs ++ o ∷ []
-outcomes_record calls s i job o e w carried busy [] is some free h = absurd (busy_found calls s i (ap busy_phase is) w carried busy free h)
-outcomes_record calls s i job o e w carried busy (r ∷ rs) is some free h =
-    let t = r.turn.thread in
-    let after = row_after i e in
-    ⊎_elim
-    (λ (own : is_open i r ≡ true).
-    let parts = and_parts (t == i) (is_none r.answer) own in
-    let mine : t ≡ i = eqb-true t i parts.0 in
-    let none = none_is r.answer parts.1 in
-    let yet = none_yet calls s i job w (carried t) r rs is mine (subst (Part calls s w (carried t) r rs) none h.1) in
-    let full : (after r).outcome ≡ Some o = ap (λ (q : Row). q.outcome) (row_open i e r own) ∙ ap₂ first_of yet some in
-    let busy_now : opened busy r i ≡ true = cond-true (t == i) (is_none r.answer) (busy i) parts.0 ∙ parts.1 in
-    let rest = none_more calls s i e (next_world calls w (carried t) r r.answer) (handed_on calls carried r) (opened busy r) rs busy_now h.2 in
-    let to : outcomes_of i (map after (r ∷ rs)) ≡ o ∷ [] =
-    outcomes_mine i (after r) (map after rs) (ap (λ (u : Turn). u.thread) (row_turn i e r) ∙ mine) ∙ ap₂ cons_option full (ap (outcomes_of i) rest.1 ∙ rest.0) in
-    let from : outcomes_of i (r ∷ rs) ≡ [] = outcomes_mine i r rs mine ∙ ap₂ cons_option yet rest.0 in
-    to ∙ ap (λ (l : List Given). l ++ o ∷ []) (sym from))
-    (λ (off : is_open i r ≡ false).
-    let rest = outcomes_record calls s i job o e (next_world calls w (carried t) r r.answer) (handed_on calls carried r) (opened busy r) rs is some (opened_off busy r i off free) h.2 in
-    ap (λ (q : Row). outcomes_of i (q ∷ map after rs)) (row_closed i e r off)
-    ∙ ⊎_elim
-    (λ (mine : t ≡ i). outcomes_mine i r (map after rs) mine ∙ (ap (cons_option r.outcome) rest ∙ (cons_push r.outcome (outcomes_of i rs) o ∙ ap (λ (l : List Given). l ++ o ∷ []) (sym (outcomes_mine i r rs mine)))))
-    (λ (other : t ≡ i → ⊥). outcomes_off i r (map after rs) other ∙ (rest ∙ ap (λ (l : List Given). l ++ o ∷ []) (sym (outcomes_off i r rs other))))
-    (cases_eq t i))
-    (cases_Bool (is_open i r))
-  where
-    cons_push : (p : Option Given) (l : List Given) (o : Given) → cons_option p (l ++ o ∷ []) ≡ cons_option p l ++ o ∷ []
-    cons_push None l o = refl
-    cons_push (Some x) l o = refl
+outcomes_record calls s i job o e w carried busy rs is some free h =
+    of_filled outcome_in calls s i e (Some o) w carried busy rs (λ u c b off walk. busy_found calls s i (ap busy_phase is) u c b off walk)
+    (λ u b r us mine own p.
+    let yet = none_yet calls s i job u b r us is mine p in
+    (yet, ap (λ (q : Row). q.outcome) (row_open i e r own) ∙ ap₂ first_of yet some))
+    free h
 
 step_came : (calls : CallTable) (t : Thread) (x : Step) → (after_step calls t x).came ≡ t.came
 step_came calls t (step.Work n) = refl
@@ -278,7 +214,7 @@ came_move setup w s i m e right came k =
     ⊎_elim
     (λ (mine : i ≡ k).
     subst (λ (n : ℕ). (thread_of z n).came ≡ outcomes_of n z.rows) mine (ap (λ (t : Thread). t.came) (thread_moved setup s i m e) ∙ came_mine setup w s i m e right (came i)))
-    (λ (apart : i ≡ k → ⊥). ap (λ (t : Thread). t.came) (thread_move i k (Some m) s apart) ∙ (came k ∙ sym (outcomes_other i k m.effect s.rows apart)))
+    (λ (apart : i ≡ k → ⊥). ap (λ (t : Thread). t.came) (thread_move i k (Some m) s apart) ∙ (came k ∙ sym (of_other outcome_in i k m.effect s.rows apart)))
     (cases_eq i k)
 
 came_event : (setup : Setup) (w : World) (s : State) (e : Event) → is_allowed setup e s ≡ true → Right setup.calls w s → AllCame s → AllCame (happens setup e s)
@@ -287,10 +223,10 @@ came_event setup w s (Advances i) can right came k =
     subst AllCame (sym (advance_move setup i s ∙ ap (λ (o : Option Moved). move i o s) m.1)) (came_move setup w s i m.0 m.1 right came) k
 came_event setup w s (Attempts i) can right came k =
     let z = attempt setup i s in
-    let after = after_attempt setup s i can in
+    let rows : (n : ℕ) → outcomes_of n z.rows ≡ outcomes_of n s.rows = λ n. of_attempt outcome_in (λ turn c. refl) setup s i n can in
     ⊎_elim
-    (λ (mine : i ≡ k). subst (λ (n : ℕ). (thread_of z n).came ≡ outcomes_of n z.rows) mine (after.came ∙ (came i ∙ sym (after.rows i))))
-    (λ (apart : i ≡ k → ⊥). ap (λ (t : Thread). t.came) (attempt_other setup i k s apart) ∙ (came k ∙ sym (after.rows k)))
+    (λ (mine : i ≡ k). subst (λ (n : ℕ). (thread_of z n).came ≡ outcomes_of n z.rows) mine ((after_attempt setup s i can).came ∙ (came i ∙ sym (rows i))))
+    (λ (apart : i ≡ k → ⊥). ap (λ (t : Thread). t.came) (attempt_other setup i k s apart) ∙ (came k ∙ sym (rows k)))
     (cases_eq i k)
 
 came_start : (threads objects : ℕ) (w : World) → AllCame (start threads objects w)

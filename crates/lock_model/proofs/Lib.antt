@@ -20,6 +20,9 @@ pub mod Holder
 pub mod RealLegal
 pub mod RealLaws
 pub mod OwnPlans
+pub mod OfRows
 pub mod CameRows
+pub mod RepliesRows
 pub mod PlainCame
 pub mod CameOutside
+pub mod ScriptEnds

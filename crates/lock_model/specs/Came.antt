@@ -8,7 +8,7 @@ use Rattle.lock_model.specs.Schedule.{IsOver, plain_run}
 use Rattle.lock_model.specs.State.{Job, State, Thread, start, thread_of}
 use Rattle.lock_model.specs.State.Phase.{Outside}
 use Rattle.lock_model.specs.Terms.{World}
-use Rattle.lock_model.specs.Transcripts.{outcomes_of}
+use Rattle.lock_model.specs.Transcripts.{outcomes_of, replies_of}
 use Rattle.posix_terms.specs.declared.outcome.Given.{Given}
 
 -- the same setup, with only the outcomes that came
@@ -53,6 +53,10 @@ OutsideStays =
 -- what came for a thread are the outcomes of its rows
 abbrev pub CameIsRows : Type 0
 CameIsRows = (setup : Setup) (threads objects : ℕ) (w : World) (s : State) → Arises setup (start threads objects w) s → (i : ℕ) → (thread_of s i).came ≡ outcomes_of i s.rows
+
+-- and the replies that it got are those of its rows
+abbrev pub RepliesAreRows : Type 0
+RepliesAreRows = (setup : Setup) (threads objects : ℕ) (w : World) (s : State) → Arises setup (start threads objects w) s → (i : ℕ) → (thread_of s i).replies ≡ replies_of i s.rows
 
 -- a thread that is outside has room for an outcome
 abbrev pub RoomOutside : Type 0

@@ -1,5 +1,5 @@
 -- Scripts as programs: a script's next step after the steps asked and the replies to them.
-use Rattle.std.specs.Prelude.{◌≡◌, List, [], ◌∷◌, Option, Some, None}
+use Rattle.std.specs.Prelude.{◌≡◌, ◌⊎◌, ℕ, ◌<◌, List, [], ◌∷◌, length, Option, Some, None}
 use Rattle.posix_terms.specs.declared.reply.Reply.{Reply}
 use Rattle.thread_scripts.specs.Meaning.{next_of, start_of}
 use Rattle.thread_scripts.specs.declared.actor.ScriptState.{ScriptState}
@@ -46,3 +46,9 @@ scripted script asked replies = Some (next_at (reached_after (at_start script) a
 -- it never lacks its next step
 abbrev pub NeverLacks : Type 0
 NeverLacks = (script : List Line) (asked : List Step) (replies : List Reply) → (x : Step) × (scripted script asked replies ≡ Some x)
+
+-- and it comes to its end: behind so many steps it gives nothing else, whatever it is told
+abbrev pub ScriptsEnd : Type 0
+ScriptsEnd =
+    (script : List Line)
+    → (bound : ℕ) × ((asked : List Step) (replies : List Reply) (x : Step) → scripted script asked replies ≡ Some x → (x ≡ step.End) ⊎ (length asked < bound))

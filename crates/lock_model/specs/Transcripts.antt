@@ -5,6 +5,7 @@ use Rattle.lock_model.specs.declared.turn_end.TurnEnd.TheVariants as turn_end
 use Rattle.lock_model.specs.History.{rows_of}
 use Rattle.lock_model.specs.State.{Row}
 use Rattle.posix_terms.specs.declared.outcome.Given.{Given}
+use Rattle.posix_terms.specs.declared.reply.Reply.{Reply}
 use Rattle.posix_terms.specs.declared.transcript.Row.{Row as TranscriptRow}
 
 abbrev pub replied : Row → Option TurnEnd → Option TranscriptRow
@@ -23,3 +24,13 @@ answers_of i rows = filter_map (λ (r : Row). r.answer) (rows_of i rows)
 -- and the rows that were answered with a reply
 abbrev pub transcript : ℕ → List Row → List TranscriptRow
 transcript i rows = filter_map (λ (r : Row). replied r r.answer) (rows_of i rows)
+
+-- the reply of a turn, unless it was blocked
+abbrev pub reply_in : Option TurnEnd → Option Reply
+reply_in (Some (turn_end.Reply x)) = Some x
+reply_in (Some (turn_end.Blocked b)) = None
+reply_in None = None
+
+-- the replies of those rows
+abbrev pub replies_of : ℕ → List Row → List Reply
+replies_of i rows = filter_map (λ (r : Row). reply_in r.answer) (rows_of i rows)

@@ -7,7 +7,7 @@
 mod turn_end;
 
 ghost use Rattle.std.specs.Prelude.{◌≡◌, ◌∷◌, []};
-ghost use Rattle.lock_model.specs.Came.{CameGrows, CameIsRows, CameOutside, OutsideStays, OverUnderCame, PlainArises, PlainCount, PlainLeads, RoomOutside, SameUnderCame};
+ghost use Rattle.lock_model.specs.Came.{CameGrows, CameIsRows, CameOutside, OutsideStays, OverUnderCame, PlainArises, PlainCount, PlainLeads, RepliesAreRows, RoomOutside, SameUnderCame};
 ghost use Rattle.lock_model.specs.CallTable.Plan.{No_object, Object};
 ghost use Rattle.lock_model.specs.CallTable.Way.{Door, Inside, Keeps_table};
 ghost use Rattle.lock_model.specs.Events.{EventLaws};
@@ -15,9 +15,10 @@ ghost use Rattle.lock_model.specs.Example.{Words, alone, blocked_call, one_call,
 ghost use Rattle.lock_model.specs.Laws.{ArisesAtStart, ArisesByEvent, ArisesByRun, EachEventLowers, EndedOrTurn, EndsHere, EndsNext, HolderHasTurn, LegalLaw, LegalOfArisen, LocksOfArisen, OneEventMore, OneTurn, OverLaw, OwnFinite, PlainIsRun, PlansOfArisen, PrefixLaw, PrefixLawOfCame, PrefixLawOfFollowed, PrefixLawOfOwn, RisingLaw, RisingOfArisen, RowsOfArisen, RunFollows, SomeEnd, SomeTurn, StepsOfArisen, StuckLaw, UniqueEnd};
 ghost use Rattle.lock_model.specs.RealLaws.{RealEnd, RealLegal, RealLegalOfArisen, RealPrefix, RealRising};
 ghost use Rattle.lock_model.specs.Schedule.{IsOver, plain_run};
-ghost use Rattle.lock_model.specs.ScriptPrograms.{NeverLacks};
+ghost use Rattle.lock_model.specs.ScriptPrograms.{NeverLacks, ScriptsEnd};
 ghost use Rattle.lock_model.specs.Transcripts.{transcript};
 
+use thread_scripts::runs_end;
 pub use turn_end::TurnEnd;
 
 /// The prefix law. Whatever the order of events, at every moment the rows of all threads together are the beginning
@@ -131,16 +132,21 @@ pub fn worked_runs()
     ensures blocked_over { (x : Words) → IsOver (blocked_call x) (plain_run (blocked_call x) 10 (alone x)) }
 {}
 
-/// A program that is a script never lacks its next step: behind its last line a script goes on ending.
-pub fn scripts_never_lack()
-    ensures { NeverLacks }
-{}
+/// A program that is a script never lacks its next step: behind its last line a script goes on ending (`next`). And each comes to its end:
+/// behind so many steps it gives nothing else, whatever the replies (`end`).
+pub fn programs_of_scripts()
+    ensures next { NeverLacks }
+    ensures end { ScriptsEnd }
+{
+    runs_end();
+}
 
 /// The plain run and the outcomes that came in it. With just those that came in so many events it is the same run so
 /// far (`same`), and over where it was over (`over`): so it can be made again from its own outcomes. What so many
 /// events make is a run (`leads`), to a state that arises (`arises`), of as many threads (`count`), which only adds to what came (`grows`).
 /// A thread that went outside is there still, or the next outcome that came for it answers what it asked (`stays`); outside it has room for
-/// one (`room`). In a state that arises, what came for a thread are the outcomes of its rows, in order (`rows`). An outcome comes in the event
+/// one (`room`). In a state that arises, what came for a thread are the outcomes of its rows, in order (`rows`), and the replies that it got
+/// are theirs too (`replies`). An outcome comes in the event
 /// of a thread that is outside alone, and for it alone (`outside`).
 pub fn outcomes_that_came()
     ensures same { SameUnderCame }
@@ -152,5 +158,6 @@ pub fn outcomes_that_came()
     ensures stays { OutsideStays }
     ensures room { RoomOutside }
     ensures rows { CameIsRows }
+    ensures replies { RepliesAreRows }
     ensures outside { CameOutside }
 {}

@@ -2,12 +2,12 @@ ghost use Rattle.std.specs.Prelude.{◌≡◌, All, length};
 ghost use Rattle.recorder.specs.Each.{IsUnused};
 
 use crate::host::free_path;
-use crate::recording::{LogFile, recorded, replayed};
+use crate::recording::{LogFile, Text, recorded, replayed, replayed_by_threads};
 use host_doors::Outside;
 use posix_terms::Settings;
 use recorder::hosts;
 use std::alloc::{AllocError, Global};
-use std::fs::remove_file;
+use std::fs::{self, remove_file};
 use std::io;
 use std::sync::Wait;
 use std::test::Fail;
@@ -95,6 +95,28 @@ fn is_replayed<R: Threads + Wait + Sync, O: Outside + Send + Drop>(
     Ok(told.status == 0 && again.is_as(&told))
 }
 
+// The same of a replay by threads.
+fn is_replayed_by_threads<R: Threads + Wait + Sync, O: Outside + Send + Drop>(
+    rt: &R,
+    host: &HostRuntime,
+    path: &str,
+    outsides: Vec<O>,
+    scripts: &[&str],
+) -> Result<bool, Fail>
+    requires one_each { length outsides.items ≡ length scripts.now }
+    requires unused { All (IsUnused O.given O.failures) outsides.items }
+{
+    let log = LogFile {
+        rt: host,
+        path,
+        room: 4096,
+    };
+    let told = recorded(rt, SHORT_PATIENCE, log, outsides, scripts)?;
+    let log = Text::File(fs::open(host, path)?);
+    let again = replayed_by_threads(rt, host.alloc(), log, scripts)?;
+    Ok(told.status == 0 && again.is_as(&told))
+}
+
 // The texts of these scripts.
 fn texts(alloc: Global, scripts: &[String]) -> Result<Vec<&str>, AllocError> {
     let mut texts = Vec::new(alloc);
@@ -152,6 +174,20 @@ fn the_last_recorded_runs_are_replayed(rt: HostRuntime) -> Result<(), Fail> {
         let texts = texts(rt.alloc(), &scripts)?;
         let outsides = hosts(rt, rt.alloc(), texts.len())?;
         assert!(rt; is_replayed(&rt, &rt, path.as_str(), outsides, &texts)?);
+    }
+    remove_file(&rt, path.as_str())?;
+    Ok(())
+}
+
+// A hundred more.
+#[test]
+fn recorded_runs_are_replayed_by_threads(rt: HostRuntime) -> Result<(), Fail> {
+    let path = free_path(rt, "generated_by_threads")?;
+    for seed in 1000..1100 {
+        let scripts = scripts(rt.alloc(), seed)?;
+        let texts = texts(rt.alloc(), &scripts)?;
+        let outsides = hosts(rt, rt.alloc(), texts.len())?;
+        assert!(rt; is_replayed_by_threads(&rt, &rt, path.as_str(), outsides, &texts)?);
     }
     remove_file(&rt, path.as_str())?;
     Ok(())

@@ -1,7 +1,9 @@
 ghost use Rattle.std.specs.Prelude.{◌≡◌, All, IfOk, length};
 ghost use Rattle.recorder.specs.Each.{IsUnused};
 
-use commands::{DEFAULTS, LogTo, NewLog, NotCreated, Source, record_over, replay_over};
+use commands::{
+    DEFAULTS, LogTo, NewLog, NotCreated, Source, record_over, replay_over, replay_threads_over,
+};
 use host_doors::Outside;
 use input_log::FileSink;
 use posix_terms::Settings;
@@ -59,9 +61,9 @@ impl NewLog<FileSink> for LogFile<'_> {
     }
 }
 
-// Where a text comes from: a log from its file.
+// Where a text comes from: a log that was recorded from its file.
 #[derive(Drop)]
-enum Text<'a> {
+pub(crate) enum Text<'a> {
     Script(&'a [u8]),
     File(File),
 }
@@ -137,6 +139,28 @@ pub(crate) fn replayed(rt: &HostRuntime, path: &str, scripts: &[&str]) -> Result
     let mut output: Vec<u8> = Vec::new(alloc);
     let mut errors: Vec<u8> = Vec::new(alloc);
     let status = replay_over(alloc, true, log, sources, &mut output, &mut errors)?;
+    Ok(Told {
+        status,
+        output,
+        errors,
+    })
+}
+
+// What `replay --threads` tells of this log, with these scripts.
+pub(crate) fn replayed_by_threads<'a, R: Threads + Wait + Sync>(
+    rt: &R,
+    alloc: Global,
+    log: Text<'a>,
+    scripts: &[&'a str],
+) -> Result<Told, Fail> {
+    let log = Source {
+        path: "a.log",
+        reader: log,
+    };
+    let sources = sources(alloc, scripts)?;
+    let mut output: Vec<u8> = Vec::new(alloc);
+    let mut errors: Vec<u8> = Vec::new(alloc);
+    let status = replay_threads_over(rt, alloc, true, log, sources, &mut output, &mut errors)?;
     Ok(Told {
         status,
         output,

@@ -86,7 +86,7 @@ fn lists(alloc: Global, threads: usize, came: &[&[Came]]) -> Result<Vec<Outcomes
     Ok(lists)
 }
 
-pub fn doors(
+pub(crate) fn doors(
     alloc: Global,
     threads: usize,
     came: &[&[Came]],
@@ -109,7 +109,7 @@ fn parsed(alloc: Global, scripts: &[&[u8]]) -> Result<Vec<Script>, Fail> {
 }
 
 // Records these scripts, with so many outsides to which this comes, into a log that has so much room.
-pub fn record<R: Threads + Wait + Sync>(
+pub(crate) fn record<R: Threads + Wait + Sync>(
     rt: &R,
     alloc: Global,
     scripts: &[&[u8]],
@@ -154,7 +154,7 @@ fn tell(
 }
 
 // Why a recorded run of these scripts stopped, where it was started and this came; another stop where it was not.
-pub fn stop_of<R: Threads + Wait + Sync>(
+pub(crate) fn stop_of<R: Threads + Wait + Sync>(
     rt: &R,
     alloc: Global,
     scripts: &[&[u8]],
@@ -168,7 +168,7 @@ pub fn stop_of<R: Threads + Wait + Sync>(
 
 // Whether each of so many recorded runs of these scripts tells the same as the plain run: transcripts, turns, rows and log, and that nothing
 // stopped it.
-pub fn are_as_plain<R: Threads + Wait + Sync>(
+pub(crate) fn are_as_plain<R: Threads + Wait + Sync>(
     rt: &R,
     alloc: Global,
     scripts: &[&[u8]],

@@ -24,11 +24,11 @@ use Rattle.replayer.specs.Outcomes.{came_for, first_or, first_unused, is_there, 
 
 -- ## Lists that are made thread by thread
 
-made_length : {A : Type 0} (f : ℕ → List A) (g : ℕ → A) → f 0 ≡ [] → ((n : ℕ) → f (suc n) ≡ f n ++ g n ∷ []) → (n : ℕ) → length (f n) ≡ n
+pub made_length : {A : Type 0} (f : ℕ → List A) (g : ℕ → A) → f 0 ≡ [] → ((n : ℕ) → f (suc n) ≡ f n ++ g n ∷ []) → (n : ℕ) → length (f n) ≡ n
 made_length f g none more zero = ap length none
 made_length f g none more (suc n) = ap length (more n) ∙ (length-append (f n) (g n ∷ []) ∙ omega (arith, made_length f g none more n))
 
-made_at : {A : Type 0} (f : ℕ → List A) (g : ℕ → A) (d : A) → f 0 ≡ [] → ((n : ℕ) → f (suc n) ≡ f n ++ g n ∷ []) → (n i : ℕ) → i < n → get_or (f n) i d ≡ g i
+pub made_at : {A : Type 0} (f : ℕ → List A) (g : ℕ → A) (d : A) → f 0 ≡ [] → ((n : ℕ) → f (suc n) ≡ f n ++ g n ∷ []) → (n i : ℕ) → i < n → get_or (f n) i d ≡ g i
 made_at f g d none more zero i l = absurd (omega arith)
 made_at f g d none more (suc n) i l =
     let long : length (f n) ≡ n = made_length f g none more n in

@@ -36,7 +36,7 @@ pub came_rows : Known → (setup : Setup) (threads objects : ℕ) (w : World) (n
 came_rows known setup threads objects w n i = known.rows setup threads objects w (plain_run setup n (start threads objects w)) (known.arises setup threads objects w n) i
 
 -- each outcome that came was supplied
-came_supplied : Known → (setup : Setup) (threads objects : ℕ) (w : World) (n i k : ℕ) (o : Given)
+pub came_supplied : Known → (setup : Setup) (threads objects : ℕ) (w : World) (n i k : ℕ) (o : Given)
     → slice_get (thread_of (plain_run setup n (start threads objects w)) i).came k ≡ Some o → slice_get (setup.supply.outcomes i) k ≡ Some o
 came_supplied known setup threads objects w n i k o h =
     let to = known.leads setup (start threads objects w) n in
@@ -80,7 +80,7 @@ pub diverged_outside : (setup : Setup) (s : State) (i : ℕ) → diverging setup
 unfolding diverging
 diverged_outside setup s i h = if_diverging_outside setup s _ i h
 
-none_behind : (xs : List Given) (o : Given) → slice_get xs (length xs) ≡ Some o → ⊥
+pub none_behind : (xs : List Given) (o : Given) → slice_get xs (length xs) ≡ Some o → ⊥
 none_behind xs o h = omega (arith, slice_get_within xs (length xs) o h)
 
 -- and under the outcomes that came it is there at the end: no more came for it

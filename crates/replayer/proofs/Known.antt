@@ -2,10 +2,13 @@
 use Rattle.std.proofs.Common.{◌≡◌, ℕ, List}
 use Rattle.call_machine.specs.Covered.{HasSpelling, NoneDiverges, RecordsCame}
 use Rattle.input_log.specs.Faults.{Fault, HasFault}
+use Rattle.input_log.specs.Fronts.{IsFront}
 use Rattle.input_log.specs.Grammar.{Spells}
+use Rattle.input_log.specs.Writing.{IsSound, Writing, log_of}
 use Rattle.input_log.specs.declared.log.LogText.{LogText}
-use Rattle.lock_model.specs.Came.{CameIsRows, OutsideStays, OverUnderCame, PlainArises, PlainCount, PlainLeads, SameUnderCame}
-use Rattle.lock_model.specs.Laws.{EndedOrTurn, PrefixLawOfCame, RunFollows, UniqueEnd}
+use Rattle.lock_model.specs.Came.{CameIsRows, OutsideStays, OverUnderCame, PlainArises, PlainCount, PlainLeads, RepliesAreRows, SameUnderCame}
+use Rattle.lock_model.specs.Laws.{EndedOrTurn, HolderHasTurn, PrefixLawOfCame, PrefixLawOfFollowed, RunFollows, SomeEnd, UniqueEnd}
+use Rattle.lock_model.specs.ScriptPrograms.{ScriptsEnd}
 
 pub record Known : Type 0 where
   -- plain runs, and those under the outcomes that came
@@ -26,4 +29,16 @@ pub record Known : Type 0 where
   pub straight : NoneDiverges
   -- what a text spells
   pub one_value : (text : List ℕ) (a b : LogText) → Spells text a → Spells text b → a ≡ b
+  pub one_fault : (text : List ℕ) (a b : Fault) → HasFault text a → HasFault text b → a ≡ b
   pub no_fault : (text : List ℕ) (log : LogText) (fault : Fault) → Spells text log → HasFault text fault → ⊥
+
+-- and those that runs in threads rest on besides
+pub record KnownOfThreads : Type 0 where
+  pub plain : Known
+  pub followed : PrefixLawOfFollowed
+  pub replies : RepliesAreRows
+  pub some_end : SomeEnd
+  pub scripts_end : ScriptsEnd
+  pub holder : HolderHasTurn
+  -- what a sink took
+  pub written : (w : Writing) → IsSound w → IsFront w.taken (log_of w)

@@ -3,5 +3,12 @@ pub mod CameAgain
 pub mod FirstUnused
 pub mod Fronts
 pub mod Known
+pub mod OneFront
 pub mod OwnLog
 pub mod Tellings
+pub mod Following
+pub mod Diverged
+pub mod Retelling
+pub mod Supplied
+pub mod Recorded
+pub mod Running

@@ -1,21 +1,17 @@
 -- The replay of the log that a plain run wrote.
-use Rattle.std.proofs.Common.{◌≡◌, ℕ, ◌+◌, ◌<◌, ◌≤◌, Bool, true, List, [], length, map, get_or, Option, Some, None, Result, Ok, Err, refl, sym, ap, ◌∙◌, subst, ⊎_elim, inl, inr, arith}
-use Rattle.std.proofs.lemmas.Bool.{cases_lt, eq-eqb, false≢true}
+use Rattle.std.proofs.Common.{◌≡◌, ℕ, ◌+◌, ◌<◌, ◌≤◌, Bool, true, List, [], length, map, get_or, Option, Some, None, Result, refl, sym, ap, ◌∙◌, subst, ⊎_elim, inl, arith}
+use Rattle.std.proofs.lemmas.Bool.{cases_lt}
 use Rattle.std.proofs.lemmas.List.{get_or_past}
 use Rattle.call_machine.specs.History.{transcripts_of}
-use Rattle.call_machine.specs.Plain.{IsPlainRun, are_threads, has_ended, log_of, plain_of, stop_by, stop_of, stuck_in}
+use Rattle.call_machine.specs.Plain.{are_threads, has_ended, log_of, plain_of, stop_by, stop_of, stuck_in}
 use Rattle.logged_machine.specs.Starting.{are_settings}
 use Rattle.call_machine.specs.Logs.{plain_records}
 use Rattle.call_machine.specs.Setup.{Inputs, first_state, script_of, setup_of}
 use Rattle.call_machine.specs.Diverging.{diverging}
 use Rattle.logged_machine.specs.declared.stop.Stop.TheVariants as stop
 use Rattle.call_machine.specs.declared.plain.Plain.{Plain}
-use Rattle.input_log.specs.Faults.{bad_magic, bad_record, bad_version, torn}
 use Rattle.input_log.specs.Format.{text_of}
-use Rattle.input_log.specs.Fronts.{IsFront}
 use Rattle.input_log.specs.Grammar.{IsLog, Spells}
-use Rattle.input_log.specs.declared.fault.LogFault.{LogFault}
-use Rattle.input_log.specs.declared.fault.LogFault.TheVariants as log_fault
 use Rattle.input_log.specs.declared.log.LogText.{LogText}
 use Rattle.lock_model.specs.History.{IsPrefixOf}
 use Rattle.lock_model.specs.Laws.{Begins}
@@ -31,60 +27,16 @@ use Rattle.lock_model.specs.State.Phase.{Outside}
 use Rattle.lock_model.specs.Transcripts.{transcript}
 use Rattle.logical_clocks.specs.TurnOrder.{turn_holder}
 use Rattle.posix_terms.specs.declared.limits.TheConstants.Limits as limit
-use Rattle.thread_scripts.specs.declared.line.Line.{Line}
 use Rattle.lock_model.specs.Came.{under_came}
 use Rattle.replayer.specs.Outcomes.{first_unused, outcomes_by}
 use Rattle.replayer.specs.OwnLog.{AreBeginnings, OwnLogLaw, Retells}
-use Rattle.replayer.specs.Replay.{IsReplay, Replays, Tells, ended, inputs_of}
+use Rattle.replayer.specs.Replay.{Replays, Tells, ended, inputs_of}
 use Rattle.replayer.specs.declared.fault.ReplayFault.{ReplayFault}
-use Rattle.replayer.specs.declared.fault.ReplayFault.TheVariants as replay_fault
 use Rattle.replayer.specs.declared.replayed.Replayed.{Replayed}
 use Rattle.replayer.proofs.ByThread.{came_counted, none_unused, number_counted, outcomes_at, outcomes_length, same_transcript, transcripts_at, transcripts_length}
 use Rattle.replayer.proofs.Known.{Known}
+use Rattle.replayer.proofs.OneFront.{IsToldBy, told_or_memory}
 use Rattle.replayer.proofs.CameAgain.{came_past, came_rows, outside_turn, over_at, plain_count, stays_outside, diverged_outside}
-
--- ## The log at the front of its spelling
-
--- is that log
-front_is : Known → (text : List ℕ) (log found : LogText) → Spells text log → IsFront text found → found ≡ log
-front_is known text log found is (inl whole) = known.one_value text found log whole is
-front_is known text log found is (inr tear) = absurd (known.no_fault text log (torn tear.place tear.count) is tear.fault)
-
--- and it has no fault
-no_fault : Known → (text : List ℕ) (scripts : List (List Line)) (log : LogText) (fault : LogFault) → Spells text log → Replays text scripts (Err (replay_fault.Log fault)) → ⊥
-no_fault known text scripts log log_fault.Memory is h = h
-no_fault known text scripts log log_fault.BadMagic is h = known.no_fault text log bad_magic is h
-no_fault known text scripts log log_fault.BadVersion is h = known.no_fault text log bad_version is h
-no_fault known text scripts log (log_fault.BadRecord place) is h = known.no_fault text log (bad_record place) is h
-no_fault known text scripts log (log_fault.Torn place count) is h = known.no_fault text log (torn place count) is h.0
-
--- with as many scripts as it has threads
-no_other : Known → (text : List ℕ) (scripts : List (List Line)) (log : LogText) → Spells text log → log.header.threads ≡ length scripts → Replays text scripts (Err replay_fault.Threads) → ⊥
-no_other known text scripts log is threads h =
-    let found : h.log ≡ log = front_is known text log h.log is h.front in
-    let same : h.log.header.threads ≡ length scripts = ap (λ (l : LogText). l.header.threads) found ∙ threads in
-    false≢true (sym h.other ∙ eq-eqb h.log.header.threads (length scripts) same)
-
--- what a replay of a log gives: the plain run by that log, and what is told of it
-record IsRunBy (log : LogText) (scripts : List (List Line)) (result : Result Replayed ReplayFault) : Type 0 where
-  pub plain : Plain
-  pub run : IsPlainRun (inputs_of log scripts) plain
-  pub tells : Tells log plain plain.stop result
-
-by_log : Known → (text : List ℕ) (scripts : List (List Line)) (log : LogText) (result : Result Replayed ReplayFault) → Spells text log → IsReplay text scripts result → IsRunBy log scripts result
-by_log known text scripts log result is h =
-    subst (λ (l : LogText). IsRunBy l scripts result) (front_is known text log h.log is h.front) (record { plain = h.plain; run = h.run; tells = h.tells })
-
--- or want of memory
-told_or_memory : Known → (text : List ℕ) (scripts : List (List Line)) (log : LogText) (result : Result Replayed ReplayFault) (Q : Result Replayed ReplayFault → Type 0)
-    → Spells text log → log.header.threads ≡ length scripts → Q (Err replay_fault.Memory) → (IsRunBy log scripts result → Q result) → Replays text scripts result → Q result
-told_or_memory known text scripts log (Err replay_fault.Memory) Q is threads memory told h = memory
-told_or_memory known text scripts log (Err (replay_fault.Log fault)) Q is threads memory told h = absurd (no_fault known text scripts log fault is h)
-told_or_memory known text scripts log (Err replay_fault.Threads) Q is threads memory told h = absurd (no_other known text scripts log is threads h)
-told_or_memory known text scripts log (Ok replayed) Q is threads memory told h = told (by_log known text scripts log (Ok replayed) is h)
-told_or_memory known text scripts log (Err (replay_fault.EndOfLog i t)) Q is threads memory told h = told (by_log known text scripts log (Err (replay_fault.EndOfLog i t)) is h)
-told_or_memory known text scripts log (Err (replay_fault.Diverged i n t)) Q is threads memory told h = told (by_log known text scripts log (Err (replay_fault.Diverged i n t)) is h)
-told_or_memory known text scripts log (Err (replay_fault.ClockFull t)) Q is threads memory told h = told (by_log known text scripts log (Err (replay_fault.ClockFull t)) is h)
 
 -- ## The run by the log
 
@@ -124,7 +76,7 @@ stuck_told log plain other (Outside job) i j n result begin e = subst (Retells p
 stuck_told log plain other p i j n result begin e = subst (Retells plain (Some (stop.Diverged i n))) (sym e) begin
 
 -- what each thread saw where the rows of one state begin those of another
-beginnings : (n : ℕ) (s last : State) → length s.threads ≡ n → length last.threads ≡ n → Begins s last
+pub beginnings : (n : ℕ) (s last : State) → length s.threads ≡ n → length last.threads ≡ n → Begins s last
     → AreBeginnings (transcripts_of (length s.threads) (map shown s.rows)) (transcripts_of (length last.threads) (map shown last.rows))
 beginnings n s last count more begins =
     record {
@@ -163,7 +115,7 @@ record IsRunUnder (input : Inputs) (log : LogText) (s : State) (result : Result 
   pub tells : Tells log (plain_of (inputs_of log input.scripts) count last) (stop_by last (turn_holder (live_clocks last))) result
 
 run_under : Known → (input : Inputs) (n : ℕ) (ends : List Bool) (result : Result Replayed ReplayFault)
-    → IsRunBy (log_of input n ends) input.scripts result → IsRunUnder input (log_of input n ends) (plain_run (setup_of input) n (first_state input)) result
+    → IsToldBy (log_of input n ends) input.scripts result → IsRunUnder input (log_of input n ends) (plain_run (setup_of input) n (first_state input)) result
 run_under known input n ends result h =
     let run = h.run in
     let log = log_of input n ends in
@@ -244,7 +196,7 @@ own_log_at known input n result threads settings last reached over h =
     let log = log_of input n ends in
     let is : IsLog log = known.spelled input n ends threads settings in
     let spelled : Spells (text_of log) log = record { range = is.range; each_good = is.each_good; spelled = refl } in
-    told_or_memory known (text_of log) input.scripts log result (λ r. Retells (plain_of input n last) (stop_of last (diverging (setup_of input) last)) r) spelled refl tt
+    told_or_memory known (text_of log) input.scripts log result (λ r. Retells (plain_of input n last) (stop_of last (diverging (setup_of input) last)) r) (inl spelled) refl tt
     (λ run.
     let under = run_under known input n ends result run in
     let at_end = plain_run (setup_of input) n (first_state input) in

@@ -1,3 +1,4 @@
 pub mod Outcomes
 pub mod OwnLog
 pub mod Replay
+pub mod Threads

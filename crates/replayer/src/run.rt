@@ -6,7 +6,7 @@ ghost use Rattle.replayer.specs.Replay.{IsRunOf, Replays, Tells};
 use crate::fault::ReplayFault;
 use crate::outcomes::outcomes_by;
 use crate::replayed::Replayed;
-use crate::unused::first_unused;
+use crate::unused::unused_record;
 use call_machine::{Plain, PlainFault, Stop, plain_run};
 use input_log::{Header, LogText, decode_front};
 use posix_terms::Settings;
@@ -39,7 +39,7 @@ pub fn replay(alloc: Global, log: &[u8], scripts: Vec<Script>) -> Result<Replaye
 }
 
 // The settings that a log was written under.
-fn settings(header: Header) -> Settings
+pub fn settings(header: Header) -> Settings
     ensures { result ≡ settings_of header }
 {
     Settings {
@@ -67,12 +67,11 @@ fn told(log: &LogText, plain: Plain) -> Result<Replayed, ReplayFault>
         Some(Stop::Sink) => unreachable!(),
         Some(Stop::Strayed) => unreachable!(),
     }
-    let threads = usize::from(log.header.threads);
-    match first_unused(threads, log.records.as_slice(), plain.history.rows()) {
+    match unused_record(log, plain.history.rows()) {
         None => Ok(Replayed {
             transcripts,
             history: plain.history,
         }),
-        Some((thread, number)) => Err(ReplayFault::Diverged(thread, number as u32, transcripts)),
+        Some((thread, number)) => Err(ReplayFault::Diverged(thread, number, transcripts)),
     }
 }

@@ -1,17 +1,23 @@
 ghost use Rattle.std.specs.Prelude.{◌≡◌};
-ghost use Rattle.input_log.specs.Grammar.{number_of};
+ghost use Rattle.input_log.specs.Grammar.{IsLog, number_of};
 ghost use Rattle.replayer.specs.Outcomes.{came_for, first_unused, is_there};
 
-use input_log::Record;
+use input_log::{LogText, Record};
 use posix_terms::{HistoryRow, Outcome};
+
+// The least thread of a log with a record that was not used by these rows, and the number of its first.
+pub fn unused_record(log: &LogText, rows: &[HistoryRow]) -> Option<(usize, u32)>
+    requires log { IsLog log.now }
+    ensures { result ≡ first_unused log.now.header.threads log.now.records rows.now }
+{
+    let threads = usize::from(log.header.threads);
+    let (thread, number) = first_unused(threads, log.records.as_slice(), rows)?;
+    Some((thread, number as u32))
+}
 
 // Of the first threads, so many, the least that has more records than outcomes came for it, with the number of the
 // first of its records that was not used.
-pub fn first_unused(
-    threads: usize,
-    records: &[Record],
-    rows: &[HistoryRow],
-) -> Option<(usize, usize)>
+fn first_unused(threads: usize, records: &[Record], rows: &[HistoryRow]) -> Option<(usize, usize)>
     ensures { result ≡ first_unused threads records.now rows.now }
 {
     for thread in 0..threads {

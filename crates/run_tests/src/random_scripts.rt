@@ -8,12 +8,12 @@ pub struct Dice {
 }
 
 impl Dice {
-    pub fn new(seed: u64) -> Dice {
+    pub(crate) fn new(seed: u64) -> Dice {
         Dice { state: seed }
     }
 
     // The next number: the state goes up by the same each time, and its bits are mixed.
-    pub fn roll(&mut self) -> u64 {
+    pub(crate) fn roll(&mut self) -> u64 {
         self.state = self.state.wrapping_add(0x9e37_79b9_7f4a_7c15);
         let mixed = (self.state ^ (self.state >> 30)).wrapping_mul(0xbf58_476d_1ce4_e5b9);
         let mixed = (mixed ^ (mixed >> 27)).wrapping_mul(0x94d0_49bb_1331_11eb);
@@ -21,7 +21,7 @@ impl Dice {
     }
 
     // A number below another; 0 below 0.
-    pub fn below(&mut self, end: u64) -> u64 {
+    pub(crate) fn below(&mut self, end: u64) -> u64 {
         self.roll().checked_rem(end).unwrap_or(0)
     }
 
@@ -132,7 +132,7 @@ fn script_text(alloc: Global, dice: &mut Dice) -> Result<Vec<u8>, AllocError> {
 }
 
 // 1 to 4 scripts.
-pub fn script_texts(alloc: Global, dice: &mut Dice) -> Result<Vec<Vec<u8>>, AllocError> {
+pub(crate) fn script_texts(alloc: Global, dice: &mut Dice) -> Result<Vec<Vec<u8>>, AllocError> {
     let mut texts = Vec::new(alloc);
     for _ in 0..dice.below(4).saturating_add(1) {
         texts.push(script_text(alloc, dice)?)?;
@@ -156,7 +156,11 @@ fn value_for(dice: &mut Dice, request: &Request) -> u64 {
 }
 
 // An outcome that answers this request: one of three is a failure.
-pub fn made_up(alloc: Global, dice: &mut Dice, request: &Request) -> Result<Outcome, AllocError> {
+pub(crate) fn made_up(
+    alloc: Global,
+    dice: &mut Dice,
+    request: &Request,
+) -> Result<Outcome, AllocError> {
     if dice.below(3) == 0 {
         let place = dice.below(4) as usize;
         let error = FAILURES.get(place).copied().unwrap_or(Errno::EIO);

@@ -42,13 +42,13 @@ pub struct Host {
 }
 
 impl Host {
-    pub fn new() -> Host {
+    pub(crate) fn new() -> Host {
         Host { answered: [0; 9] }
     }
 
     // An outcome that answers what a call asks outside: of each kind of request every other one fails, and the failures
     // take turns.
-    pub fn answer(
+    pub(crate) fn answer(
         &mut self,
         alloc: Global,
         call: &Call,

@@ -7,12 +7,12 @@ pub struct Dice {
 }
 
 impl Dice {
-    pub fn new(state: u64) -> Dice {
+    pub(crate) fn new(state: u64) -> Dice {
         Dice { state }
     }
 
     // A number below another, of which the low bits of the state are no part; 0 below 0.
-    pub fn below(&mut self, end: u64) -> u64 {
+    pub(crate) fn below(&mut self, end: u64) -> u64 {
         self.state = self
             .state
             .wrapping_mul(6_364_136_223_846_793_005)
@@ -21,7 +21,7 @@ impl Dice {
     }
 
     // A patience that some calls come to the end of: 1 to 6.
-    pub fn patience(&mut self) -> u32 {
+    pub(crate) fn patience(&mut self) -> u32 {
         u32::try_from(self.below(6)).unwrap_or(0).saturating_add(1)
     }
 
@@ -325,7 +325,7 @@ fn add_lines(
 }
 
 // A script of some 30 lines behind its beginning, none of them about doors.
-pub fn script_text(alloc: Global, dice: &mut Dice) -> Result<Vec<u8>, AllocError> {
+pub(crate) fn script_text(alloc: Global, dice: &mut Dice) -> Result<Vec<u8>, AllocError> {
     let mut text = Vec::new(alloc);
     begin(alloc, &mut text, dice)?;
     add_lines(&mut text, dice, LINES, 30)?;
@@ -333,7 +333,7 @@ pub fn script_text(alloc: Global, dice: &mut Dice) -> Result<Vec<u8>, AllocError
 }
 
 // A script of 12 lines about doors behind its beginning.
-pub fn door_script_text(alloc: Global, dice: &mut Dice) -> Result<Vec<u8>, AllocError> {
+pub(crate) fn door_script_text(alloc: Global, dice: &mut Dice) -> Result<Vec<u8>, AllocError> {
     let mut text = Vec::new(alloc);
     begin_with_doors(alloc, &mut text, dice)?;
     add_lines(&mut text, dice, DOOR_LINES, 12)?;

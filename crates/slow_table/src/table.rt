@@ -53,7 +53,7 @@ pub struct SlowTable {
 
 impl SlowTable {
     /// A table with no names and nothing open.
-    pub fn new(alloc: Global) -> Result<SlowTable, AllocError> {
+    pub(crate) fn new(alloc: Global) -> Result<SlowTable, AllocError> {
         let mut descriptors = Vec::new(alloc);
         for _ in 0..Limits::DESCRIPTORS {
             descriptors.push(None)?;
@@ -70,7 +70,7 @@ impl SlowTable {
     /// Makes a turn of a call that was blocked for so many turns before, with what came from outside for it. At the
     /// turn that is the last of its patience it does not wait any more. There is no answer where it goes outside and no
     /// outcome came that fits, and where one came but it does not go outside.
-    pub fn make(
+    pub(crate) fn make(
         &mut self,
         alloc: Global,
         call: &Call,

@@ -131,7 +131,7 @@ fn plan_of(told: &Told) -> Plan {
 }
 
 // An outcome outside: a success with this value, or a failure.
-pub fn outcome(alloc: Global, came: Result<u64, Errno>) -> Outcome {
+pub(crate) fn outcome(alloc: Global, came: Result<u64, Errno>) -> Outcome {
     match came {
         Ok(value) => Outcome::Ok {
             value,

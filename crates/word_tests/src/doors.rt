@@ -32,7 +32,7 @@ fn reach<O: Outside>(
 }
 
 /// A request whose call says nothing more.
-pub fn plain(kind: OutKind, asked: u64) -> Request {
+pub(crate) fn plain(kind: OutKind, asked: u64) -> Request {
     Request {
         kind,
         asked,
@@ -59,7 +59,7 @@ fn succeeded(came: &Result<Outcome, DoorStop>, wanted: u64, data: &[u8]) -> bool
 }
 
 /// Whether what came is this.
-pub fn is_so(came: &Result<Outcome, DoorStop>, wanted: &Came) -> bool {
+pub(crate) fn is_so(came: &Result<Outcome, DoorStop>, wanted: &Came) -> bool {
     match wanted {
         Came::Success(value, bytes) => succeeded(came, *value, bytes),
         Came::Failure(error) => matches!(came, Ok(Outcome::Fail(found)) if found == error),

@@ -3,7 +3,7 @@ use std::alloc::{AllocError, Global};
 use std::test::Fail;
 
 /// A success with this value and these bytes.
-pub fn success(alloc: Global, value: u64, bytes: &[u8]) -> Result<Outcome, AllocError> {
+pub(crate) fn success(alloc: Global, value: u64, bytes: &[u8]) -> Result<Outcome, AllocError> {
     Ok(Outcome::Ok {
         value,
         bytes: Bytes::from_slice(alloc, bytes)?,

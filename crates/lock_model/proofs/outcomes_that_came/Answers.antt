@@ -1,4 +1,5 @@
 use Rattle.lock_model.proofs.CameRows.{came_is_rows, room_outside}
+use Rattle.lock_model.proofs.RepliesRows.{replies_are_rows}
 use Rattle.lock_model.proofs.CameOutside.{came_outside}
 use Rattle.lock_model.proofs.PlainCame.{came_grows, outside_stays, over_under_came, plain_arises, plain_count, plain_leads, same_under_came}
 use Rattle.lock_model.proofs.outcomes_that_came.Goals as goal
@@ -29,6 +30,9 @@ returns-clause-room c = room_outside
 
 pub returns-clause-rows : goal.returns-clause-rows
 returns-clause-rows c = came_is_rows
+
+pub returns-clause-replies : goal.returns-clause-replies
+returns-clause-replies c = replies_are_rows
 
 pub returns-clause-outside : goal.returns-clause-outside
 returns-clause-outside c = came_outside

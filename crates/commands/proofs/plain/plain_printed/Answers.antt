@@ -1,8 +1,8 @@
 use Rattle.std.proofs.Common.{◌≡◌, ℕ, List, Option, length, map, rules, arith, ap, subst, Ok, Err}
 use Rattle.std.specs.Prelude.{IfOk}
 use Rattle.std.proofs.lemmas.Result.{IfOk-weaker}
-use Rattle.commands.specs.Commands.{PlainPrints, ReadPrints}
-use Rattle.commands.specs.FirstFaults.{IsUnread}
+use Rattle.commands.specs.Plains.{PlainPrints, ReadPrints}
+use Rattle.command_texts.specs.FirstFaults.{IsUnread}
 use Rattle.commands.proofs.Scripts.{Fits, fits_as, read_prints, texts_fit, view_fits}
 use Rattle.commands.proofs.plain.plain_printed.Goals as goal
 

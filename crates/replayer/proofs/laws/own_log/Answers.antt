@@ -22,5 +22,6 @@ returns c =
       spelled = logs.spelled;
       straight = logs.straight;
       one_value = c.one_value.ensures;
+      one_fault = c.one_fault.ensures.once;
       no_fault = c.one_fault.ensures.none;
     })

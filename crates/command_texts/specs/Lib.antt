@@ -1,0 +1,5 @@
+pub mod Transcripts
+pub mod Printing
+pub mod Reading
+pub mod FirstFaults
+pub mod LogTexts

@@ -1,0 +1,75 @@
+-- What is told of the replay of a log with scripts.
+use Rattle.std.specs.Prelude.{◌≡◌, ◌⊎◌, ℕ, List, length, map, Option, Some, None, Result, Ok, Err, codes}
+use Rattle.std.specs.Fmt.{decimal}
+use Rattle.logged_machine.specs.declared.stop.Stop.{Stop}
+use Rattle.logged_machine.specs.declared.stop.Stop.TheVariants as stops
+use Rattle.input_log.specs.Faults.{bad_magic, bad_record, bad_version, torn}
+use Rattle.input_log.specs.Fronts.{IsFront}
+use Rattle.input_log.specs.declared.fault.LogFault.{LogFault}
+use Rattle.input_log.specs.declared.fault.LogFault.TheVariants as log_fault
+use Rattle.input_log.specs.declared.log.LogText.{LogText}
+use Rattle.replayer.specs.Replay.{Replays}
+use Rattle.replayer.specs.Threads.{AtEnd, IsNoReplay, IsReplayedBy}
+use Rattle.replayer.specs.declared.fault.ReplayFault.{ReplayFault}
+use Rattle.replayer.specs.declared.fault.ReplayFault.TheVariants as replay_fault
+use Rattle.replayer.specs.declared.replayed.Replayed.{Replayed}
+use Rattle.thread_scripts.specs.Faults.{Fault}
+use Rattle.thread_scripts.specs.Meaning.{start_of}
+use Rattle.thread_scripts.specs.declared.actor.ScriptState.{ScriptState}
+use Rattle.thread_scripts.specs.declared.line.Line.{Line}
+use Rattle.command_texts.specs.LogTexts.{fault_line}
+use Rattle.command_texts.specs.Printing.{fault_printed, no_memory, script_fault}
+use Rattle.command_texts.specs.Transcripts.{◌+++◌}
+use Rattle.command_texts.specs.declared.printed.Printed.{Printed}
+use Rattle.commands.specs.declared.told.Told.{Told}
+use Rattle.commands.specs.declared.told.Told.TheVariants as tells
+
+-- a log of so many threads was given with so many scripts
+abbrev pub log_has : ℕ → ℕ → Printed
+log_has threads scripts = fault_printed 3 (codes "log has " +++ decimal threads +++ codes " threads, " +++ decimal scripts +++ codes " scripts given\n")
+
+-- what is printed for a text that is no log
+abbrev pub no_log_printed : LogFault → Printed
+no_log_printed log_fault.BadMagic = fault_printed 3 (fault_line bad_magic)
+no_log_printed log_fault.BadVersion = fault_printed 3 (fault_line bad_version)
+no_log_printed (log_fault.BadRecord place) = fault_printed 3 (fault_line (bad_record place))
+no_log_printed (log_fault.Torn place records) = fault_printed 3 (fault_line (torn place records))
+no_log_printed log_fault.Memory = no_memory
+
+-- what is printed where the log has another number of threads than there are scripts
+abbrev pub ThreadsPrint : List ℕ → ℕ → Printed → Type 0
+ThreadsPrint text count printed = (log : LogText) × IsFront text log × (printed ≡ log_has log.header.threads count)
+
+-- What is told of a replay of a text with so many scripts that did not come to its end: a run that stopped, or what is printed where there was none
+abbrev pub FaultTells : List ℕ → ℕ → ReplayFault → Told → Type 0
+FaultTells text count (replay_fault.EndOfLog thread transcripts) told = told ≡ tells.Run transcripts (Some (stops.EndOfLog thread))
+FaultTells text count (replay_fault.Diverged thread number transcripts) told = told ≡ tells.Run transcripts (Some (stops.Diverged thread number))
+FaultTells text count (replay_fault.ClockFull transcripts) told = told ≡ tells.Run transcripts (Some stops.ClockFull)
+FaultTells text count (replay_fault.Log fault) told = told ≡ tells.Fault (no_log_printed fault)
+FaultTells text count replay_fault.Threads told = (printed : Printed) × ThreadsPrint text count printed × (told ≡ tells.Fault printed)
+FaultTells text count replay_fault.Memory told = told ≡ tells.Fault no_memory
+
+abbrev pub AnswerTells : List ℕ → ℕ → Result Replayed ReplayFault → Told → Type 0
+AnswerTells text count (Ok replayed) told = told ≡ tells.Run replayed.transcripts None
+AnswerTells text count (Err fault) told = FaultTells text count fault told
+
+-- the replay of a text with these scripts is told
+abbrev pub RunTells : List ℕ → List (List Line) → Told → Type 0
+RunTells text scripts told = (answer : Result Replayed ReplayFault) × Replays text scripts answer × AnswerTells text (length scripts) answer told
+
+-- a replay by threads of a text with these scripts: what stands at its end, and why it stopped
+pub record IsByThreads (text : List ℕ) (scripts : List (List Line)) (last : AtEnd ScriptState) (stop : Option Stop) : Type 0 where
+  pub taken : List ℕ
+  pub failures : ℕ
+  pub run : IsReplayedBy (λ s. s) text (map start_of scripts) last taken failures stop
+
+-- the same is told of a replay by threads
+abbrev pub ThreadsTell : List ℕ → List (List Line) → Told → Type 0
+ThreadsTell text scripts told =
+    ((last : AtEnd ScriptState) × (stop : Option Stop) × IsByThreads text scripts last stop × (told ≡ tells.Run last.transcripts stop))
+    ⊎ ((fault : ReplayFault) × IsNoReplay text (length scripts) fault × FaultTells text (length scripts) fault told)
+
+-- what is told of scripts, by a replay of one kind or the other, or of the first fault among them
+abbrev pub ScriptsTell : (List ℕ → List (List Line) → Told → Type 0) → List ℕ → Result (List (List Line)) (ℕ × Fault) → Told → Type 0
+ScriptsTell Tells text (Ok scripts) told = Tells text scripts told
+ScriptsTell Tells text (Err (i, fault)) told = told ≡ tells.Fault (script_fault i fault)

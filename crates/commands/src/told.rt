@@ -1,0 +1,144 @@
+ghost use Rattle.std.specs.Prelude.{◌≡◌, IfOk};
+ghost use Rattle.input_log.specs.declared.fault.LogFault.TheVariants as log_fault;
+ghost use Rattle.command_texts.specs.Reading.{scripts_from};
+ghost use Rattle.commands.specs.Tells.{FaultTells, RunTells, ScriptsTell, ThreadsPrint, ThreadsTell, log_has, no_log_printed};
+
+use crate::record::actors;
+use call_machine::Stop;
+use command_texts::{
+    FirstFault, Printed, bad_line, bad_magic, bad_record, bad_version, fault, scripts, too_long,
+    torn_line,
+};
+use input_log::{LogFault, decode_front};
+use posix_terms::{Bytes, Transcripts};
+use replayer::{ReplayFault, replay, replay_threads};
+use std::alloc::{AllocError, Global};
+use std::sync::Wait;
+use std::thread::Threads;
+use thread_scripts::Script;
+
+// What is told of a replay.
+#[derive(Debug, Drop)]
+pub enum Told {
+    // What each thread saw as far as the run came, and why it stopped, if it did.
+    Run(Transcripts, Option<Stop>),
+    // There was no run: what is printed in its place.
+    Fault(Printed),
+}
+
+// What is told of the replay of a log with the scripts of these texts.
+pub fn told_of(alloc: Global, log: &Bytes, texts: &[Bytes]) -> Result<Told, AllocError>
+    ensures { IfOk result (ScriptsTell RunTells log.now (scripts_from 0 texts.now)) }
+{
+    match scripts(alloc, texts) {
+        Ok(scripts) => run_told(alloc, log.as_slice(), scripts),
+        Err(FirstFault::BadLine(script, line)) => Ok(Told::Fault(bad_line(alloc, script, line)?)),
+        Err(FirstFault::TooLong(script)) => Ok(Told::Fault(too_long(alloc, script)?)),
+        Err(FirstFault::Memory) => Err(AllocError),
+    }
+}
+
+// The same, of a replay by threads.
+pub fn threads_told_of<T: Threads + Wait + Sync>(
+    rt: &T,
+    alloc: Global,
+    log: &Bytes,
+    texts: &[Bytes],
+) -> Result<Told, AllocError>
+    ensures { IfOk result (ScriptsTell ThreadsTell log.now (scripts_from 0 texts.now)) }
+{
+    match scripts(alloc, texts) {
+        Ok(scripts) => threads_told(rt, alloc, log.as_slice(), scripts),
+        Err(FirstFault::BadLine(script, line)) => Ok(Told::Fault(bad_line(alloc, script, line)?)),
+        Err(FirstFault::TooLong(script)) => Ok(Told::Fault(too_long(alloc, script)?)),
+        Err(FirstFault::Memory) => Err(AllocError),
+    }
+}
+
+// What is told of the replay of a log with these scripts.
+fn run_told(alloc: Global, log: &[u8], scripts: Vec<Script>) -> Result<Told, AllocError>
+    ensures { IfOk result (RunTells log.now scripts.items) }
+{
+    let count = scripts.len();
+    match replay(alloc, log, scripts) {
+        Ok(replayed) => Ok(Told::Run(replayed.transcripts, None)),
+        Err(fault) => fault_told(alloc, log, count, fault),
+    }
+}
+
+// What is told of the replay of a log with these scripts, each in a thread of its own.
+fn threads_told<T: Threads + Wait + Sync>(
+    rt: &T,
+    alloc: Global,
+    log: &[u8],
+    scripts: Vec<Script>,
+) -> Result<Told, AllocError>
+    ensures { IfOk result (ThreadsTell log.now scripts.items) }
+{
+    let count = scripts.len();
+    let actors = actors(alloc, scripts)?;
+    match replay_threads(rt, alloc, log, actors) {
+        Ok(ended) => Ok(Told::Run(ended.transcripts, ended.stop)),
+        Err(refused) => fault_told(alloc, log, count, refused.fault),
+    }
+}
+
+// What is told of a replay with so many scripts that did not come to its end, or was none.
+fn fault_told(
+    alloc: Global,
+    log: &[u8],
+    scripts: usize,
+    fault: ReplayFault,
+) -> Result<Told, AllocError>
+    ensures { IfOk result (FaultTells log.now scripts fault) }
+{
+    match fault {
+        ReplayFault::EndOfLog(thread, transcripts) => {
+            Ok(Told::Run(transcripts, Some(Stop::EndOfLog(thread))))
+        }
+        ReplayFault::Diverged(thread, number, transcripts) => {
+            Ok(Told::Run(transcripts, Some(Stop::Diverged(thread, number))))
+        }
+        ReplayFault::ClockFull(transcripts) => Ok(Told::Run(transcripts, Some(Stop::ClockFull))),
+        ReplayFault::Log(fault) => Ok(Told::Fault(no_log(alloc, fault)?)),
+        ReplayFault::Threads => Ok(Told::Fault(other_threads(alloc, log, scripts)?)),
+        ReplayFault::Memory => Err(AllocError),
+    }
+}
+
+// The line of a log's fault.
+fn no_log(alloc: Global, fault: LogFault) -> Result<Printed, AllocError>
+    ensures { IfOk result (λ printed. printed ≡ no_log_printed fault) }
+{
+    match fault {
+        LogFault::BadMagic => bad_magic(alloc),
+        LogFault::BadVersion => bad_version(alloc),
+        LogFault::BadRecord(place) => bad_record(alloc, place),
+        LogFault::Torn(place, records) => torn(alloc, place, records),
+        LogFault::Memory => Err(AllocError),
+    }
+}
+
+fn torn(alloc: Global, place: usize, records: usize) -> Result<Printed, AllocError>
+    ensures { IfOk result (λ printed. printed ≡ no_log_printed (log_fault.Torn place records)) }
+{
+    let line = torn_line(alloc, place, records)?;
+    fault(alloc, 3, line.as_str())
+}
+
+// The log is of another number of threads than there are scripts: that number is read again.
+fn other_threads(alloc: Global, log: &[u8], scripts: usize) -> Result<Printed, AllocError>
+    ensures { IfOk result (ThreadsPrint log.now scripts) }
+{
+    match decode_front(alloc, log) {
+        Ok(log) => threads_line(alloc, usize::from(log.header.threads), scripts),
+        Err(_) => Err(AllocError),
+    }
+}
+
+fn threads_line(alloc: Global, threads: usize, scripts: usize) -> Result<Printed, AllocError>
+    ensures { IfOk result (λ printed. printed ≡ log_has threads scripts) }
+{
+    let line = format!(in alloc; "log has {threads} threads, {scripts} scripts given\n")?;
+    fault(alloc, 3, line.as_str())
+}

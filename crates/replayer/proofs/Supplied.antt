@@ -1,0 +1,272 @@
+-- What supplies a run of real threads: the scripts of its actors, and the log that it wrote or was made by.
+use Rattle.std.proofs.Common.{◌≡◌, ℕ, zero, suc, ◌+◌, ◌<◌, ◌≤◌, Bool, true, false, ◌&&◌, List, [], ◌∷◌, ◌++◌, length, map, take, get_or, slice_get, slice_index_or, Option, Some, None, is_none, if◌then◌else◌, ◌==◌, refl, sym, ap, ap₂, ◌∙◌, subst, ⊎_elim, inl, inr, arith}
+use Rattle.std.proofs.lemmas.Bool.{false≢true, and_parts, cases_lt}
+use Rattle.std.proofs.lemmas.List.{append-nil, append_assoc, get_or_past}
+use Rattle.std.proofs.lemmas.Option.{none-some, same_Some}
+use Rattle.call_machine.specs.History.{Past}
+use Rattle.host_doors.specs.OutcomeList.{IsListed}
+use Rattle.host_doors.specs.declared.log_doors.LogDoors.{LogDoors}
+use Rattle.input_log.specs.Format.{end_text, header_text, records_text, text_of}
+use Rattle.input_log.specs.Fronts.{IsFront}
+use Rattle.input_log.specs.Outcomes as records
+use Rattle.input_log.specs.Writing.{HasTaken, IsSound, Writing, log_of}
+use Rattle.input_log.specs.declared.log.Header.{Header}
+use Rattle.input_log.specs.declared.log.LogText.{LogText}
+use Rattle.input_log.specs.declared.log.Record.{Record}
+use Rattle.lock_machine.specs.Requests.{kind_asked}
+use Rattle.lock_machine.specs.Threads.{Thread}
+use Rattle.lock_machine.specs.Views.{no_thread}
+use Rattle.lock_machine.specs.Whole.{settings_in, thread_at}
+use Rattle.logged_machine.specs.Covered.{IsCovered, kind_before, kinds_in}
+use Rattle.logged_machine.specs.Finishing.{EndsLog, Finishes, FinishesBy, have_ended}
+use Rattle.logged_machine.specs.History.{outcome_before, outcomes_in}
+use Rattle.logged_machine.specs.Kept.{IsKept, header_of, is_sink}
+use Rattle.logged_machine.specs.Shown.{Shown}
+use Rattle.logged_machine.specs.declared.stop.Stop.{Stop}
+use Rattle.posix_terms.specs.Outcomes.{fits, is_kind}
+use Rattle.posix_terms.specs.declared.outcome.Given.{Given}
+use Rattle.posix_terms.specs.declared.outcome.OutKind.{OutKind}
+use Rattle.posix_terms.specs.declared.outcome.OutKind.TheVariants as kind
+use Rattle.posix_terms.specs.declared.outcome.Outcome.{Outcome}
+use Rattle.posix_terms.specs.declared.request.Request.{Request}
+use Rattle.posix_terms.specs.declared.transcript.HistoryRow.{HistoryRow}
+use Rattle.recorder.specs.Each.{AreLedFrom, ArePlayedFrom}
+use Rattle.thread_scripts.specs.Meaning.{start_of}
+use Rattle.thread_scripts.specs.declared.actor.ScriptState.{ScriptState}
+use Rattle.thread_scripts.specs.declared.line.Line.{Line}
+use Rattle.worker_notes.specs.Agrees.{before, brought, brought_by, brought_in, replies_in}
+use Rattle.worker_notes.specs.Leads.{Leads, LeadsTo}
+use Rattle.worker_notes.specs.Requests.{amount_asked, request_for, request_of_kind}
+use Rattle.worker_notes.specs.declared.own.Brought.{Brought}
+use Rattle.replayer.specs.Outcomes.{outcomes_by, settings_of}
+use Rattle.replayer.specs.Replay.{inputs_of}
+use Rattle.replayer.specs.Threads.{doors_by, doors_of, gives_logged}
+use Rattle.replayer.proofs.ByThread.{made_at, made_length, outcomes_at, outcomes_length}
+use Rattle.replayer.proofs.CameAgain.{came_past}
+use Rattle.replayer.proofs.Following.{AreSteps, IsSupplied, steps_played}
+use Rattle.replayer.proofs.Known.{KnownOfThreads}
+use Rattle.replayer.proofs.Retelling.{IsBack}
+
+-- ## Its steps
+
+asked_at : (ts : List Thread) (i : ℕ) → get_or (map (λ (t : Thread). t.asked) ts) i [] ≡ (let t : Thread = get_or ts i no_thread in t.asked)
+asked_at [] i = refl
+asked_at (t ∷ ts) zero = refl
+asked_at (t ∷ ts) (suc i) = asked_at ts i
+
+steps_supplied : {A : Type 0} (state : A → ScriptState) (ahead : Bool) (D : Type 0) (m : Shown D) (past : Past) (actors later : List A) (scripts : List (List Line)) (i : ℕ)
+    → past.rows ≡ m.whole.rows → past.asked ≡ map (λ (t : Thread). t.asked) m.whole.threads → map start_of scripts ≡ map state actors → ArePlayedFrom state ahead 0 past.rows past.asked actors later
+    → AreSteps (slice_index_or scripts i []) (let t = thread_at m.whole i in t.asked) (replies_in i m.whole.rows)
+steps_supplied state ahead D m past actors later scripts i rows asked meant played =
+    let steps = steps_played state ahead 0 i i past.rows past.asked actors later scripts (omega arith) meant played in
+    subst (λ xs. AreSteps (slice_index_or scripts i []) xs (replies_in i m.whole.rows)) (ap (λ xs. get_or xs i []) asked ∙ asked_at m.whole.threads i)
+    (subst (λ rs. AreSteps (slice_index_or scripts i []) (get_or past.asked i []) (replies_in i rs)) rows steps)
+
+-- past the last thread nothing came
+nothing_past : (D : Type 0) (m : Shown D) (kept : IsKept D m) (n i : ℕ) → length m.whole.threads ≡ n → n ≤ i → records.outcomes_of i m.log.records ≡ []
+nothing_past D m kept n i threads l = sym (kept.came i) ∙ came_past kept.end i (let count = kept.ends.1.count in omega (arith, count, threads, l))
+
+-- ## By the log that it wrote
+
+own_outcomes : (D : Type 0) (m : Shown D) (kept : IsKept D m) (n i : ℕ) → length m.whole.threads ≡ n → get_or (outcomes_by n m.log.records) i [] ≡ records.outcomes_of i m.log.records
+own_outcomes D m kept n i threads =
+    ⊎_elim
+    (λ (l : i < n). outcomes_at n i m.log.records l)
+    (λ (l : n ≤ i). get_or_past (outcomes_by n m.log.records) i [] (let long = outcomes_length n m.log.records in omega (arith, long, l)) ∙ sym (nothing_past D m kept n i threads l))
+    (cases_lt i n)
+
+-- what its sink took has this log at its front, which may have its end
+pub record TookLog (D : Type 0) (m : Shown D) (taken : List ℕ) : Type 0 where
+  pub log : LogText
+  pub front : IsFront taken log
+  pub header : log.header ≡ m.log.header
+  pub records : log.records ≡ m.log.records
+
+front_of : KnownOfThreads → (D : Type 0) (m : Shown D) (w : Writing) → IsSound w → w.header ≡ m.log.header → w.records ≡ m.log.records → TookLog D m w.taken
+front_of known D m w sound header same = record { log = log_of w; front = known.written w sound; header = header; records = same }
+
+ended_text : (header : Header) (rs : List Record) → text_of (record { header = header; records = rs; closed = false }) ++ end_text (length rs) ≡ text_of (record { header = header; records = rs; closed = true })
+ended_text header rs =
+    append_assoc (header_text header) (records_text rs ++ []) (end_text (length rs)) ∙ ap (λ (xs : List ℕ). header_text header ++ xs) (ap (λ (xs : List ℕ). xs ++ end_text (length rs)) (append-nil (records_text rs)))
+
+pub took_log : KnownOfThreads → (D : Type 0) (m : Shown D) (kept : IsKept D m) (taken : List ℕ) (failures : ℕ) (stopped : Option Stop) → Finishes m taken failures stopped → TookLog D m taken
+took_log known D m kept taken failures stopped h = by_end (is_none m.stop && have_ended m.whole.threads) refl h
+  where
+    unfailed : (o : Option Stop) → is_none o ≡ true → is_sink o ≡ false
+    unfailed None e = refl
+    unfailed (Some s) e = absurd (false≢true e)
+
+    sound_parts : m.log.failed ≡ false → (m.log.failures ≡ 0) × (m.log.taken ≡ text_of (log_of m.log))
+    sound_parts e = subst (λ b. HasTaken b m.log) e (let s = kept.sound in s.bytes)
+
+    by_case : m.log.failed ≡ false → EndsLog m.log taken failures stopped → TookLog D m taken
+    by_case failed (inl (none, whole, count)) =
+        let text = sound_parts failed in
+        let w : Writing = record m.log { taken = taken; closed = true; failed = false } in
+        let is : taken ≡ text_of (log_of w) =
+        whole ∙ (ap (λ xs. xs ++ end_text (length m.log.records)) (text.1 ∙ ap (λ b. text_of (record { header = m.log.header; records = m.log.records; closed = b })) kept.unclosed) ∙ ended_text m.log.header m.log.records) in
+        let log = (let s = kept.sound in s.log) in
+        front_of known D m w (record { log = record { range = log.range; each_good = log.each_good }; bytes = (text.0, is) }) refl refl
+    by_case failed (inr (sink, part, count)) =
+        let text = sound_parts failed in
+        let w : Writing = record m.log { taken = taken; failures = 1; failed = true } in
+        let log = (let s = kept.sound in s.log) in
+        front_of known D m w
+        (record {
+          log = record { range = log.range; each_good = log.each_good };
+          bytes = (refl, kept.unclosed, (end_text (length m.log.records), inr refl, (part.0, part.1, part.2 ∙ ap (λ (xs : List ℕ). xs ++ take part.0 (end_text (length m.log.records))) text.1)));
+        })
+        refl refl
+
+    by_end : (b : Bool) → is_none m.stop && have_ended m.whole.threads ≡ b → FinishesBy b m.log m.stop taken failures stopped → TookLog D m taken
+    by_end true e h = by_case (kept.failed ∙ unfailed m.stop (and_parts (is_none m.stop) (have_ended m.whole.threads) e).0) h
+    by_end false e h = subst (TookLog D m) (sym h.1) (front_of known D m m.log kept.sound refl refl)
+
+-- so this log supplies it
+pub supplied_by_own : {A : Type 0} (state : A → ScriptState) (ahead : Bool) (D : Type 0) (m : Shown D) (kept : IsKept D m) (log : LogText) (past : Past) (actors later : List A) (scripts : List (List Line))
+    → length m.whole.threads ≡ length scripts → log.header ≡ header_of m.whole → log.records ≡ m.log.records
+    → past.rows ≡ m.whole.rows → past.asked ≡ map (λ (t : Thread). t.asked) m.whole.threads → map start_of scripts ≡ map state actors → ArePlayedFrom state ahead 0 past.rows past.asked actors later
+    → IsSupplied D m (inputs_of log scripts)
+supplied_by_own state ahead D m kept log past actors later scripts threads header same rows asked meant played =
+    record {
+      threads = threads;
+      settings = sym (ap settings_of header);
+      steps = λ i. steps_supplied state ahead D m past actors later scripts i rows asked meant played;
+      outcomes = λ i n o at. subst (λ gs. slice_get gs n ≡ Some o) (sym (ap (λ rs. get_or (outcomes_by (length scripts) rs) i []) same ∙ own_outcomes D m kept (length scripts) i threads)) at;
+    }
+
+pub back_by_own : (D : Type 0) (m : Shown D) (kept : IsKept D m) (log : LogText) (scripts : List (List Line)) → length m.whole.threads ≡ length scripts → log.records ≡ m.log.records → IsBack kept.end (inputs_of log scripts)
+back_by_own D m kept log scripts threads same i k g at =
+    subst (λ gs. slice_get gs k ≡ Some g) (sym (kept.came i))
+    (subst (λ gs. slice_get gs k ≡ Some g) (ap (λ rs. get_or (outcomes_by (length scripts) rs) i []) same ∙ own_outcomes D m kept (length scripts) i threads) at)
+
+-- ## By the log that it was made by
+
+-- each outcome that was given is that of its number
+leads_listed : (number : ℕ) (o : LogDoors) (bs : List Brought) (p : LogDoors) → Leads gives_logged number o bs p → (k j : ℕ) (b : Brought) → j ≡ number + k → slice_get bs k ≡ Some b → IsListed o.list j b.request b.outcome
+leads_listed number o [] p h k j b at is = absurd (none-some b is)
+leads_listed number o (c ∷ bs) p h zero j b at is =
+    let number_is : number ≡ j = omega (arith, at) in
+    let same : c ≡ b = same_Some c b is in
+    subst (λ (x : Brought). IsListed o.list j x.request x.outcome) same (subst (λ (n : ℕ). IsListed o.list n c.request c.outcome) number_is (let given = h.1 in given.chosen))
+leads_listed number o (c ∷ bs) p h (suc k) j b at is =
+    let later : IsListed (let q : LogDoors = h.0 in q.list) j b.request b.outcome = leads_listed (number + 1) h.0 bs p h.2 k j b (omega (arith, at)) is in
+    let stays : (let q : LogDoors = h.0 in q.list) ≡ o.list = ap (λ (q : LogDoors). q.list) (let given = h.1 in given.counted) in
+    subst (λ gs. IsListed gs j b.request b.outcome) stays later
+
+leads_somewhere : (ahead : Bool) (o : LogDoors) (bs : List Brought) (p : LogDoors) → LeadsTo gives_logged ahead o bs p → (q : LogDoors) × Leads gives_logged 0 o bs q
+leads_somewhere false o bs p h = (p, h)
+leads_somewhere true o bs p h = (h.0, h.1)
+
+led_at : (ahead : Bool) (from k j : ℕ) (rows : List HistoryRow) (doors ends : List LogDoors) (d : LogDoors) → j ≡ from + k → k < length doors → AreLedFrom gives_logged ahead from rows doors ends
+    → (q : LogDoors) × Leads gives_logged 0 (get_or doors k d) (brought_in j rows) q
+led_at ahead from k j rows [] ends d at l h = absurd (omega (arith, l))
+led_at ahead from k j rows (o ∷ doors) [] d at l h = absurd h
+led_at ahead from zero j rows (o ∷ doors) (p ∷ ends) d at l h =
+    let number : from ≡ j = omega (arith, at) in
+    subst (λ (n : ℕ). (q : LogDoors) × Leads gives_logged 0 o (brought_in n rows) q) number (leads_somewhere ahead o (brought_in from rows) p h.0)
+led_at ahead from (suc k) j rows (o ∷ doors) (p ∷ ends) d at l h = led_at ahead (from + 1) k j rows doors ends d (omega (arith, at)) (omega (arith, l)) h.1
+
+doors_at : (n i : ℕ) (rs : List Record) → i < n → get_or (doors_by n rs) i (doors_of i rs) ≡ doors_of i rs
+doors_at n i rs l = made_at (λ k. doors_by k rs) (λ k. doors_of k rs) (doors_of i rs) refl (λ k. refl) n i l
+
+doors_length : (n : ℕ) (rs : List Record) → length (doors_by n rs) ≡ n
+doors_length n rs = made_length (λ k. doors_by k rs) (λ k. doors_of k rs) refl (λ k. refl) n
+
+-- each outcome that came is what a row brought, with its kind
+abbrev IsBrought : List Brought → ℕ → Given → Type 0
+IsBrought bs k g = (b : Brought) × (slice_get bs k ≡ Some b) × (b.outcome ≡ g.outcome) × ((let r = b.request in r.kind) ≡ g.kind)
+
+abbrev Come : List Outcome → List (Option OutKind) → List Brought → Type 0
+Come outcomes kinds bs = (came : List Given) (k : ℕ) (g : Given) → map (λ (x : Given). x.outcome) came ≡ outcomes → map (λ (x : Given). Some x.kind) came ≡ kinds → slice_get came k ≡ Some g → IsBrought bs k g
+
+abbrev head_outcome : Outcome → List Outcome → Outcome
+head_outcome d [] = d
+head_outcome d (o ∷ os) = o
+
+abbrev tail_of : {A : Type 0} → List A → List A
+tail_of [] = []
+tail_of (x ∷ xs) = xs
+
+abbrev head_kind : List (Option OutKind) → Option OutKind
+head_kind [] = None
+head_kind (k ∷ ks) = k
+
+come_one : (row : HistoryRow) (o : Option Outcome) (k : Option OutKind) (r : Option Request) (os : List Outcome) (ks : List (Option OutKind)) (bs : List Brought)
+    → ((x : OutKind) → k ≡ Some x → (q : Request) × (r ≡ Some q) × (q.kind ≡ x)) → Come os ks bs → Come (outcome_before o os) (kind_before k o ks) (before (brought r o) bs)
+come_one row None k (Some q) os ks bs asks come came n g outcomes kinds at = come came n g outcomes kinds at
+come_one row None k None os ks bs asks come came n g outcomes kinds at = come came n g outcomes kinds at
+come_one row (Some o) k r os ks bs asks come [] n g outcomes kinds at = absurd (none-some g at)
+come_one row (Some o) k r os ks bs asks come (x ∷ came) n g outcomes kinds at = by_request (asks x.kind (sym (ap head_kind kinds))) n at
+  where
+    by_request : (q : Request) × (r ≡ Some q) × (q.kind ≡ x.kind) → (n : ℕ) → slice_get (x ∷ came) n ≡ Some g → IsBrought (before (brought r (Some o)) bs) n g
+    by_request (q, is, same) n at =
+        let first : Brought = record { request = q; outcome = o } in
+        subst (λ (z : Option Request). IsBrought (before (brought z (Some o)) bs) n g) (sym is) (by_number n at)
+      where
+        by_number : (n : ℕ) → slice_get (x ∷ came) n ≡ Some g → IsBrought (record { request = q; outcome = o } ∷ bs) n g
+        by_number zero e =
+            let is_g : x ≡ g = same_Some x g e in
+            (record { request = q; outcome = o }, refl, sym (ap (head_outcome o) outcomes) ∙ ap (λ (z : Given). z.outcome) is_g, same ∙ ap (λ (z : Given). z.kind) is_g)
+        by_number (suc n) e = come came n g (ap tail_of outcomes) (ap tail_of kinds) e
+
+asks_kind : (row : HistoryRow) (x : OutKind) → kind_asked row.call ≡ Some x → (q : Request) × (request_for row.call ≡ Some q) × (q.kind ≡ x)
+asks_kind row x h = (record { kind = x; asked = amount_asked row.call; call = row.call }, ap (request_of_kind row.call) h, refl)
+
+all_come : (i : ℕ) (rows : List HistoryRow) → Come (outcomes_in i rows) (kinds_in i rows) (brought_in i rows)
+all_come i [] [] k g outcomes kinds at = absurd (none-some g at)
+all_come i [] (x ∷ came) k g outcomes kinds at = absurd (omega (arith, ap length outcomes))
+all_come i (row ∷ rows) came k g outcomes kinds at = by_test (row.turn.thread == i) (all_come i rows) came k g outcomes kinds at
+  where
+    by_test : (b : Bool) → Come (outcomes_in i rows) (kinds_in i rows) (brought_in i rows)
+        → Come (if b then outcome_before row.outcome (outcomes_in i rows) else outcomes_in i rows) (if b then kind_before (kind_asked row.call) row.outcome (kinds_in i rows) else kinds_in i rows)
+        (if b then before (brought_by row) (brought_in i rows) else brought_in i rows)
+    by_test true come = come_one row row.outcome (kind_asked row.call) (request_for row.call) (outcomes_in i rows) (kinds_in i rows) (brought_in i rows) (asks_kind row) come
+    by_test false come = come
+
+same_kind : (k l : OutKind) → is_kind k l ≡ true → k ≡ l
+same_kind kind.Open kind.Open h = refl
+same_kind kind.Read kind.Read h = refl
+same_kind kind.Write kind.Write h = refl
+same_kind kind.Seek kind.Seek h = refl
+same_kind kind.Listen kind.Listen h = refl
+same_kind kind.Connect kind.Connect h = refl
+same_kind kind.Accept kind.Accept h = refl
+same_kind kind.Shutdown kind.Shutdown h = refl
+same_kind kind.Close kind.Close h = refl
+same_kind k l h = absurd (false≢true h)
+
+-- so each is what the log has of its number
+came_listed : (D : Type 0) (m : Shown D) (covered : IsCovered D m) (ahead : Bool) (past : Past) (rs : List Record) (n : ℕ) (ends : List LogDoors) (i k : ℕ) (g : Given)
+    → i < n → past.rows ≡ m.whole.rows → AreLedFrom gives_logged ahead 0 past.rows (doors_by n rs) ends → slice_get (records.outcomes_of i m.log.records) k ≡ Some g → slice_get (records.outcomes_of i rs) k ≡ Some g
+came_listed D m covered ahead past rs n ends i k g l rows led at =
+    let brought_here = all_come i m.whole.rows (records.outcomes_of i m.log.records) k g (covered.outcomes i) (covered.kinds i) at in
+    let b : Brought = brought_here.0 in
+    let leads = led_at ahead 0 i i past.rows (doors_by n rs) ends (doors_of i rs) (omega arith) (let long = doors_length n rs in omega (arith, long, l)) led in
+    let there : Leads gives_logged 0 (doors_of i rs) (brought_in i m.whole.rows) leads.0 =
+    subst (λ (o : LogDoors). Leads gives_logged 0 o (brought_in i m.whole.rows) leads.0) (doors_at n i rs l)
+    (subst (λ xs. Leads gives_logged 0 (get_or (doors_by n rs) i (doors_of i rs)) (brought_in i xs) leads.0) rows leads.1) in
+    let listed = leads_listed 0 (doors_of i rs) (brought_in i m.whole.rows) leads.0 there k k b (omega arith) brought_here.1 in
+    let entry : Given = listed.entry in
+    let request : Request = b.request in
+    let kinds : entry.kind ≡ g.kind = same_kind entry.kind request.kind (and_parts (is_kind entry.kind request.kind) (fits request.kind request.asked entry.outcome) listed.answer).0 ∙ brought_here.3 in
+    let outcomes : entry.outcome ≡ g.outcome = listed.outcome ∙ brought_here.2 in
+    listed.at ∙ ap Some (ap₂ (λ (x : OutKind) (o : Outcome). record { kind = x; outcome = o }) kinds outcomes)
+
+pub supplied_by_log : {A : Type 0} (state : A → ScriptState) (ahead : Bool) (D : Type 0) (m : Shown D) (kept : IsKept D m) (covered : IsCovered D m) (log : LogText) (past : Past) (actors later : List A) (ends : List LogDoors) (scripts : List (List Line))
+    → length m.whole.threads ≡ length scripts → settings_of log.header ≡ settings_in m.whole
+    → past.rows ≡ m.whole.rows → past.asked ≡ map (λ (t : Thread). t.asked) m.whole.threads → map start_of scripts ≡ map state actors → ArePlayedFrom state ahead 0 past.rows past.asked actors later
+    → AreLedFrom gives_logged ahead 0 past.rows (doors_by (length scripts) log.records) ends
+    → IsSupplied D m (inputs_of log scripts)
+supplied_by_log state ahead D m kept covered log past actors later ends scripts threads settings rows asked meant played led =
+    record {
+      threads = threads;
+      settings = sym settings;
+      steps = λ i. steps_supplied state ahead D m past actors later scripts i rows asked meant played;
+      outcomes = λ i k g at.
+          ⊎_elim
+          (λ (l : i < length scripts).
+          subst (λ gs. slice_get gs k ≡ Some g) (sym (outcomes_at (length scripts) i log.records l)) (came_listed D m covered ahead past log.records (length scripts) ends i k g l rows led at))
+          (λ (l : length scripts ≤ i). absurd (none-some g (subst (λ gs. slice_get gs k ≡ Some g) (nothing_past D m kept (length scripts) i threads l) at)))
+          (cases_lt i (length scripts));
+    }
