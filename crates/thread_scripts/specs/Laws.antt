@@ -1,12 +1,12 @@
 -- What the script language keeps to.
-use Rattle.std.specs.Prelude.{◌≡◌, true, ◌≢◌, ℕ, ◌+◌, ◌<◌, ◌≤◌, ◌↔◌, ◌⊎◌, List, length, map, filter_map, slice_get, Option, Some, None, Ok, Err, option_and_then}
+use Rattle.std.specs.Prelude.{◌≡◌, true, ◌≢◌, ℕ, ◌+◌, ◌<◌, ◌≤◌, ◌↔◌, ◌⊎◌, List, [], ◌∷◌, ◌++◌, codes, length, map, filter_map, slice_get, Option, Some, None, Ok, Err, option_and_then}
 use Rattle.posix_terms.specs.declared.limits.TheConstants.Limits.{SCRIPT_LINES}
 use Rattle.posix_terms.specs.declared.reply.Reply.{Reply}
 use Rattle.thread_scripts.specs.Faults.{bad_line, too_long}
 use Rattle.thread_scripts.specs.Grammar.{readings_of, script_of}
 use Rattle.thread_scripts.specs.Meaning.{lines_left, next_of}
 use Rattle.thread_scripts.specs.Rules.{is_script, target_of}
-use Rattle.thread_scripts.specs.Words.{lines_of}
+use Rattle.thread_scripts.specs.Words.{lines_of, words_of}
 use Rattle.thread_scripts.specs.declared.line.Line.{Line}
 use Rattle.thread_scripts.specs.declared.line.Line.TheVariants as line
 use Rattle.thread_scripts.specs.declared.actor.ScriptState.{ScriptState}
@@ -38,6 +38,31 @@ AcceptedExactly = (text : List ℕ) (lines : List Line) → (script_of text ≡ 
 -- the lines that a script may jump to are labels
 abbrev pub JumpsLeadToLabels : Type 0
 JumpsLeadToLabels = (text : List ℕ) (lines : List Line) (k place : ℕ) → script_of text ≡ Ok lines → option_and_then target_of (slice_get lines k) ≡ Some place → slice_get lines place ≡ Some line.Label
+
+-- the words of a line that says something
+abbrev pub spoken : Option (List (List ℕ)) → Option (List (List ℕ))
+spoken (Some (word ∷ words)) = Some (word ∷ words)
+spoken (Some []) = None
+spoken None = None
+
+-- the words that each line of a script was read from
+abbrev pub words_read : List (List ℕ) → List (List (List ℕ))
+words_read texts = filter_map (λ text. spoken (words_of text)) texts
+
+-- the words that line k was read from end with a name, and the line at this place was read from `label` and that name
+pub record LeadsByName (words : List (List (List ℕ))) (k place : ℕ) : Type 0 where
+  pub name : List ℕ
+  pub front : List (List ℕ)
+  pub jump : slice_get words k ≡ Some (front ++ name ∷ [])
+  pub label : slice_get words place ≡ Some (codes "label" ∷ name ∷ [])
+
+-- a jump leads to the label that it names
+abbrev pub JumpsLeadByName : Type 0
+JumpsLeadByName =
+    (text : List ℕ) (lines : List Line) (k place : ℕ)
+    → script_of text ≡ Ok lines
+    → option_and_then target_of (slice_get lines k) ≡ Some place
+    → LeadsByName (words_read (lines_of text)) k place
 
 -- a script that was read is one by the rules for lines that are made in code
 abbrev pub ReadScriptsKeepRules : Type 0

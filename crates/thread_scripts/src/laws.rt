@@ -1,4 +1,4 @@
-ghost use Rattle.thread_scripts.specs.Laws.{AcceptedExactly, BadLineIsFirst, JumpsLeadToLabels, ReadScriptsKeepRules, RunsEnd, ScriptStays, TooLongIsCounted};
+ghost use Rattle.thread_scripts.specs.Laws.{AcceptedExactly, BadLineIsFirst, JumpsLeadByName, JumpsLeadToLabels, ReadScriptsKeepRules, RunsEnd, ScriptStays, TooLongIsCounted};
 
 /// The law of texts that are too long: those with more than 1,000 lines, whatever these are.
 pub fn too_long_is_counted()
@@ -16,9 +16,11 @@ pub fn accepted_exactly()
     ensures { AcceptedExactly }
 {}
 
-/// The law of jumps: in a script that was read, each leads to a label's line.
+/// The law of jumps: in a script that was read, each leads to a label's line (`labels`), which is that of the label that the jump's own line
+/// names (`named`).
 pub fn jumps_lead_to_labels()
-    ensures { JumpsLeadToLabels }
+    ensures labels { JumpsLeadToLabels }
+    ensures named { JumpsLeadByName }
 {}
 
 /// The law of scripts that were read: they keep the rules for lines that are made in code.
