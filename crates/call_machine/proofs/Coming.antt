@@ -1,8 +1,8 @@
 -- What an event of the machine gave its driver.
-use Rattle.std.proofs.Common.{◌≡◌, Bool, true, Option, is_some, sym, refl, ◌∙◌, subst}
+use Rattle.std.proofs.Common.{◌≡◌, Bool, true, Option, None, is_some, sym, refl, ◌∙◌, subst}
 use Rattle.std.proofs.lemmas.Bool.{false≢true}
 use Rattle.std.specs.Prelude.{Result, Ok, Err}
-use Rattle.lock_machine.specs.Refusals.{Comes, Tried, has_answer, is_outside, works}
+use Rattle.lock_machine.specs.Refusals.{Comes, Tried, WantsNone, has_answer, is_outside, works}
 use Rattle.lock_machine.specs.Whole.{Whole}
 use Rattle.lock_machine.specs.declared.refused.Refused.{Refused}
 use Rattle.lock_machine.specs.declared.refused.Refused.TheVariants as refused
@@ -18,6 +18,12 @@ comes_told right (Ok a) o old new made there h told = subst made (sym told) h.1
 comes_told right (Err refused.WrongPhase) o old new made there h told = absurd (false≢true (sym h.0 ∙ there))
 comes_told right (Err refused.ClockFull) o old new made there h told = subst made (sym told) h.2
 comes_told right (Err refused.Memory) o old new made there h told = absurd told
+
+-- an event that wants no memory and was refused gave nothing
+pub refused_told : (A : Type 0) (e : Refused) → WantsNone {A = A} (Err e) → IsTold {A = A} (Err e) None
+refused_told A refused.WrongPhase h = refl
+refused_told A refused.ClockFull h = refl
+refused_told A refused.Memory h = h
 
 pub tried_told : {A : Type 0} (r : Result A Refused) (o : Option A) (made : Bool → Type 0) → Tried r made → IsTold r o → made (is_some o)
 tried_told (Ok a) o made h told = let P : Option _ → Type 0 = λ x. made (is_some x) in subst P (sym told) h

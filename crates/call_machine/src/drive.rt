@@ -1,7 +1,7 @@
 ghost use Rattle.std.specs.Prelude.{◌≡◌, ◌<◌, ◌≤◌, true, IfOk, is_some, length, if◌then◌else◌};
 ghost use Rattle.posix_terms.specs.declared.limits.TheConstants.Limits as limit;
 ghost use Rattle.call_machine.specs.Driven.{Begins, Ends, IsTold, Plainly};
-ghost use Rattle.call_machine.specs.Playing.{Attempted, Makes, hears, played_of};
+ghost use Rattle.call_machine.specs.Playing.{Attempted, Makes, played_of};
 ghost use Rattle.call_machine.specs.Setup.{Inputs};
 ghost use Rattle.lock_machine.specs.Refusals.{Comes, has_answer, is_outside, phase_at, works};
 ghost use Rattle.lock_machine.specs.Shows.{AsksFor, ClocksShown};
@@ -19,7 +19,7 @@ use input_log::{Header, Record};
 use lock_machine::{LockMachine, Phase, Progress, Refused, machines_show};
 use lock_model::{arising_states, one_event};
 use logical_clocks::least_is_found;
-use posix_terms::{Answer, Given, Outcomes, Settings};
+use posix_terms::{Given, Outcomes, Settings};
 use std::alloc::{AllocError, Global};
 use thread_scripts::{Script, Step, runs_end};
 
@@ -103,13 +103,13 @@ impl Driver {
         laws();
         match self.machine.phase(i) {
             Phase::Working => self.ask(i),
-            Phase::Granted { .. } => self.answer(i),
+            Phase::Granted { .. } => Ok(self.answer(i)),
             Phase::ToOutside(_) => {
                 let begun = told(self.machine.begin_outside(i))?;
                 Ok(progress(begun.is_some()))
             }
             Phase::Outside(_) => self.record(alloc, i),
-            Phase::Recorded(_) => self.answer(i),
+            Phase::Recorded(_) => Ok(self.answer(i)),
             Phase::Blocked { .. } => {
                 let wanted = told(self.machine.again(i))?;
                 Ok(progress(wanted.is_some()))
@@ -182,27 +182,21 @@ impl Driver {
     }
 
     // The call of thread i has its answer, and the script hears it.
-    fn answer(&mut self, i: usize) -> Result<Progress, AllocError>
+    fn answer(&mut self, i: usize) -> Progress
         requires inside { i < length self.old.players.items }
         requires answered { has_answer (phase_at self.old.machine i) ≡ true }
-        ensures event { IfOk result (λ made. Makes made i (played_of self.old) (played_of self.new)) }
+        ensures event { Makes result i (played_of self.old) (played_of self.new) }
         ensures count { length self.new.players.items ≡ length self.old.players.items }
     {
         laws();
-        let told = told(self.machine.answer(i))?;
-        Ok(self.hear(i, told))
-    }
-
-    // The script of thread i hears what its call was told, if it was.
-    fn hear(&mut self, i: usize, told: Option<Answer>) -> Progress
-        requires { i < length self.old.players.items }
-        ensures heard { played_of self.new ≡ hears told i (played_of self.old) }
-        ensures progress { result ≡ (if is_some told then progress.Moves else progress.Stays) }
-        ensures count { length self.new.players.items ≡ length self.old.players.items }
-    {
-        let moved = told.is_some();
-        self.players[i].hear(told);
-        progress(moved)
+        match self.machine.answer(i) {
+            Ok(told) => {
+                self.players[i].hear(told);
+                Progress::Moves
+            }
+            // It wants no memory: the thread's clock is full.
+            Err(_) => Progress::Stays,
+        }
     }
 }
 

@@ -1,4 +1,4 @@
-ghost use Rattle.std.specs.Prelude.{◌≡◌, IfOk, length, map};
+ghost use Rattle.std.specs.Prelude.{◌≡◌, IfOk, Some, length, map};
 ghost use Rattle.thread_scripts.specs.Meaning.{next_of};
 ghost use Rattle.call_machine.specs.Starting.{first_player};
 ghost use Rattle.call_machine.specs.Playing.{heard};
@@ -31,11 +31,11 @@ impl Player {
         }
     }
 
-    // The script's call has this answer, if it has one.
-    pub fn hear(&mut self, told: Option<Answer>)
-        ensures { self.new ≡ heard told self.old }
+    // The script's call has this answer.
+    pub fn hear(&mut self, told: Answer)
+        ensures { self.new ≡ heard (Some told) self.old }
     {
-        if let Some(Answer::Reply(reply)) = told {
+        if let Answer::Reply(reply) = told {
             self.last = Some(reply);
         }
     }

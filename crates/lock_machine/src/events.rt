@@ -1,4 +1,3 @@
-ghost use Rattle.std.specs.Option.{option_map};
 ghost use Rattle.std.specs.Prelude.{◌≡◌, ◌++◌, ◌∷◌, [], ◌*◌, ◌<◌, ◌≤◌, ◌^◌, ◌&&◌, ℕ, true, IfOk, IfSome, length};
 ghost use Rattle.det_mutex.specs.Attempt.{takes};
 ghost use Rattle.lock_model.specs.Machine.{is_number};
@@ -7,7 +6,7 @@ ghost use Rattle.posix_terms.specs.declared.limits.TheConstants.Limits as limit;
 ghost use Rattle.lock_machine.specs.Births.{BearsInTime, BornWithin, time_of};
 ghost use Rattle.lock_machine.specs.Events.{Answers, Grants, granted_row, wants_to_keep, GrantsObject, PlansTo, Reaches, Tries, object_taken, parts};
 ghost use Rattle.lock_machine.specs.Lives.{is_live};
-ghost use Rattle.lock_machine.specs.Held.{end_held, phase_behind, phase_started, told_as};
+ghost use Rattle.lock_machine.specs.Held.{phase_behind, phase_started, told_as};
 ghost use Rattle.lock_machine.specs.Threads.{KeepsOthers, timed};
 ghost use Rattle.lock_machine.specs.Waiting.{HasRoom, KeepsRoom, rows_due};
 ghost use Rattle.object_store.specs.Patience.{turn_bytes};
@@ -46,7 +45,7 @@ pub fn answer(
     let Some(row) = rows.get_mut(row) else {
         return None;
     };
-    let Phase::Granted { ends, .. } = &thread.phase else {
+    let Phase::Granted { ends, .. } = &mut thread.phase else {
         return None;
     };
     let clock = clocks.clock(i);
@@ -56,7 +55,9 @@ pub fn answer(
     row.answer = Some(answer_copied(ends, &mut thread.room));
     lock.free(i, clock);
     let behind = phase_behind(ends);
-    told(mem::replace(&mut thread.phase, behind))
+    let ends = mem::replace(ends, TurnEnd::Blocked(0));
+    thread.phase = behind;
+    Some(told_as(ends))
 }
 
 // A turn that ended so, as the answer of its row, with its bytes in the room for them.
@@ -79,16 +80,6 @@ pub fn phase_behind(end: &TurnEnd) -> Phase
     match end {
         TurnEnd::Reply(_) => Phase::Working,
         TurnEnd::Blocked(turns) => Phase::Blocked { turns: *turns },
-    }
-}
-
-// What is told of a call that was in this phase.
-fn told(phase: Phase) -> Option<Answer>
-    ensures { result ≡ option_map told_as (end_held phase) }
-{
-    match phase {
-        Phase::Granted { ends, .. } => Some(told_as(ends)),
-        _ => None,
     }
 }
 
@@ -164,8 +155,13 @@ fn plan(patience: u32, turn: Turn, call: Call, turns: u32, thread: &mut Thread, 
 {
     match shared.store.settle_or_lock(&call) {
         AtTable::Answers(reply) => {
-            let start = TurnStart::Ended(TurnEnd::Reply(reply));
-            thread.phase = seat(turn, call, turns, None, start, &mut shared.rows);
+            let row = shared.rows.len();
+            shared.rows.push_reserved(granted_row(turn, call));
+            thread.phase = Phase::Granted {
+                row,
+                object: None,
+                ends: TurnEnd::Reply(reply),
+            };
         }
         AtTable::Locks(object) => {
             thread.phase = Phase::WantsObject {
@@ -307,13 +303,20 @@ fn seat(
     ensures room { KeepsRoom 1 history.old (rows_due result) history.new }
 {
     let phase = started(history.len(), object, turns, &call, start);
-    history.push_reserved(HistoryRow {
+    history.push_reserved(granted_row(turn, call));
+    phase
+}
+
+// The row of a call that got its turn, before it has an outcome or an answer.
+fn granted_row(turn: Turn, call: Call) -> HistoryRow
+    ensures { result ≡ granted_row turn call }
+{
+    HistoryRow {
         call,
         turn,
         outcome: None,
         answer: None,
-    });
-    phase
+    }
 }
 
 // The phase of a thread whose turn started so, which has this row.

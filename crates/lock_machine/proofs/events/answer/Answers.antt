@@ -29,10 +29,9 @@ returns-clause-event c table =
     let at : clock_at c.add.new.self c.args.i ≡ start + 1 =
     ap (λ (cs : List ThreadClock). clock_at cs c.args.i) clocks ∙ ap (λ (x : ThreadClock). x.clock) (get_or-set_same c.args.clocks.now c.args.i _ no_thread c.requires.inside) in
     let lock : c.free.new.self ≡ freed start = c.free.ensures ∙ ap freed c.clock-clock.ensures.value in
-    let told : c.told.result ≡ Some (told_as e) = search rules in
-    let placed : c.replace.new.dest ≡ c.phase_behind-behind.result = search rules in
-    let behind : c.replace.new.dest ≡ phase_behind e = placed ∙ c.phase_behind-behind.ensures.phase in
-    answers_made c.args.i c.args.row c.told.result old _ e q held room ends there told
+    let told : Some c.told_as.result ≡ Some (told_as e) = search rules in
+    let behind : c.phase_behind-behind.result ≡ phase_behind e = c.phase_behind-behind.ensures.phase in
+    answers_made c.args.i c.args.row (Some c.told_as.result) old _ e q held room ends there told
     (λ k. record {
       thread = record (timed c.args.thread.now (at k)) { phase = behind k };
       lock = lock k;

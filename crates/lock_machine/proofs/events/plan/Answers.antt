@@ -1,9 +1,10 @@
-use Rattle.std.proofs.Common.{◌≡◌, ℕ, None, rules}
+use Rattle.std.proofs.Common.{◌≡◌, ℕ, None, [], ◌∷◌, ◌++◌, length, ap, rules}
 use Rattle.object_store.specs.Store.{Makes, number_locked}
 use Rattle.object_store.specs.declared.patience.TurnStart.TheVariants as start
 use Rattle.lock_model.specs.declared.turn_end.TurnEnd.TheVariants as end
-use Rattle.lock_machine.specs.Events.{parts}
+use Rattle.lock_machine.specs.Events.{granted_row, parts}
 use Rattle.lock_machine.specs.Threads.{timed}
+use Rattle.lock_machine.specs.declared.thread.Phase.TheVariants as phase
 use Rattle.lock_machine.proofs.Granting.{planned_none, seated}
 use Rattle.lock_machine.proofs.events.plan.Goals as goal
 
@@ -15,6 +16,10 @@ returns-in-Answers-clause-event c =
     let new = c.settle_or_lock.new.self in
     let none : number_locked shared.store c.args.call ≡ None = search rules in
     let makes : (patience turns : ℕ) → Makes patience turns shared.store c.args.call (start.Ended (end.Reply c.in-Answers.reply)) new = search rules in
+    let reply = c.in-Answers.reply in
+    let row : c.len-row.result ≡ length shared.rows.items = search rules in
+    let seat = ap (λ n. phase.Granted n None (end.Reply reply)) row in
+    let rows : c.push_reserved.new.self.items ≡ shared.rows.items ++ granted_row c.args.turn c.args.call ∷ [] = search rules in
     λ clock.
     planned_none patience (number_locked shared.store c.args.call) c.args.turn c.args.call c.args.turns _ _ none
-    (seated patience c.args.turn c.args.call c.args.turns None (start.Ended (end.Reply c.in-Answers.reply)) (timed thread clock) c.seat.result shared.lock shared.store new shared.rows.items c.seat.new.history.items (makes patience c.args.turns) c.seat.ensures.phase c.seat.ensures.row)
+    (seated patience c.args.turn c.args.call c.args.turns None (start.Ended (end.Reply reply)) (timed thread clock) _ shared.lock shared.store new shared.rows.items _ (makes patience c.args.turns) seat rows)
