@@ -4,3 +4,6 @@ pub mod Chains
 pub mod Rows
 pub mod Outside
 pub mod DoorRows
+pub mod Maps
+pub mod Tidy
+pub mod Unused

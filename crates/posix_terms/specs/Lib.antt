@@ -17,6 +17,7 @@ pub mod Names
 pub mod Status
 pub mod Doors
 pub mod Step
+pub mod Unused
 pub mod Locked
 pub mod Outcomes
 pub mod Legal

@@ -19,7 +19,9 @@ pub use bytes::Bytes;
 pub use call::{Access, Call, CallKind, OpenFlags, ShutdownHow, Whence};
 pub use errno::{Errno, codes_lead_back, errno_name};
 pub use examples::{worked_door_examples, worked_examples};
-pub use laws::{blocked_calls_change_nothing, calls_outside, failed_calls_change_nothing};
+pub use laws::{
+    blocked_calls_change_nothing, calls_outside, failed_calls_change_nothing, nothing_unused_is_held,
+};
 pub use limits::Limits;
 pub use object::{Door, End, Side};
 pub use outcome::{Given, OutKind, Outcome, Outcomes};
