@@ -1,6 +1,6 @@
--- States that hold nothing unused, by what refers to what.
-use Rattle.std.proofs.Common.{◌≡◌, ◌≢◌, ◌⊎◌, ℕ, zero, suc, ◌+◌, ◌<◌, ◌≤◌, ◌==◌, ◌||◌, ℤ, pos, negsuc, List, [], ◌∷◌, Option, Some, None, is_some, Bool, true, false, if◌then◌else◌, inl, inr, refl, sym, ap, ◌∙◌, subst, arith}
-use Rattle.std.proofs.lemmas.Bool.{cases_eq, false≢true, true≢false}
+-- States that hold nothing unused, by what refers to what, and how the changes of a state keep them so.
+use Rattle.std.proofs.Common.{◌≡◌, ◌⊎◌, ℕ, zero, suc, ◌+◌, ◌<◌, ◌||◌, ℤ, pos, negsuc, List, [], Option, Some, None, Bool, true, false, if◌then◌else◌, inl, inr, refl, sym, ap, ◌∙◌, subst, arith}
+use Rattle.std.proofs.lemmas.Bool.{cases_eq, false≢true}
 use Rattle.std.proofs.lemmas.Option.{none-some, same_Some}
 use Rattle.std.proofs.lemmas.Cmp.{lists_total}
 use Rattle.std.specs.Cmp.{IsTotalOrder, nat_cmp_total}
@@ -15,7 +15,7 @@ use Rattle.posix_terms.specs.Unused.{HoldsNothingUnused}
 use Rattle.posix_terms.specs.declared.call.Access.{Access}
 use Rattle.posix_terms.specs.declared.limits.TheConstants.Limits as limit
 use Rattle.posix_terms.specs.declared.object.End.{End}
-use Rattle.posix_terms.proofs.Maps.{any_of, insert_keeps, insert_other, insert_same, left_there, number_same, remove_keeps, remove_other, remove_same, same_number, standing_in}
+use Rattle.posix_terms.proofs.Maps.{any_of, insert_keeps, insert_other, insert_same, left_there, number_same, remove_other, same_number, standing_in}
 
 pub paths_total : IsTotalOrder path_cmp
 paths_total = lists_total (lists_total nat_cmp_total)
@@ -52,13 +52,13 @@ pub record IsTidy (s : State) : Type 0 where
   pub uses : (object : ℕ) (c : Content) → fin.get s.objects object ≡ Some c → Used s object
   pub numbered : AreNumbered s
 
--- but for one object
+-- nothing is unused but one object, which may be
 pub record IsTidyBut (object : ℕ) (s : State) : Type 0 where
   pub opens : (key : ℕ) (d : Description) → fin.get s.descriptions key ≡ Some d → Open s.descriptors key
   pub uses : (other : ℕ) (c : Content) → (other ≡ object → ⊥) → fin.get s.objects other ≡ Some c → Used s other
   pub numbered : AreNumbered s
 
--- but for one description
+-- nothing is unused but one description, which may be
 pub record IsTidyWithout (key : ℕ) (s : State) : Type 0 where
   pub opens : (other : ℕ) (d : Description) → (other ≡ key → ⊥) → fin.get s.descriptions other ≡ Some d → Open s.descriptors other
   pub uses : (object : ℕ) (c : Content) → fin.get s.objects object ≡ Some c → Used s object
@@ -199,7 +199,7 @@ object_tidy s c h =
       numbered = h.numbered;
     }
 
--- more paths
+-- paths by which each file keeps its names
 abbrev pub KeepsFiles : PathMap → PathMap → Type 0
 KeepsFiles old new = (path : List (List ℕ)) (object : ℕ) → fin.get old path ≡ Some (FileNode object) → fin.get new path ≡ Some (FileNode object)
 
@@ -215,7 +215,7 @@ paths_tidy s paths kept h =
       numbered = h.numbered;
     }
 
--- paths without one of this object
+-- paths by which each other file keeps its names
 pub unnamed_tidy : (s : State) (paths : PathMap) (object : ℕ) → ((path : List (List ℕ)) (other : ℕ) → (other ≡ object → ⊥) → fin.get s.paths path ≡ Some (FileNode other) → fin.get paths path ≡ Some (FileNode other)) → IsTidy s → IsTidyBut object (with_paths s paths)
 unnamed_tidy s paths object kept h =
     record {
@@ -229,8 +229,8 @@ file_tidy s components new h =
     record {
       opens = h.opens;
       uses = λ other c apart at.
-        used_by s (fin.insert s.paths components (FileNode s.next_object)) other (λ path is. insert_keeps paths_total s.paths components (FileNode s.next_object) path (FileNode other) new is)
-        (h.uses other c (sym (insert_other s.objects s.next_object (File []) other apart) ∙ at));
+          used_by s (fin.insert s.paths components (FileNode s.next_object)) other (λ path is. insert_keeps paths_total s.paths components (FileNode s.next_object) path (FileNode other) new is)
+          (h.uses other c (sym (insert_other s.objects s.next_object (File []) other apart) ∙ at));
       numbered = h.numbered;
     }
 
@@ -248,8 +248,8 @@ redescribed : (m : FinMap nat_cmp Description) (key : ℕ) (x y : Description) (
 redescribed m key x y object there own d =
     elim (cases_eq d.key key) [
       | inl is ↦
-        let same : x ≡ d.description = same_Some x d.description (sym there ∙ ap (fin.get m) (sym is) ∙ d.there) in
-        record { key = key; description = y; there = insert_same m key y; refers = sym own ∙ ap (λ (z : Description). z.object) same ∙ d.refers }
+          let same : x ≡ d.description = same_Some x d.description (sym there ∙ ap (fin.get m) (sym is) ∙ d.there) in
+          record { key = key; description = y; there = insert_same m key y; refers = sym own ∙ ap (λ (z : Description). z.object) same ∙ d.refers }
       | inr apart ↦ record { key = d.key; description = d.description; there = insert_other m key y d.key apart ∙ d.there; refers = d.refers }
     ]
 
@@ -271,7 +271,7 @@ own_tidy s key x y there own h =
     by_use object (inl d) = inl (redescribed s.descriptions key x y object there own d)
     by_use object (inr n) = inr n
 
--- a number that refers to no description can be made to refer to another one
+-- a number that refers to no description is no description's only one
 open_still : (m : FinMap nat_cmp ℕ) (n key other : ℕ) → (fin.get m n ≡ Some other → ⊥) → Open m other → Open (fin.insert m n key) other
 open_still m n key other free o =
     record {

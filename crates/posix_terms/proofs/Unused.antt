@@ -1,13 +1,13 @@
 -- Each call keeps a state in which nothing is unused.
-use Rattle.std.proofs.Common.{◌≡◌, ℕ, zero, suc, ◌+◌, ◌-◌, ◌<◌, ◌≤◌, ◌==◌, ℤ, pos, negsuc, List, [], ◌∷◌, length, Option, Some, None, is_some, Result, Ok, Err, Bool, true, false, not, ◌&&◌, ◌||◌, nat_lt, nat_le, if◌then◌else◌, inl, inr, refl, sym, ap, ◌∙◌, subst, arith}
-use Rattle.std.proofs.lemmas.Bool.{false≢true, true≢false}
+use Rattle.std.proofs.Common.{◌≡◌, ℕ, zero, suc, ◌+◌, ◌-◌, ◌<◌, ◌≤◌, ◌==◌, ℤ, pos, negsuc, List, [], ◌∷◌, length, Option, Some, None, is_some, Result, Ok, Err, Bool, true, false, not, ◌&&◌, ◌||◌, nat_lt, nat_le, if◌then◌else◌, inl, refl, sym, ap, ◌∙◌, subst, arith}
+use Rattle.std.proofs.lemmas.Bool.{true≢false}
 use Rattle.std.proofs.lemmas.Option.{none-some, same_Some}
 use Rattle.std.specs.FinMap as fin
 use Rattle.std.specs.FinMap.{FinMap}
 use Rattle.std.specs.Ordering.{int_eq, nat_cmp}
 use Rattle.std.specs.Prelude.{◌+ℤ◌, is_ok}
 use Rattle.posix_terms.specs.Calls.{can_read, can_write}
-use Rattle.posix_terms.specs.Descriptors.{close_result, described, ends_door, freed, has_description, has_descriptor, has_path, key_at, lowest_free, lowest_from, open_node, open_result, open_there, opened, released, truncated, with_file, without_unused}
+use Rattle.posix_terms.specs.Descriptors.{close_result, described, ends_door, freed, has_description, has_descriptor, has_path, key_at, lowest_free, lowest_from, open_node, open_result, open_there, opened, released, truncated, with_file}
 use Rattle.posix_terms.specs.Doors.{NewDoor, host_open_result, host_path, listener_in, opens, port_of, tcp_accept_result, tcp_connect_result, tcp_listen_result}
 use Rattle.posix_terms.specs.Duplicates.{closed, descriptor_number, dup_from_result, ends_a_door, dup_result, dup2_result, shared}
 use Rattle.posix_terms.specs.Effects.{Asks, Blocks, Completes, Effect, asks_of}
@@ -29,7 +29,7 @@ use Rattle.posix_terms.specs.declared.call.OpenFlags.{OpenFlags}
 use Rattle.posix_terms.specs.declared.call.ShutdownHow.{ShutdownHow}
 use Rattle.posix_terms.specs.declared.call.Whence.{Whence}
 use Rattle.posix_terms.specs.declared.errno.Errno.{Errno}
-use Rattle.posix_terms.specs.declared.errno.Errno.TheVariants.{EBADF, EBUSY, EEXIST, EINVAL, EMFILE, ENFILE, ENOENT, ENOSPC, ENOTEMPTY, EPERM, ESPIPE}
+use Rattle.posix_terms.specs.declared.errno.Errno.TheVariants.{EBADF, EBUSY, EEXIST, EINVAL, EMFILE, ENFILE, ENOENT, ENOSPC, ENOTEMPTY, ESPIPE}
 use Rattle.posix_terms.specs.declared.limits.TheConstants.Limits as limit
 use Rattle.posix_terms.specs.declared.object.Door.TheVariants as door
 use Rattle.posix_terms.specs.declared.object.End.TheVariants as part
@@ -40,7 +40,7 @@ use Rattle.posix_terms.specs.declared.reply.Reply.TheVariants as reply
 use Rattle.posix_terms.specs.declared.transcript.Settings.{Settings}
 use Rattle.posix_terms.proofs.Maps.{insert_keeps, insert_other, insert_same, remove_keeps, remove_same}
 use Rattle.posix_terms.proofs.Refused.{waited_alone}
-use Rattle.posix_terms.proofs.Tidy.{IsFree, IsTidy, IsTidyBut, KeepsFiles, Used, but_one, content_tidy, cut_tidy, file_tidy, freed_tidy, nothing_unused, object_tidy, opened_tidy, own_tidy, paths_tidy, paths_total, released_tidy, shared_tidy, tidy_of, unnamed_tidy, unused_tidy}
+use Rattle.posix_terms.proofs.Tidy.{IsFree, IsTidy, KeepsFiles, Used, but_one, content_tidy, cut_tidy, file_tidy, freed_tidy, nothing_unused, object_tidy, opened_tidy, own_tidy, paths_tidy, paths_total, released_tidy, shared_tidy, tidy_of, unnamed_tidy, unused_tidy}
 
 -- ## Effects
 

@@ -12,7 +12,7 @@ use Rattle.posix_terms.specs.declared.transcript.Settings.{Settings}
 pub record HoldsNothingUnused (s : State) : Type 0 where
   pub described : (key : ℕ) (d : Description) → map.get s.descriptions key ≡ Some d → has_descriptor s key ≡ true
   pub used : (object : ℕ) (c : Content) → map.get s.objects object ≡ Some c → (has_description s object || has_path s object) ≡ true
-  -- keys in use are below the next one
+  -- keys in use are below the next one, so that `has_description` looks at each
   pub numbered : (key : ℕ) (d : Description) → map.get s.descriptions key ≡ Some d → key < s.next_description
 
 -- it is so of the state in which nothing is open

@@ -20,7 +20,8 @@ pub use call::{Access, Call, CallKind, OpenFlags, ShutdownHow, Whence};
 pub use errno::{Errno, codes_lead_back, errno_name};
 pub use examples::{worked_door_examples, worked_examples};
 pub use laws::{
-    blocked_calls_change_nothing, calls_outside, failed_calls_change_nothing, nothing_unused_is_held,
+    blocked_calls_change_nothing, calls_outside, failed_calls_change_nothing,
+    nothing_unused_is_held,
 };
 pub use limits::Limits;
 pub use object::{Door, End, Side};
