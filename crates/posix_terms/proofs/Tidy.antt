@@ -7,11 +7,11 @@ use Rattle.std.specs.Cmp.{IsTotalOrder, nat_cmp_total}
 use Rattle.std.specs.FinMap as fin
 use Rattle.std.specs.FinMap.{FinMap, get-empty}
 use Rattle.std.specs.Ordering.{nat_cmp}
-use Rattle.posix_terms.specs.Descriptors.{freed, has_description, has_descriptor, has_path, is_file, is_key, is_of, key_at, opened, released, truncated, with_file, without_unused}
+use Rattle.posix_terms.specs.Descriptors.{freed, has_description, has_descriptor, has_end, has_path, is_file, is_key, is_of, is_of_end, key_at, opened, released, truncated, with_file, without_unused}
 use Rattle.posix_terms.specs.Duplicates.{shared}
 use Rattle.posix_terms.specs.Names.{PathMap, with_paths}
 use Rattle.posix_terms.specs.Object.{Content, Description, Directory, File, FileNode, Node, State, any_below, empty_state, path_cmp, with_content, with_object}
-use Rattle.posix_terms.specs.Unused.{HoldsNothingUnused}
+use Rattle.posix_terms.specs.Unused.{EndsAreOpen, HoldsNothingUnused, IsOpenAt}
 use Rattle.posix_terms.specs.declared.call.Access.{Access}
 use Rattle.posix_terms.specs.declared.limits.TheConstants.Limits as limit
 use Rattle.posix_terms.specs.declared.object.End.{End}
@@ -128,6 +128,29 @@ has_described : (s : State) (object : ℕ) → AreNumbered s → Described s.des
 has_described s object numbered d =
     first_of_any s.next_description (λ (key : ℕ). is_of (fin.get s.descriptions key) object) d.key (numbered d.key d.description d.there)
     (ap (λ (x : Option Description). is_of x object) d.there ∙ number_same _ object d.refers)
+
+is_of_end_some :
+    (o : Option Description) (object : ℕ) (which : End)
+    → is_of_end o object which ≡ true
+    → (d : Description) × (o ≡ Some d) × (is_of_end (Some d) object which ≡ true)
+is_of_end_some None object which h = absurd (false≢true h)
+is_of_end_some (Some d) object which h = (d, refl, h)
+
+-- an end counts as open just where some description is of it
+pub ends_are_open : EndsAreOpen
+ends_are_open s object which tidy = (found, counted)
+  where
+    found : has_end s object which ≡ true → IsOpenAt s object which
+    found has =
+        let at = any_of_first s.next_description (λ (key : ℕ). is_of_end (fin.get s.descriptions key) object which) has in
+        let its = is_of_end_some (fin.get s.descriptions at.0) object which at.2 in
+        record { key = at.0; description = its.0; there = its.1; its = its.2 }
+
+    counted : IsOpenAt s object which → has_end s object which ≡ true
+    counted h =
+        first_of_any s.next_description (λ (key : ℕ). is_of_end (fin.get s.descriptions key) object which) h.key
+        (tidy.numbered h.key h.description h.there)
+        (ap (λ (x : Option Description). is_of_end x object which) h.there ∙ h.its)
 
 named_of : (s : State) (object : ℕ) → has_path s object ≡ true → Named s.paths object
 named_of s object has =

@@ -1,10 +1,11 @@
 -- The maps hold nothing unused.
-use Rattle.std.specs.Prelude.{◌≡◌, ℕ, ◌<◌, true, ◌||◌, Option, Some}
+use Rattle.std.specs.Prelude.{◌≡◌, ◌↔◌, ℕ, ◌<◌, true, ◌||◌, Option, Some}
 use Rattle.std.specs.FinMap as map
-use Rattle.posix_terms.specs.Descriptors.{has_descriptor, has_description, has_path}
+use Rattle.posix_terms.specs.Descriptors.{has_descriptor, has_description, has_end, has_path, is_of_end}
 use Rattle.posix_terms.specs.Object.{State, Description, Content, empty_state}
 use Rattle.posix_terms.specs.Step.{Carried, step}
 use Rattle.posix_terms.specs.declared.call.Call.{Call}
+use Rattle.posix_terms.specs.declared.object.End.{End}
 use Rattle.posix_terms.specs.declared.outcome.Outcome.{Outcome}
 use Rattle.posix_terms.specs.declared.transcript.Settings.{Settings}
 
@@ -25,3 +26,14 @@ StepsKeepTidy =
     (settings : Settings) (s : State) (c : Call) (outcome : Option Outcome) (carried : Carried)
     → HoldsNothingUnused s
     → HoldsNothingUnused (step settings s c outcome carried).after
+
+-- a description is of this end of the object
+pub record IsOpenAt (s : State) (object : ℕ) (which : End) : Type 0 where
+  pub key : ℕ
+  pub description : Description
+  pub there : map.get s.descriptions key ≡ Some description
+  pub its : is_of_end (Some description) object which ≡ true
+
+-- so an object has an end just where some description is of it
+abbrev pub EndsAreOpen : Type 0
+EndsAreOpen = (s : State) (object : ℕ) (which : End) → HoldsNothingUnused s → (has_end s object which ≡ true) ↔ IsOpenAt s object which

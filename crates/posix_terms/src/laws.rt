@@ -1,6 +1,6 @@
 ghost use Rattle.posix_terms.specs.Locked.{KeepsOutside, LeavesAlike, OutsideLocks};
 ghost use Rattle.posix_terms.specs.Step.{AgainChangesNothing, FailChangesNothing};
-ghost use Rattle.posix_terms.specs.Unused.{StartsTidy, StepsKeepTidy};
+ghost use Rattle.posix_terms.specs.Unused.{EndsAreOpen, StartsTidy, StepsKeepTidy};
 
 /// A law of the sequential object: a call that fails leaves the state as it was, but for a `close` of a door's
 /// last descriptor.
@@ -24,8 +24,10 @@ pub fn calls_outside()
 
 /// The maps hold nothing unused: each description has a descriptor, and each object, be it a file, a pipe, a pair
 /// or a door, has a description or a path. It is so at the start (`starts`), and each turn of each call keeps it so
-/// (`steps`), whether it succeeds, fails or waits, and while its outcome is missing.
+/// (`steps`), whether it succeeds, fails or waits, and while its outcome is missing. So a pipe, a pair or a door has an
+/// end just where some description is of it (`ends`).
 pub fn nothing_unused_is_held()
     ensures starts { StartsTidy }
     ensures steps { StepsKeepTidy }
+    ensures ends { EndsAreOpen }
 {}
