@@ -1,8 +1,8 @@
-ghost use Rattle.std.specs.Prelude.{◌≡◌, ℕ, List, length, take, Result, Ok, Err, IfOk, OnErr, IsErr, MatchOption, ⊤};
+ghost use Rattle.std.specs.Prelude.{◌≡◌, ◌≤◌, ℕ, List, length, take, Result, Ok, Err, IfOk, IfSome, None, OnErr, ⊤};
 ghost use Rattle.std.specs.Io.{ReadsAtMost, WritesAtMost};
 ghost use Rattle.std.specs.declared.io.Error.{Error};
 ghost use Rattle.host_doors.specs.Asked.{bytes_of};
-ghost use Rattle.host_doors.specs.Channels.{HasRead};
+ghost use Rattle.host_doors.specs.Channels.{HasRead, IsInvalid};
 
 use crate::asked::bytes_to_write;
 use posix_terms::{Bytes, Request};
@@ -66,6 +66,7 @@ pub(crate) fn read_asked<C: Channel>(
     asked: u64,
 ) -> Result<io::Result<Bytes>, AllocError>
     ensures read { IfOk result (λ found. HasRead (λ count room. C.gave channel.old asked count room channel.new) found) }
+    ensures few { IfOk result (λ found. IfOk found (λ bytes. length bytes ≤ asked)) }
     ensures same { OnErr result (channel.new ≡ channel.old) }
 {
     let mut room = vec![in alloc; 0; asked as usize]?;
@@ -79,9 +80,11 @@ pub(crate) fn read_asked<C: Channel>(
 }
 
 /// Writes the call's bytes once, as many as were asked for. What the host says is told as it is: how many it
-/// took, or why it took none.
+/// took, or why it took none. `InvalidInput` where the call writes none.
 pub(crate) fn write_asked<C: Channel>(channel: &mut C, request: &Request) -> io::Result<u64>
-    ensures { MatchOption (bytes_of request.now.call) (IsErr result) (λ bytes. C.took channel.old (take request.now.asked bytes) result channel.new) }
+    ensures wrote { IfSome (bytes_of request.now.call) (λ bytes. C.took channel.old (take request.now.asked bytes) result channel.new) }
+    ensures invalid { bytes_of request.now.call ≡ None → IsInvalid result × (channel.new ≡ channel.old) }
+    ensures few { IfOk result (λ count. count ≤ request.now.asked) }
 {
     let bytes = bytes_to_write(&request.call, request.asked)?;
     match channel.write_once(bytes) {

@@ -1,19 +1,44 @@
+ghost use Rattle.host_doors.specs.Channels.{DoorGave, DoorTook};
+
 use crate::asked::{directions_to_end, file_to_open, place_to_seek, port_of};
-use crate::channel::{read_asked, write_asked};
+use crate::channel::Channel;
 use crate::options::HostOptions;
-use posix_terms::{Bytes, Request};
-use std::alloc::{AllocError, Global};
+use posix_terms::Request;
 use std::fs::{File, Files, OpenOptions};
 use std::io;
 use std::io::{ErrorKind, Seek};
 use std::net::{Net, TcpListener, TcpStream};
 
-/// A door to the host.
+/// A door to the host. It has parameters so that contracts of reads and writes speak of whatever file or
+/// stream there is.
 #[derive(Drop)]
-pub enum HostDoor {
-    File(File),
-    Listener(TcpListener),
-    Stream(TcpStream),
+pub enum HostDoor<F = File, L = TcpListener, S = TcpStream> {
+    File(F),
+    Listener(L),
+    Stream(S),
+}
+
+/// What is read and written is the file's or the stream's. `InvalidInput` at a listener.
+impl<F: Channel, L, S: Channel> Channel for HostDoor<F, L, S> {
+    ghost gave = { DoorGave F.gave S.gave };
+
+    ghost took = { DoorTook F.took S.took };
+
+    fn read_once(&mut self, room: &mut [u8]) -> io::Result<usize> {
+        match self {
+            HostDoor::File(file) => file.read_once(room),
+            HostDoor::Stream(stream) => stream.read_once(room),
+            HostDoor::Listener(_) => Err(ErrorKind::InvalidInput.into()),
+        }
+    }
+
+    fn write_once(&mut self, bytes: &[u8]) -> io::Result<usize> {
+        match self {
+            HostDoor::File(file) => file.write_once(bytes),
+            HostDoor::Stream(stream) => stream.write_once(bytes),
+            HostDoor::Listener(_) => Err(ErrorKind::InvalidInput.into()),
+        }
+    }
 }
 
 /// The address of listeners and connections.
@@ -70,28 +95,6 @@ pub(crate) fn connect<R: Net<Listener = TcpListener, Stream = TcpStream>>(
 }
 
 impl HostDoor {
-    /// Reads once, at most the bytes asked for. `InvalidInput` at a listener.
-    pub(crate) fn read(
-        &mut self,
-        alloc: Global,
-        request: &Request,
-    ) -> Result<io::Result<Bytes>, AllocError> {
-        match self {
-            HostDoor::File(file) => read_asked(file, alloc, request.asked),
-            HostDoor::Stream(stream) => read_asked(stream, alloc, request.asked),
-            HostDoor::Listener(_) => Ok(Err(ErrorKind::InvalidInput.into())),
-        }
-    }
-
-    /// Writes once. `InvalidInput` at a listener.
-    pub(crate) fn write(&mut self, request: &Request) -> io::Result<u64> {
-        match self {
-            HostDoor::File(file) => write_asked(file, request),
-            HostDoor::Stream(stream) => write_asked(stream, request),
-            HostDoor::Listener(_) => Err(ErrorKind::InvalidInput.into()),
-        }
-    }
-
     /// Moves the offset of a file. `InvalidInput` at any other door.
     pub(crate) fn seek(&mut self, request: &Request) -> io::Result<u64> {
         match self {

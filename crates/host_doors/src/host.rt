@@ -1,13 +1,17 @@
-ghost use Rattle.std.specs.Prelude.{◌≡◌, ◌-◌, ◌^◌, ◌<◌, true, [], Ok, Some, IfErr, IfOk, IsOk};
+ghost use Rattle.std.specs.Prelude.{◌≡◌, ◌-◌, ◌^◌, ◌<◌, true, [], Ok, None, Some, IfErr, IfOk, IfSome, IsOk, OnErr};
 ghost use Rattle.std.specs.IoError.{error_kind};
 ghost use Rattle.posix_terms.specs.Outcomes.{fits};
+ghost use Rattle.posix_terms.specs.declared.errno.Errno.TheVariants as errno;
 ghost use Rattle.posix_terms.specs.declared.outcome.OutKind.TheVariants as kind;
 ghost use Rattle.posix_terms.specs.declared.outcome.Outcome.TheVariants as outcome;
 ghost use Rattle.host_doors.specs.declared.counts.Counts.{Counts};
+ghost use Rattle.host_doors.specs.Asked.{bytes_of};
+ghost use Rattle.host_doors.specs.Channels.{TellsRead, TellsWrite};
 ghost use Rattle.host_doors.specs.Counting.{counted};
 ghost use Rattle.host_doors.specs.Host.{GivesAny, error_of};
 ghost use Rattle.host_doors.specs.Opening.{outcome_of, HasDoor};
 
+use crate::channel::{Channel, read_asked, write_asked};
 use crate::counts::Counts;
 use crate::door::{HostDoor, connect, listen, open_file};
 use crate::error::error_of;
@@ -100,6 +104,43 @@ impl<R> HostDoors<R> {
         }
     }
 
+    /// What comes of one read of the channel, with room for the bytes that were asked.
+    #[tactic(auto, unfolding(posix_terms::specs::Outcomes::fits))]
+    fn read_from<C: Channel>(
+        &mut self,
+        request: &Request,
+        channel: &mut C,
+    ) -> Result<Outcome, DoorStop>
+        requires room { self.old.given < 2 ^ 64 - 1 }
+        requires few { self.old.failures < 2 ^ 64 - 1 }
+        ensures gives { GivesAny request.now self.old self.new result }
+        ensures read { IfOk result (TellsRead C.gave channel.old channel.new request.now) }
+        ensures same { OnErr result (channel.new ≡ channel.old) }
+    {
+        match read_asked(channel, self.alloc, request.asked)? {
+            Ok(bytes) => {
+                let count = bytes.as_slice().len() as u64;
+                Ok(self.succeed(request, count, bytes))
+            }
+            Err(error) => Ok(self.fail(error_of(error.kind()))),
+        }
+    }
+
+    /// What comes of one write to the channel, of as many of the call's bytes as were asked.
+    #[tactic(auto, unfolding(posix_terms::specs::Outcomes::fits))]
+    fn write_to<C: Channel>(&mut self, request: &Request, channel: &mut C) -> Outcome
+        requires room { self.old.given < 2 ^ 64 - 1 }
+        requires few { self.old.failures < 2 ^ 64 - 1 }
+        ensures fits { fits request.now.kind request.now.asked result ≡ true }
+        ensures counted { self.new ≡ counted self.old result }
+        ensures wrote { IfSome (bytes_of request.now.call) (λ bytes. TellsWrite C.took channel.old channel.new request.now bytes result) }
+        ensures invalid { bytes_of request.now.call ≡ None → result ≡ outcome.Fail errno.EINVAL }
+        ensures same { bytes_of request.now.call ≡ None → channel.new ≡ channel.old }
+    {
+        let found = write_asked(channel, request);
+        self.answer(request, found)
+    }
+
     /// The outcome of an opening, with the door that the host gave and its value.
     #[tactic(auto, unfolding(posix_terms::specs::Outcomes::fits))]
     fn answer_opening(
@@ -159,7 +200,6 @@ impl<R: Files<File = File> + Net<Listener = TcpListener, Stream = TcpStream>> Ou
         Ok(self.answer_opening(request, found.map(|file| (HostDoor::File(file), 0))))
     }
 
-    #[tactic(auto, unfolding(posix_terms::specs::Outcomes::fits))]
     fn read(
         &mut self,
         _thread: usize,
@@ -171,13 +211,7 @@ impl<R: Files<File = File> + Net<Listener = TcpListener, Stream = TcpStream>> Ou
         requires few { self.old.failures < 2 ^ 64 - 1 }
         ensures { GivesAny request.now self.old self.new result }
     {
-        match door.read(self.alloc, request)? {
-            Ok(bytes) => {
-                let count = bytes.as_slice().len() as u64;
-                Ok(self.succeed(request, count, bytes))
-            }
-            Err(error) => Ok(self.fail(error_of(error.kind()))),
-        }
+        self.read_from(request, door)
     }
 
     fn write(
@@ -192,7 +226,7 @@ impl<R: Files<File = File> + Net<Listener = TcpListener, Stream = TcpStream>> Ou
         ensures gives { GivesAny request.now self.old self.new result }
         ensures ok { IsOk result }
     {
-        Ok(self.answer(request, door.write(request)))
+        Ok(self.write_to(request, door))
     }
 
     fn seek(

@@ -238,12 +238,14 @@ struct FlagsRow {
 }
 
 impl FlagsRow {
-    fn flags(&self) -> OpenFlags {
+    /// With the flags that are passed by, or without them.
+    fn flags(&self, passed_by: bool) -> OpenFlags {
         OpenFlags {
             create: self.create,
+            exclusive: passed_by,
             truncate: self.truncate,
             append: self.append,
-            ..NO_FLAGS
+            nonblock: passed_by,
         }
     }
 }
@@ -254,13 +256,15 @@ fn is_row(
     path: &str,
     access: Access,
     row: &FlagsRow,
+    passed_by: bool,
     error: Option<Errno>,
 ) -> Result<bool, Fail> {
+    let flags = row.flags(passed_by);
     std::fs::write(&rt, path, b"before")?;
-    let on_existing = error_of_writing(rt, path, access, row.flags())?;
+    let on_existing = error_of_writing(rt, path, access, flags)?;
     let existing = file_has(rt, path, row.existing);
     remove_file(&rt, path)?;
-    let on_missing = error_of_writing(rt, path, access, row.flags())?;
+    let on_missing = error_of_writing(rt, path, access, flags)?;
     let missing = match row.missing {
         Some(bytes) => on_missing == error && file_has(rt, path, bytes),
         None => on_missing == Some(Errno::ENOENT),
@@ -355,7 +359,7 @@ const NOT_WRITTEN: &[FlagsRow] = &[
     FlagsRow {
         create: true,
         truncate: true,
-        append: true,
+        append: false,
         existing: b"before",
         missing: Some(b""),
     },
@@ -366,18 +370,54 @@ const NOT_WRITTEN: &[FlagsRow] = &[
         existing: b"before",
         missing: None,
     },
+    FlagsRow {
+        create: true,
+        truncate: false,
+        append: true,
+        existing: b"before",
+        missing: Some(b""),
+    },
+    FlagsRow {
+        create: false,
+        truncate: true,
+        append: true,
+        existing: b"before",
+        missing: None,
+    },
+    FlagsRow {
+        create: true,
+        truncate: true,
+        append: true,
+        existing: b"before",
+        missing: Some(b""),
+    },
 ];
+
+/// Files that are opened so have what their rows say.
+fn are_rows(
+    rt: HostRuntime,
+    path: &str,
+    access: Access,
+    rows: &[FlagsRow],
+    passed_by: bool,
+    error: Option<Errno>,
+) -> Result<bool, Fail> {
+    for row in rows {
+        if !is_row(rt, path, access, row, passed_by, error)? {
+            return Ok(false);
+        }
+    }
+    Ok(true)
+}
 
 #[test]
 fn a_host_file_opens_by_its_flags(rt: HostRuntime) -> Result<(), Fail> {
     let path = free_path(rt, "flags")?;
     let path = path.as_str();
-    for row in WRITTEN.iter() {
-        assert!(rt; is_row(rt, path, Access::WriteOnly, row, None)?);
-        assert!(rt; is_row(rt, path, Access::ReadWrite, row, None)?);
-    }
-    for row in NOT_WRITTEN.iter() {
-        assert!(rt; is_row(rt, path, Access::ReadOnly, row, Some(Errno::EIO))?);
+    for passed_by in [false, true] {
+        assert!(rt; are_rows(rt, path, Access::WriteOnly, WRITTEN, passed_by, None)?);
+        assert!(rt; are_rows(rt, path, Access::ReadWrite, WRITTEN, passed_by, None)?);
+        assert!(rt; are_rows(rt, path, Access::ReadOnly, NOT_WRITTEN, passed_by, Some(Errno::EIO))?);
     }
     Ok(())
 }
@@ -462,6 +502,24 @@ fn a_full_device_takes_nothing(rt: HostRuntime) -> Result<(), Fail> {
         Access::WriteOnly,
         NO_FLAGS,
         FULL_STEPS,
+    )
+}
+
+// The kernel reads no more than 12 bytes of what is written here, and refuses what is no number.
+const IN_PART_STEPS: &[Step] = &[
+    Step::Write(b"1           no number", Came::Success(12, b"")),
+    Step::Write(b"no number", Came::Failure(Errno::EINVAL)),
+];
+
+#[test]
+fn a_write_is_taken_in_part(rt: HostRuntime) -> Result<(), Fail> {
+    assert_file(
+        &rt,
+        rt,
+        "/proc/self/clear_refs",
+        Access::WriteOnly,
+        NO_FLAGS,
+        IN_PART_STEPS,
     )
 }
 
