@@ -417,7 +417,16 @@ fn a_host_file_opens_by_its_flags(rt: HostRuntime) -> Result<(), Fail> {
     for passed_by in [false, true] {
         assert!(rt; are_rows(rt, path, Access::WriteOnly, WRITTEN, passed_by, None)?);
         assert!(rt; are_rows(rt, path, Access::ReadWrite, WRITTEN, passed_by, None)?);
-        assert!(rt; are_rows(rt, path, Access::ReadOnly, NOT_WRITTEN, passed_by, Some(Errno::EIO))?);
+        assert!(rt;
+            are_rows(
+                rt,
+                path,
+                Access::ReadOnly,
+                NOT_WRITTEN,
+                passed_by,
+                Some(Errno::EIO)
+            )?
+        );
     }
     Ok(())
 }
