@@ -5,5 +5,6 @@ pub mod Opening
 pub mod Asked
 pub mod Gates
 pub mod Options
+pub mod Files
 pub mod Channels
 pub mod LogList

@@ -1,10 +1,13 @@
+ghost use Rattle.std.specs.Prelude.{IfErr, IfOk, Ok};
 ghost use Rattle.host_doors.specs.Channels.{DoorGave, DoorTook};
+ghost use Rattle.host_doors.specs.Files.{IsNotMade, IsNotOpened, IsOpened};
 
 use crate::asked::{directions_to_end, file_to_open, place_to_seek, port_of};
 use crate::channel::Channel;
+use crate::opener::Opener;
 use crate::options::HostOptions;
 use posix_terms::Request;
-use std::fs::{File, Files, OpenOptions};
+use std::fs::{File, OpenOptions};
 use std::io;
 use std::io::{ErrorKind, Seek};
 use std::net::{Net, TcpListener, TcpStream};
@@ -46,30 +49,38 @@ const LOOPBACK: &str = "127.0.0.1";
 
 /// The host file that the request opens. One that is missing is made also where it is opened for reading
 /// alone, and one that is opened to append may be cut, as by `open`.
-pub(crate) fn open_file<R: Files<File = File>>(rt: &R, request: &Request) -> io::Result<File> {
+pub(crate) fn open_file<F: Drop, O: Opener<F>>(opener: &O, request: &Request) -> io::Result<F>
+    ensures opened { IfOk result (IsOpened O.opened O.cut request.now.call) }
+    ensures failed { IfErr result (IsNotOpened O.opened O.cut request.now.call) }
+{
     let wanted = file_to_open(&request.call)?;
     let how = HostOptions::new(wanted.access, wanted.flags);
     let file = if how.makes {
-        open_or_make(rt, wanted.path, &how.options)?
+        open_or_make(opener, wanted.path, &how.options)?
     } else {
-        how.options.open(rt, wanted.path)?
+        opener.open_once(&how.options, wanted.path)?
     };
     if how.cuts {
-        file.set_len(0)?;
+        opener.cut_once(&file)?;
     }
     Ok(file)
 }
 
 /// Opens a file, and makes it first where it is missing.
-fn open_or_make<R: Files<File = File>>(
-    rt: &R,
+fn open_or_make<F: Drop, O: Opener<F>>(
+    opener: &O,
     path: &str,
     options: &OpenOptions,
-) -> io::Result<File> {
-    match options.open(rt, path) {
+) -> io::Result<F>
+    ensures opened { IfOk result (λ file. O.opened options.now path.now (Ok file)) }
+    ensures failed { IfErr result (IsNotMade O.opened options.now path.now) }
+{
+    match opener.open_once(options, path) {
         Err(error) if error.kind() == ErrorKind::NotFound => {
-            File::options().write(true).create(true).open(rt, path)?;
-            options.open(rt, path)
+            let mut making = File::options();
+            making.write(true).create(true);
+            opener.open_once(&making, path)?;
+            opener.open_once(options, path)
         }
         opened => opened,
     }

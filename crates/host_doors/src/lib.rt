@@ -11,6 +11,7 @@ mod gate;
 mod host;
 mod log_doors;
 mod opened;
+mod opener;
 mod options;
 mod outside;
 mod pair;
