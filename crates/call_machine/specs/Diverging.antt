@@ -1,3 +1,4 @@
+-- Believed: a contract of the headline stands on it.
 -- Where a run diverges.
 use Rattle.std.specs.Prelude.{ℕ, length, ◌||◌, Option, Some, None, if◌then◌else◌}
 use Rattle.lock_model.specs.Machine.{Setup, can_advance}

@@ -1,3 +1,4 @@
+-- Internal: no contract of the headline or of a command stands on it.
 -- The plain schedule, made by a driver.
 use Rattle.std.specs.Prelude.{◌≡◌, ℕ, Option, Some, None, true, Result, Ok, Err}
 use Rattle.input_log.specs.Format.{header_text}

@@ -1,3 +1,4 @@
+-- Internal: no contract of the headline or of a command stands on it.
 -- Scripts that play the threads of a machine.
 use Rattle.std.specs.Prelude.{◌≡◌, ℕ, suc, List, [], ◌∷◌, ◌++◌, length, get_or, set, Option, Some, None, Bool, true, false}
 use Rattle.posix_terms.specs.declared.outcome.Given.{Given}

@@ -1,3 +1,4 @@
+-- Believed: a contract of the headline stands on it.
 -- Scripts as what a run is made of.
 use Rattle.std.specs.Prelude.{ℕ, List, [], length, slice_index_or}
 use Rattle.posix_terms.specs.declared.outcome.Given.{Given}

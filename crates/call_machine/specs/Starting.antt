@@ -1,3 +1,4 @@
+-- Internal: no contract of the headline or of a command stands on it.
 -- A run at its start, and what it comes to.
 use Rattle.std.specs.Prelude.{ℕ, List, ◌++◌, get_or, length, map, Option, Some, None, Bool, true, false}
 use Rattle.input_log.specs.Format.{closing, header_text}

@@ -1,3 +1,4 @@
+-- Believed: a contract of a command stands on it.
 -- What a command prints, with its status, and the lines of its faults.
 use Rattle.std.specs.Prelude.{◌≡◌, ◌⊎◌, ℕ, Bool, List, [], ◌++◌, Option, codes}
 use Rattle.std.specs.Fmt.{decimal}

@@ -1,3 +1,4 @@
+-- Believed: a contract of a command stands on it.
 -- Which texts were read of sources, and which scripts they are.
 use Rattle.std.specs.Prelude.{◌≡◌, ◌≤◌, ◌+◌, ℕ, IfSome, List, [], ◌∷◌, ◌++◌, length, Option, Result, Ok, Err}
 use Rattle.thread_scripts.specs.Faults.{Fault}

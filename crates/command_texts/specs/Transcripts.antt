@@ -1,3 +1,4 @@
+-- Believed: a contract of a command stands on it.
 -- The printed text of transcripts: a line for each row, and then how the run ended.
 use Rattle.std.specs.Prelude.{ℕ, ◌+◌, Bool, true, false, List, [], ◌∷◌, ◌++◌, length, Option, Some, None, codes, if◌then◌else◌, ◌==◌}
 use Rattle.std.specs.Fmt.{decimal, signed_decimal}

@@ -1,3 +1,4 @@
+-- Believed: a contract of a command stands on it.
 -- What `detio compare` prints for two logs and the scripts that it reads.
 use Rattle.std.specs.Prelude.{◌≡◌, ℕ, ◌⊎◌, Bool, true, false, List, [], length, Option, Result, Ok, Err, codes}
 use Rattle.std.specs.Fmt.{decimal}

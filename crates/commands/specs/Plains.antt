@@ -1,3 +1,4 @@
+-- Believed: a contract of a command stands on it.
 -- What `detio plain` prints for the scripts that it reads.
 use Rattle.std.specs.Prelude.{◌≡◌, ℕ, Bool, true, false, replicate, List, [], length, Option, Result, Ok, Err, codes}
 use Rattle.posix_terms.specs.declared.transcript.Settings.{Settings}

@@ -1,3 +1,4 @@
+-- Believed: a contract of a command stands on it.
 -- What `detio replay` prints for the log and the scripts that it reads.
 use Rattle.std.specs.Prelude.{◌≡◌, ℕ, ◌⊎◌, Bool, true, false, List, length, Option}
 use Rattle.call_machine.specs.Plain.{counts_fit}

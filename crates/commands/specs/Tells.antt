@@ -1,3 +1,4 @@
+-- Believed: a contract of a command stands on it.
 -- What is told of the replay of a log with scripts.
 use Rattle.std.specs.Prelude.{◌≡◌, ◌⊎◌, ℕ, List, length, map, Option, Some, None, Result, Ok, Err, codes}
 use Rattle.std.specs.Fmt.{decimal}

@@ -1,3 +1,4 @@
+-- Believed: a contract of a command stands on it.
 -- Where the transcripts of two runs differ first.
 use Rattle.std.specs.Prelude.{◌≡◌, ◌≢◌, ℕ, List, ◌++◌, Option, Some, slice_get, take}
 use Rattle.posix_terms.specs.declared.transcript.Row.{Row}

@@ -1,3 +1,4 @@
+-- Believed: a contract of the headline stands on it.
 -- What an act does with the object that is locked for it.
 use Rattle.std.specs.Prelude.{◌≡◌, ◌≢◌, ◌⊎◌, ◌≤◌, ℕ, ◌+◌, Bool, not, pos, ◌+ℤ◌, ◌&&◌, List, [], length, ◌==◌, Option, Some, None, Result, Ok, Err, if◌then◌else◌}
 use Rattle.std.specs.Option.{option_map}

@@ -1,3 +1,4 @@
+-- Believed: a contract of the headline stands on it.
 -- That a plan and its change are what the sequential object does.
 use Rattle.std.specs.Prelude.{◌≡◌, ◌⊎◌, ◌≤◌, ◌+◌, slice_index_or, ℕ, true, List, Option, Some, None, Result, Ok, Err}
 use Rattle.std.specs.FinMap as map

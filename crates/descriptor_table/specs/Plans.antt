@@ -1,3 +1,4 @@
+-- Internal: no contract of the headline or of a command stands on it.
 -- What the table alone makes of each call: its reply, or which object's lock the call takes and what it does there.
 use Rattle.std.specs.Prelude.{◌≤◌, ◌≡◌, ◌<◌, ◌⊎◌, ℕ, ◌+◌, ℤ, pos, List, [], length, Bool, true, false, not, ◌&&◌, ◌==◌, nat_lt, nat_le, Option, Some, None, is_some, Result, Ok, Err, if◌then◌else◌}
 use Rattle.std.specs.FinMap as map

@@ -1,3 +1,4 @@
+-- Believed: a contract of the headline stands on it.
 -- What a table shows of the sequential object: all but what the objects hold, and but the offsets, which a call
 -- moves at its answer. The keys of the sequential object are the births of descriptions and of objects.
 use Rattle.std.specs.Prelude.{◌≡◌, ℕ, ◌==◌, List, Bool, true, false, Some, None, is_some, unwrap_or, slice_index_or}

@@ -1,3 +1,4 @@
+-- Believed: a contract of the headline stands on it.
 -- The descriptor table: all of the sequential object but what its objects hold.
 -- Descriptions have keys and objects have numbers that are used again; each has a birth, which is not.
 use Rattle.std.specs.Prelude.{◌≡◌, ℕ, zero, suc, ◌+◌, ◌-◌, ◌<◌, ℤ, pos, negsuc, List, length, replicate, slice_index_or, Bool, true, ◌&&◌, ◌==◌, Option, Some, None, is_some, Result, Ok, count_by, if◌then◌else◌}

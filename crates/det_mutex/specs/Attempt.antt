@@ -1,3 +1,4 @@
+-- Believed: a contract of the headline stands on it.
 -- A lock that is open to whoever comes at a later time than its last release.
 use Rattle.std.specs.Prelude.{ℕ, Some, None, Bool, ◌&&◌, is_none, nat_lt}
 use Rattle.det_mutex.specs.declared.lock.DetLock.{DetLock}

@@ -1,3 +1,4 @@
+-- Internal: no contract of the headline or of a command stands on it.
 -- How the names are kept: each with its path as it was written.
 use Rattle.std.specs.Prelude.{◌≡◌, ℕ, ◌<◌, List, [], ◌∷◌, length, map, Some, None, slice_index_or}
 use Rattle.std.specs.FinMap as fin

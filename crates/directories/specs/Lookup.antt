@@ -1,3 +1,4 @@
+-- Internal: no contract of the headline or of a command stands on it.
 -- What a path names.
 -- POSIX.1-2017, Base Definitions, 4.13 (pathname resolution).
 use Rattle.std.specs.Prelude.{ℕ, List, Result, Ok, Option}

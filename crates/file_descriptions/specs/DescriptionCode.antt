@@ -1,3 +1,4 @@
+-- Internal: no contract of the headline or of a command stands on it.
 -- How a map of descriptions is stored in a value that holds it.
 use Rattle.std.specs.Prelude.{ℕ, refl}
 use Rattle.std.specs.Coded.{Coded, code_by, coded×, coded_ℕ}

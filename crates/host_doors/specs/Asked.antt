@@ -1,3 +1,4 @@
+-- Internal: no contract of the headline or of a command stands on it.
 -- What a call says to the host.
 use Rattle.std.specs.Prelude.{◌≡◌, ⊤, ℕ, pos, Option, Some, None, List, IsUtf8}
 use Rattle.std.specs.Int.{IsNonNegative}

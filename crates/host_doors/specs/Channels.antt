@@ -1,3 +1,4 @@
+-- Internal: no contract of the headline or of a command stands on it.
 -- What is read from a host file or a stream, and written to it.
 use Rattle.std.specs.Prelude.{◌≡◌, ℕ, List, [], length, take, Result, Ok, Err}
 use Rattle.std.specs.IoError.{error_kind}

@@ -1,3 +1,4 @@
+-- Believed: a contract of the headline stands on it.
 -- How an outside counts what it gives.
 use Rattle.std.specs.Prelude.{ℕ, ◌+◌}
 use Rattle.posix_terms.specs.declared.outcome.Outcome.{Outcome}

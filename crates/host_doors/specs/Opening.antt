@@ -1,3 +1,4 @@
+-- Believed: a contract of the headline stands on it.
 -- What an opening gives beside its outcome.
 use Rattle.std.specs.Prelude.{◌≡◌, Option, None, IsSome, Result, Ok, Err}
 use Rattle.posix_terms.specs.declared.outcome.Outcome.{Outcome}

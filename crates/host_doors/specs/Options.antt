@@ -1,3 +1,4 @@
+-- Internal: no contract of the headline or of a command stands on it.
 -- How a call opens a file of the host.
 use Rattle.std.specs.Prelude.{Bool, true, not, ◌&&◌, if◌then◌else◌}
 use Rattle.std.specs.Fs.{new_options, with_append, with_create, with_read, with_truncate, with_write}

@@ -1,3 +1,4 @@
+-- Believed: a contract of the headline stands on it.
 -- Doors to an outside that is a list of outcomes.
 use Rattle.std.specs.Prelude.{◌≡◌, ℕ, ◌≤◌, Bool, true, false, List, length, slice_get, Some, Result, Ok, Err, IfOk}
 use Rattle.posix_terms.specs.Outcomes.{answers, fits}

@@ -1,3 +1,4 @@
+-- Believed: a contract of the headline stands on it.
 -- What a run is made of, as a setup of the lock machine.
 use Rattle.std.specs.Prelude.{ℕ}
 use Rattle.posix_terms.specs.declared.transcript.Settings.{Settings}

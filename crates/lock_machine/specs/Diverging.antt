@@ -1,3 +1,4 @@
+-- Believed: a contract of the headline stands on it.
 -- Where a thread diverges: what came from outside does not answer what was asked.
 use Rattle.std.specs.Prelude.{ℕ, length, Bool, false, not, Option, Some, None, slice_get}
 use Rattle.lock_model.specs.Machine.{Setup, fits_job}

@@ -1,3 +1,4 @@
+-- Internal: no contract of the headline or of a command stands on it.
 -- What the events of a thread make of it and of what it shares.
 use Rattle.std.specs.Prelude.{◌≡◌, ℕ, ◌+◌, ◌<◌, ◌^◌, List, [], ◌∷◌, ◌++◌, length, Option, Some, None, Bool, true, false, ◌&&◌, nat_le, slice_get, slice_set}
 use Rattle.posix_terms.specs.Locked.{keeps_table}

@@ -1,3 +1,4 @@
+-- Internal: no contract of the headline or of a command stands on it.
 -- How a turn that ended stands in its thread until it is answered.
 use Rattle.std.specs.Prelude.{ℕ, Option, Some, None}
 use Rattle.posix_terms.specs.Locked.{keeps_table}

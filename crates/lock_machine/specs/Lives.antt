@@ -1,3 +1,4 @@
+-- Internal: no contract of the headline or of a command stands on it.
 -- Which threads are live: by their phases, and by their clocks.
 use Rattle.std.specs.Prelude.{◌≡◌, List, map, Bool, true, false}
 use Rattle.logical_clocks.specs.declared.clocks.ThreadClock.{ThreadClock}

@@ -1,3 +1,4 @@
+-- Internal: no contract of the headline or of a command stands on it.
 -- What the events of a call make of it that goes outside.
 use Rattle.std.specs.Prelude.{◌≡◌, ℕ, ◌+◌, ◌^◌, List, Option, Some, None, Bool, true, false, not, ◌&&◌, ◌||◌, nat_le, nat_lt, slice_get, slice_set}
 use Rattle.descriptor_table.specs.declared.plan.Errand.{Errand}

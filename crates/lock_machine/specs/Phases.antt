@@ -1,3 +1,4 @@
+-- Believed: a contract of the headline stands on it.
 -- Which phase of the lock machine a thread's phase shows.
 use Rattle.std.specs.Prelude.{◌≡◌, ℕ, Some}
 use Rattle.lock_model.specs.CallTable.{Way}

@@ -1,3 +1,4 @@
+-- Believed: a contract of the headline stands on it.
 -- When the machine refuses an event.
 use Rattle.std.specs.Prelude.{◌≡◌, ℕ, Bool, true, false, List, Option, Some, None, Result, Ok, Err, slice_get}
 use Rattle.posix_terms.specs.declared.outcome.Given.{Given}

@@ -1,3 +1,4 @@
+-- Believed: a contract of the headline stands on it.
 -- How much requests ask.
 use Rattle.std.specs.Prelude.{◌≡◌, ℕ, ◌≤◌, Option, Some, None}
 use Rattle.posix_terms.specs.Object.{State}

@@ -1,3 +1,4 @@
+-- Internal: no contract of the headline or of a command stands on it.
 -- How much memory a thread has for the bytes of its reply, and how much it needs.
 use Rattle.std.specs.Prelude.{◌≤◌, ℕ}
 use Rattle.descriptor_table.specs.Plans.{bytes_asked, read_count}

@@ -1,3 +1,4 @@
+-- Believed: a contract of the headline stands on it.
 -- How the data of a run stand for a state of the lock machine.
 use Rattle.std.specs.Prelude.{◌≡◌, ℕ, ◌<◌, ◌≤◌, ◌^◌, List, [], ◌∷◌, ◌++◌, length, map, slice_get, is_some, Option, Some, None, IfSome, Bool, true, false}
 use Rattle.descriptor_table.specs.Acts as acts

@@ -1,3 +1,4 @@
+-- Believed: a contract of the headline stands on it.
 -- A lock machine at its start.
 use Rattle.std.specs.Prelude.{ℕ, [], replicate}
 use Rattle.det_mutex.specs.Attempt.{new_lock}

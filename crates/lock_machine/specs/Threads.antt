@@ -1,3 +1,4 @@
+-- Believed: a contract of the headline stands on it.
 -- The threads of a run with their clocks.
 use Rattle.std.specs.Prelude.{◌≡◌, ℕ, ◌≤◌, List, [], ◌∷◌, slice_set}
 use Rattle.logical_clocks.specs.ThreadClocks.{clock_at, thread_at}

@@ -1,3 +1,4 @@
+-- Believed: a contract of the headline stands on it.
 -- The clocks of a run's live threads.
 use Rattle.std.specs.Prelude.{ℕ, List, [], get_or, map, Option, Some, None}
 use Rattle.std.proofs.Math.Nat.{le_refl}

@@ -1,3 +1,4 @@
+-- Believed: a contract of the headline stands on it.
 -- The room for the rows of the calls that wait for a lock.
 use Rattle.std.specs.Prelude.{ℕ, ◌+◌, ◌≤◌, List, Bool, true, false}
 use Rattle.std.specs.Global.{Vec}

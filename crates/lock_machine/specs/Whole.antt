@@ -1,3 +1,4 @@
+-- Believed: a contract of the headline stands on it.
 -- What contracts see of a lock machine.
 use Rattle.std.specs.Prelude.{ℕ, List, get_or}
 use Rattle.det_mutex.specs.declared.lock.DetLock.{DetLock}

@@ -1,3 +1,4 @@
+-- Believed: a contract of the headline stands on it.
 -- What calls do: any functions of what the calls before have made.
 use Rattle.std.specs.Prelude.{ℕ, Option, Bool, true, false}
 use Rattle.lock_model.specs.Terms.{World, Request}

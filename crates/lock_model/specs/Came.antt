@@ -1,3 +1,4 @@
+-- Internal: no contract of the headline or of a command stands on it.
 -- The plain run under the outcomes that came in it.
 use Rattle.std.specs.Prelude.{◌≡◌, ℕ, ◌+◌, ◌≤◌, ◌⊎◌, length, Some, true, nat_lt, slice_get}
 use Rattle.lock_model.specs.History.{IsPrefixOf}

@@ -1,3 +1,4 @@
+-- Believed: a contract of the headline stands on it.
 -- What one event does to the threads.
 use Rattle.std.specs.Prelude.{◌≡◌, ℕ, ◌+◌, ◌<◌, ◌≤◌, List, [], ◌∷◌, ◌++◌, length, Some, Bool, true, false, slice_get}
 use Rattle.lock_model.specs.Machine.{Setup, Event, advance, after_step, again, answer, attempt, can_advance, can_attempt, fits_job, happens, is_allowed, wants, with_outcome}

@@ -1,3 +1,4 @@
+-- Internal: no contract of the headline or of a command stands on it.
 -- Setups for runs worked out by hand. Whatever the world, all calls take the same locks and give the same answer.
 use Rattle.std.specs.Prelude.{ℕ, ◌^◌, List, [], ◌∷◌, map, true}
 use Rattle.lock_model.specs.CallTable.{CallTable, Plan}

@@ -1,3 +1,4 @@
+-- Believed: a contract of the headline stands on it.
 -- Which locks and which row a thread has and what it asked last, by its phase.
 use Rattle.std.specs.Prelude.{◌≡◌, ℕ, ◌-◌, ◌<◌, List, length, Option, Some, None, Bool, true, false, not, ◌||◌, slice_get}
 use Rattle.lock_model.specs.CallTable.{CallTable, Plan, Way, has_object, keeps_table}

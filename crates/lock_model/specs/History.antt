@@ -1,3 +1,4 @@
+-- Believed: a contract of the headline stands on it.
 -- When rows are the beginning of others.
 use Rattle.std.specs.Prelude.{◌≡◌, ℕ, List, [], ◌∷◌, ◌++◌, Option, Some, None, false, is_none, if◌then◌else◌, ◌==◌}
 use Rattle.lock_model.specs.State.{Row}

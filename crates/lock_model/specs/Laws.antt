@@ -1,3 +1,4 @@
+-- Internal: no contract of the headline or of a command stands on it.
 -- The laws of the lock machine.
 use Rattle.std.specs.Prelude.{◌≡◌, ℕ, suc, ◌<◌, ◌⊎◌, ◌↔◌, List, get_or, Option, Some, None, true, false}
 use Rattle.lock_model.specs.Held.{AreHeld, HaveAsked, HavePlans, HaveRows}

@@ -1,3 +1,4 @@
+-- Internal: no contract of the headline or of a command stands on it.
 -- A history is legal: each answer is the one that the calls before it, in the order of the rows, lead to.
 use Rattle.std.specs.Prelude.{◌≡◌, ℕ, suc, List, [], ◌∷◌, Option, Some, None, Bool, true, false, is_none, is_some, if◌then◌else◌, ◌==◌}
 use Rattle.lock_model.specs.CallTable.{CallTable, goes_outside, keeps_table}

@@ -1,3 +1,4 @@
+-- Believed: a contract of the headline stands on it.
 -- The events of the lock machine. Each is a function of the whole state, which it leaves as it is where the event is not allowed.
 use Rattle.std.specs.Prelude.{ℕ, ◌+◌, [], ◌∷◌, ◌++◌, length, map, set, Option, Some, None, Bool, true, false, not, ◌&&◌, ◌||◌, is_some, is_none, if◌then◌else◌, nat_lt, nat_le, ◌==◌, slice_get}
 use Rattle.det_mutex.specs.Attempt.{takes, held, freed}

@@ -1,3 +1,4 @@
+-- Believed: a contract of the headline stands on it.
 -- The numbers of objects. An object has the lowest free one from its birth on, which is free again once the object is gone.
 use Rattle.std.specs.Prelude.{ℕ, zero, suc, ◌-◌, List, [], ◌∷◌, map, set, replicate, Option, Some, None, is_some, if◌then◌else◌}
 use Rattle.std.specs.FinMap as fin

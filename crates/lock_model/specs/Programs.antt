@@ -1,3 +1,4 @@
+-- Believed: a contract of the headline stands on it.
 -- Where the steps of the threads and their outcomes come from.
 use Rattle.std.specs.Prelude.{◌≡◌, ℕ, ◌<◌, ◌⊎◌, List, length, Option, Some, slice_get}
 use Rattle.posix_terms.specs.declared.outcome.Given.{Given}

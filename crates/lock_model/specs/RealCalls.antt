@@ -1,3 +1,4 @@
+-- Believed: a contract of the headline stands on it.
 -- The call table of the sequential object.
 use Rattle.std.specs.Prelude.{ℕ, ◌^◌, Bool, true, false, Option, Some, None, is_some}
 use Rattle.posix_terms.specs.Locked as locked

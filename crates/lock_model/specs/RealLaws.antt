@@ -1,3 +1,4 @@
+-- Believed: a contract of the headline stands on it.
 -- The laws of runs for the real calls, in the words of files and descriptors.
 use Rattle.std.specs.Prelude.{ℕ, List, map}
 use Rattle.posix_terms.specs.Legal as posix

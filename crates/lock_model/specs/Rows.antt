@@ -1,3 +1,4 @@
+-- Believed: a contract of the headline stands on it.
 -- The rows of the lock machine, as those of a history.
 use Rattle.std.specs.Prelude.{Option, Some, None}
 use Rattle.posix_terms.specs.declared.reply.Answer as posix

@@ -1,3 +1,4 @@
+-- Believed: a contract of the headline stands on it.
 -- Runs: events in any order that the machine allows.
 use Rattle.std.specs.Prelude.{◌≡◌, ℕ, suc, List, [], ◌∷◌, Some, true, slice_get, take}
 use Rattle.lock_model.specs.Machine.{Setup, Event, is_allowed, happens}

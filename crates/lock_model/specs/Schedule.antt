@@ -1,3 +1,4 @@
+-- Believed: a contract of the headline stands on it.
 -- The plain run: one deterministic schedule.
 use Rattle.std.specs.Prelude.{◌≡◌, ℕ, zero, suc, length, Option, Some, None, if◌then◌else◌}
 use Rattle.lock_model.specs.Machine.{Setup, Event, can_advance, can_attempt, happens}

@@ -1,3 +1,4 @@
+-- Believed: a contract of the headline stands on it.
 -- Scripts as programs: a script's next step after the steps asked and the replies to them.
 use Rattle.std.specs.Prelude.{◌≡◌, ◌⊎◌, ℕ, ◌<◌, List, [], ◌∷◌, length, Option, Some, None}
 use Rattle.posix_terms.specs.declared.reply.Reply.{Reply}

@@ -1,3 +1,4 @@
+-- Believed: a contract of the headline stands on it.
 -- The state of the lock machine.
 use Rattle.std.specs.Prelude.{ℕ, List, [], replicate, get_or, map, Option, Some, None}
 use Rattle.det_mutex.specs.Attempt.{new_lock}

@@ -1,3 +1,4 @@
+-- Believed: a contract of the headline stands on it.
 -- The words of the lock machine for what the calls are about. It looks into neither.
 use Rattle.std.specs.Prelude.{ℕ, List, Option}
 use Rattle.posix_terms.specs.Object.{State}

@@ -1,3 +1,4 @@
+-- Internal: no contract of the headline or of a command stands on it.
 -- What one thread sees of its rows.
 use Rattle.std.specs.Prelude.{ℕ, List, filter_map, Option, Some, None}
 use Rattle.lock_model.specs.declared.turn_end.TurnEnd.{TurnEnd}

@@ -1,3 +1,4 @@
+-- Believed: a contract of the headline stands on it.
 -- When what a machine shows is the beginning of the plain run.
 use Rattle.std.specs.Prelude.{◌≡◌, ℕ, ◌<◌, List, [], ◌∷◌, length, map, false, is_none}
 use Rattle.lock_machine.specs.Conditions.{setup_under, start_under}

@@ -1,3 +1,4 @@
+-- Believed: a contract of the headline stands on it.
 -- The doors of a machine, by object number.
 use Rattle.std.specs.Prelude.{◌≡◌, ℕ, Bool, true, false, not, ◌&&◌, List, Option, Some, None, is_some, get_or, set, Result, Ok, Err}
 use Rattle.descriptor_table.specs.declared.plan.Errand.{Errand}

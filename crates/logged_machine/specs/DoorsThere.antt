@@ -1,3 +1,4 @@
+-- Believed: a contract of the headline stands on it.
 -- Which doors a machine has: whenever one goes out, it is there.
 use Rattle.std.specs.Prelude.{◌≡◌, ℕ, Bool, true, false, List, Option, Some, None, get_or, is_some, slice_index_or}
 use Rattle.std.specs.FinMap as fin

@@ -1,3 +1,4 @@
+-- Believed: a contract of the headline stands on it.
 -- When a machine refuses an event, and what it makes of one.
 use Rattle.std.specs.Prelude.{◌≡◌, ℕ, Bool, true, false, Option, Some, None, Result, Ok, Err}
 use Rattle.input_log.specs.Format.{record_text}

@@ -1,3 +1,4 @@
+-- Believed: a contract of the headline stands on it.
 -- What each machine promises at any time, whichever events were made and whatever came from outside.
 use Rattle.lock_machine.specs.Whole.{settings_in}
 use Rattle.posix_terms.specs.Legal.{IsLegal}

@@ -1,3 +1,4 @@
+-- Believed: a contract of the headline stands on it.
 -- What is true of each machine at any time.
 use Rattle.std.specs.Prelude.{◌≡◌, ℕ, Bool, true, false, length, Option, Some, if◌then◌else◌}
 use Rattle.input_log.specs.Writing.{IsSound}

@@ -1,3 +1,4 @@
+-- Believed: a contract of the headline stands on it.
 -- What threads ask outside.
 use Rattle.std.specs.Prelude.{◌≡◌, ℕ, Option, Some, None, is_some, true}
 use Rattle.descriptor_table.specs.declared.plan.Errand.{Errand}

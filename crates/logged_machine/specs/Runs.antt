@@ -1,3 +1,4 @@
+-- Believed: a contract of the headline stands on it.
 -- The runs that lead to a machine, and how they grow.
 use Rattle.std.specs.Prelude.{◌≡◌, [], ◌∷◌, ◌++◌, length, Some, true, false}
 use Rattle.lock_machine.specs.Conditions.{Conditions, setup_under}

@@ -1,3 +1,4 @@
+-- Believed: a contract of the headline stands on it.
 -- What contracts see of a machine.
 use Rattle.std.specs.Prelude.{List, Option}
 use Rattle.input_log.specs.Writing.{Writing}

@@ -1,3 +1,4 @@
+-- Believed: a contract of the headline stands on it.
 -- A machine at its start.
 use Rattle.std.specs.Prelude.{ℕ, Bool, ◌&&◌, nat_le, replicate, None}
 use Rattle.input_log.specs.Writing.{begun}

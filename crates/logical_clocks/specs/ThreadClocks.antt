@@ -1,3 +1,4 @@
+-- Internal: no contract of the headline or of a command stands on it.
 -- The clocks of all threads, in the order of their numbers.
 use Rattle.std.specs.Prelude.{ℕ, ◌≤◌, List, Option, Some, None, true, false, All, map, replicate, slice_index_or, slice_set, if◌then◌else◌}
 use Rattle.logical_clocks.specs.declared.clocks.ThreadClock.{ThreadClock}

@@ -1,3 +1,4 @@
+-- Believed: a contract of the headline stands on it.
 -- The turn order: which thread may attempt a lock, by the threads' clocks alone.
 use Rattle.std.specs.Prelude.{◌≡◌, ℕ, zero, suc, ◌<◌, List, length, get_or, Option, Some, None, Bool, true, false, ◌&&◌, ◌||◌, ◌==◌, nat_lt}
 use Rattle.posix_terms.specs.declared.transcript.Turn.{Turn}

@@ -1,3 +1,4 @@
+-- Believed: a contract of the headline stands on it.
 -- What object numbers have room for: each for a file, a pipe and a pair of sockets, of which its object is one.
 use Rattle.std.specs.Prelude.{ℕ, List, []}
 use Rattle.posix_terms.specs.Object.{Content, File, Pipe, Pair, DoorTo}

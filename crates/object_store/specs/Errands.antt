@@ -1,3 +1,4 @@
+-- Believed: a contract of the headline stands on it.
 -- What a call takes along that goes outside, by the definitions of the calls.
 use Rattle.std.specs.Prelude.{◌≡◌, is_some, ℕ, Bool, true, false, Option, Some, None, Result, Ok, Err}
 use Rattle.posix_terms.specs.Descriptors.{described}

@@ -1,3 +1,4 @@
+-- Internal: no contract of the headline or of a command stands on it.
 -- How a turn of a call ended, and how long a call waits that cannot go on.
 use Rattle.std.specs.Prelude.{◌≡◌, ℕ, Bool, Some, if◌then◌else◌, Option, None}
 use Rattle.posix_terms.specs.declared.reply.Reply.{Reply}

@@ -1,3 +1,4 @@
+-- Believed: a contract of the headline stands on it.
 -- How much memory is set aside for the bytes of a reply.
 use Rattle.std.specs.Prelude.{◌≤◌, ℕ}
 use Rattle.descriptor_table.specs.Plans.{bytes_asked, read_count}

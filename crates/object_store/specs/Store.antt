@@ -1,3 +1,4 @@
+-- Believed: a contract of the headline stands on it.
 -- The shared table with the bodies of its objects, and the world that they stand for.
 use Rattle.std.specs.Prelude.{◌≡◌, ℕ, ◌≤◌, ◌<◌, Bool, true, false, List, nat_le, replicate, slice_index_or, Option, Some, None}
 use Rattle.std.specs.FinMap as map

@@ -1,3 +1,4 @@
+-- Internal: no contract of the headline or of a command stands on it.
 -- How the table with the bodies is stored in a value that holds it.
 use Rattle.std.specs.Prelude.{ℕ, Bool, List, refl}
 use Rattle.std.specs.Coded.{Coded, code_by, coded×, coded_bool, coded_list, coded_ℕ}

@@ -1,3 +1,4 @@
+-- Believed: a contract of the headline stands on it.
 -- The calls by their kinds and words, and what an access allows.
 use Rattle.std.specs.Prelude.{ℕ, List, Bool, true, false, codes}
 use Rattle.posix_terms.specs.declared.call.Access.{Access}

@@ -1,3 +1,4 @@
+-- Believed: a contract of the headline stands on it.
 -- Opening and closing descriptors.
 -- POSIX.1-2017, System Interfaces: `open`, `close`.
 use Rattle.std.specs.Prelude.{ℕ, zero, suc, ◌+◌, ℤ, pos, negsuc, List, [], Bool, true, false, not, ◌&&◌, ◌||◌, ◌==◌, nat_le, Result, Ok, Err, Option, Some, None, is_some, if◌then◌else◌}

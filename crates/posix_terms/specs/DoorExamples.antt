@@ -1,3 +1,4 @@
+-- Internal: no contract of the headline or of a command stands on it.
 -- Examples of calls that go outside, worked out by hand from the rules: one thread's calls, each with its outcome and its reply.
 use Rattle.std.specs.Prelude.{◌≡◌, ℕ, pos, negsuc, List, [], ◌∷◌, Bool, map, Option, Some, None, is_some, true, false, codes}
 use Rattle.posix_terms.specs.Examples.{appending, creating, plainly}

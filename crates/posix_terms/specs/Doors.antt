@@ -1,3 +1,4 @@
+-- Believed: a contract of the headline stands on it.
 -- Opening doors to the outside: files of the host, listeners, and streams to peers at 127.0.0.1.
 -- POSIX.1-2017, System Interfaces: `open`, `socket`, `bind`, `listen`, `connect`, `accept`, composed as this profile has them.
 use Rattle.std.specs.Prelude.{ℕ, ℤ, pos, negsuc, List, length, Bool, false, not, ◌&&◌, ◌||◌, ◌==◌, nat_le, nat_lt, Result, Ok, Err, if◌then◌else◌}

@@ -1,3 +1,4 @@
+-- Believed: a contract of the headline stands on it.
 -- Descriptors that share a description.
 -- POSIX.1-2017, System Interfaces: `dup`, `dup2`, `fcntl` with F_DUPFD.
 use Rattle.std.specs.Prelude.{ℕ, ◌-◌, ℤ, pos, negsuc, Bool, false, not, ◌&&◌, Result, Ok, Err, if◌then◌else◌, nat_lt}

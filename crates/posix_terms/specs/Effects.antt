@@ -1,3 +1,4 @@
+-- Believed: a contract of the headline stands on it.
 -- What a call does where it is not refused.
 use Rattle.std.specs.Prelude.{ℕ, List, Bool}
 use Rattle.posix_terms.specs.Object.{State}

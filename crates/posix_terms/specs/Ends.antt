@@ -1,3 +1,4 @@
+-- Believed: a contract of the headline stands on it.
 -- The ends of objects, which descriptions refer to.
 use Rattle.std.specs.Prelude.{Bool, true, false}
 use Rattle.posix_terms.specs.declared.object.End.{End}

@@ -1,3 +1,4 @@
+-- Believed: a contract of the headline stands on it.
 -- The error numbers of this profile, and their names.
 use Rattle.std.specs.Prelude.{ℕ, List, Option, Some, None, if◌then◌else◌, ◌==◌, codes}
 use Rattle.posix_terms.specs.declared.errno.Errno.{Errno}

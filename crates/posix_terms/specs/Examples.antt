@@ -1,3 +1,4 @@
+-- Internal: no contract of the headline or of a command stands on it.
 -- Examples worked out by hand from the rules: one thread's calls, each with its reply.
 use Rattle.std.specs.Prelude.{◌≡◌, ℕ, pos, negsuc, List, [], ◌∷◌, map, true, false, codes, None}
 use Rattle.std.specs.FinMap as fin

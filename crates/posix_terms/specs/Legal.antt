@@ -1,3 +1,4 @@
+-- Believed: a contract of the headline stands on it.
 -- When a history is legal: going over its rows in the order of their turns, the sequential object gives just their answers.
 use Rattle.std.specs.Prelude.{◌≡◌, ℕ, List, [], ◌∷◌, Option, Some, None, is_some, true, if◌then◌else◌, ◌==◌}
 use Rattle.posix_terms.specs.Object.{State, empty_state}

@@ -1,3 +1,4 @@
+-- Believed: a contract of the headline stands on it.
 -- Which object's lock a call takes. It takes none where the table alone refuses or answers it.
 use Rattle.std.specs.Prelude.{◌≡◌, is_some, ℕ, ℤ, length, Bool, true, false, not, ◌&&◌, ◌||◌, ◌==◌, Option, Some, None, Result, Ok, Err, option_map, nat_lt, if◌then◌else◌}
 use Rattle.std.specs.FinMap as map

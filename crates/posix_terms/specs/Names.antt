@@ -1,3 +1,4 @@
+-- Believed: a contract of the headline stands on it.
 -- What paths name, and the calls that change it.
 -- POSIX.1-2017, System Interfaces: `link`, `unlink`, `mkdir`, `rmdir`.
 use Rattle.std.specs.Prelude.{ℕ, List, length, take, Bool, ◌&&◌, ◌==◌, nat_lt, nat_le, nat_eq, Result, Ok, Err, Option, Some, None, is_some, count_by}

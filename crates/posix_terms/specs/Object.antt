@@ -1,3 +1,4 @@
+-- Believed: a contract of the headline stands on it.
 -- The sequential object: one table of descriptors, as one thread after another uses it.
 -- POSIX.1-2017, Base Definitions, 3.258 (open file description): a descriptor refers to an open file description, and this to an object.
 use Rattle.std.specs.Prelude.{ℕ, ◌+◌, zero, suc, List, [], Bool, true, false, ◌||◌, unwrap_or}

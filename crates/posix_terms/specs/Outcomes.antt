@@ -1,3 +1,4 @@
+-- Believed: a contract of the headline stands on it.
 -- Which outcomes answer a request.
 use Rattle.std.specs.Prelude.{ℕ, ◌-◌, ◌^◌, Bool, true, false, ◌&&◌, ◌||◌, ◌==◌, nat_le, length}
 use Rattle.posix_terms.specs.declared.limits.TheConstants.Limits as limit

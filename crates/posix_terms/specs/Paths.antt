@@ -1,3 +1,4 @@
+-- Believed: a contract of the headline stands on it.
 -- Paths, and what they name.
 -- POSIX.1-2017, Base Definitions, 4.13 (pathname resolution), without `.`, `..`, symbolic links and trailing slashes.
 use Rattle.std.specs.Prelude.{ℕ, List, [], ◌∷◌, ◌++◌, length, Bool, ◌&&◌, ◌||◌, ◌==◌, nat_lt, nat_eq, Result, Ok, Err, Option, Some, None, codes, slice_index}

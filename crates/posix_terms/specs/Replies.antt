@@ -1,3 +1,4 @@
+-- Believed: a contract of a command stands on it.
 -- The numbers that replies are printed with.
 use Rattle.std.specs.Prelude.{ℕ}
 use Rattle.posix_terms.specs.declared.reply.ObjectKind.{ObjectKind}

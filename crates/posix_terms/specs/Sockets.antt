@@ -1,3 +1,4 @@
+-- Believed: a contract of the headline stands on it.
 -- Making pipes and pairs of sockets, and shutting a socket.
 -- POSIX.1-2017, System Interfaces: `pipe`, `socketpair`, `shutdown`.
 use Rattle.std.specs.Prelude.{ℕ, ◌+◌, ◌-◌, ℤ, pos, [], false, nat_le, Result, Ok, Err}

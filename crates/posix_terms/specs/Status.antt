@@ -1,3 +1,4 @@
+-- Believed: a contract of the headline stands on it.
 -- What a descriptor's object and flags are, and how the flags are set.
 -- POSIX.1-2017, System Interfaces: `fstat`, `fcntl` with F_GETFL and F_SETFL.
 use Rattle.std.specs.Prelude.{ℕ, ◌+◌, ℤ, pos, length, Bool, Result, Ok, if◌then◌else◌}

@@ -1,3 +1,4 @@
+-- Believed: a contract of the headline stands on it.
 -- What one call, taken alone, answers and leaves.
 use Rattle.std.specs.Prelude.{◌≡◌, ℕ, ◌+◌, Bool, true, false, ◌&&◌, Result, Ok, Err, Option, Some, None, is_some, if◌then◌else◌, nat_lt}
 use Rattle.posix_terms.specs.Descriptors.{open_result, close_result}

@@ -1,3 +1,4 @@
+-- Believed: a contract of the headline stands on it.
 -- Streams of bytes in memory: what is in a pipe, and what goes each way between the two sockets of a pair.
 -- POSIX.1-2017, System Interfaces: `read`, `write`, `shutdown`. No write is longer than a stream holds, so each moves all of its bytes or none.
 use Rattle.std.specs.Prelude.{ℕ, ◌+◌, List, [], ◌++◌, length, take, drop, Bool, true, false, not, ◌&&◌, ◌==◌, nat_le, if◌then◌else◌}

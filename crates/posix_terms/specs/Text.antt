@@ -1,3 +1,4 @@
+-- Believed: a contract of the headline stands on it.
 -- Texts in pieces: the words of a line, the components of a path.
 use Rattle.std.specs.Prelude.{ℕ, List, not, filter, length, ◌==◌}
 use Rattle.std.specs.List.{slice_split}

@@ -1,3 +1,4 @@
+-- Believed: a contract of the headline stands on it.
 -- Reading, writing, moving the offset and cutting.
 -- POSIX.1-2017, System Interfaces: `read`, `pread`, `write`, `pwrite`, `lseek`, `ftruncate`.
 use Rattle.std.specs.Prelude.{ℕ, ◌+◌, ◌^◌, ℤ, pos, negsuc, ◌+ℤ◌, Bool, false, List, [], length, not, ◌==◌, nat_lt, Result, Ok, Err, if◌then◌else◌}

@@ -1,3 +1,4 @@
+-- Internal: no contract of the headline or of a command stands on it.
 -- The maps hold nothing unused.
 use Rattle.std.specs.Prelude.{◌≡◌, ◌↔◌, ℕ, ◌<◌, true, ◌||◌, Option, Some}
 use Rattle.std.specs.FinMap as map

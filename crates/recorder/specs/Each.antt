@@ -1,3 +1,4 @@
+-- Believed: a contract of the headline stands on it.
 -- What is true of each thread, over lists by thread.
 use Rattle.std.specs.Prelude.{◌≡◌, ℕ, ◌+◌, Bool, List, [], ◌∷◌}
 use Rattle.posix_terms.specs.declared.transcript.HistoryRow.{HistoryRow}

@@ -1,3 +1,4 @@
+-- Believed: a contract of the headline stands on it.
 -- A worker at its thread: its actor, its outside and its notes.
 use Rattle.std.specs.Prelude.{◌≡◌, ℕ, ◌≤◌, Bool, true, false, not, List, [], ◌∷◌, length}
 use Rattle.lock_machine.specs.Waiting.{is_call}

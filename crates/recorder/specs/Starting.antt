@@ -1,3 +1,4 @@
+-- Believed: a contract of the headline stands on it.
 -- Which runs are started, and what they are given back that are not.
 use Rattle.std.specs.Prelude.{◌≡◌, ◌⊎◌, ℕ, Bool, ◌&&◌, ◌==◌, nat_le, nat_lt, if◌then◌else◌, List, Option, Some, None}
 use Rattle.input_log.specs.Format.{header_text}

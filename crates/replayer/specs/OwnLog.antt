@@ -1,3 +1,4 @@
+-- Believed: a contract of the headline stands on it.
 -- What a replay gives of the log that a plain run itself wrote.
 use Rattle.std.specs.Prelude.{◌≡◌, ℕ, List, [], length, slice_index_or, Option, Some, None, Result, Ok, Err}
 use Rattle.call_machine.specs.Plain.{IsPlainRun}

@@ -1,3 +1,4 @@
+-- Believed: a contract of the headline stands on it.
 -- What a replay gives: the plain run under the outcomes of a log.
 use Rattle.std.specs.Prelude.{◌≡◌, ℕ, List, Option, Some, None, false, ◌==◌, length, Result, Ok, Err}
 use Rattle.call_machine.specs.Plain.{IsPlainRun}

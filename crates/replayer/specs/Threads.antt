@@ -1,3 +1,4 @@
+-- Believed: a contract of the headline stands on it.
 -- What a replay by threads gives.
 use Rattle.std.specs.Prelude.{◌≡◌, ◌≢◌, ◌⊎◌, ℕ, zero, suc, List, [], ◌∷◌, ◌++◌, length, map, Option, Some, None, is_some, Result, Ok, Err}
 use Rattle.call_machine.specs.History.{Past, transcripts_of}

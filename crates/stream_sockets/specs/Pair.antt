@@ -1,3 +1,4 @@
+-- Internal: no contract of the headline or of a command stands on it.
 -- What the calls of a pair of sockets leave in it.
 use Rattle.std.specs.Prelude.{ℕ, List, ◌++◌, length, take, drop, if◌then◌else◌}
 use Rattle.posix_terms.specs.Streams.{Half, PairState, Reading, Reads, Ends, NothingYet, Writing, Writes, Breaks, NoRoom, peer_of, with_waiting}

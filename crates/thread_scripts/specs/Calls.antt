@@ -1,3 +1,4 @@
+-- Believed: a contract of a command stands on it.
 -- The lines that make a call, by its word and operands.
 use Rattle.std.specs.Prelude.{ℕ, ◌||◌, List, [], ◌∷◌, if◌then◌else◌, ℤ, Option, Some, None, option_map, bytes_eq}
 use Rattle.posix_terms.specs.Calls.{word_of}

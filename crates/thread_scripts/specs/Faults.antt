@@ -1,3 +1,4 @@
+-- Believed: a contract of a command stands on it.
 -- Why a text is no script, and what a result says of a meaning. Where memory was lacking it says nothing.
 use Rattle.std.specs.Prelude.{◌≡◌, ℕ, Option, Some, None, Result, Ok, Err}
 use Rattle.thread_scripts.specs.declared.fault.LineFault.{LineFault}

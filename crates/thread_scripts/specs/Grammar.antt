@@ -1,3 +1,4 @@
+-- Believed: a contract of a command stands on it.
 -- The script language: which texts are scripts, and which lines they have.
 use Rattle.std.specs.Prelude.{ℕ, ◌+◌, List, [], ◌∷◌, length, nat_lt, if◌then◌else◌, Option, Some, None, Result, Ok, Err}
 use Rattle.std.specs.List.{cons_option}

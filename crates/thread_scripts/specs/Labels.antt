@@ -1,3 +1,4 @@
+-- Believed: a contract of a command stands on it.
 -- The labels of a script.
 use Rattle.std.specs.Prelude.{ℕ, ◌+◌, Bool, ◌&&◌, ◌||◌, List, [], ◌∷◌, length, nat_le, if◌then◌else◌, Option, Some, None, option_map, option_and_then, bytes_eq, codes}
 use Rattle.std.specs.List.{cons_option, list_all}

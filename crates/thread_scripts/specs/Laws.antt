@@ -1,3 +1,4 @@
+-- Internal: no contract of the headline or of a command stands on it.
 -- What the script language keeps to.
 use Rattle.std.specs.Prelude.{◌≡◌, true, ◌≢◌, ℕ, ◌+◌, ◌<◌, ◌≤◌, ◌↔◌, ◌⊎◌, List, [], ◌∷◌, ◌++◌, codes, length, map, filter_map, slice_get, Option, Some, None, Ok, Err, option_and_then}
 use Rattle.posix_terms.specs.declared.limits.TheConstants.Limits.{SCRIPT_LINES}

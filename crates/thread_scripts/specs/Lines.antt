@@ -1,3 +1,4 @@
+-- Believed: a contract of a command stands on it.
 -- What one line of a script says, given the labels of the text and how many lines lie before it.
 use Rattle.std.specs.Prelude.{ℕ, List, [], ◌∷◌, ◌==◌, if◌then◌else◌, Option, Some, None, option_map, option_and_then, bytes_eq, codes}
 use Rattle.posix_terms.specs.declared.limits.TheConstants.Limits.{WORK}

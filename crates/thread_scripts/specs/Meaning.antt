@@ -1,3 +1,4 @@
+-- Believed: a contract of the headline stands on it.
 -- What a script does: the next step of a thread after the last reply, and its state behind that step.
 use Rattle.std.specs.Prelude.{ℕ, zero, suc, ◌+◌, ◌-◌, Bool, true, false, List, [], length, replicate, slice_get, slice_index_or, slice_set, if◌then◌else◌, Option, Some, None, ℤ, pos, neg_ℤ}
 use Rattle.std.specs.Int.{cast_signed, int_wrapping_add, w64}

@@ -1,3 +1,4 @@
+-- Believed: a contract of a command stands on it.
 -- Decimal numbers, and the numbers of registers.
 use Rattle.std.specs.Prelude.{ℕ, ◌+◌, ◌-◌, ◌*◌, ◌^◌, Bool, not, ◌&&◌, ◌||◌, List, [], ◌∷◌, length, slice_index, nat_le, ◌==◌, if◌then◌else◌, ℤ, pos, neg_ℤ, Option, Some, None, option_map}
 

@@ -1,3 +1,4 @@
+-- Internal: no contract of the headline or of a command stands on it.
 -- What the lines of a script keep to, also where they were made in code and read from no text.
 use Rattle.std.specs.Prelude.{ℕ, Bool, true, false, ◌&&◌, ◌||◌, not, List, length, nat_le, slice_get, Option, Some, None}
 use Rattle.std.specs.List.{list_all}

@@ -1,3 +1,4 @@
+-- Believed: a contract of a command stands on it.
 -- Byte texts, paths and the other words of a call's line.
 use Rattle.std.specs.Prelude.{ℕ, Bool, false, true, ◌&&◌, ◌||◌, List, [], ◌∷◌, length, nat_le, ◌==◌, if◌then◌else◌, Option, Some, None, option_and_then, bytes_eq, codes}
 use Rattle.std.specs.List.{list_all}

@@ -1,3 +1,4 @@
+-- Believed: a contract of a command stands on it.
 -- A script's text in lines, and a line in words.
 use Rattle.std.specs.Prelude.{ℕ, ◌-◌, Bool, false, List, [], ◌∷◌, length, take, slice_index, nat_lt, ◌==◌, if◌then◌else◌, Option, Some, None}
 use Rattle.std.specs.List.{list_all, slice_split}

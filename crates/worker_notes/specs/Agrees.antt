@@ -1,3 +1,4 @@
+-- Believed: a contract of the headline stands on it.
 -- When the notes of the workers agree with a history.
 use Rattle.std.specs.Prelude.{◌≡◌, ℕ, ◌+◌, List, [], ◌∷◌, Option, Some, None, if◌then◌else◌, ◌==◌}
 use Rattle.posix_terms.specs.declared.outcome.Outcome.{Outcome}

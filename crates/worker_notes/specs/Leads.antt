@@ -1,3 +1,4 @@
+-- Believed: a contract of the headline stands on it.
 -- The calls outside that lead from one value of an outside to another.
 use Rattle.std.specs.Prelude.{◌≡◌, ◌⊎◌, ℕ, ◌+◌, Bool, true, false, List, [], ◌∷◌, length}
 use Rattle.posix_terms.specs.declared.outcome.Outcome.{Outcome}

@@ -1,3 +1,4 @@
+-- Believed: a contract of the headline stands on it.
 -- The steps that an actor's meaning gives, under the replies that were noted.
 use Rattle.std.specs.Prelude.{◌≡◌, ◌⊎◌, Bool, true, false, List, [], ◌∷◌, Option, Some, None, is_some}
 use Rattle.posix_terms.specs.declared.reply.Reply.{Reply}

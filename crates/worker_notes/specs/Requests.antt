@@ -1,3 +1,4 @@
+-- Believed: a contract of the headline stands on it.
 -- The request with which a call goes outside, if it goes there: it is known of the call alone.
 use Rattle.std.specs.Prelude.{◌≡◌, ℕ, ℤ, pos, negsuc, length, Option, Some, None}
 use Rattle.lock_machine.specs.Requests.{kind_asked}
