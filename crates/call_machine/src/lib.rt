@@ -1,4 +1,32 @@
-//! Runs calls of threads against one shared table of descriptors.
+//! Runs calls of threads against one shared table of descriptors on the plain schedule, for replays
+//! and for `detio plain`.
+//!
+//! [`plain_run`] runs 1 to 8 scripts, each with a list of what comes for it from outside. A
+//! [`Plain`] has the transcripts, the history, the bytes of the log, and the [`Stop`] of a run that
+//! came to its end before all threads had ended: at the end of a list, at an outcome that does not
+//! answer, or at a full clock. By the contract its history is legal, its turns rise, and the log
+//! covers it; by `plain_runs_agree` there is one plain run of given scripts, outcomes and settings.
+//! A [`PlainFault`] says why there was no run: wrong numbers, wrong settings or no memory. The
+//! machine for a driver of your own is here too, as [`Machine`].
+//!
+//! ```rust
+//! use call_machine::plain_run;
+//! use posix_terms::{Outcomes, Settings};
+//! use thread_scripts::parse;
+//!
+//! let script = parse(alloc, b"open /a rw create\nwrite 0 x61\nclose 0\n")?;
+//! let scripts = vec![in alloc; script]?;
+//! // Nothing comes from outside.
+//! let outcomes = vec![in alloc; Outcomes::from_vec(Vec::new(alloc))]?;
+//! let settings = Settings {
+//!     patience: 1000,
+//!     door_cost: 100,
+//! };
+//! let plain = plain_run(alloc, scripts, outcomes, settings)?;
+//! assert!(rt; plain.stop.is_none());
+//! assert!(rt; plain.history.rows().len() == 3);
+//! assert!(rt; plain.transcripts.threads().len() == 1);
+//! ```
 #![tactic(auto)]
 
 mod drive;

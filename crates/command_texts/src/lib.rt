@@ -1,4 +1,33 @@
-//! What the commands read and print: texts and scripts, transcripts, logs and the lines of faults.
+//! What the commands read and print, for the crate `commands`: texts and scripts, transcripts, logs
+//! and the lines of faults.
+//!
+//! [`read_all`] reads the texts of [`Source`]s, or names the first that cannot be read; [`scripts`]
+//! reads the scripts, or tells the [`FirstFault`]. A [`Printed`] is what goes to standard output
+//! and standard error, with the exit status: [`run_printed`] makes that of a run, and [`bad_line`],
+//! [`cannot_read`] and the like that of a fault; [`log_text`] is the text of a log. [`print`]
+//! writes it and answers the status. By the contracts the bytes are those of the definitions in
+//! `specs/`. What makes a text takes memory, and fails only for want of it.
+//!
+//! ```rust
+//! use call_machine::Plain;
+//! use command_texts::{FirstFault, Printed, bad_line, run_printed, scripts, too_long};
+//! use posix_terms::Bytes;
+//!
+//! // What is to be printed for the first fault of these texts, if they have one.
+//! fn fault_printed(alloc: Global, texts: &[Bytes]) -> Result<Option<Printed>, AllocError> {
+//!     Ok(match scripts(alloc, texts) {
+//!         Ok(_) => None,
+//!         Err(FirstFault::BadLine(script, line)) => Some(bad_line(alloc, script, line)?),
+//!         Err(FirstFault::TooLong(script)) => Some(too_long(alloc, script)?),
+//!         Err(FirstFault::Memory) => return Err(AllocError),
+//!     })
+//! }
+//!
+//! // What is to be printed for a run, without the clocks of its turns.
+//! fn run_text(alloc: Global, plain: &Plain) -> Result<Printed, AllocError> {
+//!     run_printed(alloc, false, &plain.transcripts, plain.stop)
+//! }
+//! ```
 #![tactic(auto)]
 
 mod first_fault;

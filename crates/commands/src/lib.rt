@@ -1,4 +1,29 @@
-//! What the commands `plain`, `record`, `replay`, `compare` and `show` do, over any readers and writers.
+//! What the commands `plain`, `record`, `replay`, `compare` and `show` do, over any readers and
+//! writers, for the program `detio` and for its tests.
+//!
+//! Each command is a function, as [`plain_over`]: it reads its [`Source`]s, writes what the command
+//! prints to two writers, and answers the exit status. Its contract says what is printed for which
+//! texts. Bad scripts, bad logs and want of memory are faults that it prints; it fails only with an
+//! error of the writer `errors`. [`record_over`] makes its log, a [`LogTo`], just before the run,
+//! and asks for one outside for each script, of which none gave anything yet. [`DEFAULTS`] are the
+//! settings where no option says otherwise.
+//!
+//! ```rust
+//! use commands::{DEFAULTS, Source, plain_over};
+//!
+//! let mut sources = Vec::new(alloc);
+//! sources.push(Source {
+//!     path: "a.script",
+//!     reader: "open /a rw create\n".as_bytes(),
+//! })?;
+//! let mut output: Vec<u8> = Vec::new(alloc);
+//! let mut errors: Vec<u8> = Vec::new(alloc);
+//! let status = plain_over(alloc, DEFAULTS, false, sources, &mut output, &mut errors)?;
+//! // Another status would say that there was no memory.
+//! if status == 0 {
+//!     assert!(rt; output.as_slice() == b"0 0 open number 0\nend\n".as_slice());
+//! }
+//! ```
 #![tactic(auto)]
 
 mod compare;

@@ -1,5 +1,34 @@
-//! Doors to the outside: host files, listeners and streams, as calls reach them. One trait, over the real
-//! host or over a list of outcomes.
+//! Doors to the outside, for whoever runs calls that go there: host files, listeners and streams as
+//! calls reach them, by one trait over the real host, over a list of outcomes or over a log.
+//!
+//! An [`Outside`] is what one thread reaches: it has a function for each kind of request, which is
+//! handed the thread, the number of the outcome among those of the thread, and the door where there
+//! is one. By its contract an outcome fits what was asked, a success of an opening brings a door,
+//! and each outcome is counted. [`HostDoors`] are host files and TCP on the loopback address; what
+//! fails there is an outcome too. [`ScriptDoors`] give a list of outcomes behind a [`Gate`], and
+//! [`LogDoors`] what a log has for a thread. Where there is no outcome a [`DoorStop`] says why, and
+//! the outside is as it was. A read of the host takes memory for the bytes asked for, and without
+//! it nothing is read.
+//!
+//! ```rust
+//! use host_doors::{DoorStop, NoGate, Outside, ScriptDoor, ScriptDoors};
+//! use posix_terms::{Call, Errno, Given, OutKind, Outcome, Outcomes, Request};
+//!
+//! let kind = OutKind::Read;
+//! let outcome = Outcome::Fail(Errno::EIO);
+//! let list = Outcomes::from_vec(vec![in alloc; Given { kind, outcome }]?);
+//! let mut doors = ScriptDoors::new(list, NoGate);
+//! let mut door = ScriptDoor;
+//! let request = Request {
+//!     kind,
+//!     asked: 5,
+//!     call: Call::Read { descriptor: 0, count: 5 },
+//! };
+//! let first = doors.read(0, 0, &request, &mut door);
+//! assert!(rt; matches!(first, Ok(Outcome::Fail(Errno::EIO))));
+//! let second = doors.read(0, 1, &request, &mut door);
+//! assert!(rt; matches!(second, Err(DoorStop::EndOfLog)));
+//! ```
 #![tactic(auto)]
 
 mod asked;

@@ -1,5 +1,32 @@
-//! The lock machine, made run: threads that share one table of descriptors and take its locks at their turns, one event at a time.
-//! It is handed the steps of its threads and the outcomes from outside; each event is that of the definition in `lock_model`.
+//! The lock machine, made run, for the machine with a log and doors: threads that share one table
+//! of descriptors and take its locks at their turns, one event at a time, where each event is that
+//! of the definition in `lock_model`.
+//!
+//! A [`LockMachine`] is made for 1 to 8 threads, and is handed their steps and the outcomes from
+//! outside. `phase` tells where a thread is between its events: `ask`, `end`, `attempt`,
+//! `begin_outside`, `record`, `answer` and `again`. An event that is not the thread's own now, or
+//! an attempt without the turn, is [`Refused`], and so is one for which the clock has no room.
+//! `ask` and `again` may want memory, and then nothing changes; an attempt, an answer or an end
+//! wants none. What names a thread asks that there is one of this number. `rows` is the history so
+//! far, and `finish` leaves it with the steps that were asked.
+//!
+//! ```rust
+//! use lock_machine::{Attempt, LockMachine};
+//! use posix_terms::{Answer, Call, Reply, Settings};
+//! use thread_scripts::Step;
+//!
+//! let settings = Settings { patience: 1000, door_cost: 100 };
+//! let mut machine = LockMachine::new(alloc, 2, settings)?;
+//! assert!(rt; machine.ask(0, Step::Call(Call::Pipe)).is_ok());
+//! // Thread 1 would have the turn behind the first attempt of thread 0, if it had not ended.
+//! assert!(rt; machine.end(1).is_ok());
+//! assert!(rt; matches!(machine.try_table(0), Ok(Attempt::Got)));
+//! assert!(rt; matches!(machine.try_node(0), Ok(Attempt::Got)));
+//! assert!(rt; matches!(machine.answer(0), Ok(Answer::Reply(Reply::Pair(0, 1)))));
+//! assert!(rt; machine.end(0).is_ok());
+//! assert!(rt; machine.turn_holder() == None);
+//! assert!(rt; machine.finish().rows.len() == 1);
+//! ```
 #![tactic(auto)]
 
 mod ask;

@@ -1,7 +1,30 @@
-//! The lock machine: threads that take locks at their turns, as definitions (`specs/`) and laws. Each function
-//! here has an empty body: its contract is a law, which a caller may cite.
+//! The lock machine, for whoever proves something of runs: threads that take locks at their turns,
+//! as definitions (`specs/`) and laws.
 //!
-//! A *run* is any list of events that the machine allows; the *plain run* is the one deterministic schedule.
+//! A *run* is any list of events that the machine allows; the *plain run* is the one deterministic
+//! schedule. Each function here is a law: it does nothing, takes no memory and asks for nothing,
+//! and whoever calls it in a body knows from there on what its contract says. `one_event` tells
+//! what one event changes, and `arising_states` what holds of each state that a run leads to. By
+//! `legal_history` each answer is the one that the calls before it lead to, and by `prefix_law`
+//! what the threads saw at any moment is a beginning of what they see in the plain run. `real_runs`
+//! says the same of the real calls. [`TurnEnd`] is how a turn of a call ended.
+//!
+//! ```rust
+//! ghost use Rattle.lock_model.specs.Events.{EventLaws};
+//! ghost use Rattle.lock_model.specs.Laws.{ArisesByEvent};
+//!
+//! // What keeps true what is true of each machine, for the proofs of its events.
+//! fn laws()
+//!     ensures events { EventLaws }
+//!     ensures arises { ArisesByEvent }
+//! {
+//!     lock_model::one_event();
+//!     // Known now: an event that is not allowed changes nothing, and none changes another thread
+//!     // than its own.
+//!     lock_model::arising_states();
+//!     // Known now: each event leads from a state that arises to one that arises.
+//! }
+//! ```
 #![tactic(auto)]
 
 mod turn_end;

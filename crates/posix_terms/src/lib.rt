@@ -1,5 +1,33 @@
-//! The words of the calls: errors, calls, replies, outcomes from outside, turns and transcripts.
-//! Beside them, in `specs/`, the sequential object: what each call does to one shared table of descriptors.
+//! The words of the calls, for all other crates: errors, calls, replies, outcomes from outside,
+//! turns and transcripts; beside them, in `specs/`, stands the sequential object, which says what
+//! each call does to one shared table of descriptors.
+//!
+//! A [`Call`] has its arguments as the thread gave them, a [`Reply`] is what comes back, and an
+//! [`Outcome`] is what came from outside; `Outcome::fits` tells whether it answers what was asked.
+//! A [`Transcript`] is what one thread saw, a [`HistoryRow`] one granted turn of a run, and
+//! [`Limits`] has the limits of the profile. Contracts see plain values: of [`Bytes`] the list of
+//! bytes, of a transcript the list of its rows. Copies and `Transcript::push` take memory, and fail
+//! only for want of it; `from_vec` takes none. The laws of the sequential object, as
+//! `failed_calls_change_nothing`, are functions with an empty body: whoever calls one knows what
+//! its contract says.
+//!
+//! ```rust
+//! use posix_terms::{Bytes, Call, Errno, OutKind, Outcome, Reply, Row, Transcript, Turn};
+//!
+//! let bytes = Bytes::from_slice(alloc, b"hi")?;
+//! let call = Call::Write { descriptor: 0, bytes };
+//! assert!(rt; call.kind().word() == "write");
+//! assert!(rt; Errno::from_code(Errno::EIO.code()) == Some(Errno::EIO));
+//! // Every failure answers a request, whatever was asked.
+//! assert!(rt; Outcome::Fail(Errno::EIO).fits(OutKind::Write, 2));
+//! let mut transcript = Transcript::new(alloc);
+//! transcript.push(Row {
+//!     call,
+//!     turn: Turn { clock: 1, thread: 0 },
+//!     reply: Reply::Count(2),
+//! })?;
+//! assert!(rt; transcript.rows().len() == 1);
+//! ```
 #![tactic(auto)]
 
 mod bytes;

@@ -1,5 +1,38 @@
-//! Records runs of real threads: each actor has a thread of its own, all make their events at one machine under one lock, and calls to the
-//! outside are made while nobody holds it.
+//! Records runs of real threads, for programs that embed it and for `detio record`: each actor has
+//! a thread of its own, all make their events at one machine under one lock, and calls to the
+//! outside are made while other threads go on.
+//!
+//! [`run_recorded`] takes 1 to 8 actors, an outside for each that gave nothing yet, and a sink that
+//! took nothing yet; [`hosts`] makes outsides over the real host. It waits until all have ended or
+//! the run was stopped, and gives [`Ended`]: the transcripts, the history, the sink with the log,
+//! and the stop. By the contract the history is legal, its turns rise, and what the sink took
+//! covers it; unless the stop is `Strayed`, the workers' own notes say the same. Want of memory
+//! stops a run, and so do a sink that fails, a full clock and a thread that cannot be started.
+//! Where no run was started, [`NotStarted`] says why and hands all back. Nothing is promised of
+//! time.
+//!
+//! ```rust
+//! use input_log::MemorySink;
+//! use posix_terms::Settings;
+//! use recorder::{BoxedActor, hosts, run_recorded};
+//! use thread_scripts::{ScriptActor, parse};
+//!
+//! fn main(rt: HostRuntime) -> anyhow::Result<()> {
+//!     let alloc = rt.alloc();
+//!     let script = parse(alloc, b"host_open out w create\nwrite 0 x6869\nclose 0\n")?;
+//!     let mut actors: Vec<BoxedActor> = Vec::new(alloc);
+//!     actors.push(Box::new(alloc, ScriptActor::new(script))?)?;
+//!     let outsides = hosts(rt, alloc, 1)?;
+//!     let sink = MemorySink::new(alloc, 65_536)?;
+//!     let settings = Settings { patience: 1000, door_cost: 100 };
+//!     let count = match run_recorded(&rt, alloc, actors, outsides, sink, settings) {
+//!         Ok(ended) => ended.sink.bytes().len(),
+//!         Err(refused) => return Err(refused.fault.into()),
+//!     };
+//!     println!(rt; "the log has {count} bytes")?;
+//!     Ok(())
+//! }
+//! ```
 #![tactic(auto)]
 
 mod asked;

@@ -1,5 +1,32 @@
-//! The scripts of threads: a text is read into a script, and a script run line by line gives a
-//! thread's steps.
+//! The scripts of threads, for whoever gives a run its threads: a text is read into a script, and a
+//! script run line by line gives a thread's steps.
+//!
+//! [`parse`] reads a text, or gives a [`ScriptFault`]: its first bad line, too many lines, or no
+//! memory. A [`Script`] can also be made in code from [`Line`]s, by `Script::of`, whose condition
+//! `Script::accepts` tests. An [`Actor`] gives a thread's next [`Step`] and is handed the reply to
+//! the last one; a [`ScriptActor`] follows a script, and a [`BoxedActor`] is an actor of any type.
+//! By the contract each step is the one that the script's meaning gives, and each but the end
+//! leaves fewer lines to be executed. Without memory for a step the actor is as it was.
+//!
+//! ```rust
+//! use posix_terms::{Call, Reply};
+//! use thread_scripts::{Actor, Line, Script, ScriptActor, Step, parse};
+//!
+//! let script = parse(alloc, b"close 0\njzero r0 a\nwork 7\nlabel a")?;
+//! let mut actor = ScriptActor::new(script);
+//! assert!(rt; actor.next(None)? == Step::Call(Call::Close { descriptor: 0 }));
+//! // The reply is a count that is not 0, so the script does not jump.
+//! assert!(rt; actor.next(Some(&Reply::Count(1)))? == Step::Work(7));
+//! assert!(rt; actor.next(None)? == Step::End);
+//!
+//! let mut lines = Vec::new(alloc);
+//! lines.push(Line::Work(7))?;
+//! lines.push(Line::End)?;
+//! if Script::accepts(&lines) {
+//!     let mut actor = ScriptActor::new(Script::of(lines));
+//!     assert!(rt; actor.next(None)? == Step::Work(7));
+//! }
+//! ```
 #![tactic(auto)]
 
 mod actor;

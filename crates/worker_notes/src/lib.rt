@@ -1,4 +1,30 @@
-//! What the worker of a thread notes itself while it plays its actor, and whether that is what the history of the run says of its thread.
+//! What the worker of a thread notes itself while it plays its actor, and whether that is what the
+//! history of the run says of its thread, for the recorder.
+//!
+//! [`Own`] has the steps that the machine took, with their replies, and the outcomes that it
+//! recorded, with the requests. [`note_reply`] gives the last step its reply, and [`last_reply`] is
+//! what the actor is handed next. [`agree`] tells exactly whether the notes of all workers are what
+//! the rows and the steps that were asked say; [`is_request_of`] tells whether a request is the one
+//! with which a call goes outside. Notes are pushed into plain vectors, which takes memory; all
+//! functions here take none.
+//!
+//! ```rust
+//! use lock_machine::Left;
+//! use posix_terms::{Call, Reply};
+//! use thread_scripts::Step;
+//! use worker_notes::{Noted, Own, agree, last_reply, note_reply};
+//!
+//! let mut own = Own::new(alloc);
+//! let step = Step::Call(Call::Pipe);
+//! own.steps.push(Noted { step, reply: None })?;
+//! note_reply(&mut own.steps, Reply::Pair(0, 1));
+//! assert!(rt; matches!(last_reply(own.steps.as_slice()), Some(Reply::Pair(0, 1))));
+//!
+//! // Whether the workers of a machine that is over noted what it says.
+//! fn agrees(left: &Left, own: &[Own]) -> bool {
+//!     agree(left.rows.as_slice(), &left.asked, own)
+//! }
+//! ```
 #![tactic(auto)]
 
 mod agreement;
