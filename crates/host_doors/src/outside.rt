@@ -11,7 +11,7 @@ use posix_terms::{Outcome, Request};
 
 /// What one thread reaches outside. Each call has the thread, the number of its outcome among those of the
 /// thread, the request and, where there is one, the door. It gives an outcome that answers the request, and
-/// with a success of an opening a door; or it says why there is none, and then nothing has changed.
+/// with a success of an opening a door; or it says why there is none, and then the outside is as it was.
 pub trait Outside {
     type Door: Send + Drop;
 

@@ -15,7 +15,7 @@ pub struct ThreadClock {
     pub live: bool,
 }
 
-/// The clock of a thread is as far as clocks go.
+/// What was to be added has no room on the thread's clock.
 #[derive(Clone, Copy, Debug, PartialEq, Eq)]
 pub struct ClockFull;
 

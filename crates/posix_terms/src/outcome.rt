@@ -32,7 +32,8 @@ pub enum Outcome {
 
 impl Outcome {
     /// Whether the outcome answers a request of this kind that asks this: for a read and a write the count
-    /// of bytes, for a listener the port, or 0 for any port, and for the other kinds 0. Every failure fits.
+    /// of bytes, for a listener the port, or 0 for any port, for a connection the port of its peer, and for the
+    /// other kinds 0. Every failure fits.
     #[tactic(auto, unfolding(crate::specs::Outcomes::fits))]
     pub fn fits(&self, kind: OutKind, asked: u64) -> bool
         ensures { result ≡ fits kind asked self.now }
