@@ -1,12 +1,12 @@
 -- What is told of a run that has come to its end, or diverged.
 use Rattle.std.proofs.Common.{◌≡◌, ℕ, length, true, Option, sym, ap, ◌∙◌, subst}
 use Rattle.input_log.specs.declared.log.Header.{Header}
-use Rattle.posix_terms.specs.Legal.{IsLegal}
+use Rattle.sequential_object.specs.Legal.{IsLegal}
 use Rattle.posix_terms.specs.declared.limits.TheConstants.Limits as limit
 use Rattle.lock_machine.specs.Shows.{ClocksShown}
 use Rattle.lock_machine.specs.Starting.{ShowsAtStart}
 use Rattle.lock_model.specs.Laws.{RisingOfArisen}
-use Rattle.lock_model.specs.Numbers.{first_world}
+use Rattle.sequential_object.specs.Numbers.{first_world}
 use Rattle.lock_model.specs.RealLaws.{RealLegalOfArisen}
 use Rattle.lock_model.specs.Came.{CameIsRows}
 use Rattle.call_machine.specs.Covered.{HasSpelling, IsCovered, RecordsCame}

@@ -7,11 +7,11 @@ use Rattle.posix_terms.specs.declared.reply.Reply.{Reply}
 use Rattle.thread_scripts.specs.Laws.{RunsEnd}
 use Rattle.thread_scripts.specs.Meaning.{lines_left, next_of}
 use Rattle.thread_scripts.specs.declared.actor.ScriptState.{ScriptState}
-use Rattle.thread_scripts.specs.declared.actor.Step.{Step}
-use Rattle.thread_scripts.specs.declared.actor.Step.TheVariants as step
+use Rattle.posix_terms.specs.declared.step.Step.{Step}
+use Rattle.posix_terms.specs.declared.step.Step.TheVariants as step
 use Rattle.lock_model.specs.CallTable.{CallTable, has_object, keeps_table}
-use Rattle.lock_model.specs.declared.turn_end.TurnEnd.{TurnEnd}
-use Rattle.lock_model.specs.declared.turn_end.TurnEnd.TheVariants as turn_end
+use Rattle.sequential_object.specs.declared.turn_end.TurnEnd.{TurnEnd}
+use Rattle.sequential_object.specs.declared.turn_end.TurnEnd.TheVariants as turn_end
 use Rattle.lock_model.specs.Events.{EventLaws, IsIn, IsMoved}
 use Rattle.lock_model.specs.Events.IsMoved.{AnswersGranted, AnswersRecorded, AsksStep, GetsOutcome, GoesOut, MakesAgain}
 use Rattle.lock_model.specs.Machine.{advance, after_step, answer, answered, attempt, can_advance, can_attempt, one_if, wants}

@@ -10,7 +10,7 @@ use Rattle.posix_terms.specs.declared.limits.TheConstants.Limits as limit
 use Rattle.lock_model.specs.Events.{EventLaws}
 use Rattle.lock_model.specs.Laws.{ArisesAtStart, ArisesByEvent}
 use Rattle.lock_model.specs.Machine.{Event, Setup, advance, attempt, can_advance, can_attempt, happens}
-use Rattle.lock_model.specs.Numbers.{first_world}
+use Rattle.sequential_object.specs.Numbers.{first_world}
 use Rattle.lock_model.specs.Machine.Event.{Advances, Attempts}
 use Rattle.lock_model.specs.Schedule.{advance_by, after_event, attempt_by, next_event, plain, plain_run}
 use Rattle.lock_model.specs.State.{State, live_clocks, thread_of}

@@ -3,10 +3,10 @@ use Rattle.std.proofs.Common.{◌≡◌, ℕ, List, [], ◌∷◌, ◌++◌, len
 use Rattle.posix_terms.specs.declared.call.Call.{Call}
 use Rattle.posix_terms.specs.declared.reply.Reply.{Reply}
 use Rattle.thread_scripts.specs.Meaning.{next_of}
-use Rattle.thread_scripts.specs.declared.actor.Step.{Step}
-use Rattle.thread_scripts.specs.declared.actor.Step.TheVariants as step
+use Rattle.posix_terms.specs.declared.step.Step.{Step}
+use Rattle.posix_terms.specs.declared.step.Step.TheVariants as step
 use Rattle.lock_model.specs.Runs.{calls_in}
-use Rattle.lock_model.specs.ScriptPrograms.{Reached, reached_after, replies_behind, reply_to}
+use Rattle.thread_scripts.specs.ScriptPrograms.{Reached, reached_after, replies_behind, reply_to}
 
 -- a script past its next step, with this reply to it
 abbrev pub past : Option Reply → Reached → Reached

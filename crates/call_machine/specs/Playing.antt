@@ -8,7 +8,7 @@ use Rattle.posix_terms.specs.declared.reply.Reply.{Reply}
 use Rattle.thread_scripts.specs.Meaning.{start_of}
 use Rattle.lock_model.specs.Machine.{advance, attempt, can_advance, can_attempt, moves}
 use Rattle.lock_model.specs.Runs.{Arises, calls_in}
-use Rattle.lock_model.specs.ScriptPrograms.{at_start, reached_after}
+use Rattle.thread_scripts.specs.ScriptPrograms.{at_start, reached_after}
 use Rattle.lock_model.specs.State as lock
 use Rattle.lock_model.specs.State.{State, thread_of}
 use Rattle.lock_model.specs.State.Phase.{Ended, Working}

@@ -5,7 +5,7 @@ use Rattle.posix_terms.specs.declared.outcome.Given.{Given}
 use Rattle.posix_terms.specs.declared.transcript.Settings.{Settings}
 use Rattle.thread_scripts.specs.declared.line.Line.{Line}
 use Rattle.lock_model.specs.Machine.{Setup}
-use Rattle.lock_model.specs.ScriptPrograms.{scripted}
+use Rattle.thread_scripts.specs.ScriptPrograms.{scripted}
 use Rattle.lock_model.specs.State.{State}
 use Rattle.lock_machine.specs.Conditions.{Conditions, setup_under, start_under}
 

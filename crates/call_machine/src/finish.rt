@@ -104,15 +104,22 @@ fn transcripts(
 fn transcript(alloc: Global, thread: usize, rows: &[HistoryRow]) -> Result<Transcript, AllocError>
     ensures { IfOk result (λ transcript. transcript ≡ transcript_of thread rows.now) }
 {
-    let mut transcript = Transcript::new(alloc);
+    let mut own = Vec::with_capacity(alloc, replies(thread, rows))?;
     for row in rows {
         if let (true, Some(Answer::Reply(reply))) = (row.turn.thread == thread, &row.answer) {
-            transcript.push(Row {
+            own.push(Row {
                 call: row.call.try_clone()?,
                 turn: row.turn,
                 reply: reply.try_clone()?,
             })?;
         }
     }
-    Ok(transcript)
+    Ok(Transcript::from_vec(own))
+}
+
+// How many replies one thread got.
+fn replies(thread: usize, rows: &[HistoryRow]) -> usize {
+    rows.iter()
+        .filter(|row| row.turn.thread == thread && matches!(row.answer, Some(Answer::Reply(_))))
+        .count()
 }

@@ -8,7 +8,7 @@ use std::alloc::{AllocError, Global};
 use thread_scripts::{Script, ScriptActor, Step};
 
 // A script that plays a thread: with the last reply, which it sees with its next step, and whether its last step had no
-// room on the thread's clock.
+// room on the thread's clock. By then the script has gone on, so it is asked no more.
 #[derive(Drop)]
 pub struct Player {
     pub actor: ScriptActor,

@@ -1,5 +1,5 @@
 ghost use Rattle.std.specs.Prelude.{◌≡◌, IfOk};
-ghost use Rattle.posix_terms.specs.Legal.{IsLegal};
+ghost use Rattle.sequential_object.specs.Legal.{IsLegal};
 ghost use Rattle.lock_machine.specs.Shows.{ClocksShown};
 ghost use Rattle.lock_machine.specs.Starting.{ShowsAtStart};
 ghost use Rattle.lock_model.specs.Came.{CameIsRows};

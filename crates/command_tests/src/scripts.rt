@@ -21,6 +21,8 @@ end
     ),
     // No call at all.
     ("", "end\n"),
+    // A loop without a call, which ends behind ten thousand lines.
+    ("label a\njump a\n", "end\n"),
     // A write up to the greatest length of a file.
     (
         "open /a rw create

@@ -12,6 +12,7 @@
 //! use call_machine::Plain;
 //! use command_texts::{FirstFault, Printed, bad_line, run_printed, scripts, too_long};
 //! use posix_terms::Bytes;
+//! use std::alloc::{AllocError, Global};
 //!
 //! // What is to be printed for the first fault of these texts, if they have one.
 //! fn fault_printed(alloc: Global, texts: &[Bytes]) -> Result<Option<Printed>, AllocError> {

@@ -1,6 +1,6 @@
 -- The plan of an `open` and its change go through the same looks, in another order.
 use Rattle.std.proofs.Common.{ℕ, List, arith}
-use Rattle.posix_terms.specs.Names.{added}
+use Rattle.sequential_object.specs.Names.{added}
 use Rattle.posix_terms.specs.declared.call.Access.{Access}
 use Rattle.posix_terms.specs.declared.call.OpenFlags.{OpenFlags}
 use Rattle.directories.specs.Lookup.{looked_up}

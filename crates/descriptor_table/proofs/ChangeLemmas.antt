@@ -8,12 +8,12 @@ use Rattle.std.specs.FinMap.{FinMap, get-insert}
 use Rattle.std.specs.Option.{option_map}
 use Rattle.std.specs.Ordering.{nat_cmp, eq_by_cmp}
 use Rattle.std.specs.Prelude.{pos, slice_index_or, slice_set}
-use Rattle.posix_terms.specs.Descriptors as posix
-use Rattle.posix_terms.specs.Descriptors.{is_key}
-use Rattle.posix_terms.specs.Duplicates as duplicates
-use Rattle.posix_terms.specs.Names.{links_of}
-use Rattle.posix_terms.specs.Object as object
-use Rattle.posix_terms.specs.Object.{State, Content, File, Node, FileNode, Directory, path_cmp, content_of}
+use Rattle.sequential_object.specs.Descriptors as posix
+use Rattle.sequential_object.specs.Descriptors.{is_key}
+use Rattle.sequential_object.specs.Duplicates as duplicates
+use Rattle.sequential_object.specs.Names.{links_of}
+use Rattle.sequential_object.specs.Object as object
+use Rattle.sequential_object.specs.Object.{State, Content, File, Node, FileNode, Directory, path_cmp, content_of}
 use Rattle.file_descriptions.proofs.SoundLemmas.{AreSound-removed}
 use Rattle.file_descriptions.specs.Descriptions.{AreSound, ContainsKey, DescriptionMap, description_at, new_description, no_description, with_description, with_holder, with_new, with_offset, without}
 use Rattle.file_descriptions.specs.declared.description.Description.{Description}

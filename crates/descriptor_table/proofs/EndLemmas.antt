@@ -5,13 +5,13 @@ use Rattle.std.specs.Cmp.{nat_cmp_total}
 use Rattle.std.specs.FinMap as fin
 use Rattle.std.specs.List.{list_any}
 use Rattle.std.specs.Ordering.{nat_cmp}
-use Rattle.posix_terms.specs.Descriptors as posix
-use Rattle.posix_terms.specs.Descriptors.{is_of_end}
+use Rattle.sequential_object.specs.Descriptors as posix
+use Rattle.sequential_object.specs.Descriptors.{is_of_end}
 use Rattle.posix_terms.specs.Ends.{is_end, is_first}
-use Rattle.posix_terms.specs.Object.{State, Content, File, Pipe, Pair, DoorTo, any_below, content_of}
-use Rattle.posix_terms.specs.Object as object
-use Rattle.posix_terms.specs.Streams.{PairState}
-use Rattle.posix_terms.specs.Refusals.{refuse_if}
+use Rattle.sequential_object.specs.Object.{State, Content, File, Pipe, Pair, DoorTo, any_below, content_of}
+use Rattle.sequential_object.specs.Object as object
+use Rattle.sequential_object.specs.Streams.{PairState}
+use Rattle.sequential_object.specs.Refusals.{refuse_if}
 use Rattle.posix_terms.specs.declared.errno.Errno.{Errno}
 use Rattle.posix_terms.specs.declared.call.ShutdownHow.{ShutdownHow}
 use Rattle.posix_terms.specs.declared.call.Whence.{Whence}

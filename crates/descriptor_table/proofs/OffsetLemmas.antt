@@ -5,10 +5,10 @@ use Rattle.std.proofs.lemmas.Option.{none-some, same_Some}
 use Rattle.std.specs.FinMap as fin
 use Rattle.std.specs.Ordering.{int_eq}
 use Rattle.std.specs.Prelude.{ℤ, pos, slice_index_or, slice_set}
-use Rattle.posix_terms.specs.Duplicates.{descriptor_number}
-use Rattle.posix_terms.specs.Names.{added, file_named, removed, removed_dir}
-use Rattle.posix_terms.specs.Object.{Node, FileNode, Directory}
-use Rattle.posix_terms.specs.Refusals.{◌>>=◌, some_or}
+use Rattle.sequential_object.specs.Duplicates.{descriptor_number}
+use Rattle.sequential_object.specs.Names.{added, file_named, removed, removed_dir}
+use Rattle.sequential_object.specs.Object.{Node, FileNode, Directory}
+use Rattle.sequential_object.specs.Refusals.{◌>>=◌, some_or}
 use Rattle.posix_terms.specs.declared.call.Access.{Access}
 use Rattle.posix_terms.specs.declared.call.Access.TheVariants.{ReadOnly, WriteOnly, ReadWrite}
 use Rattle.posix_terms.specs.declared.object.Door.{Door}

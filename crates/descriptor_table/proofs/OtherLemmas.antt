@@ -9,25 +9,25 @@ use Rattle.std.specs.Ordering.{int_eq}
 use Rattle.std.specs.Option.{option_map}
 use Rattle.std.specs.Prelude.{ℤ, ◌+ℤ◌, pos, negsuc, nat_le, nat_lt, slice_index_or}
 use Rattle.posix_terms.specs.Calls.{can_read, can_write}
-use Rattle.posix_terms.specs.Descriptors as posix
-use Rattle.posix_terms.specs.Descriptors.{close_result, open_result}
-use Rattle.posix_terms.specs.Doors.{NewDoor, host_open_result, host_path, opens, port_of, tcp_accept_result, tcp_connect_result, tcp_listen_result}
-use Rattle.posix_terms.specs.Duplicates as duplicates
-use Rattle.posix_terms.specs.Duplicates.{dup_result, dup_from_result, dup2_result, descriptor_number}
-use Rattle.posix_terms.specs.Effects.{Effect, Asks, Blocks, Completes, asks_of}
-use Rattle.posix_terms.specs.Files.{bytes_at, resized, written}
-use Rattle.posix_terms.specs.Names.{PathMap, added, file_named, link_result, mkdir_result, removed, removed_dir, rmdir_result, unlink_result, with_paths}
-use Rattle.posix_terms.specs.Object.{State, Content, File, Pipe, Pair, DoorTo, Node, FileNode, Directory, with_content, content_of}
-use Rattle.posix_terms.specs.Object as object
-use Rattle.posix_terms.specs.Ends.{side_of}
-use Rattle.posix_terms.specs.Paths.{node_at, resolved}
-use Rattle.posix_terms.specs.Refusals.{◌>>=◌, count_of, position_of, refuse_if, some_or}
-use Rattle.posix_terms.specs.Status.{fstat_result, getfl_result, setfl_result}
-use Rattle.posix_terms.specs.Sockets as sockets
-use Rattle.posix_terms.specs.Sockets.{NewEnd, pipe_result, shut_content, shuttable, shutdown_result, socketpair_result}
-use Rattle.posix_terms.specs.Streams.{Reading, Reads, Ends, NothingYet, Writing, Writes, Breaks, NoRoom, new_pair, pair_read, pair_write, peer_of, shut, stream_read, stream_write, with_waiting}
-use Rattle.posix_terms.specs.Step.{Carried, concluded, effect_of, failed, is_again, waited}
-use Rattle.posix_terms.specs.Transfers.{base_of, file_in, has_peer, host_offset, offset_of, read_content, read_done, seek_content, write_at, write_content, write_done, read_result, write_result, pread_result, pwrite_result, lseek_result, ftruncate_result, size_of, start_of}
+use Rattle.sequential_object.specs.Descriptors as posix
+use Rattle.sequential_object.specs.Descriptors.{close_result, open_result}
+use Rattle.sequential_object.specs.Doors.{NewDoor, host_open_result, host_path, opens, port_of, tcp_accept_result, tcp_connect_result, tcp_listen_result}
+use Rattle.sequential_object.specs.Duplicates as duplicates
+use Rattle.sequential_object.specs.Duplicates.{dup_result, dup_from_result, dup2_result, descriptor_number}
+use Rattle.sequential_object.specs.Effects.{Effect, Asks, Blocks, Completes, asks_of}
+use Rattle.sequential_object.specs.Files.{bytes_at, resized, written}
+use Rattle.sequential_object.specs.Names.{PathMap, added, file_named, link_result, mkdir_result, removed, removed_dir, rmdir_result, unlink_result, with_paths}
+use Rattle.sequential_object.specs.Object.{State, Content, File, Pipe, Pair, DoorTo, Node, FileNode, Directory, with_content, content_of}
+use Rattle.sequential_object.specs.Object as object
+use Rattle.posix_terms.specs.Ends.{side_of, peer_of}
+use Rattle.sequential_object.specs.Paths.{node_at, resolved}
+use Rattle.sequential_object.specs.Refusals.{◌>>=◌, count_of, position_of, refuse_if, some_or}
+use Rattle.sequential_object.specs.Status.{fstat_result, getfl_result, setfl_result}
+use Rattle.sequential_object.specs.Sockets as sockets
+use Rattle.sequential_object.specs.Sockets.{NewEnd, pipe_result, shut_content, shuttable, shutdown_result, socketpair_result}
+use Rattle.sequential_object.specs.Streams.{Reading, Reads, Ends, NothingYet, Writing, Writes, Breaks, NoRoom, new_pair, pair_read, pair_write, shut, stream_read, stream_write, with_waiting}
+use Rattle.sequential_object.specs.Step.{Carried, concluded, effect_of, failed, is_again, waited}
+use Rattle.sequential_object.specs.Transfers.{base_of, file_in, has_peer, host_offset, offset_of, read_content, read_done, seek_content, write_at, write_content, write_done, read_result, write_result, pread_result, pwrite_result, lseek_result, ftruncate_result, size_of, start_of}
 use Rattle.posix_terms.specs.declared.call.Access.{Access}
 use Rattle.posix_terms.specs.declared.call.Access.TheVariants.{ReadOnly, WriteOnly, ReadWrite}
 use Rattle.posix_terms.specs.declared.call.Call.{Call}

@@ -11,13 +11,13 @@ use Rattle.std.specs.List.{list_any}
 use Rattle.std.specs.Option.{option_map}
 use Rattle.std.specs.Ordering.{nat_cmp}
 use Rattle.std.specs.Prelude.{slice_index_or}
-use Rattle.posix_terms.specs.Descriptors as posix
-use Rattle.posix_terms.specs.Descriptors.{is_file, is_of}
-use Rattle.posix_terms.specs.Names.{has_entries, is_inside, links_of}
-use Rattle.posix_terms.specs.Object.{State, Content, Node, FileNode, Directory, any_below, path_cmp, content_of}
-use Rattle.posix_terms.specs.Object as object
-use Rattle.posix_terms.specs.Paths.{node_at, passed, path_form, resolved, walked}
-use Rattle.posix_terms.specs.Refusals.{◌>>=◌}
+use Rattle.sequential_object.specs.Descriptors as posix
+use Rattle.sequential_object.specs.Descriptors.{is_file, is_of}
+use Rattle.sequential_object.specs.Names.{has_entries, is_inside, links_of}
+use Rattle.sequential_object.specs.Object.{State, Content, Node, FileNode, Directory, any_below, path_cmp, content_of}
+use Rattle.sequential_object.specs.Object as object
+use Rattle.sequential_object.specs.Paths.{node_at, passed, path_form, resolved, walked}
+use Rattle.sequential_object.specs.Refusals.{◌>>=◌}
 use Rattle.posix_terms.specs.declared.errno.Errno.{Errno}
 use Rattle.posix_terms.specs.Ends.{is_first}
 use Rattle.file_descriptions.specs.Descriptions.{AreSound, has_first_end, has_second_end}

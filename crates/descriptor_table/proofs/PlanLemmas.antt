@@ -7,33 +7,33 @@ use Rattle.std.proofs.lemmas.Option.{none-some, same_Some}
 use Rattle.std.specs.FinMap as fin
 use Rattle.std.specs.FinMap.{get-remove}
 use Rattle.std.specs.Ordering.{eq_by_cmp}
-use Rattle.posix_terms.specs.Object.{path_cmp, content_of, is_door}
-use Rattle.posix_terms.specs.Object as Object
+use Rattle.sequential_object.specs.Object.{path_cmp, content_of, is_door}
+use Rattle.sequential_object.specs.Object as Object
 use Rattle.std.specs.Ordering.{int_eq}
 use Rattle.std.specs.Option.{option_map}
 use Rattle.std.specs.Prelude.{ℤ, ◌+ℤ◌, pos, negsuc, nat_le, slice_index_or}
 use Rattle.posix_terms.specs.Calls.{can_write}
-use Rattle.posix_terms.specs.Descriptors as posix
-use Rattle.posix_terms.specs.Descriptors.{close_result, is_file, open_result, opened, truncated, with_file, without_unused}
-use Rattle.posix_terms.specs.Doors.{NewDoor, host_open_result, host_path, listener_in, opens, port_of, tcp_accept_result, tcp_connect_result, tcp_listen_result}
-use Rattle.posix_terms.specs.Duplicates as duplicates
-use Rattle.posix_terms.specs.Duplicates.{dup_result, dup_from_result, dup2_result, closed, descriptor_number, shared}
+use Rattle.sequential_object.specs.Descriptors as posix
+use Rattle.sequential_object.specs.Descriptors.{close_result, is_file, open_result, opened, truncated, with_file, without_unused}
+use Rattle.sequential_object.specs.Doors.{NewDoor, host_open_result, host_path, listener_in, opens, port_of, tcp_accept_result, tcp_connect_result, tcp_listen_result}
+use Rattle.sequential_object.specs.Duplicates as duplicates
+use Rattle.sequential_object.specs.Duplicates.{dup_result, dup_from_result, dup2_result, closed, descriptor_number, shared}
 use Rattle.posix_terms.specs.Ends.{is_end}
-use Rattle.posix_terms.specs.Effects.{Effect, Asking, Asks, Blocks, Completes, asks_of}
-use Rattle.posix_terms.specs.Locked.{closed_object, keeps_table, locked, locked_by_new, locked_object, unless_refused, unnamed_object}
-use Rattle.posix_terms.specs.Names.{PathMap, added, file_named, file_node, link_result, mkdir_result, removed, removed_dir, removed_dir_at, rmdir_result, unlink_result, has_entries, links_of, with_paths}
-use Rattle.posix_terms.specs.Object.{State, Content, Pipe, Pair, DoorTo, Node, FileNode, Directory}
-use Rattle.posix_terms.specs.Paths.{node_at, resolved}
-use Rattle.posix_terms.specs.Refusals.{◌>>=◌, refuse_if, some_or}
-use Rattle.posix_terms.specs.Sockets as sockets
-use Rattle.posix_terms.specs.Sockets.{NewEnd, pipe_result, shutdown_result, socketpair_result}
-use Rattle.posix_terms.specs.Streams.{new_pair}
-use Rattle.posix_terms.specs.Status.{fstat_result, getfl_result, setfl_result}
-use Rattle.posix_terms.specs.Step.{Carried, concluded, effect_of, nothing_carried, request_of}
+use Rattle.sequential_object.specs.Effects.{Effect, Asking, Asks, Blocks, Completes, asks_of}
+use Rattle.sequential_object.specs.Locked.{closed_object, keeps_table, locked, locked_by_new, locked_object, unless_refused, unnamed_object}
+use Rattle.sequential_object.specs.Names.{PathMap, added, file_named, file_node, link_result, mkdir_result, removed, removed_dir, removed_dir_at, rmdir_result, unlink_result, has_entries, links_of, with_paths}
+use Rattle.sequential_object.specs.Object.{State, Content, Pipe, Pair, DoorTo, Node, FileNode, Directory}
+use Rattle.sequential_object.specs.Paths.{node_at, resolved}
+use Rattle.sequential_object.specs.Refusals.{◌>>=◌, refuse_if, some_or}
+use Rattle.sequential_object.specs.Sockets as sockets
+use Rattle.sequential_object.specs.Sockets.{NewEnd, pipe_result, shutdown_result, socketpair_result}
+use Rattle.sequential_object.specs.Streams.{new_pair}
+use Rattle.sequential_object.specs.Status.{fstat_result, getfl_result, setfl_result}
+use Rattle.sequential_object.specs.Step.{Carried, concluded, effect_of, nothing_carried, request_of}
 use Rattle.posix_terms.specs.declared.outcome.Outcome.{Outcome}
 use Rattle.posix_terms.specs.declared.transcript.Settings.{Settings}
-use Rattle.posix_terms.specs.Transfers as transfers
-use Rattle.posix_terms.specs.Transfers.{host_offset, read_result, write_result, pread_result, pwrite_result, lseek_result, ftruncate_result}
+use Rattle.sequential_object.specs.Transfers as transfers
+use Rattle.sequential_object.specs.Transfers.{host_offset, read_result, write_result, pread_result, pwrite_result, lseek_result, ftruncate_result}
 use Rattle.posix_terms.specs.declared.call.Access.{Access}
 use Rattle.posix_terms.specs.declared.call.Access.TheVariants.{ReadOnly, WriteOnly, ReadWrite}
 use Rattle.posix_terms.specs.declared.call.Call.{Call}

@@ -10,9 +10,9 @@ use Rattle.std.specs.FinMap.{get-empty}
 use Rattle.std.specs.Ordering.{nat_cmp}
 use Rattle.std.specs.Option.{option_map}
 use Rattle.std.specs.Prelude.{ℤ, pos, negsuc, slice_index_or, slice_set}
-use Rattle.posix_terms.specs.Descriptors as posix
-use Rattle.posix_terms.specs.Descriptors.{is_key}
-use Rattle.posix_terms.specs.Object.{State, Content, Description as ADescription, any_below, empty_state, path_cmp}
+use Rattle.sequential_object.specs.Descriptors as posix
+use Rattle.sequential_object.specs.Descriptors.{is_key}
+use Rattle.sequential_object.specs.Object.{State, Content, Description as ADescription, any_below, empty_state, path_cmp}
 use Rattle.posix_terms.specs.declared.errno.Errno.TheVariants.{EBADF}
 use Rattle.file_descriptions.specs.Descriptions.{AreSound, description_at, no_description}
 use Rattle.file_descriptions.specs.declared.description.Description.{Description}

@@ -13,11 +13,11 @@ use Rattle.std.specs.Ordering.{nat_cmp, eq_by_cmp}
 use Rattle.directories.specs.Lookup.{looked_up}
 use Rattle.std.specs.Prelude.{nat_le, IfOk, IfErr, ℤ, pos, negsuc, slice_index_or, slice_set}
 use Rattle.std.specs.declared.cmp.Ordering.TheVariants.{Equal}
-use Rattle.posix_terms.specs.Descriptors.{is_file, is_key}
-use Rattle.posix_terms.specs.Names.{PathMap, added, file_named, file_node, has_entries, links_of, removed, removed_dir, removed_dir_at}
-use Rattle.posix_terms.specs.Object.{Node, FileNode, Directory, path_cmp}
-use Rattle.posix_terms.specs.Paths.{node_at, resolved}
-use Rattle.posix_terms.specs.Refusals.{◌>>=◌, refuse_if}
+use Rattle.sequential_object.specs.Descriptors.{is_file, is_key}
+use Rattle.sequential_object.specs.Names.{PathMap, added, file_named, file_node, has_entries, links_of, removed, removed_dir, removed_dir_at}
+use Rattle.sequential_object.specs.Object.{Node, FileNode, Directory, path_cmp}
+use Rattle.sequential_object.specs.Paths.{node_at, resolved}
+use Rattle.sequential_object.specs.Refusals.{◌>>=◌, refuse_if}
 use Rattle.posix_terms.specs.declared.errno.Errno.{Errno}
 use Rattle.posix_terms.specs.declared.errno.Errno.TheVariants.{EBUSY, EEXIST, ENOSPC, ENOTEMPTY}
 use Rattle.posix_terms.specs.Ends.{is_first}

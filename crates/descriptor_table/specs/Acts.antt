@@ -3,13 +3,13 @@
 use Rattle.std.specs.Prelude.{◌≡◌, ◌≢◌, ◌⊎◌, ◌≤◌, ℕ, ◌+◌, Bool, not, pos, ◌+ℤ◌, ◌&&◌, List, [], length, ◌==◌, Option, Some, None, Result, Ok, Err, if◌then◌else◌}
 use Rattle.std.specs.Option.{option_map}
 use Rattle.std.specs.FinMap as map
-use Rattle.posix_terms.specs.Files.{bytes_at, resized, written}
-use Rattle.posix_terms.specs.Object as posix
-use Rattle.posix_terms.specs.Ends.{is_first, side_of}
-use Rattle.posix_terms.specs.Object.{State, Content, File, Pipe, Pair, DoorTo, content_of}
-use Rattle.posix_terms.specs.Step.{Carried, Stepped, is_again, nothing_carried, step, waited}
-use Rattle.posix_terms.specs.Streams.{Reading, Reads, Ends, NothingYet, Writing, Writes, Breaks, NoRoom, new_pair, pair_read, pair_write, peer_of, shut, stream_read, stream_write, with_waiting}
-use Rattle.posix_terms.specs.Transfers.{base_of, offset_of}
+use Rattle.sequential_object.specs.Files.{bytes_at, resized, written}
+use Rattle.sequential_object.specs.Object as posix
+use Rattle.posix_terms.specs.Ends.{is_first, side_of, peer_of}
+use Rattle.sequential_object.specs.Object.{State, Content, File, Pipe, Pair, DoorTo, content_of}
+use Rattle.sequential_object.specs.Step.{Carried, Stepped, is_again, nothing_carried, step, waited}
+use Rattle.sequential_object.specs.Streams.{Reading, Reads, Ends, NothingYet, Writing, Writes, Breaks, NoRoom, new_pair, pair_read, pair_write, shut, stream_read, stream_write, with_waiting}
+use Rattle.sequential_object.specs.Transfers.{base_of, offset_of}
 use Rattle.posix_terms.specs.declared.call.Call.{Call}
 use Rattle.posix_terms.specs.declared.call.Call.TheVariants as call
 use Rattle.posix_terms.specs.declared.errno.Errno.{Errno}

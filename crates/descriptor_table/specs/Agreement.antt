@@ -3,9 +3,9 @@
 use Rattle.std.specs.Prelude.{◌≡◌, ◌⊎◌, ◌≤◌, ◌+◌, slice_index_or, ℕ, true, List, Option, Some, None, Result, Ok, Err}
 use Rattle.std.specs.FinMap as map
 use Rattle.file_descriptions.specs.declared.description.Description.{Description}
-use Rattle.posix_terms.specs.Locked.{keeps_table, locked_object}
-use Rattle.posix_terms.specs.Object.{State}
-use Rattle.posix_terms.specs.Step.{Carried, asks, step}
+use Rattle.sequential_object.specs.Locked.{keeps_table, locked_object}
+use Rattle.sequential_object.specs.Object.{State}
+use Rattle.sequential_object.specs.Step.{Carried, asks, step}
 use Rattle.posix_terms.specs.declared.call.Access.{Access}
 use Rattle.posix_terms.specs.declared.call.Call.{Call}
 use Rattle.posix_terms.specs.declared.call.Call.TheVariants as call

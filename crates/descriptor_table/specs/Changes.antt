@@ -3,10 +3,10 @@
 use Rattle.std.specs.Prelude.{◌≡◌, ℕ, ◌+◌, ◌<◌, ◌^◌, ℤ, pos, List, slice_set, Bool, true, false, Option, Some, None, Result, Ok, Err, if◌then◌else◌}
 use Rattle.std.specs.FinMap as map
 use Rattle.std.specs.Ordering.{int_eq}
-use Rattle.posix_terms.specs.Duplicates.{descriptor_number}
-use Rattle.posix_terms.specs.Names.{PathMap, added, file_named, removed, removed_dir}
-use Rattle.posix_terms.specs.Object.{Node, FileNode, Directory}
-use Rattle.posix_terms.specs.Refusals.{◌>>=◌, some_or}
+use Rattle.sequential_object.specs.Duplicates.{descriptor_number}
+use Rattle.sequential_object.specs.Names.{PathMap, added, file_named, removed, removed_dir}
+use Rattle.sequential_object.specs.Object.{Node, FileNode, Directory}
+use Rattle.sequential_object.specs.Refusals.{◌>>=◌, some_or}
 use Rattle.posix_terms.specs.declared.call.Access.{Access}
 use Rattle.posix_terms.specs.declared.call.Access.TheVariants.{ReadOnly, WriteOnly, ReadWrite}
 use Rattle.posix_terms.specs.declared.call.Call.{Call}

@@ -4,8 +4,8 @@
 use Rattle.std.specs.Prelude.{◌≡◌, ℕ, ◌==◌, List, Bool, true, false, Some, None, is_some, unwrap_or, slice_index_or}
 use Rattle.std.specs.Option.{option_map}
 use Rattle.std.specs.FinMap as map
-use Rattle.posix_terms.specs.Object as posix
-use Rattle.posix_terms.specs.Object.{State, Content, File, Pipe, Pair, DoorTo, Node, FileNode, Directory, content_of}
+use Rattle.sequential_object.specs.Object as posix
+use Rattle.sequential_object.specs.Object.{State, Content, File, Pipe, Pair, DoorTo, Node, FileNode, Directory, content_of}
 use Rattle.posix_terms.specs.declared.object.Door.{Door}
 use Rattle.posix_terms.specs.declared.object.Door.TheVariants as door
 use Rattle.posix_terms.specs.declared.object.End.{End}

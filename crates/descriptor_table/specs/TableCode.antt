@@ -2,7 +2,7 @@
 -- How the table is stored in a value that holds it.
 use Rattle.std.specs.Prelude.{ℕ, List, Option, refl}
 use Rattle.std.specs.Coded.{Coded, code_by, coded×, coded_list, coded_option, coded_ℕ}
-use Rattle.posix_terms.specs.Names.{PathMap}
+use Rattle.sequential_object.specs.Names.{PathMap}
 use Rattle.directories.specs.NameCode.{path_map_code}
 use Rattle.file_descriptions.specs.DescriptionCode.{description_map_code}
 use Rattle.file_descriptions.specs.Descriptions.{DescriptionMap}

@@ -5,7 +5,7 @@
 //! alone answers, or the object that the call has to lock, with what it does there, an [`Op`].
 //! `Table::apply` makes the table's change of a planned call, and gives the numbers of new
 //! descriptors where the plan has not told them. A refusal is a plan too, whose reply is a failure,
-//! and changes nothing. By the contracts the table shows the sequential object of `posix_terms`,
+//! and changes nothing. By the contracts the table shows the sequential object,
 //! but for contents and offsets, and goes on showing it. A table takes all its memory when it is
 //! made. `apply` asks that fewer than 2^127 descriptions and objects were ever made, which `made`
 //! tells.

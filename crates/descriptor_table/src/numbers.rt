@@ -1,9 +1,9 @@
 ghost use Rattle.std.specs.Prelude.{◌≡◌, ◌<◌, pos, IfOk};
 ghost use Rattle.std.specs.Str.{is_utf8};
-ghost use Rattle.posix_terms.specs.Doors.{host_path, port_of};
-ghost use Rattle.posix_terms.specs.Duplicates.{descriptor_number};
-ghost use Rattle.posix_terms.specs.Refusals.{count_of, position_of};
-ghost use Rattle.posix_terms.specs.Transfers.{size_of};
+ghost use Rattle.sequential_object.specs.Doors.{host_path, port_of};
+ghost use Rattle.sequential_object.specs.Duplicates.{descriptor_number};
+ghost use Rattle.sequential_object.specs.Refusals.{count_of, position_of};
+ghost use Rattle.sequential_object.specs.Transfers.{size_of};
 ghost use Rattle.descriptor_table.specs.Plans.{or_none, read_count};
 
 use posix_terms::{Call, Errno, Limits};

@@ -26,7 +26,8 @@ pub struct Errand {
     pub door: Option<usize>,
 }
 
-/// What a call does to the object that it locks.
+/// What a call does to the object that it locks. It has the description where it reads or moves its
+/// offset; an act at a given position, a cut and `fstat` need none.
 #[derive(Clone, Copy, Debug, PartialEq, Eq)]
 pub enum Op {
     /// A file is opened. Where it is new or cut it has no bytes.
@@ -50,7 +51,9 @@ pub enum Op {
     Ask(Errand),
 }
 
-/// The numbers of the descriptors that a call opened, where its plan has not told them.
+/// The numbers of the descriptors that a call opened, where its plan has not told them: those of `open`,
+/// `pipe`, `socketpair` and the calls that open a door, which only the change finds. Every other number
+/// of a reply is in the plan, or comes from outside.
 #[derive(Clone, Copy, Debug, PartialEq, Eq)]
 pub enum NewNumbers {
     None,

@@ -6,7 +6,7 @@ use Rattle.std.proofs.lemmas.Option.{same_Some, none-some}
 use Rattle.std.specs.Cmp.Lexicographic.{pointwise}
 use Rattle.std.specs.List.{slice_split, position_or_len}
 use Rattle.std.specs.Prelude.{nat_lt, position, filter}
-use Rattle.posix_terms.specs.Paths.{slash, components_of}
+use Rattle.sequential_object.specs.Paths.{slash, components_of}
 
 found_at : (b : Bool) (n at : ℕ) → ◌≡◌ {A = Option ℕ} (cond b (Some n) None) (Some at) → (b ≡ true) × (n ≡ at)
 found_at true n at e = (refl, same_Some _ _ e)

@@ -3,19 +3,19 @@ use Rattle.std.proofs.Common.{◌≡◌, ℕ, zero, suc, ◌+◌, ◌<◌, ◌�
 use Rattle.std.proofs.lemmas.List.{length-map}
 use Rattle.std.proofs.lemmas.List.Sums.{sum_by-cons, count_by-le-length}
 use Rattle.std.specs.List.{list_any}
-use Rattle.posix_terms.specs.Descriptors.{is_file}
+use Rattle.sequential_object.specs.Descriptors.{is_file}
 use Rattle.std.specs.Cmp.{IsTotalOrder, eq_by_cmp_equiv, nat_cmp_total}
 use Rattle.std.specs.Cmp.Lexicographic.{pointwise, lists_total, lists_ties, texts_ties}
 use Rattle.std.specs.FinMap as fin
 use Rattle.std.specs.FinMap.{IsAntisymmetric, nat_cmp-IsAntisymmetric, slice_cmp-IsAntisymmetric, get-from_entries, from_entries_push}
 use Rattle.std.specs.Ordering.{eq_by_cmp}
-use Rattle.posix_terms.specs.Object.{Node, FileNode, Directory, path_cmp}
-use Rattle.posix_terms.specs.Paths.{components_of, node_at, passed, walked}
-use Rattle.posix_terms.specs.Refusals.{◌>>=◌}
+use Rattle.sequential_object.specs.Object.{Node, FileNode, Directory, path_cmp}
+use Rattle.sequential_object.specs.Paths.{components_of, node_at, passed, walked}
+use Rattle.sequential_object.specs.Refusals.{◌>>=◌}
 use Rattle.posix_terms.specs.declared.errno.Errno.{Errno}
 use Rattle.posix_terms.specs.declared.errno.Errno.TheVariants.{ENOENT, ENOTDIR}
 use Rattle.directories.specs.Entries.{AreDistinct, IsAt, entry_of, entry_at, names_of, node_of, no_entry}
-use Rattle.posix_terms.specs.Names.{PathMap, has_entries, is_inside, links_of}
+use Rattle.sequential_object.specs.Names.{PathMap, has_entries, is_inside, links_of}
 use Rattle.directories.specs.declared.entry.Entry.{Entry}
 use Rattle.directories.proofs.EntryLemmas.{AreDistinct-push, AreDistinct-remove, from_entries-remove, len-from_entries, remove_none, tied, count_by-entries, list_any-entries}
 

@@ -3,9 +3,9 @@
 use Rattle.std.specs.Prelude.{◌≡◌, ℕ, ◌<◌, List, [], ◌∷◌, length, map, Some, None, slice_index_or}
 use Rattle.std.specs.FinMap as fin
 use Rattle.std.specs.declared.cmp.Ordering.{Ordering}
-use Rattle.posix_terms.specs.Object.{Node, FileNode, Directory, path_cmp}
-use Rattle.posix_terms.specs.Paths.{components_of}
-use Rattle.posix_terms.specs.Names.{PathMap}
+use Rattle.sequential_object.specs.Object.{Node, FileNode, Directory, path_cmp}
+use Rattle.sequential_object.specs.Paths.{components_of}
+use Rattle.sequential_object.specs.Names.{PathMap}
 use Rattle.directories.specs.declared.entry.Entry.{Entry}
 use Rattle.directories.specs.declared.entry.Node.{Node as Named}
 use Rattle.directories.specs.declared.entry.Node.TheVariants as named

@@ -2,10 +2,10 @@
 -- What a path names.
 -- POSIX.1-2017, Base Definitions, 4.13 (pathname resolution).
 use Rattle.std.specs.Prelude.{ℕ, List, Result, Ok, Option}
-use Rattle.posix_terms.specs.Names.{PathMap}
-use Rattle.posix_terms.specs.Object.{Node}
-use Rattle.posix_terms.specs.Paths.{node_at, resolved}
-use Rattle.posix_terms.specs.Refusals.{◌>>=◌}
+use Rattle.sequential_object.specs.Names.{PathMap}
+use Rattle.sequential_object.specs.Object.{Node}
+use Rattle.sequential_object.specs.Paths.{node_at, resolved}
+use Rattle.sequential_object.specs.Refusals.{◌>>=◌}
 use Rattle.posix_terms.specs.declared.errno.Errno.{Errno}
 
 -- what a path names, if its prefix is there

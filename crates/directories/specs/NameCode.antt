@@ -3,8 +3,8 @@
 use Rattle.std.specs.Prelude.{◌≡◌, ℕ, Option, Some, None, refl}
 use Rattle.std.specs.Coded.{Coded, code_by, coded_list, coded_option, coded_ℕ}
 use Rattle.std.specs.FinMap as fin
-use Rattle.posix_terms.specs.Object.{Node, FileNode, Directory}
-use Rattle.posix_terms.specs.Names.{PathMap}
+use Rattle.sequential_object.specs.Object.{Node, FileNode, Directory}
+use Rattle.sequential_object.specs.Names.{PathMap}
 
 abbrev pub file_in : Node → Option ℕ
 file_in (FileNode object) = Some object

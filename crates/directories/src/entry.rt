@@ -1,5 +1,5 @@
 ghost use Rattle.std.specs.Prelude.{◌≡◌};
-ghost use Rattle.posix_terms.specs.Descriptors.{is_file};
+ghost use Rattle.sequential_object.specs.Descriptors.{is_file};
 ghost use Rattle.directories.specs.Entries.{node_of};
 
 use arrayvec::ArrayVec;

@@ -1,8 +1,8 @@
 ghost use Rattle.std.specs.Prelude.{◌≡◌, ◌<◌, ◌≤◌, [], length, map, nat_le, take, IsSome, IfSome, IfNone, IfOk, IfErr, OnOk, Ok, Err, Some, None, option_map};
 ghost use Rattle.std.specs.FinMap as fin;
-ghost use Rattle.posix_terms.specs.Object.{path_cmp, FileNode, Directory as a_directory};
-ghost use Rattle.posix_terms.specs.Paths.{components_of, node_at, resolved, walked};
-ghost use Rattle.posix_terms.specs.Names.{added, removed, removed_dir, removed_dir_at, has_entries, is_inside, links_of};
+ghost use Rattle.sequential_object.specs.Object.{path_cmp, FileNode, Directory as a_directory};
+ghost use Rattle.sequential_object.specs.Paths.{components_of, node_at, resolved, walked};
+ghost use Rattle.sequential_object.specs.Names.{added, removed, removed_dir, removed_dir_at, has_entries, is_inside, links_of};
 ghost use Rattle.directories.specs.Lookup.{looked_up};
 ghost use Rattle.directories.specs.Entries.{node_of, entry_of, IsAt};
 
@@ -20,7 +20,7 @@ pub struct Names {
 }
 
 impl Model for Names {
-    ghost use Rattle.posix_terms.specs.Names.{PathMap};
+    ghost use Rattle.sequential_object.specs.Names.{PathMap};
     ghost use Rattle.directories.specs.NameCode.{path_map_code};
 
     ghost Value = { PathMap };
@@ -28,7 +28,7 @@ impl Model for Names {
     ghost coded = { path_map_code };
 
     ghost use Rattle.std.specs.Prelude.{map};
-    ghost use Rattle.posix_terms.specs.Object.{path_cmp};
+    ghost use Rattle.sequential_object.specs.Object.{path_cmp};
     ghost use Rattle.directories.specs.Entries.{AreDistinct, entry_of, names_of};
 
     ghost view = { λ n. names_of n.entries.items };
@@ -77,7 +77,7 @@ impl Names {
 
     /// Takes the name of a file away, and tells which file that was. Refused as in `resolve`, where the
     /// path names nothing, and where it names a directory; then nothing changes.
-    #[tactic(auto, unfolding(posix_terms::specs::Names::removed))]
+    #[tactic(auto, unfolding(sequential_object::specs::Names::removed))]
     pub fn remove(&mut self, path: &[u8]) -> Result<usize, Errno>
         ensures ok { IfOk result (λ node. removed self.old path.now ≡ Ok (self.new, node)) }
         ensures err { IfErr result (λ error. (removed self.old path.now ≡ Err error) × (self.new ≡ self.old)) }
@@ -105,7 +105,7 @@ impl Names {
 
     /// Whether a directory may be taken away. Refused as in `resolve`, where the path names nothing, where
     /// it names a file, at the root, and where there are names inside.
-    #[tactic(auto, unfolding(posix_terms::specs::Names::removed_dir))]
+    #[tactic(auto, unfolding(sequential_object::specs::Names::removed_dir))]
     pub fn check_remove_dir(&self, path: &[u8]) -> Result<(), Errno>
         ensures ok { OnOk result (removed_dir self.now path.now ≡ Ok (fin.remove self.now (components_of path.now))) }
         ensures err { IfErr result (λ error. removed_dir self.now path.now ≡ Err error) }
@@ -192,7 +192,7 @@ impl Names {
         self.node(path, count)
     }
 
-    #[tactic(auto, using(crate::proofs::NameLemmas::nodes), unfolding(posix_terms::specs::Names::added))]
+    #[tactic(auto, using(crate::proofs::NameLemmas::nodes), unfolding(sequential_object::specs::Names::added))]
     fn add_node(&mut self, path: &[u8], node: Node) -> Result<(), Errno>
         ensures ok { OnOk result (added self.old path.now (node_of node) ≡ Ok self.new) }
         ensures err { IfErr result (λ error. (added self.old path.now (node_of node) ≡ Err error) × (self.new ≡ self.old)) }

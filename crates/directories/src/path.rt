@@ -1,7 +1,7 @@
 ghost use Rattle.std.specs.Prelude.{◌≡◌, ◌==◌, ◌<◌, ◌≤◌, ◌∷◌, [], length, drop, take, nat_eq, nat_lt, position, IfSome, IfNone, IfOk, IfErr, Ok, Err};
 ghost use Rattle.std.specs.Cmp.Lexicographic.{pointwise};
 ghost use Rattle.std.specs.List.{list_any};
-ghost use Rattle.posix_terms.specs.Paths.{slash, components_of, has_trailing_slash, is_dots, path_form};
+ghost use Rattle.sequential_object.specs.Paths.{slash, components_of, has_trailing_slash, is_dots, path_form};
 
 use posix_terms::{Errno, Limits};
 
@@ -122,7 +122,7 @@ fn has_trailing_slash(path: &[u8]) -> bool
 }
 
 // How many components a path has that is well formed, or what is wrong with it.
-#[tactic(auto, unfolding(posix_terms::specs::Paths::path_form))]
+#[tactic(auto, unfolding(sequential_object::specs::Paths::path_form))]
 pub fn well_formed(path: &[u8]) -> Result<usize, Errno>
     ensures ok { IfOk result (λ count. path_form path.now ≡ Ok (components_of path.now)) }
     ensures count { IfOk result (λ count. count ≡ length (components_of path.now)) }

@@ -10,7 +10,8 @@ use std::alloc::{AllocError, Global};
 use std::marker::Model;
 
 /// All open file descriptions, at most `Limits::DESCRIPTORS`, by keys that are used again. Contracts see
-/// the finite map of them, and how many were ever made.
+/// the finite map of them, and how many were ever made: by that count, and not by its key, a description
+/// stands for one of the sequential object, which uses no key twice.
 #[derive(Drop)]
 pub struct Descriptions {
     slots: Slab<Description>,

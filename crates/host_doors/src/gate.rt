@@ -8,7 +8,8 @@ pub trait Gate {
     ghost may_answer: { Self → ℕ → ℕ → Bool → Self → Type 0 };
 
     /// Whether the call that is to get this outcome may go on. It may wait. A gate that lets a call go on
-    /// shows what it showed before.
+    /// shows what it showed before. It is handed no runtime, since an outside that never waits would need
+    /// one too: a gate that sleeps has a clock of its own, and needs no leave to wait.
     fn enter(&mut self, thread: usize, number: u64) -> bool
         ensures answer { may_answer self.old thread number result self.new }
         ensures passed { OnTrue result (self.new ≡ self.old) };

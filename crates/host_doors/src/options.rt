@@ -19,6 +19,8 @@ impl HostOptions {
     pub(crate) fn new(access: Access, flags: OpenFlags) -> HostOptions
         ensures { result ≡ options_of access flags }
     {
+        // The standard library refuses to create a file that is not opened for writing, and to cut
+        // one that is opened to append. So each of these is done by itself (`makes`, `cuts`).
         let writes = access.can_write();
         let mut options = File::options();
         options.read(access.can_read());

@@ -49,7 +49,8 @@ impl<C> Model for PairGate<C> {
 }
 
 impl<C: Clock + Clone + Drop> PairGate<C> {
-    /// The gate for the thread of `first`, and the one for the thread of `second`. They sleep by the clock.
+    /// The gate for the thread of `first`, and the one for the thread of `second`. They share a word in
+    /// memory, and sleep by the clock.
     pub fn new(
         alloc: Global,
         clock: C,

@@ -4,7 +4,7 @@ use Rattle.std.proofs.lemmas.Bool.{cases_Bool, eq-eqb, eqb-false, leb-true, leb-
 use Rattle.std.proofs.lemmas.List.{get_or-set_same, map-set}
 use Rattle.std.proofs.lemmas.Option.{same_Some, none-some, slice_get-map}
 use Rattle.std.specs.Prelude.{IfSome, is_some, option_map}
-use Rattle.posix_terms.specs.Step.{step}
+use Rattle.sequential_object.specs.Step.{step}
 use Rattle.posix_terms.specs.declared.call.Call.{Call}
 use Rattle.posix_terms.specs.declared.limits.TheConstants.Limits as limit
 use Rattle.posix_terms.specs.declared.outcome.Given.{Given}
@@ -17,11 +17,12 @@ use Rattle.lock_model.specs.CallTable.Way.{Inside}
 use Rattle.lock_model.specs.Held.{AreHeld, HaveRows, holds_table, object_held, object_in, row_of}
 use Rattle.lock_model.specs.Machine as machine
 use Rattle.lock_model.specs.Machine.{Effect, Moved, advance, answered, can_advance, filled_by, first_of, is_number, is_open, late_change, lock_after, moves, moves_in, one_if, row_after, within}
-use Rattle.lock_model.specs.RealCalls.{answer_in, outcome_in, plan_of, real_calls}
+use Rattle.lock_model.specs.RealCalls.{plan_of, real_calls}
+use Rattle.sequential_object.specs.Answers.{answer_in, outcome_in}
 use Rattle.lock_model.specs.State as lock
 use Rattle.lock_model.specs.State.{Job, Row, State, nobody, thread_of}
 use Rattle.lock_model.specs.State.Phase.{Granted}
-use Rattle.lock_model.specs.Terms.{World}
+use Rattle.sequential_object.specs.Worlds.{World}
 use Rattle.lock_model.proofs.Commute.{advance_move, lock_mine, lock_other, row_closed, row_open}
 use Rattle.lock_machine.specs.Events.{Answers, AnswersIn, AnswersWith, Parts, in_time, parts, row_answered}
 use Rattle.lock_machine.specs.Held.{end_held, phase_behind, told_as}
@@ -29,8 +30,8 @@ use Rattle.lock_machine.specs.Conditions.{Conditions, setup_under}
 use Rattle.lock_model.specs.Rows.{shown, shown_answer}
 use Rattle.lock_machine.specs.Shows.{IsGranted, PhaseShows, Shows, ThreadShows, replied}
 use Rattle.lock_machine.specs.Whole.{Whole, thread_at}
-use Rattle.lock_model.specs.declared.turn_end.TurnEnd.{TurnEnd}
-use Rattle.lock_model.specs.declared.turn_end.TurnEnd.TheVariants as end
+use Rattle.sequential_object.specs.declared.turn_end.TurnEnd.{TurnEnd}
+use Rattle.sequential_object.specs.declared.turn_end.TurnEnd.TheVariants as end
 use Rattle.lock_machine.specs.declared.thread.Phase.{Phase}
 use Rattle.lock_machine.specs.declared.thread.Phase.TheVariants as phase
 use Rattle.lock_machine.specs.Threads.{Thread}

@@ -2,8 +2,8 @@
 use Rattle.std.proofs.Common.{◌≡◌, ℕ, ◌+◌, ◌<◌, ◌≤◌, ◌^◌, List, [], ◌∷◌, ◌++◌, length, Option, Some, None, Bool, true, false, is_some, sym, refl, ap, ◌∙◌, subst}
 use Rattle.std.proofs.lemmas.Bool.{cond-true, cond-false, false≢true, le-leb, lt-leb}
 use Rattle.posix_terms.specs.declared.call.Call.{Call}
-use Rattle.thread_scripts.specs.declared.actor.Step.{Step}
-use Rattle.thread_scripts.specs.declared.actor.Step.TheVariants as step
+use Rattle.posix_terms.specs.declared.step.Step.{Step}
+use Rattle.posix_terms.specs.declared.step.Step.TheVariants as step
 use Rattle.lock_model.specs.Held.{HasAsked, call_in, has_end, last_call}
 use Rattle.lock_model.specs.Machine.{Moved, after_step, again, ask, moves, moves_in, quietly, within}
 use Rattle.lock_model.specs.RealCalls.{real_calls}

@@ -12,7 +12,7 @@ use Rattle.logical_clocks.specs.ThreadClocks.{clock_at, live_clocks}
 use Rattle.logical_clocks.specs.TurnOrder.{has_turn}
 use Rattle.logical_clocks.specs.declared.clocks.ThreadClock.{ThreadClock}
 use Rattle.lock_model.specs.Machine.{wants}
-use Rattle.lock_model.specs.Numbers.{first_world}
+use Rattle.sequential_object.specs.Numbers.{first_world}
 use Rattle.lock_model.specs.State as lock
 use Rattle.lock_model.specs.State.{Row, thread_of}
 use Rattle.lock_model.proofs.OwnPlans.{plans_arisen}

@@ -4,9 +4,9 @@ use Rattle.std.proofs.lemmas.Bool.{cases_Bool, cond-true, cond-false, false≢tr
 use Rattle.std.proofs.lemmas.List.{get_or-set_same, length-map, length-set, map-append}
 use Rattle.std.proofs.lemmas.Option.{none-some}
 use Rattle.std.specs.Prelude.{IfSome, is_some, nat_le}
-use Rattle.posix_terms.proofs.Outside.{locks_some}
-use Rattle.posix_terms.specs.Locked.{keeps_table, locked_object}
-use Rattle.posix_terms.specs.Step.{asks, step}
+use Rattle.sequential_object.proofs.Outside.{locks_some}
+use Rattle.sequential_object.specs.Locked.{keeps_table, locked_object}
+use Rattle.sequential_object.specs.Step.{asks, step}
 use Rattle.posix_terms.specs.declared.call.Call.{Call}
 use Rattle.posix_terms.specs.declared.limits.TheConstants.Limits as limit
 use Rattle.posix_terms.specs.declared.request.Request.{Request}
@@ -21,12 +21,13 @@ use Rattle.lock_model.specs.CallTable.Plan.{No_object, Object}
 use Rattle.lock_model.specs.CallTable.Way.{Inside}
 use Rattle.lock_model.specs.Held.{row_of}
 use Rattle.lock_model.specs.Machine.{attempt, can_attempt, failed, granted, new_job, planned, tried, tries, wants}
-use Rattle.lock_model.specs.Numbers.{world_with}
-use Rattle.lock_model.specs.RealCalls.{numbered, plan_of, real_calls, way_of}
+use Rattle.sequential_object.specs.Numbers.{world_with}
+use Rattle.lock_model.specs.RealCalls.{plan_of, real_calls, way_of}
+use Rattle.sequential_object.specs.Answers.{numbered}
 use Rattle.lock_model.specs.State as lock
 use Rattle.lock_model.specs.State.{Job, Row, State, live_clocks, nobody, thread_of}
 use Rattle.lock_model.specs.State.Phase.{WantsObject, WantsTable}
-use Rattle.lock_model.specs.Terms.{World}
+use Rattle.sequential_object.specs.Worlds.{World}
 use Rattle.lock_model.proofs.Arising.{slice_get-prefix, slice_get-push}
 use Rattle.lock_model.proofs.Attempt.{attempt_can, attempt_not, can_in, can_out}
 use Rattle.object_store.specs.Store.{EndsAt, GoesOut, Stands, StartsIn, Stored, number_locked}
@@ -38,7 +39,7 @@ use Rattle.lock_machine.specs.Shows.{IsGranted, IsOut, PhaseShows, Shows, Thread
 use Rattle.lock_machine.specs.Whole.{Whole, thread_at}
 use Rattle.lock_machine.specs.Threads.{Thread}
 use Rattle.lock_machine.specs.Views.{no_thread}
-use Rattle.lock_model.specs.declared.turn_end.TurnEnd.{TurnEnd}
+use Rattle.sequential_object.specs.declared.turn_end.TurnEnd.{TurnEnd}
 use Rattle.object_store.specs.declared.patience.TurnStart.{TurnStart}
 use Rattle.object_store.specs.declared.patience.TurnStart.TheVariants as start
 use Rattle.descriptor_table.specs.declared.plan.Errand.{Errand}

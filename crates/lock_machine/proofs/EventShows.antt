@@ -9,19 +9,19 @@ use Rattle.posix_terms.specs.declared.call.Call.{Call}
 use Rattle.posix_terms.specs.declared.limits.TheConstants.Limits as limit
 use Rattle.posix_terms.specs.declared.reply.Answer as posix
 use Rattle.posix_terms.specs.declared.transcript.HistoryRow.{HistoryRow}
-use Rattle.lock_model.specs.declared.turn_end.TurnEnd.{TurnEnd}
+use Rattle.sequential_object.specs.declared.turn_end.TurnEnd.{TurnEnd}
 use Rattle.det_mutex.specs.Attempt.{new_lock}
 use Rattle.det_mutex.specs.declared.lock.DetLock.{DetLock}
 use Rattle.logical_clocks.specs.ThreadClocks.{clock_at, live_clock, live_clocks}
 use Rattle.logical_clocks.specs.TurnOrder.{first_below, first_or, has_turn, turn_holder}
 use Rattle.logical_clocks.specs.declared.clocks.ThreadClock.{ThreadClock}
 use Rattle.lock_model.specs.Laws.{StepsOfArisen}
-use Rattle.lock_model.specs.Numbers.{first_world}
+use Rattle.sequential_object.specs.Numbers.{first_world}
 use Rattle.lock_model.specs.State.{thread_of}
 use Rattle.lock_model.proofs.OwnPlans.{plans_arisen}
 use Rattle.lock_model.proofs.OwnRows.{held_arisen, rows_arisen}
-use Rattle.thread_scripts.specs.declared.actor.Step.{Step}
-use Rattle.thread_scripts.specs.declared.actor.Step.TheVariants as step
+use Rattle.posix_terms.specs.declared.step.Step.{Step}
+use Rattle.posix_terms.specs.declared.step.Step.TheVariants as step
 use Rattle.lock_machine.specs.Asking.{Asks, GoesAgain, after_want}
 use Rattle.lock_machine.specs.Events.{Answers, parts}
 use Rattle.lock_machine.specs.Lives.{Agree, is_live}

@@ -12,27 +12,28 @@ use Rattle.lock_model.specs.CallTable.Plan.{Object}
 use Rattle.lock_model.specs.Held.{AreHeld, HavePlans, HaveRows, holds_table, job_in, object_held, object_in, row_of}
 use Rattle.lock_model.specs.Machine as machine
 use Rattle.lock_model.specs.Machine.{Effect, Moved, advance, answered, begin_outside, can_advance, filled_by, first_of, fits_job, is_number, late_change, lock_after, moves, moves_in, one_if, quietly, record_outcome, row_after, with_outcome, within, world_after}
-use Rattle.lock_model.specs.Numbers.{world_with}
-use Rattle.lock_model.specs.RealCalls.{answer_in, answers_request, outcome_in, real_calls, real_limits, way_of}
+use Rattle.sequential_object.specs.Numbers.{world_with}
+use Rattle.lock_model.specs.RealCalls.{real_calls, real_limits, way_of}
+use Rattle.sequential_object.specs.Answers.{answer_in, answers_request, outcome_in}
 use Rattle.lock_model.specs.Rows.{shown}
 use Rattle.lock_model.specs.State as lock
 use Rattle.lock_model.specs.State.{Job, Row, State, nobody, thread_of}
 use Rattle.lock_model.specs.State.Phase.{Outside, Recorded, ToOutside}
-use Rattle.lock_model.specs.Terms.{World}
+use Rattle.sequential_object.specs.Worlds.{World}
 use Rattle.lock_model.proofs.Commute.{advance_move, lock_mine, lock_other, world_mine}
 use Rattle.object_store.specs.Patience.{as_answer}
 use Rattle.object_store.specs.Store.{Stands, Stored}
-use Rattle.lock_model.specs.declared.turn_end.TurnEnd.{TurnEnd}
-use Rattle.lock_model.specs.declared.turn_end.TurnEnd.TheVariants as end
+use Rattle.sequential_object.specs.declared.turn_end.TurnEnd.{TurnEnd}
+use Rattle.sequential_object.specs.declared.turn_end.TurnEnd.TheVariants as end
 use Rattle.descriptor_table.specs.Acts as acts
 use Rattle.descriptor_table.specs.Agreement.{request_of}
 use Rattle.descriptor_table.specs.declared.plan.NewNumbers.TheVariants as numbers
 use Rattle.descriptor_table.specs.declared.plan.Errand.{Errand}
 use Rattle.descriptor_table.specs.declared.plan.Op.TheVariants as op
 use Rattle.posix_terms.specs.Outcomes.{fits, is_kind}
-use Rattle.posix_terms.specs.Locked as posix_locked
-use Rattle.posix_terms.specs.Object as posix_state
-use Rattle.posix_terms.specs.Step.{Stepped, asks, step}
+use Rattle.sequential_object.specs.Locked as posix_locked
+use Rattle.sequential_object.specs.Object as posix_state
+use Rattle.sequential_object.specs.Step.{Stepped, asks, step}
 use Rattle.posix_terms.specs.declared.transcript.Settings.{Settings}
 use Rattle.posix_terms.specs.declared.call.Call.{Call}
 use Rattle.posix_terms.specs.declared.limits.TheConstants.Limits as limit

@@ -4,9 +4,9 @@ use Rattle.std.proofs.lemmas.Bool.{cond-true, cond-false, false≢true, leb-true
 use Rattle.std.proofs.lemmas.List.{length-set}
 use Rattle.std.proofs.lemmas.Option.{none-some}
 use Rattle.std.specs.Prelude.{is_some}
-use Rattle.posix_terms.proofs.Outside.{keeps_outside}
-use Rattle.posix_terms.specs.Locked.{keeps_table, locked_object}
-use Rattle.posix_terms.specs.Step.{asks}
+use Rattle.sequential_object.proofs.Outside.{keeps_outside}
+use Rattle.sequential_object.specs.Locked.{keeps_table, locked_object}
+use Rattle.sequential_object.specs.Step.{asks}
 use Rattle.posix_terms.specs.declared.call.Call.{Call}
 use Rattle.posix_terms.specs.declared.limits.TheConstants.Limits as limit
 use Rattle.posix_terms.specs.declared.transcript.Turn.{Turn}
@@ -18,11 +18,12 @@ use Rattle.lock_model.specs.CallTable.Plan.{Object}
 use Rattle.lock_model.specs.CallTable.Way.{Inside, Door, Keeps_table}
 use Rattle.lock_model.specs.Held.{HavePlans}
 use Rattle.lock_model.specs.Machine.{can_attempt, failed, granted, is_number, new_job, reached, reached_freeing, reached_keeping, tried, tries, wants}
-use Rattle.lock_model.specs.RealCalls.{numbered, plan_of, real_calls, way_of}
+use Rattle.lock_model.specs.RealCalls.{plan_of, real_calls, way_of}
+use Rattle.sequential_object.specs.Answers.{numbered}
 use Rattle.lock_model.specs.State as lock
 use Rattle.lock_model.specs.State.{State, live_clocks, object_of, thread_of}
 use Rattle.lock_model.specs.State.Phase.{WantsObject}
-use Rattle.lock_model.specs.Terms.{World}
+use Rattle.sequential_object.specs.Worlds.{World}
 use Rattle.lock_machine.specs.Events.{Grants, ObjectInTime, Parts, Reaches, ReachesIn, TriesObject, in_time, later, object_cost, object_reached, takes_object}
 use Rattle.lock_machine.specs.Conditions.{Conditions, setup_under}
 use Rattle.lock_machine.specs.Shows.{PhaseShows, Shows}

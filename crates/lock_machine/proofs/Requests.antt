@@ -1,9 +1,9 @@
 -- No request asks for more than a record of its outcome can hold.
 use Rattle.std.proofs.Common.{refl, ◌≤◌, ◌&&◌, ℕ, ℤ, List, Bool, true, false, not, Option, Result, Ok, Err, arith, lit≤}
 use Rattle.std.proofs.lemmas.Bool.Decides.{nat_tests}
-use Rattle.posix_terms.specs.Step.{Carried, asks, request_of}
-use Rattle.posix_terms.specs.Object as object
-use Rattle.posix_terms.specs.Refusals.{◌>>=◌, refuse_if}
+use Rattle.sequential_object.specs.Step.{Carried, asks, request_of}
+use Rattle.sequential_object.specs.Object as object
+use Rattle.sequential_object.specs.Refusals.{◌>>=◌, refuse_if}
 use Rattle.posix_terms.specs.declared.errno.Errno.TheVariants.{EBADF, EBUSY}
 use Rattle.posix_terms.specs.declared.outcome.OutKind.{OutKind}
 use Rattle.posix_terms.specs.declared.outcome.OutKind.TheVariants as kind
@@ -11,15 +11,15 @@ use Rattle.posix_terms.specs.declared.reply.Reply.TheVariants as reply
 use Rattle.std.specs.Ordering.{int_eq}
 use Rattle.posix_terms.specs.declared.request.Request.{Request}
 use Rattle.std.specs.Prelude.{if◌then◌else◌}
-use Rattle.posix_terms.specs.Descriptors.{open_result, close_result, described, ends_door, freed, released}
-use Rattle.posix_terms.specs.Doors.{host_open_result, tcp_accept_result, tcp_connect_result, tcp_listen_result}
-use Rattle.posix_terms.specs.Duplicates.{dup_result, dup_from_result, dup2_result, descriptor_number, ends_a_door}
-use Rattle.posix_terms.specs.Effects.{Effect, Completes, asks_of}
-use Rattle.posix_terms.specs.Names.{link_result, unlink_result, mkdir_result, rmdir_result}
-use Rattle.posix_terms.specs.Object.{State}
-use Rattle.posix_terms.specs.Status.{fstat_result, getfl_result, setfl_result}
-use Rattle.posix_terms.specs.Sockets.{pipe_result, socketpair_result, shutdown_result}
-use Rattle.posix_terms.specs.Transfers.{read_result, write_result, pread_result, pwrite_result, lseek_result, ftruncate_result}
+use Rattle.sequential_object.specs.Descriptors.{open_result, close_result, described, ends_door, freed, released}
+use Rattle.sequential_object.specs.Doors.{host_open_result, tcp_accept_result, tcp_connect_result, tcp_listen_result}
+use Rattle.sequential_object.specs.Duplicates.{dup_result, dup_from_result, dup2_result, descriptor_number, ends_a_door}
+use Rattle.sequential_object.specs.Effects.{Effect, Completes, asks_of}
+use Rattle.sequential_object.specs.Names.{link_result, unlink_result, mkdir_result, rmdir_result}
+use Rattle.sequential_object.specs.Object.{State}
+use Rattle.sequential_object.specs.Status.{fstat_result, getfl_result, setfl_result}
+use Rattle.sequential_object.specs.Sockets.{pipe_result, socketpair_result, shutdown_result}
+use Rattle.sequential_object.specs.Transfers.{read_result, write_result, pread_result, pwrite_result, lseek_result, ftruncate_result}
 use Rattle.posix_terms.specs.declared.call.Access.{Access}
 use Rattle.posix_terms.specs.declared.call.Call.{Call}
 use Rattle.posix_terms.specs.declared.call.Call.TheVariants as call

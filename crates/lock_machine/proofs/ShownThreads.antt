@@ -11,7 +11,7 @@ use Rattle.lock_model.specs.Held.{row_of}
 use Rattle.lock_model.specs.Machine.{Effect, Moved, advance, can_advance, is_number, is_open, lock_after, filled_by, move, moves, quiet, row_after, world_after, first_of}
 use Rattle.lock_model.specs.State as lock
 use Rattle.lock_model.specs.State.{Job, Row, State, nobody, thread_of}
-use Rattle.lock_model.specs.Terms.{World}
+use Rattle.sequential_object.specs.Worlds.{World}
 use Rattle.lock_model.proofs.Commute.{advance_move, lock_mine, lock_other, row_closed, row_open, row_other, world_mine, world_other}
 use Rattle.lock_machine.specs.Conditions.{Conditions, setup_under}
 use Rattle.lock_model.specs.Rows.{shown}

@@ -1,10 +1,10 @@
 -- Internal: no contract of the headline or of a command stands on it.
 -- What a thread's next step makes of it, and what comes of a blocked call.
 use Rattle.std.specs.Prelude.{◌≡◌, ℕ, ◌+◌, ◌<◌, ◌≤◌, ◌^◌, [], ◌∷◌, ◌++◌, Option, Some, None, Bool, true, false}
-use Rattle.posix_terms.specs.Step.{nothing_carried}
+use Rattle.sequential_object.specs.Step.{nothing_carried}
 use Rattle.posix_terms.specs.declared.call.Call.{Call}
-use Rattle.thread_scripts.specs.declared.actor.Step.{Step}
-use Rattle.thread_scripts.specs.declared.actor.Step.TheVariants as step
+use Rattle.posix_terms.specs.declared.step.Step.{Step}
+use Rattle.posix_terms.specs.declared.step.Step.TheVariants as step
 use Rattle.lock_model.specs.Held.{has_end, last_call}
 use Rattle.lock_machine.specs.declared.thread.Phase.{Phase}
 use Rattle.lock_machine.specs.declared.thread.Phase.TheVariants as phase

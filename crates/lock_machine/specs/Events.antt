@@ -1,7 +1,7 @@
 -- Internal: no contract of the headline or of a command stands on it.
 -- What the events of a thread make of it and of what it shares.
 use Rattle.std.specs.Prelude.{◌≡◌, ℕ, ◌+◌, ◌<◌, ◌^◌, List, [], ◌∷◌, ◌++◌, length, Option, Some, None, Bool, true, false, ◌&&◌, nat_le, slice_get, slice_set}
-use Rattle.posix_terms.specs.Locked.{keeps_table}
+use Rattle.sequential_object.specs.Locked.{keeps_table}
 use Rattle.posix_terms.specs.declared.call.Call.{Call}
 use Rattle.posix_terms.specs.declared.reply.Answer as posix
 use Rattle.posix_terms.specs.declared.limits.TheConstants.Limits as limit
@@ -13,7 +13,7 @@ use Rattle.lock_model.specs.Machine.{is_number}
 use Rattle.lock_machine.specs.Held.{end_held, turn_started, phase_behind, told_as}
 use Rattle.object_store.specs.Store.{Makes, Stored, number_locked}
 use Rattle.lock_machine.specs.Threads.{Thread}
-use Rattle.lock_model.specs.declared.turn_end.TurnEnd.{TurnEnd}
+use Rattle.sequential_object.specs.declared.turn_end.TurnEnd.{TurnEnd}
 use Rattle.object_store.specs.declared.patience.TurnStart.{TurnStart}
 use Rattle.lock_machine.specs.declared.thread.Phase.{Phase}
 use Rattle.lock_machine.specs.declared.thread.Phase.TheVariants as phase

@@ -1,12 +1,12 @@
 -- Internal: no contract of the headline or of a command stands on it.
 -- How a turn that ended stands in its thread until it is answered.
 use Rattle.std.specs.Prelude.{ℕ, Option, Some, None}
-use Rattle.posix_terms.specs.Locked.{keeps_table}
+use Rattle.sequential_object.specs.Locked.{keeps_table}
 use Rattle.posix_terms.specs.declared.call.Call.{Call}
 use Rattle.posix_terms.specs.declared.reply.Answer as posix
 use Rattle.posix_terms.specs.declared.reply.Answer.TheVariants as answer
-use Rattle.lock_model.specs.declared.turn_end.TurnEnd.{TurnEnd}
-use Rattle.lock_model.specs.declared.turn_end.TurnEnd.TheVariants as end
+use Rattle.sequential_object.specs.declared.turn_end.TurnEnd.{TurnEnd}
+use Rattle.sequential_object.specs.declared.turn_end.TurnEnd.TheVariants as end
 use Rattle.object_store.specs.declared.patience.TurnStart.{TurnStart}
 use Rattle.object_store.specs.declared.patience.TurnStart.TheVariants as start
 use Rattle.lock_machine.specs.Threads.{Thread}

@@ -6,7 +6,7 @@ use Rattle.lock_model.specs.Held.{object_in}
 use Rattle.lock_model.specs.State as lock
 use Rattle.lock_model.specs.State.{Job, State, thread_of}
 use Rattle.lock_model.specs.State.Phase.{Working, WantsTable, WantsObject, Granted, ToOutside, Outside, Recorded, Blocked, Ended}
-use Rattle.posix_terms.specs.Step.{asks}
+use Rattle.sequential_object.specs.Step.{asks}
 use Rattle.posix_terms.specs.declared.call.Call.{Call}
 use Rattle.lock_machine.specs.Conditions.{Conditions}
 use Rattle.lock_machine.specs.Shows.{Shows}

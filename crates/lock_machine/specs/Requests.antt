@@ -1,8 +1,8 @@
 -- Believed: a contract of the headline stands on it.
 -- How much requests ask.
 use Rattle.std.specs.Prelude.{◌≡◌, ℕ, ◌≤◌, Option, Some, None}
-use Rattle.posix_terms.specs.Object.{State}
-use Rattle.posix_terms.specs.Step.{Carried, asks}
+use Rattle.sequential_object.specs.Object.{State}
+use Rattle.sequential_object.specs.Step.{Carried, asks}
 use Rattle.posix_terms.specs.declared.call.Call.{Call}
 use Rattle.posix_terms.specs.declared.call.Call.TheVariants as call
 use Rattle.posix_terms.specs.declared.limits.TheConstants.Limits as limit

@@ -5,8 +5,8 @@ use Rattle.descriptor_table.specs.Acts as acts
 use Rattle.descriptor_table.specs.Agreement.{request_of}
 use Rattle.descriptor_table.specs.declared.plan.NewNumbers.TheVariants as numbers
 use Rattle.descriptor_table.specs.declared.plan.Op.TheVariants as op
-use Rattle.posix_terms.specs.Locked.{keeps_table}
-use Rattle.posix_terms.specs.Step.{asks, step}
+use Rattle.sequential_object.specs.Locked.{keeps_table}
+use Rattle.sequential_object.specs.Step.{asks, step}
 use Rattle.posix_terms.specs.declared.call.Call.{Call}
 use Rattle.posix_terms.specs.declared.outcome.Given.{Given}
 use Rattle.posix_terms.specs.declared.outcome.Outcome.{Outcome}
@@ -14,13 +14,14 @@ use Rattle.posix_terms.specs.declared.limits.TheConstants.Limits as limit
 use Rattle.posix_terms.specs.declared.reply.Answer as posix
 use Rattle.posix_terms.specs.declared.reply.Answer.TheVariants as answer
 use Rattle.posix_terms.specs.declared.reply.Reply.{Reply}
-use Rattle.thread_scripts.specs.declared.actor.Step.{Step}
+use Rattle.posix_terms.specs.declared.step.Step.{Step}
 use Rattle.lock_model.specs.CallTable.{Way}
 use Rattle.lock_model.specs.CallTable.Plan.{Object}
 use Rattle.lock_model.specs.CallTable.Way.{Inside}
 use Rattle.lock_model.specs.Held.{row_of}
 use Rattle.lock_model.specs.Machine.{advance, attempt, can_advance, can_attempt}
-use Rattle.lock_model.specs.RealCalls.{answer_in, numbered, outcome_in, plan_of, way_of}
+use Rattle.lock_model.specs.RealCalls.{plan_of, way_of}
+use Rattle.sequential_object.specs.Answers.{answer_in, numbered, outcome_in}
 use Rattle.lock_model.specs.Runs.{Arises}
 use Rattle.lock_model.specs.State as lock
 use Rattle.lock_model.specs.State.{Job, Row, State, live_clocks, thread_of}
@@ -33,7 +34,7 @@ use Rattle.lock_machine.specs.Diverging.{is_diverging}
 use Rattle.lock_machine.specs.declared.outside.Progress.{Progress}
 use Rattle.lock_machine.specs.declared.outside.Progress.TheVariants as progress
 use Rattle.lock_machine.specs.declared.thread.Outing.{Outing}
-use Rattle.lock_model.specs.declared.turn_end.TurnEnd.{TurnEnd}
+use Rattle.sequential_object.specs.declared.turn_end.TurnEnd.{TurnEnd}
 use Rattle.lock_machine.specs.declared.thread.Phase.{Phase}
 use Rattle.lock_machine.specs.declared.thread.Phase.TheVariants as phase
 use Rattle.lock_machine.specs.Threads.{Thread}

@@ -6,11 +6,11 @@ ghost use Rattle.lock_machine.specs.Lives.{is_live};
 ghost use Rattle.lock_machine.specs.Threads.{KeepsOthers, timed};
 ghost use Rattle.lock_machine.specs.Waiting.{HasRoom, KeepsRoom, is_call, rows_due};
 
+use crate::growth::make_room;
 use crate::thread::{Phase, Thread};
 use logical_clocks::Clocks;
-use posix_terms::{Call, HistoryRow, Limits};
+use posix_terms::{Call, HistoryRow, Limits, Step};
 use std::alloc::AllocError;
-use thread_scripts::Step;
 
 impl Thread {
     // Thread i, which works, asks this step; and tells whether its clock has room for that.
@@ -117,7 +117,7 @@ pub fn reserve_rows(
     ensures call { OnErr result (is_call step.now ≡ true) }
 {
     match step {
-        Step::Call(_) => rows.reserve(threads),
+        Step::Call(_) => make_room(rows, threads),
         _ => Ok(()),
     }
 }

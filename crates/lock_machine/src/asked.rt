@@ -2,9 +2,9 @@ ghost use Rattle.std.specs.Prelude.{◌≡◌, ◌<◌, [], get_or, length, map}
 ghost use Rattle.lock_machine.specs.declared.thread.Thread as declared;
 
 use crate::thread::Thread;
+use posix_terms::Step;
 use std::fmt;
 use std::marker::Model;
-use thread_scripts::Step;
 
 /// The steps that each thread of a machine asked, when it is over. Contracts see the list of them, by thread.
 #[derive(Drop)]
@@ -14,7 +14,7 @@ pub struct Asked {
 
 impl Model for Asked {
     ghost use Rattle.std.specs.Prelude.{List, map};
-    ghost use Rattle.thread_scripts.specs.declared.actor.Step.{Step};
+    ghost use Rattle.posix_terms.specs.declared.step.Step.{Step};
     ghost use Rattle.lock_machine.specs.declared.thread.Thread as declared;
 
     ghost Value = { List (List Step) };

@@ -24,6 +24,7 @@ use std::mem;
 
 // `answer`: the call of thread i, which has this row, has its reply, or is to be made again where it was blocked; this is
 // told. The lock that the call holds is free.
+#[inline(always)]
 pub fn answer(
     i: usize,
     thread: &mut Thread,

@@ -13,7 +13,7 @@
 //! ```rust
 //! use lock_machine::{Attempt, LockMachine};
 //! use posix_terms::{Answer, Call, Reply, Settings};
-//! use thread_scripts::Step;
+//! use posix_terms::Step;
 //!
 //! let settings = Settings { patience: 1000, door_cost: 100 };
 //! let mut machine = LockMachine::new(alloc, 2, settings)?;
@@ -32,6 +32,7 @@
 mod ask;
 mod asked;
 mod events;
+mod growth;
 mod laws;
 mod machine;
 mod machine_events;

@@ -13,9 +13,8 @@ use crate::thread::{Phase, Thread};
 use det_mutex::DetLock;
 use logical_clocks::Clocks;
 use object_store::Store;
-use posix_terms::{HistoryRow, Settings};
+use posix_terms::{HistoryRow, Settings, Step};
 use std::marker::Model;
-use thread_scripts::Step;
 
 // The table with its lock and the bodies of the objects, and the rows of what was granted so far.
 #[derive(Drop)]

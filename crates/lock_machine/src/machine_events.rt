@@ -5,7 +5,7 @@ ghost use Rattle.lock_machine.specs.Refusals.{Rests, outlook, wants_table};
 ghost use Rattle.lock_machine.specs.Views.{clocks_of};
 ghost use Rattle.lock_machine.specs.Whole.{settings_in, thread_at};
 ghost use Rattle.lock_machine.specs.declared.thread.Phase.TheVariants as phase;
-ghost use Rattle.thread_scripts.specs.declared.actor.Step.TheVariants as step;
+ghost use Rattle.posix_terms.specs.declared.step.Step.TheVariants as step;
 
 use crate::ask::reserve_rows;
 use crate::events::{answer, try_object, try_table};
@@ -13,10 +13,11 @@ use crate::machine::LockMachine;
 use crate::outside::{Progress, answer_outside, begin_outside, record};
 use crate::thread::Outing;
 use lock_model::arising_states;
-use posix_terms::{Answer, Given};
+use posix_terms::{Answer, Given, Step};
 use std::alloc::AllocError;
-use thread_scripts::Step;
 
+// Where a row, the lock of an object or an outcome is not there, an event answers that it was not made. No run comes
+// to that: the contracts say of each state that arises whether the event can be made, and then it is.
 impl LockMachine {
     // Thread i, which works, asks this step; and tells whether its clock has room for that.
     pub(crate) fn ask_working(&mut self, i: usize, step: Step) -> Result<bool, AllocError>

@@ -6,18 +6,18 @@ ghost use Rattle.lock_machine.specs.Views.{clocks_of};
 ghost use Rattle.lock_machine.specs.Whole.{settings_in};
 ghost use Rattle.lock_machine.specs.declared.outside.Progress.TheVariants as progress;
 ghost use Rattle.lock_machine.specs.declared.refused.Refused.TheVariants as refused;
-ghost use Rattle.thread_scripts.specs.declared.actor.Step.TheVariants as step;
+ghost use Rattle.posix_terms.specs.declared.step.Step.TheVariants as step;
 
 use crate::machine::LockMachine;
 use crate::outside::{Progress, outlook};
 use crate::refused::{Attempt, Refused};
 use crate::thread::Phase;
-use posix_terms::{Answer, Given};
-use thread_scripts::Step;
+use posix_terms::{Answer, Given, Step};
 
 // The events as a driver makes them: each looks at the phase of its thread first, and is refused where that is not its own.
 impl LockMachine {
     /// Thread i, which works, asks this step: it works on for so long, or wants a call made. Its end is [`LockMachine::end`].
+    #[inline(always)]
     pub fn ask(&mut self, i: usize, step: Step) -> Result<(), Refused>
         requires { i < length self.old.threads }
         ensures event { Comes (works (phase_at self.old i) && not (is_end step)) result self.old self.new (λ o. AsksFor (is_some o) i step self.old self.new) }
@@ -148,6 +148,7 @@ impl LockMachine {
     }
 
     /// The call of thread i, which was granted or whose outcome came, has its answer.
+    #[inline(always)]
     pub fn answer(&mut self, i: usize) -> Result<Answer, Refused>
         requires { i < length self.old.threads }
         ensures event { Comes (has_answer (phase_at self.old i)) result self.old self.new (λ told. Tells told i self.old self.new) }

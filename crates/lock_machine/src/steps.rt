@@ -1,10 +1,11 @@
 ghost use Rattle.std.specs.Prelude.{◌≡◌, ◌∷◌, [], ◌++◌, false, IfOk, OnOk, OnErr};
 ghost use Rattle.lock_model.specs.Held.{has_end};
-ghost use Rattle.thread_scripts.specs.declared.actor.Step.TheVariants as step;
+ghost use Rattle.posix_terms.specs.declared.step.Step.TheVariants as step;
 
+use crate::growth::make_room;
+use posix_terms::Step;
 use std::alloc::{AllocError, Global};
 use std::marker::Model;
-use thread_scripts::Step;
 
 /// The steps that one thread asked, in order. There is room for its end, until that is asked. Contracts see the list of them.
 #[derive(Debug, Drop)]
@@ -15,7 +16,7 @@ pub struct Steps {
 impl Model for Steps {
     ghost use Rattle.std.specs.Prelude.{◌≡◌, ◌<◌, List, false, vec_capacity, vec_len};
     ghost use Rattle.lock_model.specs.Held.{has_end};
-    ghost use Rattle.thread_scripts.specs.declared.actor.Step.{Step};
+    ghost use Rattle.posix_terms.specs.declared.step.Step.{Step};
 
     ghost Value = { List Step };
 
@@ -35,11 +36,12 @@ impl Steps {
     }
 
     // Adds a step at the end, and keeps room for the end; without memory for both the steps are as they were.
+    #[inline(always)]
     pub(crate) fn push(&mut self, step: Step) -> Result<(), AllocError>
         ensures ok { OnOk result (self.new ≡ self.old ++ step ∷ []) }
         ensures err { OnErr result (self.new ≡ self.old) }
     {
-        self.list.reserve(2)?;
+        make_room(&mut self.list, 2)?;
         self.list.push_reserved(step);
         Ok(())
     }

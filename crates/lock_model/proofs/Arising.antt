@@ -8,13 +8,13 @@ use Rattle.lock_model.specs.Laws.{Begins}
 use Rattle.lock_model.specs.Machine.{Setup, Moved, Event, quietly, after_step, ask, fits_job, with_outcome, record_outcome, moves_in, within, moves, move, advance, can_attempt, attempt, is_allowed, happens}
 use Rattle.lock_model.specs.Machine.Event.{Advances, Attempts}
 use Rattle.lock_model.specs.Programs.{Supply, Finite}
-use Rattle.thread_scripts.specs.declared.actor.Step.{Step}
-use Rattle.thread_scripts.specs.declared.actor.Step.TheVariants as step
+use Rattle.posix_terms.specs.declared.step.Step.{Step}
+use Rattle.posix_terms.specs.declared.step.Step.TheVariants as step
 use Rattle.lock_model.specs.Runs.{Arises, IsRun, run, supplied, own}
 use Rattle.lock_model.specs.Schedule.{EndsIn}
 use Rattle.lock_model.specs.State.{Job, Phase, Thread, State, thread_of, start}
 use Rattle.lock_model.specs.State.Phase.{Working, Outside}
-use Rattle.lock_model.specs.Terms.{World}
+use Rattle.sequential_object.specs.Worlds.{World}
 use Rattle.posix_terms.specs.declared.outcome.Given.{Given}
 use Rattle.posix_terms.specs.declared.reply.Reply.{Reply}
 use Rattle.lock_model.specs.Legal.{IsLegalHistory}

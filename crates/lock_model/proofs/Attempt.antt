@@ -11,9 +11,9 @@ use Rattle.lock_model.specs.Machine.{Setup, Effect, Moved, moves, is_number, fre
 use Rattle.lock_model.specs.Runs.{own}
 use Rattle.lock_model.specs.State.{Job, Phase, Thread, Row, State, nobody, thread_of, object_of, live_clocks}
 use Rattle.lock_model.specs.State.Phase.{WantsTable, WantsObject}
-use Rattle.lock_model.specs.Terms.{World}
+use Rattle.sequential_object.specs.Worlds.{World}
 use Rattle.posix_terms.specs.declared.call.Call.{Call}
-use Rattle.posix_terms.specs.Step.{Carried}
+use Rattle.sequential_object.specs.Step.{Carried}
 use Rattle.logical_clocks.specs.TurnOrder.{has_turn}
 use Rattle.posix_terms.specs.declared.transcript.Turn.{Turn}
 use Rattle.lock_model.proofs.Commute.{row_other, lock_other, lock_mine, lock_not, one_holder, world_other, thread_move, advance_move}

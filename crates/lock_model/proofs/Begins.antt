@@ -2,7 +2,7 @@
 use Rattle.std.proofs.Common.{◌≡◌, ℕ, List, [], ◌∷◌, filter_map, Option, Some, None, Bool, true, false, ◌&&◌, is_some, is_none, nat_le, ◌==◌, sym, refl, ap, ◌∙◌, subst, ⊎_elim}
 use Rattle.std.proofs.lemmas.Bool.{false≢true, ne_eqb, and_parts, and_from, and_left, cond-true, cond-false, cases_Bool}
 use Rattle.lock_model.specs.CallTable.{CallTable}
-use Rattle.lock_model.specs.declared.turn_end.TurnEnd.{TurnEnd}
+use Rattle.sequential_object.specs.declared.turn_end.TurnEnd.{TurnEnd}
 use Rattle.lock_model.specs.History.{Agrees, RowAgrees, IsBeginning, IsPrefixOf, rows_of}
 use Rattle.lock_model.specs.Laws.{HaveEnded, Begins}
 use Rattle.lock_model.specs.Legal.{handed_on}
@@ -12,8 +12,8 @@ use Rattle.lock_model.specs.Runs.{run}
 use Rattle.lock_model.specs.Schedule.{EndsIn}
 use Rattle.lock_model.specs.State.{Phase, Thread, Row, State, thread_of, live_clocks, start}
 use Rattle.lock_model.specs.State.Phase.{Ended}
-use Rattle.lock_model.specs.Terms.{World}
-use Rattle.posix_terms.specs.Step.{Carried}
+use Rattle.sequential_object.specs.Worlds.{World}
+use Rattle.sequential_object.specs.Step.{Carried}
 use Rattle.lock_model.specs.Transcripts.{replied}
 use Rattle.logical_clocks.specs.TurnOrder.{has_turn}
 use Rattle.posix_terms.specs.declared.transcript.Turn.{Turn}

@@ -3,15 +3,15 @@ use Rattle.std.proofs.Common.{◌≡◌, ℕ, Some, true, false, refl, ap, ◌�
 use Rattle.std.proofs.lemmas.Bool.{cases_Bool, cases_eq}
 use Rattle.lock_model.specs.Came.{CameOutside}
 use Rattle.lock_model.specs.CallTable.{CallTable}
-use Rattle.lock_model.specs.declared.turn_end.TurnEnd.{TurnEnd}
-use Rattle.lock_model.specs.declared.turn_end.TurnEnd.TheVariants as turn_end
+use Rattle.sequential_object.specs.declared.turn_end.TurnEnd.{TurnEnd}
+use Rattle.sequential_object.specs.declared.turn_end.TurnEnd.TheVariants as turn_end
 use Rattle.lock_model.specs.Machine.{Moved, Setup, advance, after_step, answered, attempt, can_advance, can_attempt, move, moves}
 use Rattle.lock_model.specs.Machine.Event.{Advances, Attempts}
 use Rattle.lock_model.specs.State.{Job, State, Thread, thread_of}
 use Rattle.lock_model.specs.State.Phase.{Outside}
 use Rattle.posix_terms.specs.declared.call.Call.{Call}
-use Rattle.thread_scripts.specs.declared.actor.Step.{Step}
-use Rattle.thread_scripts.specs.declared.actor.Step.TheVariants as step
+use Rattle.posix_terms.specs.declared.step.Step.{Step}
+use Rattle.posix_terms.specs.declared.step.Step.TheVariants as step
 use Rattle.lock_model.proofs.Attempt.{attempt_other, move_of}
 use Rattle.lock_model.proofs.Commute.{advance_move, thread_advance}
 use Rattle.lock_model.proofs.Diamond.{not_allowed}

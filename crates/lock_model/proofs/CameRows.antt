@@ -5,8 +5,8 @@ use Rattle.std.proofs.lemmas.List.{get_or-set_same}
 use Rattle.std.proofs.lemmas.Option.{none-some}
 use Rattle.std.specs.List.{cons_option}
 use Rattle.lock_model.specs.CallTable.{CallTable, Plan, Way}
-use Rattle.lock_model.specs.declared.turn_end.TurnEnd.{TurnEnd}
-use Rattle.lock_model.specs.declared.turn_end.TurnEnd.TheVariants as turn_end
+use Rattle.sequential_object.specs.declared.turn_end.TurnEnd.{TurnEnd}
+use Rattle.sequential_object.specs.declared.turn_end.TurnEnd.TheVariants as turn_end
 use Rattle.lock_model.specs.CallTable.Plan.{No_object, Object}
 use Rattle.lock_model.specs.CallTable.Way.{Inside, Door, Keeps_table}
 use Rattle.lock_model.specs.Came.{CameIsRows, RoomOutside}
@@ -16,14 +16,14 @@ use Rattle.lock_model.specs.Machine.Event.{Advances, Attempts}
 use Rattle.lock_model.specs.Runs.{run, supplied, own}
 use Rattle.lock_model.specs.State.{Job, Phase, Thread, Row, State, nobody, thread_of, start}
 use Rattle.lock_model.specs.State.Phase.{Working, Granted, ToOutside, Outside, Recorded}
-use Rattle.lock_model.specs.Terms.{World}
+use Rattle.sequential_object.specs.Worlds.{World}
 use Rattle.lock_model.specs.Transcripts.{outcomes_of}
 use Rattle.posix_terms.specs.declared.call.Call.{Call}
 use Rattle.posix_terms.specs.declared.outcome.Given.{Given}
 use Rattle.posix_terms.specs.declared.transcript.Turn.{Turn}
-use Rattle.posix_terms.specs.Step.{Carried}
-use Rattle.thread_scripts.specs.declared.actor.Step.{Step}
-use Rattle.thread_scripts.specs.declared.actor.Step.TheVariants as step
+use Rattle.sequential_object.specs.Step.{Carried}
+use Rattle.posix_terms.specs.declared.step.Step.{Step}
+use Rattle.posix_terms.specs.declared.step.Step.TheVariants as step
 use Rattle.lock_model.proofs.Commute.{row_open, row_closed, row_other, row_turn, thread_move, thread_advance, advance_move}
 use Rattle.lock_model.proofs.Turn.{moves_out, thread_moved}
 use Rattle.lock_model.proofs.Attempt.{move_of, can_out, attempt_other}

@@ -5,7 +5,7 @@ use Rattle.std.proofs.lemmas.List.{set_comm, get_or-set_other}
 use Rattle.det_mutex.specs.declared.lock.DetLock.{DetLock}
 use Rattle.lock_model.specs.Machine.{Setup, Effect, Moved, moves, is_number, freed_by, lock_after, or_else, world_after, is_open, filled_by, row_after, move, advance}
 use Rattle.lock_model.specs.State.{Thread, Row, State, nobody, thread_of}
-use Rattle.lock_model.specs.Terms.{World}
+use Rattle.sequential_object.specs.Worlds.{World}
 use Rattle.posix_terms.specs.declared.transcript.Turn.{Turn}
 
 pub map_comm : {A : Type 0} (f g : A → A) (xs : List A) → ((x : A) → f (g x) ≡ g (f x)) → map f (map g xs) ≡ map g (map f xs)

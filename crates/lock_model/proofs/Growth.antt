@@ -5,21 +5,21 @@ use Rattle.std.proofs.lemmas.List.{get_or-set_same, append_assoc, append-nil}
 use Rattle.std.proofs.lemmas.Option.{same_Some, none-some}
 use Rattle.det_mutex.specs.Attempt.{takes}
 use Rattle.lock_model.specs.CallTable.{CallTable, Plan, Way}
-use Rattle.lock_model.specs.declared.turn_end.TurnEnd.{TurnEnd}
-use Rattle.lock_model.specs.declared.turn_end.TurnEnd.TheVariants as turn_end
+use Rattle.sequential_object.specs.declared.turn_end.TurnEnd.{TurnEnd}
+use Rattle.sequential_object.specs.declared.turn_end.TurnEnd.TheVariants as turn_end
 use Rattle.lock_model.specs.CallTable.Plan.{No_object, Object}
 use Rattle.lock_model.specs.CallTable.Way.{Inside, Door, Keeps_table}
 use Rattle.lock_model.specs.History.{Agrees, RowAgrees, IsBeginning, IsPrefixOf}
 use Rattle.lock_model.specs.Machine.{Setup, Effect, Moved, Event, quietly, after_step, ask, fits_job, with_outcome, record_outcome, answered, answer, again, moves_in, moves, is_number, is_open, first_of, row_after, move, failed, new_row, granted, new_job, planned, reached, tries, wants, can_attempt, attempt, is_allowed, happens}
 use Rattle.lock_model.specs.Machine.Event.{Advances, Attempts}
-use Rattle.thread_scripts.specs.declared.actor.Step.{Step}
-use Rattle.thread_scripts.specs.declared.actor.Step.TheVariants as step
+use Rattle.posix_terms.specs.declared.step.Step.{Step}
+use Rattle.posix_terms.specs.declared.step.Step.TheVariants as step
 use Rattle.lock_model.specs.State.{Job, Phase, Thread, Row, State, nobody, thread_of, object_of}
 use Rattle.lock_model.specs.State.Phase.{Working, WantsTable, WantsObject, Granted, ToOutside, Outside, Recorded, Blocked, Ended}
-use Rattle.lock_model.specs.Terms.{World}
+use Rattle.sequential_object.specs.Worlds.{World}
 use Rattle.posix_terms.specs.declared.call.Call.{Call}
 use Rattle.posix_terms.specs.declared.outcome.Given.{Given}
-use Rattle.posix_terms.specs.Step.{Carried}
+use Rattle.sequential_object.specs.Step.{Carried}
 use Rattle.posix_terms.specs.declared.transcript.Turn.{Turn}
 use Rattle.lock_model.proofs.Commute.{row_open, row_closed, thread_move, advance_move}
 use Rattle.lock_model.proofs.Turn.{moves_out, thread_moved, live_within, leading_out}

@@ -5,20 +5,20 @@ use Rattle.std.proofs.lemmas.List.{get_or-set_other, get_or-set_same, length-set
 use Rattle.det_mutex.specs.Attempt.{new_lock, takes, held}
 use Rattle.det_mutex.specs.declared.lock.DetLock.{DetLock}
 use Rattle.lock_model.specs.CallTable.{CallTable, Plan, Way, has_object, keeps_table}
-use Rattle.lock_model.specs.declared.turn_end.TurnEnd.{TurnEnd}
-use Rattle.lock_model.specs.declared.turn_end.TurnEnd.TheVariants as turn_end
+use Rattle.sequential_object.specs.declared.turn_end.TurnEnd.{TurnEnd}
+use Rattle.sequential_object.specs.declared.turn_end.TurnEnd.TheVariants as turn_end
 use Rattle.lock_model.specs.CallTable.Plan.{No_object, Object}
 use Rattle.lock_model.specs.CallTable.Way.{Inside, Door, Keeps_table}
 use Rattle.lock_model.specs.Machine.{Setup, Moved, Event, quietly, after_step, one_if, answered, answer, moves, is_number, lock_after, move, failed, granted, new_job, planned, reached, wants, is_allowed, happens}
 use Rattle.lock_model.specs.Machine.Event.{Advances, Attempts}
-use Rattle.thread_scripts.specs.declared.actor.Step.{Step}
-use Rattle.thread_scripts.specs.declared.actor.Step.TheVariants as step
+use Rattle.posix_terms.specs.declared.step.Step.{Step}
+use Rattle.posix_terms.specs.declared.step.Step.TheVariants as step
 use Rattle.lock_model.specs.Runs.{run}
 use Rattle.lock_model.specs.State.{Job, Phase, Thread, State, nobody, thread_of, object_of, start}
 use Rattle.lock_model.specs.State.Phase.{Working, WantsTable, WantsObject, Granted, ToOutside, Outside, Recorded, Blocked, Ended}
-use Rattle.lock_model.specs.Terms.{World}
+use Rattle.sequential_object.specs.Worlds.{World}
 use Rattle.posix_terms.specs.declared.call.Call.{Call}
-use Rattle.posix_terms.specs.Step.{Carried}
+use Rattle.sequential_object.specs.Step.{Carried}
 use Rattle.posix_terms.specs.declared.transcript.Turn.{Turn}
 use Rattle.lock_model.specs.Held.{object_held, holds_table, AreHeld}
 use Rattle.lock_model.proofs.Commute.{advance_move, thread_move, one_holder, lock_mine, lock_not}

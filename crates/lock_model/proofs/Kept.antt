@@ -6,22 +6,22 @@ use Rattle.std.proofs.lemmas.Option.{same_Some, none-some}
 use Rattle.det_mutex.specs.Attempt.{takes}
 use Rattle.det_mutex.specs.declared.lock.DetLock.{DetLock}
 use Rattle.lock_model.specs.CallTable.{CallTable, Plan, Way, keeps_table, goes_outside}
-use Rattle.lock_model.specs.declared.turn_end.TurnEnd.{TurnEnd}
-use Rattle.lock_model.specs.declared.turn_end.TurnEnd.TheVariants as turn_end
+use Rattle.sequential_object.specs.declared.turn_end.TurnEnd.{TurnEnd}
+use Rattle.sequential_object.specs.declared.turn_end.TurnEnd.TheVariants as turn_end
 use Rattle.lock_model.specs.CallTable.Plan.{No_object, Object}
 use Rattle.lock_model.specs.CallTable.Way.{Inside, Door, Keeps_table}
 use Rattle.lock_model.specs.Legal.{IsRight, changed, handed_on, carried_after}
 use Rattle.lock_model.specs.Machine.{Setup, Moved, Event, quiet, quietly, after_step, fits_job, with_outcome, late_change, answered, answer, moves, is_number, lock_after, or_else, world_after, is_open, first_of, filled_by, row_after, move, failed, new_row, granted_phase, granted, new_job, planned, reached, wants, can_attempt, attempt, is_allowed, happens}
 use Rattle.lock_model.specs.Machine.Event.{Advances, Attempts}
-use Rattle.thread_scripts.specs.declared.actor.Step.{Step}
-use Rattle.thread_scripts.specs.declared.actor.Step.TheVariants as step
+use Rattle.posix_terms.specs.declared.step.Step.{Step}
+use Rattle.posix_terms.specs.declared.step.Step.TheVariants as step
 use Rattle.lock_model.specs.Runs.{run}
 use Rattle.lock_model.specs.State.{Job, Phase, Thread, Row, State, nobody, thread_of, start}
 use Rattle.lock_model.specs.State.Phase.{Working, WantsTable, WantsObject, Granted, ToOutside, Outside, Recorded, Blocked, Ended}
-use Rattle.lock_model.specs.Terms.{World}
+use Rattle.sequential_object.specs.Worlds.{World}
 use Rattle.posix_terms.specs.declared.call.Call.{Call}
 use Rattle.posix_terms.specs.declared.outcome.Given.{Given}
-use Rattle.posix_terms.specs.Step.{Carried}
+use Rattle.sequential_object.specs.Step.{Carried}
 use Rattle.posix_terms.specs.declared.transcript.Turn.{Turn}
 use Rattle.lock_model.proofs.Commute.{row_open, row_closed, thread_move, world_mine, one_holder, advance_move}
 use Rattle.lock_model.proofs.Turn.{moves_live, live_within, thread_moved}

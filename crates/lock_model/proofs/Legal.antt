@@ -3,16 +3,16 @@ use Rattle.std.proofs.Common.{◌≡◌, ℕ, suc, List, [], ◌∷◌, Option, 
 use Rattle.std.proofs.lemmas.Bool.{true≢false, false≢true, cases_Bool}
 use Rattle.std.proofs.lemmas.Option.{same_Some, none-some}
 use Rattle.lock_model.specs.CallTable.{CallTable, keeps_table, goes_outside}
-use Rattle.lock_model.specs.declared.turn_end.TurnEnd.{TurnEnd}
+use Rattle.sequential_object.specs.declared.turn_end.TurnEnd.{TurnEnd}
 use Rattle.lock_model.specs.Legal.{IsRight, IsLegal, changed, completed, handed_on}
 use Rattle.lock_model.specs.Machine.{Setup, Event, fits_job}
 use Rattle.lock_model.specs.Runs.{run}
 use Rattle.lock_model.specs.State.{Job, Phase, Row, State, thread_of, start}
 use Rattle.lock_model.specs.State.Phase.{Working, WantsTable, WantsObject, Granted, ToOutside, Outside, Recorded, Blocked, Ended}
-use Rattle.lock_model.specs.Terms.{World}
+use Rattle.sequential_object.specs.Worlds.{World}
 use Rattle.posix_terms.specs.declared.call.Call.{Call}
 use Rattle.posix_terms.specs.declared.outcome.Given.{Given}
-use Rattle.posix_terms.specs.Step.{Carried}
+use Rattle.sequential_object.specs.Step.{Carried}
 use Rattle.lock_model.specs.Legal.{IsLegalHistory}
 use Rattle.lock_model.proofs.Walk.{Holding, Pending, Part, next_world, opened, Walk}
 use Rattle.lock_model.proofs.Kept.{right_run}

@@ -25,4 +25,3 @@ pub mod CameRows
 pub mod RepliesRows
 pub mod PlainCame
 pub mod CameOutside
-pub mod ScriptEnds

@@ -9,10 +9,10 @@ use Rattle.lock_model.specs.History.{rows_of}
 use Rattle.lock_model.specs.Legal.{handed_on}
 use Rattle.lock_model.specs.Machine.{Setup, Effect, attempt, can_attempt, is_open, new_row, planned, reached, row_after}
 use Rattle.lock_model.specs.State.{Row, State, Thread, thread_of}
-use Rattle.lock_model.specs.Terms.{World}
+use Rattle.sequential_object.specs.Worlds.{World}
 use Rattle.posix_terms.specs.declared.call.Call.{Call}
 use Rattle.posix_terms.specs.declared.transcript.Turn.{Turn}
-use Rattle.posix_terms.specs.Step.{Carried}
+use Rattle.sequential_object.specs.Step.{Carried}
 use Rattle.lock_model.proofs.Commute.{row_open, row_closed, row_other, row_turn}
 use Rattle.lock_model.proofs.Growth.{at_attempt}
 use Rattle.lock_model.proofs.Kept.{busy_found}

@@ -9,8 +9,8 @@ use Rattle.lock_model.specs.Machine.{Setup, fits_job, is_open}
 use Rattle.lock_model.specs.Runs.{Arises, own, supplied}
 use Rattle.lock_model.specs.State.{Job, Phase, Row, State, start, thread_of}
 use Rattle.lock_model.specs.State.Phase.{Outside, Recorded, WantsObject}
-use Rattle.lock_model.specs.Terms.{World}
-use Rattle.posix_terms.specs.Step.{Carried}
+use Rattle.sequential_object.specs.Worlds.{World}
+use Rattle.sequential_object.specs.Step.{Carried}
 use Rattle.posix_terms.specs.declared.call.Call.{Call}
 use Rattle.posix_terms.specs.declared.outcome.Given.{Given}
 use Rattle.lock_model.proofs.Kept.{busy_found, right_run}

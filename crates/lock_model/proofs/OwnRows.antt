@@ -8,8 +8,8 @@ use Rattle.lock_model.specs.Machine.{Setup, Event, is_open}
 use Rattle.lock_model.specs.Runs.{Arises, run, supplied, own}
 use Rattle.lock_model.specs.State.{Job, Phase, Row, State, thread_of, start}
 use Rattle.lock_model.specs.State.Phase.{Working, WantsTable, WantsObject, Granted, ToOutside, Outside, Recorded, Blocked, Ended}
-use Rattle.lock_model.specs.Terms.{World}
-use Rattle.posix_terms.specs.Step.{Carried}
+use Rattle.sequential_object.specs.Worlds.{World}
+use Rattle.sequential_object.specs.Step.{Carried}
 use Rattle.posix_terms.specs.declared.transcript.Turn.{Turn}
 use Rattle.lock_model.specs.Held.{job_in, AreHeld, row_of, HaveRows}
 use Rattle.lock_model.proofs.Walk.{Holding, Pending, Part, next_world, opened, opened_other, Walk, none_is, opened_off}

@@ -4,8 +4,8 @@ use Rattle.std.proofs.lemmas.Bool.{cases_eq}
 use Rattle.std.proofs.lemmas.List.{get_or-set_same, length-append}
 use Rattle.std.proofs.lemmas.Option.{none-some}
 use Rattle.lock_model.specs.CallTable.{CallTable, Plan, Way}
-use Rattle.lock_model.specs.declared.turn_end.TurnEnd.{TurnEnd}
-use Rattle.lock_model.specs.declared.turn_end.TurnEnd.TheVariants as turn_end
+use Rattle.sequential_object.specs.declared.turn_end.TurnEnd.{TurnEnd}
+use Rattle.sequential_object.specs.declared.turn_end.TurnEnd.TheVariants as turn_end
 use Rattle.lock_model.specs.CallTable.Plan.{No_object, Object}
 use Rattle.lock_model.specs.CallTable.Way.{Door, Inside, Keeps_table}
 use Rattle.lock_model.specs.Held.{HasAsked, HaveAsked, call_in, call_of, is_end, last_call, last_step}
@@ -14,12 +14,12 @@ use Rattle.lock_model.specs.Machine.Event.{Advances, Attempts}
 use Rattle.lock_model.specs.Runs.{Arises, own, supplied}
 use Rattle.lock_model.specs.State.{Phase, State, Thread, live_clock_in, nobody, start, thread_of}
 use Rattle.lock_model.specs.State.Phase.{Outside, WantsObject}
-use Rattle.lock_model.specs.Terms.{World}
-use Rattle.posix_terms.specs.Step.{Carried}
+use Rattle.sequential_object.specs.Worlds.{World}
+use Rattle.sequential_object.specs.Step.{Carried}
 use Rattle.posix_terms.specs.declared.call.Call.{Call}
 use Rattle.posix_terms.specs.declared.transcript.Turn.{Turn}
-use Rattle.thread_scripts.specs.declared.actor.Step.{Step}
-use Rattle.thread_scripts.specs.declared.actor.Step.TheVariants as step
+use Rattle.posix_terms.specs.declared.step.Step.{Step}
+use Rattle.posix_terms.specs.declared.step.Step.TheVariants as step
 use Rattle.lock_model.proofs.Arising.{slice_get-push}
 use Rattle.lock_model.proofs.Attempt.{attempt_other, move_of}
 use Rattle.lock_model.proofs.Commute.{advance_move, thread_move}

@@ -11,7 +11,7 @@ use Rattle.lock_model.specs.Runs.{Arises, Follows, supplied, with_came}
 use Rattle.lock_model.specs.Schedule.{next_event, attempt_by, advance_by, after_event, plain, plain_run}
 use Rattle.lock_model.specs.State.{Job, Phase, Thread, State, start, thread_of, live_clocks}
 use Rattle.lock_model.specs.State.Phase.{Outside}
-use Rattle.lock_model.specs.Terms.{World}
+use Rattle.sequential_object.specs.Worlds.{World}
 use Rattle.logical_clocks.specs.TurnOrder.{first_or, first_below, turn_holder}
 use Rattle.posix_terms.specs.declared.outcome.Given.{Given}
 use Rattle.lock_model.proofs.Commute.{thread_advance, advance_move}

@@ -2,11 +2,11 @@
 use Rattle.std.proofs.Common.{◌≡◌, ◌≤◌, ℕ, suc, List, [], ◌∷◌, map, Option, Some, None, Bool, true, false, ◌&&◌, refl, sym, ap, ◌∙◌, subst, if◌then◌else◌, ◌==◌, arith}
 use Rattle.std.proofs.lemmas.Bool.{false≢true}
 use Rattle.std.specs.Prelude.{is_none, is_some}
-use Rattle.posix_terms.specs.Legal.{Answers, IsLegalFrom, MayBe, carried_after, carried_on}
-use Rattle.posix_terms.specs.Locked as locked
-use Rattle.posix_terms.specs.Locked.{locked_object}
-use Rattle.posix_terms.specs.Object as posix_object
-use Rattle.posix_terms.specs.Step.{Carried, Stepped, asks, step}
+use Rattle.sequential_object.specs.Legal.{Answers, IsLegalFrom, MayBe, carried_after, carried_on}
+use Rattle.sequential_object.specs.Locked as locked
+use Rattle.sequential_object.specs.Locked.{LeavesAlike, OutsideLocks, locked_object, locks_door}
+use Rattle.sequential_object.specs.Object as posix_object
+use Rattle.sequential_object.specs.Step.{Carried, Stepped, asks, step}
 use Rattle.posix_terms.specs.declared.call.Call.{Call}
 use Rattle.posix_terms.specs.Outcomes.{fits, is_kind}
 use Rattle.posix_terms.specs.declared.outcome.Given.{Given}
@@ -14,16 +14,16 @@ use Rattle.posix_terms.specs.declared.outcome.Outcome.{Outcome}
 use Rattle.posix_terms.specs.declared.reply.Answer as posix
 use Rattle.posix_terms.specs.declared.reply.Answer.TheVariants as answer
 use Rattle.posix_terms.specs.declared.transcript.Settings.{Settings}
-use Rattle.posix_terms.proofs.Outside.{after_any_outcome, locks_some}
 use Rattle.lock_model.specs.CallTable.{CallTable, goes_outside, keeps_table}
-use Rattle.lock_model.specs.declared.turn_end.TurnEnd.{TurnEnd}
-use Rattle.lock_model.specs.declared.turn_end.TurnEnd.TheVariants as turn_end
+use Rattle.sequential_object.specs.declared.turn_end.TurnEnd.{TurnEnd}
+use Rattle.sequential_object.specs.declared.turn_end.TurnEnd.TheVariants as turn_end
 use Rattle.lock_model.specs.Legal as machine
 use Rattle.lock_model.specs.Machine.{first_of}
-use Rattle.lock_model.specs.Numbers.{world_with}
-use Rattle.lock_model.specs.RealCalls.{answer_in, answered_with, answers_request, numbered, outcome_in, plan_of, real_calls, way_of}
+use Rattle.sequential_object.specs.Numbers.{world_with}
+use Rattle.lock_model.specs.RealCalls.{plan_of, real_calls, way_of}
+use Rattle.sequential_object.specs.Answers.{answer_in, answered_with, answers_request, numbered, outcome_in}
 use Rattle.lock_model.specs.State.{Row}
-use Rattle.lock_model.specs.Terms.{Request, World}
+use Rattle.sequential_object.specs.Worlds.{Request, World}
 use Rattle.lock_model.specs.Rows.{shown, shown_answer}
 
 shown_back : (a : posix.Answer) (b : Carried) → shown_answer (Some (answered_with a b)) ≡ Some a
@@ -61,14 +61,21 @@ some_numbered : (w : World) (o : Option ℕ) → is_some (numbered w o) ≡ is_s
 some_numbered w None = refl
 some_numbered w (Some object) = refl
 
-locks_number : (w : World) (c : Call) (b : Carried) → goes w c b ≡ true → is_some (numbered w (locked_object w.object c b)) ≡ true
-locks_number w c b h = some_numbered w (locked_object w.object c b) ∙ locks_some w.object c b h
+-- a door that is locked is the lock of some object
+some_locked : (s : posix_object.State) (keeps : Bool) (o : Option ℕ) → locks_door s keeps o ≡ true → is_some o ≡ true
+some_locked s keeps None h = absurd (false≢true h)
+some_locked s keeps (Some object) h = refl
 
-goes_is : (settings : Settings) (w : World) (c : Call) (b : Carried) → goes_outside ((real_calls settings).plan w c b) ≡ goes w c b
-goes_is settings w c b = goes_by (goes w c b) (locked.keeps_table c) (numbered w (locked_object w.object c b)) (locks_number w c b)
+locks_number : OutsideLocks → (w : World) (c : Call) (b : Carried) → goes w c b ≡ true → is_some (numbered w (locked_object w.object c b)) ≡ true
+locks_number locks w c b h =
+    some_numbered w (locked_object w.object c b)
+    ∙ some_locked w.object (locked.keeps_table c) (locked_object w.object c b) (locks w.object c b h)
 
-keeps_is : (settings : Settings) (w : World) (c : Call) (b : Carried) → keeps_table ((real_calls settings).plan w c b) ≡ (goes w c b && locked.keeps_table c)
-keeps_is settings w c b = keeps_by (goes w c b) (locked.keeps_table c) (numbered w (locked_object w.object c b)) (locks_number w c b)
+goes_is : OutsideLocks → (settings : Settings) (w : World) (c : Call) (b : Carried) → goes_outside ((real_calls settings).plan w c b) ≡ goes w c b
+goes_is locks settings w c b = goes_by (goes w c b) (locked.keeps_table c) (numbered w (locked_object w.object c b)) (locks_number locks w c b)
+
+keeps_is : OutsideLocks → (settings : Settings) (w : World) (c : Call) (b : Carried) → keeps_table ((real_calls settings).plan w c b) ≡ (goes w c b && locked.keeps_table c)
+keeps_is locks settings w c b = keeps_by (goes w c b) (locked.keeps_table c) (numbered w (locked_object w.object c b)) (locks_number locks w c b)
 
 -- ## One row
 
@@ -86,10 +93,10 @@ not_none : {A : Type 0} (x : Option A) (a : A) → x ≡ Some a → is_none x �
 not_none x a is = ap is_none is
 
 -- the answer of a row is that of the step, with any outcome that the row may have
-answers_now : (settings : Settings) (w : World) (b : Carried) (r : Row) (o : Option Outcome) → machine.IsRight (real_calls settings) w b r → MayBe (asks w.object r.call b) (outcome_in r.outcome) o
+answers_now : OutsideLocks → (settings : Settings) (w : World) (b : Carried) (r : Row) (o : Option Outcome) → machine.IsRight (real_calls settings) w b r → MayBe (asks w.object r.call b) (outcome_in r.outcome) o
     → (a : TurnEnd) → r.answer ≡ Some a → a ≡ answer_in (step settings w.object r.call o b)
-answers_now settings w b r o right may a is =
-    let whole = right.whole (not_none r.answer a is) ∙ goes_is settings w r.call b in
+answers_now locks settings w b r o right may a is =
+    let whole = right.whole (not_none r.answer a is) ∙ goes_is locks settings w r.call b in
     let same : o ≡ outcome_in r.outcome = settled (asks w.object r.call b) r.outcome o may whole in
     right.answer a is ∙ ap (λ (x : Option Outcome). answer_in (step settings w.object r.call x b)) (sym same)
 
@@ -139,17 +146,17 @@ no_outcome request (Some g) o may inside right = absurd (false≢true (sym insid
 no_outcome (Some r) None o may inside right = absurd (false≢true (sym inside))
 no_outcome None None o may inside right = may
 
-leaves : (settings : Settings) (w : World) (c : Call) (b : Carried) (came : Option Given) (o : Option Outcome) → MayBe (asks w.object c b) (outcome_in came) o
+leaves : LeavesAlike → (settings : Settings) (w : World) (c : Call) (b : Carried) (came : Option Given) (o : Option Outcome) → MayBe (asks w.object c b) (outcome_in came) o
     → ((g : Given) → came ≡ Some g → is_some (asks w.object c b) ≡ true)
     → (g keeps : Bool) → goes w c b ≡ g → locked.keeps_table c ≡ keeps
     → (machine.changed (real_calls settings) w c b (machine.completed g came (given_of (asks w.object c b) o)) (g && keeps)).object ≡ (step settings w.object c o b).after
 unfolding world_with
-leaves settings w c b came o may right true true goes keeps =
+leaves alike settings w c b came o may right true true goes keeps =
     let (x, (first, is)) = completed_by (asks w.object c b) came o may goes in
     ap (λ (y : Option Given). (machine.changed (real_calls settings) w c b y true).object) first
     ∙ ap (λ (y : Option Outcome). (step settings w.object c y b).after) (sym is)
-leaves settings w c b came o may right true false goes keeps = sym (after_any_outcome settings w.object c o b keeps)
-leaves settings w c b came o may right false keep goes keeps =
+leaves alike settings w c b came o may right true false goes keeps = sym (alike settings w.object c o b keeps)
+leaves alike settings w c b came o may right false keep goes keeps =
     ap (λ (y : Option Outcome). (step settings w.object c y b).after) (sym (no_outcome (asks w.object c b) came o may goes right))
 
 -- ## All rows
@@ -174,24 +181,24 @@ place_after : (k : ℕ) (o : Option Given) (chosen : ℕ → Option Given) (j : 
 place_after k o chosen j l = grind arith
 
 -- what the threads carry is the same in both definitions
-pub legal_shown : (settings : Settings) (k : ℕ) (w : World) (c d : ℕ → Carried) (rows : List Row) → ((i : ℕ) → c i ≡ d i)
+pub legal_shown : OutsideLocks → LeavesAlike → (settings : Settings) (k : ℕ) (w : World) (c d : ℕ → Carried) (rows : List Row) → ((i : ℕ) → c i ≡ d i)
     → ((chosen : ℕ → Option Given) → machine.IsLegal (real_calls settings) chosen k w c rows) → IsLegalFrom settings w.object d (map shown rows)
-legal_shown settings k w c d [] same h = tt
-legal_shown settings k w c d (r ∷ rows) same h = λ o may.
+legal_shown locks alike settings k w c d [] same h = tt
+legal_shown locks alike settings k w c d (r ∷ rows) same h = λ o may.
     let calls = real_calls settings in
     let i = r.turn.thread in
     let M : Carried → Type 0 = λ b. machine.IsRight calls w b r in
     let right : M (d i) = subst M (same i) (h (λ j. None)).0 in
     let now : Stepped = step settings w.object r.call o (d i) in
-    let answers : (a : TurnEnd) → r.answer ≡ Some a → a ≡ answer_in now = answers_now settings w (d i) r o right may in
+    let answers : (a : TurnEnd) → r.answer ≡ Some a → a ≡ answer_in now = answers_now locks settings w (d i) r o right may in
     let chosen_here : Option Given = given_of (asks w.object r.call (d i)) o in
-    let out : (x : Given) → r.outcome ≡ Some x → is_some (asks w.object r.call (d i)) ≡ true = λ x is. sym (goes_is settings w r.call (d i)) ∙ (right.outcome x is).0 in
+    let out : (x : Given) → r.outcome ≡ Some x → is_some (asks w.object r.call (d i)) ≡ true = λ x is. sym (goes_is locks settings w r.call (d i)) ∙ (right.outcome x is).0 in
     let W : Bool → Bool → Carried → World = λ g keeps b. machine.changed calls w r.call b (machine.completed g r.outcome chosen_here) keeps in
     let plan = calls.plan w r.call (d i) in
     let behind : (W (goes_outside plan) (keeps_table plan) (d i)).object ≡ now.after =
-    ap (λ (g : Bool). (W g (keeps_table plan) (d i)).object) (goes_is settings w r.call (d i))
-    ∙ ap (λ (keeps : Bool). (W (goes w r.call (d i)) keeps (d i)).object) (keeps_is settings w r.call (d i))
-    ∙ leaves settings w r.call (d i) r.outcome o may out (goes w r.call (d i)) (locked.keeps_table r.call) refl refl in
+    ap (λ (g : Bool). (W g (keeps_table plan) (d i)).object) (goes_is locks settings w r.call (d i))
+    ∙ ap (λ (keeps : Bool). (W (goes w r.call (d i)) keeps (d i)).object) (keeps_is locks settings w r.call (d i))
+    ∙ leaves alike settings w r.call (d i) r.outcome o may out (goes w r.call (d i)) (locked.keeps_table r.call) refl refl in
     let Q : posix_object.State → Type 0 = λ x. IsLegalFrom settings x (carried_on d (shown r) now) (map shown rows) in
     let next : World = W (goes_outside plan) (keeps_table plan) (d i) in
     let K : (ℕ → Option Given) → Carried → Type 0 = λ chosen b. machine.IsLegal calls chosen (suc k) (machine.changed calls w r.call b (machine.completed (goes_outside (calls.plan w r.call b)) r.outcome chosen_here) (keeps_table (calls.plan w r.call b))) (machine.handed_on calls c r) rows in
@@ -204,10 +211,10 @@ legal_shown settings k w c d (r ∷ rows) same h = λ o may.
       record {
         answer_is = λ given is. answer_shown now r.answer given answers is;
         outcome_is = outcome_right (asks w.object r.call (d i)) r.outcome (λ x is. (right.outcome x is).1);
-        outcome_came = λ given is. some_outcome r.outcome ∙ right.whole (answer_some r.answer given is) ∙ goes_is settings w r.call (d i);
+        outcome_came = λ given is. some_outcome r.outcome ∙ right.whole (answer_some r.answer given is) ∙ goes_is locks settings w r.call (d i);
       },
       subst Q behind
-          (legal_shown settings (suc k) next (machine.handed_on calls c r) (carried_on d (shown r) now) rows
+          (legal_shown locks alike settings (suc k) next (machine.handed_on calls c r) (carried_on d (shown r) now) rows
           (λ j. chosen_same (i == j) (machine.carried_after calls (c j) r.answer) (c j) (carried_after (d j) (shown_answer r.answer) now) (d j) (carried_same settings now r.answer (c j) (d j) (same j) answers) (same j))
           rest),
     )

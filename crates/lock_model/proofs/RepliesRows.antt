@@ -4,21 +4,21 @@ use Rattle.std.proofs.lemmas.Bool.{and_parts, cases_eq, cases_Bool}
 use Rattle.std.proofs.lemmas.List.{append-nil}
 use Rattle.std.specs.List.{cons_option}
 use Rattle.lock_model.specs.CallTable.{CallTable}
-use Rattle.lock_model.specs.declared.turn_end.TurnEnd.{TurnEnd}
-use Rattle.lock_model.specs.declared.turn_end.TurnEnd.TheVariants as turn_end
+use Rattle.sequential_object.specs.declared.turn_end.TurnEnd.{TurnEnd}
+use Rattle.sequential_object.specs.declared.turn_end.TurnEnd.TheVariants as turn_end
 use Rattle.lock_model.specs.Came.{RepliesAreRows}
 use Rattle.lock_model.specs.Machine.{Setup, Effect, Moved, Event, after_step, answer, answered, attempt, can_attempt, happens, is_allowed, is_open, move, moves, row_after, with_outcome}
 use Rattle.lock_model.specs.Machine.Event.{Advances, Attempts}
 use Rattle.lock_model.specs.Runs.{own, run, supplied}
 use Rattle.lock_model.specs.State.{Job, Phase, Row, State, Thread, nobody, start, thread_of}
 use Rattle.lock_model.specs.State.Phase.{Granted, Recorded}
-use Rattle.lock_model.specs.Terms.{World}
+use Rattle.sequential_object.specs.Worlds.{World}
 use Rattle.lock_model.specs.Transcripts.{replies_of, reply_in}
 use Rattle.posix_terms.specs.declared.call.Call.{Call}
 use Rattle.posix_terms.specs.declared.reply.Reply.{Reply}
-use Rattle.posix_terms.specs.Step.{Carried}
-use Rattle.thread_scripts.specs.declared.actor.Step.{Step}
-use Rattle.thread_scripts.specs.declared.actor.Step.TheVariants as step
+use Rattle.sequential_object.specs.Step.{Carried}
+use Rattle.posix_terms.specs.declared.step.Step.{Step}
+use Rattle.posix_terms.specs.declared.step.Step.TheVariants as step
 use Rattle.lock_model.proofs.Attempt.{attempt_other, move_of}
 use Rattle.lock_model.proofs.Commute.{advance_move, row_closed, row_open, row_turn, thread_move}
 use Rattle.lock_model.proofs.Follows.{attempt_tried}

@@ -5,22 +5,22 @@ use Rattle.std.proofs.lemmas.List.{get_or-set_other, get_or-set_same}
 use Rattle.det_mutex.specs.Attempt.{takes}
 use Rattle.det_mutex.specs.declared.lock.DetLock.{DetLock}
 use Rattle.lock_model.specs.CallTable.{CallTable, Plan, Way}
-use Rattle.lock_model.specs.declared.turn_end.TurnEnd.{TurnEnd}
-use Rattle.lock_model.specs.declared.turn_end.TurnEnd.TheVariants as turn_end
+use Rattle.sequential_object.specs.declared.turn_end.TurnEnd.{TurnEnd}
+use Rattle.sequential_object.specs.declared.turn_end.TurnEnd.TheVariants as turn_end
 use Rattle.lock_model.specs.CallTable.Plan.{No_object, Object}
 use Rattle.lock_model.specs.CallTable.Way.{Inside, Door, Keeps_table}
 use Rattle.lock_model.specs.Legal.{handed_on}
 use Rattle.lock_model.specs.Machine.{Setup, Effect, Moved, Event, after_step, answered, moves, is_number, row_after, move, failed, new_row, granted, new_job, planned, reached, can_attempt, attempt, is_allowed, happens}
 use Rattle.lock_model.specs.Machine.Event.{Advances, Attempts}
-use Rattle.thread_scripts.specs.declared.actor.Step.{Step}
-use Rattle.thread_scripts.specs.declared.actor.Step.TheVariants as step
+use Rattle.posix_terms.specs.declared.step.Step.{Step}
+use Rattle.posix_terms.specs.declared.step.Step.TheVariants as step
 use Rattle.lock_model.specs.Rising.{IsBeforeAll, IsRising}
 use Rattle.lock_model.specs.Runs.{Arises, run, supplied, own}
 use Rattle.lock_model.specs.State.{Phase, Thread, Row, State, nobody, thread_of, live_clock, start}
 use Rattle.lock_model.specs.State.Phase.{Working, WantsTable, WantsObject, Granted, ToOutside, Outside, Recorded, Blocked, Ended}
-use Rattle.lock_model.specs.Terms.{World}
+use Rattle.sequential_object.specs.Worlds.{World}
 use Rattle.posix_terms.specs.declared.call.Call.{Call}
-use Rattle.posix_terms.specs.Step.{Carried}
+use Rattle.sequential_object.specs.Step.{Carried}
 use Rattle.logical_clocks.specs.TurnOrder.{is_before}
 use Rattle.posix_terms.specs.declared.transcript.Turn.{Turn}
 use Rattle.lock_model.proofs.Commute.{row_turn, advance_move, thread_move, one_holder}

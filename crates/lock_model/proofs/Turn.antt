@@ -4,11 +4,11 @@ use Rattle.std.proofs.lemmas.Bool.{false≢true, ltb-true, leb-true, eqb-true, l
 use Rattle.std.proofs.lemmas.List.{get_or-set_same, get_or_past}
 use Rattle.std.proofs.lemmas.Option.{same_Some, none-some}
 use Rattle.lock_model.specs.CallTable.{CallTable, has_object, keeps_table}
-use Rattle.lock_model.specs.declared.turn_end.TurnEnd.{TurnEnd}
-use Rattle.lock_model.specs.declared.turn_end.TurnEnd.TheVariants as turn_end
+use Rattle.sequential_object.specs.declared.turn_end.TurnEnd.{TurnEnd}
+use Rattle.sequential_object.specs.declared.turn_end.TurnEnd.TheVariants as turn_end
 use Rattle.lock_model.specs.Machine.{Setup, Moved, quietly, after_step, ask, fits_job, with_outcome, record_outcome, one_if, answered, answer, again, moves_in, within, moves, move}
-use Rattle.thread_scripts.specs.declared.actor.Step.{Step}
-use Rattle.thread_scripts.specs.declared.actor.Step.TheVariants as step
+use Rattle.posix_terms.specs.declared.step.Step.{Step}
+use Rattle.posix_terms.specs.declared.step.Step.TheVariants as step
 use Rattle.lock_model.specs.State.{Job, Phase, Thread, State, nobody, thread_of, live_clock_in, live_clock, live_clocks}
 use Rattle.lock_model.specs.State.Phase.{Working, Granted, ToOutside, Outside, Recorded, Blocked, Ended}
 use Rattle.posix_terms.specs.declared.call.Call.{Call}

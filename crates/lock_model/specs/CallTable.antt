@@ -1,11 +1,11 @@
 -- Believed: a contract of the headline stands on it.
 -- What calls do: any functions of what the calls before have made.
 use Rattle.std.specs.Prelude.{ℕ, Option, Bool, true, false}
-use Rattle.lock_model.specs.Terms.{World, Request}
-use Rattle.lock_model.specs.declared.turn_end.TurnEnd.{TurnEnd}
+use Rattle.sequential_object.specs.Worlds.{World, Request}
+use Rattle.sequential_object.specs.declared.turn_end.TurnEnd.{TurnEnd}
 use Rattle.posix_terms.specs.declared.call.Call.{Call}
 use Rattle.posix_terms.specs.declared.outcome.Given.{Given}
-use Rattle.posix_terms.specs.Step.{Carried}
+use Rattle.sequential_object.specs.Step.{Carried}
 use Rattle.posix_terms.specs.declared.transcript.Turn.{Turn}
 
 -- what a call that takes an object does with it: it acts inside, or goes outside through a door, or does so and keeps the table to its answer

@@ -8,7 +8,7 @@ use Rattle.lock_model.specs.Runs.{Arises, LeadsTo, supplied, with_came}
 use Rattle.lock_model.specs.Schedule.{IsOver, plain_run}
 use Rattle.lock_model.specs.State.{Job, State, Thread, start, thread_of}
 use Rattle.lock_model.specs.State.Phase.{Outside}
-use Rattle.lock_model.specs.Terms.{World}
+use Rattle.sequential_object.specs.Worlds.{World}
 use Rattle.lock_model.specs.Transcripts.{outcomes_of, replies_of}
 use Rattle.posix_terms.specs.declared.outcome.Given.{Given}
 

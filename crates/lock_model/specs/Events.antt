@@ -7,10 +7,10 @@ use Rattle.lock_model.specs.Runs.{calls_in}
 use Rattle.lock_model.specs.Schedule.{next_event}
 use Rattle.lock_model.specs.State.{Job, Phase, State, Thread, thread_of}
 use Rattle.lock_model.specs.State.Phase.{Blocked, Ended, Granted, Outside, Recorded, ToOutside, Working}
-use Rattle.posix_terms.specs.Step.{Carried}
+use Rattle.sequential_object.specs.Step.{Carried}
 use Rattle.posix_terms.specs.declared.call.Call.{Call}
 use Rattle.posix_terms.specs.declared.outcome.Given.{Given}
-use Rattle.thread_scripts.specs.declared.actor.Step.{Step}
+use Rattle.posix_terms.specs.declared.step.Step.{Step}
 
 -- the thread whose event it is
 abbrev pub thread_in : Event → ℕ

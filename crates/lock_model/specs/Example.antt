@@ -2,20 +2,20 @@
 -- Setups for runs worked out by hand. Whatever the world, all calls take the same locks and give the same answer.
 use Rattle.std.specs.Prelude.{ℕ, ◌^◌, List, [], ◌∷◌, map, true}
 use Rattle.lock_model.specs.CallTable.{CallTable, Plan}
-use Rattle.lock_model.specs.declared.turn_end.TurnEnd.{TurnEnd}
-use Rattle.lock_model.specs.declared.turn_end.TurnEnd.TheVariants as turn_end
+use Rattle.sequential_object.specs.declared.turn_end.TurnEnd.{TurnEnd}
+use Rattle.sequential_object.specs.declared.turn_end.TurnEnd.TheVariants as turn_end
 use Rattle.lock_model.specs.CallTable.Plan.{Object}
 use Rattle.lock_model.specs.CallTable.Way.{Inside}
 use Rattle.lock_model.specs.Machine.{Setup}
 use Rattle.lock_model.specs.Programs.{listed}
-use Rattle.thread_scripts.specs.declared.actor.Step.{Step}
-use Rattle.thread_scripts.specs.declared.actor.Step.TheVariants as step
+use Rattle.posix_terms.specs.declared.step.Step.{Step}
+use Rattle.posix_terms.specs.declared.step.Step.TheVariants as step
 use Rattle.lock_model.specs.State.{State, Row, start}
-use Rattle.lock_model.specs.Terms.{World, Request}
+use Rattle.sequential_object.specs.Worlds.{World, Request}
 use Rattle.posix_terms.specs.declared.call.Call.{Call}
 use Rattle.posix_terms.specs.declared.outcome.Given.{Given}
 use Rattle.posix_terms.specs.declared.reply.Reply.{Reply}
-use Rattle.posix_terms.specs.Step.{Carried}
+use Rattle.sequential_object.specs.Step.{Carried}
 use Rattle.posix_terms.specs.declared.transcript.Row.{Row as TranscriptRow}
 use Rattle.posix_terms.specs.declared.transcript.Turn.{Turn}
 

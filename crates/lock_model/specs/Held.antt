@@ -5,12 +5,12 @@ use Rattle.lock_model.specs.CallTable.{CallTable, Plan, Way, has_object, keeps_t
 use Rattle.lock_model.specs.CallTable.Plan.{No_object, Object}
 use Rattle.lock_model.specs.Machine.{fits_job, is_number, is_open}
 use Rattle.lock_model.specs.State.{Job, Phase, Row, State, Thread, thread_of, object_of}
-use Rattle.posix_terms.specs.Step.{Carried}
+use Rattle.sequential_object.specs.Step.{Carried}
 use Rattle.posix_terms.specs.declared.call.Call.{Call}
 use Rattle.posix_terms.specs.declared.outcome.Given.{Given}
 use Rattle.lock_model.specs.State.Phase.{Working, WantsTable, WantsObject, Granted, ToOutside, Outside, Recorded, Blocked, Ended}
-use Rattle.thread_scripts.specs.declared.actor.Step.{Step}
-use Rattle.thread_scripts.specs.declared.actor.Step.TheVariants as step
+use Rattle.posix_terms.specs.declared.step.Step.{Step}
+use Rattle.posix_terms.specs.declared.step.Step.TheVariants as step
 
 -- the call that was granted and is not answered
 abbrev pub job_in : Phase → Option Job

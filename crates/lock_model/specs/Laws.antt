@@ -11,7 +11,7 @@ use Rattle.lock_model.specs.Runs.{Arises, LeadsTo, Follows, run, supplied, own, 
 use Rattle.lock_model.specs.Schedule.{EndsIn, IsOver, next_event, plain_run}
 use Rattle.lock_model.specs.State.{State, thread_of, live_clocks, start}
 use Rattle.lock_model.specs.State.Phase.{Ended}
-use Rattle.lock_model.specs.Terms.{World}
+use Rattle.sequential_object.specs.Worlds.{World}
 use Rattle.lock_model.specs.Transcripts.{outcomes_of, answers_of, transcript}
 use Rattle.logical_clocks.specs.TurnOrder.{has_turn, turn_holder}
 

@@ -2,14 +2,14 @@
 -- A history is legal: each answer is the one that the calls before it, in the order of the rows, lead to.
 use Rattle.std.specs.Prelude.{◌≡◌, ℕ, suc, List, [], ◌∷◌, Option, Some, None, Bool, true, false, is_none, is_some, if◌then◌else◌, ◌==◌}
 use Rattle.lock_model.specs.CallTable.{CallTable, goes_outside, keeps_table}
-use Rattle.lock_model.specs.declared.turn_end.TurnEnd.{TurnEnd}
-use Rattle.lock_model.specs.declared.turn_end.TurnEnd.TheVariants as turn_end
+use Rattle.sequential_object.specs.declared.turn_end.TurnEnd.{TurnEnd}
+use Rattle.sequential_object.specs.declared.turn_end.TurnEnd.TheVariants as turn_end
 use Rattle.lock_model.specs.Machine.{first_of}
 use Rattle.lock_model.specs.State.{Row}
-use Rattle.lock_model.specs.Terms.{World}
+use Rattle.sequential_object.specs.Worlds.{World}
 use Rattle.posix_terms.specs.declared.call.Call.{Call}
 use Rattle.posix_terms.specs.declared.outcome.Given.{Given}
-use Rattle.posix_terms.specs.Step.{Carried}
+use Rattle.sequential_object.specs.Step.{Carried}
 
 -- what a thread carries after an answer
 abbrev pub carried_after : CallTable → Carried → Option TurnEnd → Carried

@@ -1,4 +1,3 @@
-pub mod Terms
 pub mod CallTable
 pub mod Programs
 pub mod State
@@ -13,9 +12,7 @@ pub mod Held
 pub mod Events
 pub mod Laws
 pub mod Came
-pub mod Numbers
 pub mod RealCalls
 pub mod Rows
 pub mod RealLaws
-pub mod ScriptPrograms
 pub mod Example

@@ -1,12 +1,12 @@
 -- Believed: a contract of the headline stands on it.
 -- The laws of runs for the real calls, in the words of files and descriptors.
 use Rattle.std.specs.Prelude.{ℕ, List, map}
-use Rattle.posix_terms.specs.Legal as posix
+use Rattle.sequential_object.specs.Legal as posix
 use Rattle.posix_terms.specs.declared.limits.TheConstants.Limits as limit
 use Rattle.posix_terms.specs.declared.transcript.Settings.{Settings}
 use Rattle.lock_model.specs.Laws.{Begins}
 use Rattle.lock_model.specs.Machine.{Setup, Event}
-use Rattle.lock_model.specs.Numbers.{first_world}
+use Rattle.sequential_object.specs.Numbers.{first_world}
 use Rattle.lock_model.specs.Programs.{Supply, Finite}
 use Rattle.lock_model.specs.RealCalls.{real_calls, real_limits}
 use Rattle.lock_model.specs.Rising.{IsRising}
@@ -25,7 +25,7 @@ real_start threads = start threads limit.OBJECTS first_world
 abbrev pub real_run : Settings → Supply → ℕ → List Event → State
 real_run settings supply threads events = run (real_setup settings supply) events (real_start threads)
 
--- whatever the order of events: the object of posix_terms, given the calls in the order of the rows, gives each answer that a thread got
+-- whatever the order of events: the sequential object, given the calls in the order of the rows, gives each answer that a thread got
 abbrev pub RealLegal : Type 0
 RealLegal = (settings : Settings) (supply : Supply) (threads : ℕ) (events : List Event) → posix.IsLegal settings (map shown (real_run settings supply threads events).rows)
 

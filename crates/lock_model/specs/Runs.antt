@@ -3,8 +3,8 @@
 use Rattle.std.specs.Prelude.{◌≡◌, ℕ, suc, List, [], ◌∷◌, Some, true, slice_get, take}
 use Rattle.lock_model.specs.Machine.{Setup, Event, is_allowed, happens}
 use Rattle.lock_model.specs.Programs.{Supply, listed}
-use Rattle.thread_scripts.specs.declared.actor.Step.{Step}
-use Rattle.thread_scripts.specs.declared.actor.Step.TheVariants as step
+use Rattle.posix_terms.specs.declared.step.Step.{Step}
+use Rattle.posix_terms.specs.declared.step.Step.TheVariants as step
 use Rattle.lock_model.specs.State.{State, thread_of}
 use Rattle.posix_terms.specs.declared.outcome.Given.{Given}
 

@@ -4,13 +4,13 @@ use Rattle.std.specs.Prelude.{ℕ, List, [], replicate, get_or, map, Option, Som
 use Rattle.det_mutex.specs.Attempt.{new_lock}
 use Rattle.det_mutex.specs.declared.lock.DetLock.{DetLock}
 use Rattle.lock_model.specs.CallTable.{Plan, Way}
-use Rattle.lock_model.specs.declared.turn_end.TurnEnd.{TurnEnd}
-use Rattle.thread_scripts.specs.declared.actor.Step.{Step}
-use Rattle.lock_model.specs.Terms.{World}
+use Rattle.sequential_object.specs.declared.turn_end.TurnEnd.{TurnEnd}
+use Rattle.posix_terms.specs.declared.step.Step.{Step}
+use Rattle.sequential_object.specs.Worlds.{World}
 use Rattle.posix_terms.specs.declared.call.Call.{Call}
 use Rattle.posix_terms.specs.declared.outcome.Given.{Given}
 use Rattle.posix_terms.specs.declared.reply.Reply.{Reply}
-use Rattle.posix_terms.specs.Step.{Carried}
+use Rattle.sequential_object.specs.Step.{Carried}
 use Rattle.posix_terms.specs.declared.transcript.Turn.{Turn}
 
 -- a granted call: with its turn, the world that it found, and its outcome once that came

@@ -1,8 +1,8 @@
 -- Internal: no contract of the headline or of a command stands on it.
 -- What one thread sees of its rows.
 use Rattle.std.specs.Prelude.{ℕ, List, filter_map, Option, Some, None}
-use Rattle.lock_model.specs.declared.turn_end.TurnEnd.{TurnEnd}
-use Rattle.lock_model.specs.declared.turn_end.TurnEnd.TheVariants as turn_end
+use Rattle.sequential_object.specs.declared.turn_end.TurnEnd.{TurnEnd}
+use Rattle.sequential_object.specs.declared.turn_end.TurnEnd.TheVariants as turn_end
 use Rattle.lock_model.specs.History.{rows_of}
 use Rattle.lock_model.specs.State.{Row}
 use Rattle.posix_terms.specs.declared.outcome.Given.{Given}

@@ -7,7 +7,7 @@
 //! what one event changes, and `arising_states` what holds of each state that a run leads to. By
 //! `legal_history` each answer is the one that the calls before it lead to, and by `prefix_law`
 //! what the threads saw at any moment is a beginning of what they see in the plain run. `real_runs`
-//! says the same of the real calls. [`TurnEnd`] is how a turn of a call ended.
+//! says the same of the real calls.
 //!
 //! ```rust
 //! ghost use Rattle.lock_model.specs.Events.{EventLaws};
@@ -27,8 +27,6 @@
 //! ```
 #![tactic(auto)]
 
-mod turn_end;
-
 ghost use Rattle.std.specs.Prelude.{◌≡◌, ◌∷◌, []};
 ghost use Rattle.lock_model.specs.Came.{CameGrows, CameIsRows, CameOutside, OutsideStays, OverUnderCame, PlainArises, PlainCount, PlainLeads, RepliesAreRows, RoomOutside, SameUnderCame};
 ghost use Rattle.lock_model.specs.CallTable.Plan.{No_object, Object};
@@ -38,11 +36,9 @@ ghost use Rattle.lock_model.specs.Example.{Words, alone, blocked_call, one_call,
 ghost use Rattle.lock_model.specs.Laws.{ArisesAtStart, ArisesByEvent, ArisesByRun, EachEventLowers, EndedOrTurn, EndsHere, EndsNext, HolderHasTurn, LegalLaw, LegalOfArisen, LocksOfArisen, OneEventMore, OneTurn, OverLaw, OwnFinite, PlainIsRun, PlansOfArisen, PrefixLaw, PrefixLawOfCame, PrefixLawOfFollowed, PrefixLawOfOwn, RisingLaw, RisingOfArisen, RowsOfArisen, RunFollows, SomeEnd, SomeTurn, StepsOfArisen, StuckLaw, UniqueEnd};
 ghost use Rattle.lock_model.specs.RealLaws.{RealEnd, RealLegal, RealLegalOfArisen, RealPrefix, RealRising};
 ghost use Rattle.lock_model.specs.Schedule.{IsOver, plain_run};
-ghost use Rattle.lock_model.specs.ScriptPrograms.{NeverLacks, ScriptsEnd};
 ghost use Rattle.lock_model.specs.Transcripts.{transcript};
 
-use thread_scripts::runs_end;
-pub use turn_end::TurnEnd;
+use sequential_object::calls_outside;
 
 /// The prefix law. Whatever the order of events, at every moment the rows of all threads together are the beginning
 /// of the plain run's rows, where an outcome or an answer that is not there yet agrees with any, and an answered row
@@ -123,17 +119,19 @@ pub fn arising_states()
     ensures steps { StepsOfArisen }
 {}
 
-/// The same for the real calls, in the words of files and descriptors. Whatever the order of events, the object of
-/// `posix_terms`, given the calls in the order of the rows, gives each answer that a thread got (`legal`; `arisen`: of
-/// any state that arises), the turns rise (`rising`), and each thread sees a beginning of what it sees in the plain
-/// run (`prefix`), which comes to an end where the programs do (`ends`).
+/// The same for the real calls, in the words of files and descriptors. Whatever the order of events, the sequential
+/// object, given the calls in the order of the rows, gives each answer that a thread got (`legal`; `arisen`: of any state
+/// that arises), the turns rise (`rising`), and each thread sees a beginning of what it sees in the plain run (`prefix`),
+/// which comes to an end where the programs do (`ends`).
 pub fn real_runs()
     ensures legal { RealLegal }
     ensures arisen { RealLegalOfArisen }
     ensures rising { RealRising }
     ensures prefix { RealPrefix }
     ensures ends { RealEnd }
-{}
+{
+    calls_outside();
+}
 
 /// Runs worked out by hand, from the rules: a table attempt costs 1; an object attempt costs 1, and 1 more where it
 /// frees the table; going outside costs 100; and an answer costs 1 for each lock that it frees.
@@ -154,15 +152,6 @@ pub fn worked_runs()
     ensures blocked_silent { (x : Words) → transcript 0 (plain_run (blocked_call x) 10 (alone x)).rows ≡ [] }
     ensures blocked_over { (x : Words) → IsOver (blocked_call x) (plain_run (blocked_call x) 10 (alone x)) }
 {}
-
-/// A program that is a script never lacks its next step: behind its last line a script goes on ending (`next`). And each comes to its end:
-/// behind so many steps it gives nothing else, whatever the replies (`end`).
-pub fn programs_of_scripts()
-    ensures next { NeverLacks }
-    ensures end { ScriptsEnd }
-{
-    runs_end();
-}
 
 /// The plain run and the outcomes that came in it. With just those that came in so many events it is the same run so
 /// far (`same`), and over where it was over (`over`): so it can be made again from its own outcomes. What so many

@@ -8,15 +8,16 @@ use Rattle.lock_model.specs.Came.{CameIsRows}
 use Rattle.lock_model.specs.History as lock
 use Rattle.lock_model.specs.Laws.{LegalOfArisen}
 use Rattle.lock_model.specs.Legal.{IsLegal, handed_on}
-use Rattle.lock_model.specs.Numbers.{first_world}
-use Rattle.lock_model.specs.RealCalls.{answers_request, outcome_in, real_calls}
+use Rattle.sequential_object.specs.Numbers.{first_world}
+use Rattle.lock_model.specs.RealCalls.{real_calls}
+use Rattle.sequential_object.specs.Answers.{answers_request, outcome_in}
 use Rattle.lock_model.specs.Rows.{shown}
 use Rattle.lock_model.specs.Runs.{own}
 use Rattle.lock_model.specs.State.{Row}
-use Rattle.lock_model.specs.Terms.{World}
+use Rattle.sequential_object.specs.Worlds.{World}
 use Rattle.lock_model.specs.Transcripts as seen
 use Rattle.posix_terms.specs.Outcomes.{fits, is_kind}
-use Rattle.posix_terms.specs.Step.{Carried, asks}
+use Rattle.sequential_object.specs.Step.{Carried, asks}
 use Rattle.posix_terms.specs.declared.call.Call.{Call}
 use Rattle.posix_terms.specs.declared.limits.TheConstants.Limits as limit
 use Rattle.posix_terms.specs.declared.outcome.Given.{Given}

@@ -12,7 +12,7 @@ use Rattle.lock_model.specs.Held.{job_in, row_of}
 use Rattle.lock_model.specs.Rows.{shown}
 use Rattle.lock_model.specs.Runs.{own}
 use Rattle.lock_model.specs.State.{Job, State, thread_of}
-use Rattle.posix_terms.specs.Step.{asks}
+use Rattle.sequential_object.specs.Step.{asks}
 use Rattle.posix_terms.specs.declared.call.Call.{Call}
 use Rattle.posix_terms.specs.declared.transcript.HistoryRow.{HistoryRow}
 use Rattle.logged_machine.specs.Requests.{IsRequest, out_of}

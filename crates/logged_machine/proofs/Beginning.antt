@@ -6,14 +6,14 @@ use Rattle.lock_machine.specs.Conditions.{setup_under, start_under}
 use Rattle.lock_machine.specs.Shows.{PhaseShows, Shows}
 use Rattle.lock_machine.specs.Whole.{Whole, thread_at}
 use Rattle.lock_machine.specs.declared.thread.Phase.{Phase}
-use Rattle.lock_model.specs.declared.turn_end.TurnEnd.{TurnEnd}
-use Rattle.lock_model.specs.declared.turn_end.TurnEnd.TheVariants as turn_end
+use Rattle.sequential_object.specs.declared.turn_end.TurnEnd.{TurnEnd}
+use Rattle.sequential_object.specs.declared.turn_end.TurnEnd.TheVariants as turn_end
 use Rattle.lock_model.specs.History as lock
 use Rattle.lock_model.specs.History.{Agrees, IsPrefixOf}
 use Rattle.lock_model.specs.Laws.{Begins, OwnFinite, PrefixLawOfOwn, SomeEnd}
-use Rattle.lock_model.specs.Numbers.{first_world}
+use Rattle.sequential_object.specs.Numbers.{first_world}
 use Rattle.lock_model.specs.Programs.{Supply, listed}
-use Rattle.lock_model.specs.RealCalls.{outcome_in}
+use Rattle.sequential_object.specs.Answers.{outcome_in}
 use Rattle.lock_model.specs.Rising as rising
 use Rattle.lock_model.specs.Rows.{shown, shown_answer}
 use Rattle.lock_model.specs.Runs.{own}
@@ -29,7 +29,7 @@ use Rattle.posix_terms.specs.declared.reply.Answer.TheVariants as answer
 use Rattle.posix_terms.specs.declared.transcript.HistoryRow.{HistoryRow}
 use Rattle.posix_terms.specs.declared.transcript.Row as posix
 use Rattle.posix_terms.specs.declared.transcript.Turn.{Turn}
-use Rattle.thread_scripts.specs.declared.actor.Step.{Step}
+use Rattle.posix_terms.specs.declared.step.Step.{Step}
 use Rattle.logged_machine.specs.Begins.{BeginsPlainRun, HaveEnded, IsAllOf, IsBeginning, RowAgrees, steps_and_records}
 use Rattle.logged_machine.specs.History.{AreRising, IsBeforeAll, answer_before, answers_in, outcome_before, outcomes_in, reply_before, rows_of, transcript_of}
 use Rattle.logged_machine.specs.Kept.{IsKept}

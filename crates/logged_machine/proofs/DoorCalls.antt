@@ -14,16 +14,16 @@ use Rattle.std.specs.Prelude.{is_ok}
 use Rattle.std.specs.declared.cmp.Ordering.{Ordering}
 use Rattle.std.specs.declared.cmp.Ordering.TheVariants.{Equal, Greater, Less}
 use Rattle.object_store.specs.Errands.{door_taken, object_found}
-use Rattle.posix_terms.specs.Descriptors.{close_result, described, ends_door, freed, has_description, has_descriptor, has_path, is_file, is_of, lowest_free, opened, released}
-use Rattle.posix_terms.specs.Doors.{NewDoor, host_open_result, host_path, listener_in, opens, port_of, tcp_accept_result, tcp_connect_result, tcp_listen_result}
-use Rattle.posix_terms.specs.Effects.{Asking, Asks, Completes, Effect, asks_of}
-use Rattle.posix_terms.specs.Locked.{ended_object, if_file, if_moved, keeps_table, locked, locked_object, unless_refused}
-use Rattle.posix_terms.specs.Object.{Content, Description, Directory, DoorTo, File, FileNode, Node, Pair, Pipe, State, any_below, content_of, path_cmp, with_object}
+use Rattle.sequential_object.specs.Descriptors.{close_result, described, ends_door, freed, has_description, has_descriptor, has_path, is_file, is_of, lowest_free, opened, released}
+use Rattle.sequential_object.specs.Doors.{NewDoor, host_open_result, host_path, listener_in, opens, port_of, tcp_accept_result, tcp_connect_result, tcp_listen_result}
+use Rattle.sequential_object.specs.Effects.{Asking, Asks, Completes, Effect, asks_of}
+use Rattle.sequential_object.specs.Locked.{ended_object, if_file, if_moved, keeps_table, locked, locked_object, unless_refused}
+use Rattle.sequential_object.specs.Object.{Content, Description, Directory, DoorTo, File, FileNode, Node, Pair, Pipe, State, any_below, content_of, path_cmp, with_object}
 use Rattle.posix_terms.specs.Calls.{can_write}
-use Rattle.posix_terms.specs.Refusals.{◌>>=◌, count_of, refuse_if, some_or}
-use Rattle.posix_terms.specs.Sockets.{shuttable}
-use Rattle.posix_terms.specs.Transfers.{not_listener, readable, seekable, writable}
-use Rattle.posix_terms.specs.Step.{Carried, Stepped, asks, concluded, is_again, nothing_carried, request_of, step}
+use Rattle.sequential_object.specs.Refusals.{◌>>=◌, count_of, refuse_if, some_or}
+use Rattle.sequential_object.specs.Sockets.{shuttable}
+use Rattle.sequential_object.specs.Transfers.{not_listener, readable, seekable, writable}
+use Rattle.sequential_object.specs.Step.{Carried, Stepped, asks, concluded, is_again, nothing_carried, request_of, step}
 use Rattle.posix_terms.specs.declared.call.Access.TheVariants.{ReadWrite}
 use Rattle.posix_terms.specs.declared.call.ShutdownHow.{ShutdownHow}
 use Rattle.posix_terms.specs.declared.call.Whence.{Whence}

@@ -5,8 +5,8 @@ use Rattle.std.proofs.lemmas.List.{get_or-set_same}
 use Rattle.std.proofs.lemmas.Option.{none-some, same_Some}
 use Rattle.det_mutex.specs.Attempt.{takes}
 use Rattle.lock_model.specs.CallTable.{Plan, Way, keeps_table as plan_keeps}
-use Rattle.lock_model.specs.declared.turn_end.TurnEnd.{TurnEnd}
-use Rattle.lock_model.specs.declared.turn_end.TurnEnd.TheVariants as turn_end
+use Rattle.sequential_object.specs.declared.turn_end.TurnEnd.{TurnEnd}
+use Rattle.sequential_object.specs.declared.turn_end.TurnEnd.TheVariants as turn_end
 use Rattle.lock_model.specs.CallTable.Plan.{No_object, Object}
 use Rattle.lock_model.specs.CallTable.Way.{Door as Through, Inside, Keeps_table}
 use Rattle.lock_model.specs.Events.{IsMoved}
@@ -14,19 +14,19 @@ use Rattle.lock_model.specs.Events.IsMoved.{AnswersGranted, AnswersRecorded, Ask
 use Rattle.lock_model.specs.Held.{holds_table}
 use Rattle.lock_model.specs.Machine.{Moved, Setup, advance, after_step, again, answer, answered, ask, attempt, can_advance, can_attempt, failed, fits_job, is_number, late_change, move, moves, moves_in, new_job, or_else, planned, quietly, reached, record_outcome, tried, tries, wants, with_outcome, within, world_after}
 use Rattle.lock_model.specs.RealCalls.{real_calls}
-use Rattle.lock_model.specs.Numbers.{world_with}
+use Rattle.sequential_object.specs.Numbers.{world_with}
 use Rattle.lock_model.specs.RealLaws.{real_setup}
 use Rattle.lock_model.specs.Programs.{Supply}
 use Rattle.lock_model.specs.State as lock
 use Rattle.lock_model.specs.State.{Job, State, nobody, object_of, thread_of}
 use Rattle.lock_model.specs.State.Phase.{Blocked, Ended, Granted, Outside, Recorded, ToOutside, WantsObject, WantsTable, Working}
-use Rattle.lock_model.specs.Terms.{World}
-use Rattle.posix_terms.specs.Step.{Carried, Stepped, step}
+use Rattle.sequential_object.specs.Worlds.{World}
+use Rattle.sequential_object.specs.Step.{Carried, Stepped, step}
 use Rattle.posix_terms.specs.declared.call.Call.{Call}
 use Rattle.posix_terms.specs.declared.outcome.Given.{Given}
 use Rattle.posix_terms.specs.declared.transcript.Settings.{Settings}
-use Rattle.thread_scripts.specs.declared.actor.Step.{Step}
-use Rattle.thread_scripts.specs.declared.actor.Step.TheVariants as steps
+use Rattle.posix_terms.specs.declared.step.Step.{Step}
+use Rattle.posix_terms.specs.declared.step.Step.TheVariants as steps
 use Rattle.posix_terms.specs.declared.transcript.Turn.{Turn}
 use Rattle.det_mutex.specs.declared.lock.DetLock.{DetLock}
 use Rattle.logged_machine.specs.DoorsThere.{job_out}

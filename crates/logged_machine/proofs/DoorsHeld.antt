@@ -15,17 +15,18 @@ use Rattle.lock_model.specs.CallTable.{Way, has_object, keeps_table as plan_keep
 use Rattle.lock_model.specs.CallTable.Plan.{Object}
 use Rattle.lock_model.specs.Held.{AreHeld, HavePlans, holds_table, job_in, object_held, object_in, table_held_by}
 use Rattle.lock_model.specs.Machine.{is_number}
-use Rattle.lock_model.specs.Numbers.{number_of, world_with}
-use Rattle.lock_model.specs.RealCalls.{numbered, plan_of, real_calls, way_of}
+use Rattle.sequential_object.specs.Numbers.{number_of, world_with}
+use Rattle.lock_model.specs.RealCalls.{plan_of, real_calls, way_of}
+use Rattle.sequential_object.specs.Answers.{numbered}
 use Rattle.lock_model.specs.Runs.{own}
 use Rattle.lock_model.specs.State as lock
 use Rattle.lock_model.specs.State.{Job, object_of, thread_of}
 use Rattle.lock_model.specs.State.Phase.{Blocked, Ended, Granted, Outside, Recorded, ToOutside, WantsObject, WantsTable, Working}
-use Rattle.lock_model.specs.Terms.{World}
+use Rattle.sequential_object.specs.Worlds.{World}
 use Rattle.object_store.specs.Errands.{TakesLocked, door_taken}
-use Rattle.posix_terms.specs.Locked.{OutsideLocks, keeps_table, locked_object, locks_door}
-use Rattle.posix_terms.specs.Object.{Content, DoorTo, File, Pair, Pipe, State, content_of, is_door}
-use Rattle.posix_terms.specs.Step.{Carried, Stepped, asks, step}
+use Rattle.sequential_object.specs.Locked.{OutsideLocks, keeps_table, locked_object, locks_door}
+use Rattle.sequential_object.specs.Object.{Content, DoorTo, File, Pair, Pipe, State, content_of, is_door}
+use Rattle.sequential_object.specs.Step.{Carried, Stepped, asks, step}
 use Rattle.posix_terms.specs.declared.call.Call.{Call}
 use Rattle.posix_terms.specs.declared.call.Call.TheVariants as call
 use Rattle.posix_terms.specs.declared.limits.TheConstants.Limits as limit

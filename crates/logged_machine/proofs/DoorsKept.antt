@@ -14,19 +14,20 @@ use Rattle.lock_model.specs.CallTable.Way.{Inside}
 use Rattle.lock_model.specs.Held.{AreHeld, HavePlans, holds_table, object_in}
 use Rattle.lock_model.specs.Machine.{Event, Setup, advance, attempt, can_advance, can_attempt, happens, is_allowed, is_number, late_change, wants, world_after}
 use Rattle.lock_model.specs.Machine.Event.{Advances, Attempts}
-use Rattle.lock_model.specs.Numbers.{first_world, number_of, world_with}
-use Rattle.lock_model.specs.RealCalls.{numbered, outcome_in, plan_of, real_calls, way_of}
+use Rattle.sequential_object.specs.Numbers.{first_world, number_of, world_with}
+use Rattle.lock_model.specs.RealCalls.{plan_of, real_calls, way_of}
+use Rattle.sequential_object.specs.Answers.{numbered, outcome_in}
 use Rattle.lock_model.specs.Runs.{own}
 use Rattle.lock_model.specs.State as lock
 use Rattle.lock_model.specs.State.{Job, nobody, object_of, thread_of}
 use Rattle.lock_model.specs.State.Phase.{Blocked, Ended, Granted, Outside, Recorded, ToOutside, WantsObject, WantsTable, Working}
-use Rattle.lock_model.specs.Terms.{World}
+use Rattle.sequential_object.specs.Worlds.{World}
 use Rattle.object_store.specs.Errands.{door_taken}
-use Rattle.posix_terms.specs.Locked.{keeps_table, locked_object}
+use Rattle.sequential_object.specs.Locked.{keeps_table, locked_object}
 use Rattle.std.specs.FinMap as fin
 use Rattle.std.specs.Ordering.{nat_cmp}
-use Rattle.posix_terms.specs.Object.{DoorTo, State}
-use Rattle.posix_terms.specs.Step.{Carried, Stepped, asks, step}
+use Rattle.sequential_object.specs.Object.{DoorTo, State}
+use Rattle.sequential_object.specs.Step.{Carried, Stepped, asks, step}
 use Rattle.posix_terms.specs.declared.call.Call.{Call}
 use Rattle.posix_terms.specs.declared.call.Call.TheVariants as call
 use Rattle.posix_terms.specs.declared.limits.TheConstants.Limits as limit

@@ -15,9 +15,9 @@ use Rattle.lock_model.specs.RealLaws.{real_start}
 use Rattle.lock_model.specs.Runs.{Arises, own}
 use Rattle.lock_model.specs.State as lock
 use Rattle.lock_model.specs.State.{Job, Row, State, thread_of}
-use Rattle.lock_model.specs.declared.turn_end.TurnEnd.{TurnEnd}
+use Rattle.sequential_object.specs.declared.turn_end.TurnEnd.{TurnEnd}
 use Rattle.posix_terms.specs.declared.transcript.Settings.{Settings}
-use Rattle.thread_scripts.specs.declared.actor.Step.{Step}
+use Rattle.posix_terms.specs.declared.step.Step.{Step}
 use Rattle.logged_machine.specs.Runs.{Coming, Grows, IsEnd, IsForbidden, IsPermitted, setup_with, supply_with, terms_with}
 use Rattle.logged_machine.specs.Events as machine
 use Rattle.logged_machine.specs.Runs.Coming.{Asks, Nothing}

@@ -10,11 +10,11 @@ use Rattle.std.specs.Prelude.{slice_index_or}
 use Rattle.descriptor_table.specs.Shows as shown
 use Rattle.descriptor_table.specs.Shows.{birth_at, is_of, shown_node}
 use Rattle.descriptor_table.specs.Table.{TableState}
-use Rattle.lock_model.specs.Numbers.{first_free, if_there, number_in, number_of, with_births, world_with}
-use Rattle.lock_model.specs.Terms.{World}
+use Rattle.sequential_object.specs.Numbers.{first_free, if_there, number_in, number_of, with_births, world_with}
+use Rattle.sequential_object.specs.Worlds.{World}
 use Rattle.object_store.specs.Store.{Stands, Stored}
-use Rattle.posix_terms.specs.Descriptors.{is_key}
-use Rattle.posix_terms.specs.Object.{Content, Description, Directory, DoorTo, FileNode, Node, State, content_of}
+use Rattle.sequential_object.specs.Descriptors.{is_key}
+use Rattle.sequential_object.specs.Object.{Content, Description, Directory, DoorTo, FileNode, Node, State, content_of}
 use Rattle.posix_terms.specs.declared.limits.TheConstants.Limits as limit
 use Rattle.posix_terms.specs.declared.object.Door.{Door}
 use Rattle.posix_terms.specs.declared.object.End.TheVariants as part

@@ -10,7 +10,7 @@ use Rattle.lock_machine.specs.Conditions.{Conditions, setup_under}
 use Rattle.lock_machine.specs.Shows.{StandsAt}
 use Rattle.lock_machine.specs.Starting.{ShowsAtStart, first_thread, first_whole}
 use Rattle.lock_model.specs.Laws.{ArisesAtStart}
-use Rattle.lock_model.specs.Numbers.{first_world}
+use Rattle.sequential_object.specs.Numbers.{first_world}
 use Rattle.lock_model.specs.RealLaws.{real_start}
 use Rattle.lock_model.specs.Runs.{own}
 use Rattle.lock_model.specs.State as lock

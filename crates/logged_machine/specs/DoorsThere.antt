@@ -6,15 +6,15 @@ use Rattle.lock_machine.specs.Requests.{AskTheirKind}
 use Rattle.lock_model.specs.Events.{EventLaws}
 use Rattle.lock_model.specs.Held.{object_in}
 use Rattle.lock_model.specs.Laws.{LocksOfArisen, PlansOfArisen}
-use Rattle.lock_model.specs.RealCalls.{numbered, outcome_in}
+use Rattle.sequential_object.specs.Answers.{numbered, outcome_in}
 use Rattle.lock_model.specs.State as lock
 use Rattle.lock_model.specs.State.{Job, thread_of}
 use Rattle.lock_model.specs.State.Phase.{Outside, Recorded, ToOutside}
-use Rattle.lock_model.specs.Terms.{World}
+use Rattle.sequential_object.specs.Worlds.{World}
 use Rattle.object_store.specs.Errands.{LocksNext, TakesLocked, door_taken}
-use Rattle.posix_terms.specs.Locked.{OutsideLocks, keeps_table}
-use Rattle.posix_terms.specs.Object.{Description, DoorTo, State}
-use Rattle.posix_terms.specs.Step.{asks}
+use Rattle.sequential_object.specs.Locked.{OutsideLocks, keeps_table}
+use Rattle.sequential_object.specs.Object.{Description, DoorTo, State}
+use Rattle.sequential_object.specs.Step.{asks}
 use Rattle.posix_terms.specs.declared.object.Door.{Door}
 use Rattle.posix_terms.specs.declared.object.Door.TheVariants as door
 use Rattle.posix_terms.specs.declared.outcome.Outcome.{Outcome}

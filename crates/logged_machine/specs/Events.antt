@@ -7,7 +7,7 @@ use Rattle.lock_machine.specs.declared.refused.Refused as calls
 use Rattle.lock_machine.specs.declared.refused.Refused.TheVariants as calls_refused
 use Rattle.lock_model.specs.Machine.{Event, happens}
 use Rattle.lock_model.specs.Machine.Event.{Advances}
-use Rattle.lock_model.specs.RealCalls.{numbered}
+use Rattle.sequential_object.specs.Answers.{numbered}
 use Rattle.lock_model.specs.State.{Job, State, thread_of}
 use Rattle.lock_model.specs.State.Phase.{ToOutside}
 use Rattle.lock_machine.specs.Refusals.{is_outside, phase_at}

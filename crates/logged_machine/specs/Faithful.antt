@@ -1,7 +1,7 @@
 -- Believed: a contract of the headline stands on it.
 -- What each machine promises at any time, whichever events were made and whatever came from outside.
 use Rattle.lock_machine.specs.Whole.{settings_in}
-use Rattle.posix_terms.specs.Legal.{IsLegal}
+use Rattle.sequential_object.specs.Legal.{IsLegal}
 use Rattle.logged_machine.specs.Begins.{BeginsPlainRun}
 use Rattle.logged_machine.specs.Covered.{IsCovered}
 use Rattle.logged_machine.specs.History.{AreRising}

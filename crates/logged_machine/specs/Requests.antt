@@ -9,7 +9,7 @@ use Rattle.lock_machine.specs.declared.thread.Phase.{Phase}
 use Rattle.lock_machine.specs.declared.thread.Phase.TheVariants as phase
 use Rattle.lock_model.specs.Held.{job_in}
 use Rattle.lock_model.specs.State.{Job, State, thread_of}
-use Rattle.posix_terms.specs.Step.{asks}
+use Rattle.sequential_object.specs.Step.{asks}
 use Rattle.posix_terms.specs.declared.request.Request.{Request}
 use Rattle.logged_machine.specs.Runs.{IsEnd}
 

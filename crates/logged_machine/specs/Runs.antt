@@ -9,7 +9,7 @@ use Rattle.lock_model.specs.Programs.{Supply}
 use Rattle.lock_model.specs.Runs.{own}
 use Rattle.lock_model.specs.State.{State, thread_of}
 use Rattle.posix_terms.specs.declared.outcome.Given.{Given}
-use Rattle.thread_scripts.specs.declared.actor.Step.{Step}
+use Rattle.posix_terms.specs.declared.step.Step.{Step}
 
 -- its threads and settings, and where what comes next is from
 abbrev pub terms_with : Whole → Supply → Conditions

@@ -11,8 +11,7 @@ use lock_machine::requests_asked;
 use lock_model::{
     arising_states, one_event, outcomes_that_came, plain_run_ends, prefix_law, real_runs,
 };
-use posix_terms::HistoryRow;
-use thread_scripts::Step;
+use posix_terms::{HistoryRow, Step};
 
 impl<S: LogSink, D: Drop> Machine<S, D> {
     /// The granted turns so far, in their order, each with its outcome once it came and its answer once it was given.

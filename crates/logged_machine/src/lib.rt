@@ -13,7 +13,7 @@
 //! ```rust
 //! use input_log::MemorySink;
 //! use logged_machine::{Machine, Phase};
-//! use thread_scripts::Step;
+//! use posix_terms::Step;
 //!
 //! // Thread i makes its event, where it can: `next` is what it asks next. No call goes outside,
 //! // and a door is a number here.

@@ -15,10 +15,9 @@ use crate::stop::Stop;
 use input_log::{LogSink, LogWriter};
 use lock_machine::{LockMachine, Phase, machines_show};
 use lock_model::arising_states;
-use posix_terms::{HistoryRow, Limits, Settings};
+use posix_terms::{HistoryRow, Limits, Settings, Step};
 use std::alloc::{AllocError, Global};
 use std::marker::Model;
-use thread_scripts::Step;
 
 /// Threads that share one table of descriptors, with the writer of their log and their doors to the outside. Any driver may make its events, in
 /// any order. Contracts see the threads with their locks, the table and the rows; what the writer wrote; the doors by the numbers of

@@ -1,1 +1,4 @@
+pub mod LiveLemmas
+pub mod RowLemmas
+pub mod StepLemmas
 pub mod TurnLemmas

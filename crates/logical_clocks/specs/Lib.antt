@@ -1,2 +1,3 @@
 pub mod TurnOrder
 pub mod ThreadClocks
+pub mod TurnRow

@@ -1,8 +1,10 @@
 ghost use Rattle.std.specs.Prelude.{◌≡◌, ◌+◌, ◌<◌, ◌≤◌, ◌↔◌, length, IsErr, IfOk, OnOk, OnErr};
-ghost use Rattle.logical_clocks.specs.ThreadClocks.{AreWithinLimit, first_clocks, clock_at, with_clock, with_end, live_clock, live_clocks};
-ghost use Rattle.logical_clocks.specs.TurnOrder.{all_below, has_turn, yields, yields_at, turn_holder};
+ghost use Rattle.logical_clocks.specs.ThreadClocks.{AreWithinLimit, first_clocks, clock_at, with_clock, with_end, live_clocks};
+ghost use Rattle.logical_clocks.specs.TurnOrder.{has_turn, turn_holder};
 
-use posix_terms::{Limits, Turn};
+use crate::row::{LiveThread, advance, place_of};
+use arrayvec::ArrayVec;
+use posix_terms::Limits;
 use std::alloc::{AllocError, Global};
 use std::marker::Model;
 
@@ -20,10 +22,12 @@ pub struct ThreadClock {
 pub struct ClockFull;
 
 /// The logical clocks of all threads. Contracts see the list of them, by the threads' numbers. No clock
-/// passes `Limits::CLOCK`.
+/// passes `Limits::CLOCK`. Beside them the threads that have not ended stand in a row, in the order of
+/// their turns.
 #[derive(Debug, Drop)]
 pub struct Clocks {
     threads: Vec<ThreadClock>,
+    row: ArrayVec<LiveThread, { Limits::THREADS }>,
 }
 
 impl Model for Clocks {
@@ -33,10 +37,11 @@ impl Model for Clocks {
     ghost Value = { List ThreadClock };
 
     ghost use Rattle.logical_clocks.specs.ThreadClocks.{AreWithinLimit};
+    ghost use Rattle.logical_clocks.specs.TurnRow.{IsTurnRow};
 
     ghost view = { λ c. c.threads.items };
 
-    ghost invariant = { λ c. AreWithinLimit c.threads.items };
+    ghost invariant = { λ c. AreWithinLimit c.threads.items × IsTurnRow c.threads.items c.row.items };
 }
 
 impl Clocks {
@@ -50,8 +55,16 @@ impl Clocks {
             clock: 1,
             live: true,
         };
+        let mut row = ArrayVec::new();
+        for thread in 0..threads {
+            row.push(LiveThread {
+                clock: first.clock,
+                thread,
+            });
+        }
         Ok(Clocks {
             threads: vec![in alloc; first; threads]?,
+            row,
         })
     }
 
@@ -68,48 +81,31 @@ impl Clocks {
             return Err(ClockFull);
         }
         thread.clock += n;
+        let clock = thread.clock;
+        if let Some(at) = place_of(self.row.as_slice(), i) {
+            advance(self.row.as_mut_slice(), at, clock);
+        }
         Ok(())
     }
 
     /// Whether a thread has the turn: it has not ended, and each other thread that has not ended has a
     /// greater clock, or the same and a greater number.
-    #[tactic(auto, unfolding(crate::specs::TurnOrder::has_turn))]
     pub fn is_turn(&self, i: usize) -> bool
         requires { i < length self.now }
         ensures { result ≡ has_turn (live_clocks self.now) i }
     {
-        let own = self.threads[i];
-        own.live
-            && self.all_yield(Turn {
-                clock: own.clock,
-                thread: i,
-            })
-    }
-
-    // Whether all threads yield to the thread of this turn.
-    #[tactic(auto, using(crate::proofs::TurnLemmas::turns))]
-    fn all_yield(&self, turn: Turn) -> bool
-        ensures { result ≡ all_below (length self.now) (yields (live_clocks self.now) turn) }
-    {
-        for j in 0..self.threads.len() {
-            if !yields_to(turn, j, self.threads[j]) {
-                return false;
-            }
+        match self.row.first() {
+            Some(first) => first.thread == i,
+            None => false,
         }
-        true
     }
 
     /// The thread that has the turn; there is one unless all threads have ended.
-    #[tactic(auto, using(crate::proofs::TurnLemmas::turns), unfolding(crate::specs::TurnOrder::turn_holder))]
     pub fn turn_holder(&self) -> Option<usize>
         ensures { result ≡ turn_holder (live_clocks self.now) }
     {
-        for i in 0..self.threads.len() {
-            if self.is_turn(i) {
-                return Some(i);
-            }
-        }
-        None
+        let first = self.row.first()?;
+        Some(first.thread)
     }
 
     /// Takes a thread out of all turns to come. It keeps its clock.
@@ -118,6 +114,9 @@ impl Clocks {
         ensures { self.new ≡ with_end self.old i }
     {
         self.threads[i].live = false;
+        if let Some(at) = place_of(self.row.as_slice(), i) {
+            let _ = self.row.remove(at);
+        }
     }
 
     /// The clock of a thread; of one that has ended the clock that it had. With it comes what holds of all clocks (`all_within_limit`).
@@ -129,14 +128,4 @@ impl Clocks {
     {
         self.threads[i].clock
     }
-}
-
-// Whether thread j yields the thread of this turn go first: it is that thread, or has ended, or comes later.
-fn yields_to(turn: Turn, j: usize, other: ThreadClock) -> bool
-    ensures { result ≡ yields_at turn j (live_clock other) }
-{
-    !other.live
-        || j == turn.thread
-        || turn.clock < other.clock
-        || (turn.clock == other.clock && turn.thread < j)
 }

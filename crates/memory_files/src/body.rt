@@ -1,6 +1,8 @@
-ghost use Rattle.std.specs.Prelude.{◌≡◌, ℕ, ◌+◌, ◌-◌, ◌<◌, ◌≤◌, ◌==◌, List, [], ◌++◌, length, take, drop, replicate, vec_len, vec_capacity, IfOk, IfErr};
-ghost use Rattle.posix_terms.specs.Files.{bytes_at, overlaid, written, resized};
+ghost use Rattle.std.specs.Prelude.{◌≡◌, ℕ, ◌+◌, ◌-◌, ◌<◌, ◌≤◌, ◌==◌, List, [], length, take, drop, IfOk, IfErr};
+ghost use Rattle.sequential_object.specs.Files.{bytes_at, written, resized};
+ghost use Rattle.memory_files.specs.Pages.{bytes_of, EmptyBehind, ZeroFrom};
 
+use crate::pages::Pages;
 use posix_terms::{Errno, Limits};
 use std::alloc::{AllocError, Global};
 use std::marker::Model;
@@ -9,15 +11,16 @@ use std::marker::Model;
 /// see the list of the bytes. Reading and writing follow POSIX.1-2017, `read`, `write` and `ftruncate`.
 #[derive(Drop)]
 pub struct FileBody {
-    bytes: Vec<u8>,
+    pages: Pages,
+    size: usize,
 }
 
 impl Model for FileBody {
     ghost Value = { List ℕ };
 
-    ghost view = { λ f. f.bytes.items };
+    ghost view = { λ f. bytes_of f.pages f.size };
 
-    ghost invariant = { λ f. (vec_len f.bytes ≤ 65536) × (65536 ≤ vec_capacity f.bytes) };
+    ghost invariant = { λ f. (f.size ≤ 65536) × EmptyBehind f.pages f.size × ZeroFrom f.pages f.size };
 }
 
 impl FileBody {
@@ -26,7 +29,8 @@ impl FileBody {
         ensures { IfOk result (λ file. file ≡ []) }
     {
         Ok(FileBody {
-            bytes: Vec::with_capacity(alloc, Limits::FILE_BYTES)?,
+            pages: Pages::new(alloc)?,
+            size: 0,
         })
     }
 
@@ -38,13 +42,12 @@ impl FileBody {
         ensures rest { drop result into.new ≡ drop result into.old }
         ensures within_limit { result ≤ 65536 - position }
     {
-        let size = self.bytes.len();
-        if position >= size as u64 {
+        if position >= self.size as u64 {
             return 0;
         }
         let start = position as usize;
-        let count = into.len().min(size - start);
-        into[..count].copy_from_slice(&self.bytes[start..start + count]);
+        let count = into.len().min(self.size - start);
+        self.pages.read(start, &mut into[..count]);
         count
     }
 
@@ -64,8 +67,8 @@ impl FileBody {
         }
         let start = position as usize;
         let count = bytes.len().min(Limits::FILE_BYTES - start);
-        extend_to(&mut self.bytes, start);
-        overlay(&mut self.bytes, start, &bytes[..count]);
+        self.pages.write(start, &bytes[..count]);
+        self.size = self.size.max(start + count);
         Ok(count)
     }
 
@@ -74,7 +77,11 @@ impl FileBody {
         requires { size ≤ 65536 }
         ensures { self.new ≡ resized self.old size }
     {
-        self.bytes.resize(size as usize, 0).unwrap();
+        let size = size as usize;
+        if size < self.size {
+            self.pages.cut(size, self.size);
+        }
+        self.size = size;
     }
 
     /// How many bytes the file has.
@@ -82,45 +89,20 @@ impl FileBody {
         ensures size { result ≡ length self.now }
         ensures within_limit { result ≤ 65536 }
     {
-        self.bytes.len() as u64
+        self.size as u64
     }
 
     /// Whether the file has no bytes.
     pub fn is_empty(&self) -> bool
         ensures { result ≡ (length self.now == 0) }
     {
-        self.bytes.is_empty()
+        self.size == 0
     }
 
     /// Drops all bytes.
     pub fn clear(&mut self)
         ensures { self.new ≡ [] }
     {
-        self.bytes.clear();
+        self.set_len(0);
     }
-}
-
-// Fills up with 0 bytes to this size, where the bytes end before it.
-fn extend_to(bytes: &mut Vec<u8>, size: usize)
-    requires room { 65536 ≤ vec_capacity bytes.old }
-    requires fits { size ≤ 65536 }
-    ensures items { bytes.new.items ≡ bytes.old.items ++ replicate (size - length bytes.old.items) 0 }
-    ensures room { vec_capacity bytes.old ≤ vec_capacity bytes.new }
-{
-    if bytes.len() < size {
-        bytes.resize(size, 0).unwrap();
-    }
-}
-
-// Lays new bytes over those from `start` on, and past the end where they reach there.
-fn overlay(bytes: &mut Vec<u8>, start: usize, new: &[u8])
-    requires within { start ≤ length bytes.old.items }
-    requires room { 65536 ≤ vec_capacity bytes.old }
-    requires fits { start + length new.now ≤ 65536 }
-    ensures items { bytes.new.items ≡ take start bytes.old.items ++ new.now ++ drop (start + length new.now) bytes.old.items }
-    ensures room { vec_capacity bytes.old ≤ vec_capacity bytes.new }
-{
-    let inside = new.len().min(bytes.len() - start);
-    bytes[start..start + inside].copy_from_slice(&new[..inside]);
-    bytes.extend_from_slice(&new[inside..]).unwrap();
 }

@@ -5,11 +5,11 @@ use Rattle.std.proofs.lemmas.List.{get_or-set_same, get_or-set_other}
 use Rattle.std.specs.FinMap as fin
 use Rattle.std.specs.Option.{option_map}
 use Rattle.std.specs.Prelude.{IsTrue, is_some, slice_set, unwrap_or}
-use Rattle.posix_terms.specs.Locked.{locked_object}
-use Rattle.posix_terms.specs.Object as posix
-use Rattle.posix_terms.specs.Effects.{Effect, Asks, Blocks, Completes}
-use Rattle.posix_terms.specs.Object.{State, Content, DoorTo, File, Pair, Pipe, content_of}
-use Rattle.posix_terms.specs.Step.{Carried, Stepped, asks, concluded, effect_of, failed, is_again, nothing_carried, step, waited}
+use Rattle.sequential_object.specs.Locked.{locked_object}
+use Rattle.sequential_object.specs.Object as posix
+use Rattle.sequential_object.specs.Effects.{Effect, Asks, Blocks, Completes}
+use Rattle.sequential_object.specs.Object.{State, Content, DoorTo, File, Pair, Pipe, content_of}
+use Rattle.sequential_object.specs.Step.{Carried, Stepped, asks, concluded, effect_of, failed, is_again, nothing_carried, step, waited}
 use Rattle.posix_terms.specs.declared.call.Call.{Call}
 use Rattle.posix_terms.specs.declared.errno.Errno.{Errno}
 use Rattle.posix_terms.specs.declared.errno.Errno.TheVariants.{EINTR}
@@ -47,7 +47,7 @@ use Rattle.descriptor_table.proofs.OtherLemmas.{stays-as_step}
 use Rattle.descriptor_table.proofs.PathLemmas.{birth_is}
 use Rattle.descriptor_table.proofs.PlanLemmas.{plans-as_step}
 use Rattle.descriptor_table.proofs.SoundLemmas.{known_at}
-use Rattle.lock_model.specs.Terms.{World}
+use Rattle.sequential_object.specs.Worlds.{World}
 use Rattle.object_store.specs.Acting.{held_by, offset_of_key}
 use Rattle.object_store.specs.Bodies.{Kept, first_kept, kept_as, keeping}
 use Rattle.object_store.specs.Store.{EndsTurn, IsPlanned, Replies, Stands, Stored, TableMade, kept_at}

@@ -3,12 +3,12 @@ use Rattle.std.proofs.Common.{◌≡◌, ℕ, ◌==◌, ◌&&◌, [], length, Op
 use Rattle.std.proofs.lemmas.Bool.{eqb-true, true≢false}
 use Rattle.std.specs.Prelude.{ℤ, nat_lt}
 use Rattle.posix_terms.specs.Calls.{can_read, can_write}
-use Rattle.posix_terms.specs.Descriptors as posix
-use Rattle.posix_terms.specs.Doors.{host_path, port_of}
+use Rattle.sequential_object.specs.Descriptors as posix
+use Rattle.sequential_object.specs.Doors.{host_path, port_of}
 use Rattle.posix_terms.specs.Ends.{is_end}
-use Rattle.posix_terms.specs.Locked.{locked_object, locks_door}
-use Rattle.posix_terms.specs.Refusals.{◌>>=◌, count_of, refuse_if, some_or}
-use Rattle.posix_terms.specs.Step.{Carried}
+use Rattle.sequential_object.specs.Locked.{locked_object, locks_door}
+use Rattle.sequential_object.specs.Refusals.{◌>>=◌, count_of, refuse_if, some_or}
+use Rattle.sequential_object.specs.Step.{Carried}
 use Rattle.posix_terms.specs.declared.call.Call.{Call}
 use Rattle.posix_terms.specs.declared.call.Call.TheVariants as call
 use Rattle.posix_terms.specs.declared.call.ShutdownHow.{ShutdownHow}
@@ -21,7 +21,7 @@ use Rattle.posix_terms.specs.declared.object.End.TheVariants as part
 use Rattle.posix_terms.specs.declared.outcome.OutKind.{OutKind}
 use Rattle.posix_terms.specs.declared.outcome.OutKind.TheVariants as out
 use Rattle.posix_terms.specs.declared.reply.Reply.TheVariants as reply
-use Rattle.posix_terms.proofs.Outside as posix_outside
+use Rattle.sequential_object.proofs.Outside as posix_outside
 use Rattle.file_descriptions.specs.declared.description.Description.{Description}
 use Rattle.descriptor_table.specs.Agreement.{object_of}
 use Rattle.descriptor_table.specs.Plans.{act_or_ask, answered, close_plan, errand, host_open_plan, leads_outside, locks, lseek_plan, not_listener, of_listener, opens_plan, plan_of, planned, read_plan, seekable, seen, shut_act, shutdown_plan, tcp_accept_plan, tcp_connect_plan, tcp_listen_plan, write_plan}
@@ -34,8 +34,8 @@ use Rattle.descriptor_table.specs.declared.plan.Plan.TheVariants as plan
 use Rattle.descriptor_table.proofs.KnownLemmas.{found_used}
 use Rattle.descriptor_table.proofs.ShownLemmas.{FoundBoth, found_both}
 use Rattle.descriptor_table.proofs.ShownLemmas.FoundBoth.{Open, Shut}
-use Rattle.lock_model.specs.RealCalls.{numbered}
-use Rattle.lock_model.specs.Terms.{World}
+use Rattle.sequential_object.specs.Answers.{numbered}
+use Rattle.sequential_object.specs.Worlds.{World}
 use Rattle.object_store.specs.Errands.{LocksNext, TakesLocked, door_taken, object_found}
 use Rattle.object_store.specs.Store.{Stands, Stored}
 use Rattle.object_store.proofs.Shapes.{HasAct, planned_fits}

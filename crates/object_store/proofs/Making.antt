@@ -2,12 +2,12 @@
 use Rattle.std.proofs.Common.{◌≡◌, ℕ, ◌+◌, ◌<◌, ◌==◌, List, [], length, None, Result, Ok, Err, Bool, true, false, refl, sym, ap, ◌∙◌, subst, Option, Some}
 use Rattle.std.proofs.lemmas.Bool.{true≢false}
 use Rattle.std.specs.Prelude.{ℤ, ◌+ℤ◌, pos, slice_index_or, slice_set, if◌then◌else◌}
-use Rattle.posix_terms.specs.Ends.{is_end, side_of}
-use Rattle.posix_terms.specs.Files.{bytes_at, resized, written}
-use Rattle.posix_terms.specs.Object.{Content, DoorTo, File, Pair, Pipe}
-use Rattle.posix_terms.specs.Streams as stream
-use Rattle.posix_terms.specs.Streams.{Reading, Writing, new_pair, pair_read, pair_write, peer_of, shut, stream_read, stream_write, with_waiting}
-use Rattle.posix_terms.specs.Transfers.{base_of, offset_of}
+use Rattle.posix_terms.specs.Ends.{is_end, side_of, peer_of}
+use Rattle.sequential_object.specs.Files.{bytes_at, resized, written}
+use Rattle.sequential_object.specs.Object.{Content, DoorTo, File, Pair, Pipe}
+use Rattle.sequential_object.specs.Streams as stream
+use Rattle.sequential_object.specs.Streams.{Reading, Writing, new_pair, pair_read, pair_write, shut, stream_read, stream_write, with_waiting}
+use Rattle.sequential_object.specs.Transfers.{base_of, offset_of}
 use Rattle.posix_terms.specs.declared.call.Call.{Call}
 use Rattle.posix_terms.specs.declared.call.Call.TheVariants as call
 use Rattle.posix_terms.specs.declared.call.Whence.{Whence}
@@ -19,8 +19,8 @@ use Rattle.posix_terms.specs.declared.object.End.TheVariants as part
 use Rattle.posix_terms.specs.declared.object.Side.{Side}
 use Rattle.posix_terms.specs.declared.object.Side.TheVariants.{Side0, Side1}
 use Rattle.posix_terms.specs.declared.reply.ObjectKind.TheVariants as kind
-use Rattle.posix_terms.specs.Locked.{keeps_table, locked_object}
-use Rattle.posix_terms.specs.Step.{Carried, asks, step}
+use Rattle.sequential_object.specs.Locked.{keeps_table, locked_object}
+use Rattle.sequential_object.specs.Step.{Carried, asks, step}
 use Rattle.posix_terms.specs.declared.reply.Answer.{Answer}
 use Rattle.posix_terms.specs.declared.reply.Reply.{Reply}
 use Rattle.posix_terms.specs.declared.reply.Reply.TheVariants as reply
@@ -38,11 +38,11 @@ use Rattle.descriptor_table.specs.declared.plan.Opened.{Opened}
 use Rattle.descriptor_table.specs.declared.plan.Plan.{Plan}
 use Rattle.descriptor_table.specs.declared.plan.Plan.TheVariants as plan
 use Rattle.descriptor_table.proofs.PlanLemmas.{plans-as_step}
-use Rattle.lock_model.specs.RealCalls.{answered_with}
-use Rattle.lock_model.specs.Terms.{World}
+use Rattle.sequential_object.specs.Answers.{answered_with}
+use Rattle.sequential_object.specs.Worlds.{World}
 use Rattle.posix_terms.specs.declared.transcript.Settings.{Settings}
-use Rattle.lock_model.specs.declared.turn_end.TurnEnd.{TurnEnd}
-use Rattle.lock_model.specs.declared.turn_end.TurnEnd.TheVariants as end
+use Rattle.sequential_object.specs.declared.turn_end.TurnEnd.{TurnEnd}
+use Rattle.sequential_object.specs.declared.turn_end.TurnEnd.TheVariants as end
 use Rattle.object_store.specs.declared.patience.TurnStart.TheVariants as start
 use Rattle.object_store.specs.Bodies.{Kept, first_kept, keeping}
 use Rattle.object_store.specs.Patience.{Waits}

@@ -6,8 +6,8 @@ use Rattle.std.specs.FinMap as fin
 use Rattle.std.specs.Prelude.{is_some, slice_index_or}
 use Rattle.posix_terms.specs.declared.limits.TheConstants.Limits as limit
 use Rattle.descriptor_table.specs.Table.{TableState, free_object, lowest_from}
-use Rattle.lock_model.specs.Numbers.{first_free, number_in}
-use Rattle.lock_model.specs.Terms.{World}
+use Rattle.sequential_object.specs.Numbers.{first_free, number_in}
+use Rattle.sequential_object.specs.Worlds.{World}
 use Rattle.object_store.specs.Store.{Stands, Stored}
 
 lowest_first : (slots : List (Option ℕ)) (left from node : ℕ) (rest : List (Option ℕ)) → ((k : ℕ) → slice_index_or slots (from + k) None ≡ get_or rest k None) → length rest ≡ left → lowest_from slots left from ≡ Some node → from + first_free rest ≡ node

@@ -5,12 +5,12 @@ use Rattle.std.proofs.lemmas.Bool.Decides.{nat_tests}
 use Rattle.std.proofs.lemmas.Option.{none-some, same_Some}
 use Rattle.std.specs.FinMap as fin
 use Rattle.std.specs.Prelude.{◌+◌, is_some, unwrap_or}
-use Rattle.posix_terms.specs.Locked.{keeps_table}
-use Rattle.posix_terms.specs.Object.{State, Content, File, content_of}
+use Rattle.sequential_object.specs.Locked.{keeps_table}
+use Rattle.sequential_object.specs.Object.{State, Content, File, content_of}
 use Rattle.posix_terms.specs.Outcomes.{bytes_fit, fits, value_fits}
-use Rattle.posix_terms.specs.Effects.{Effect, Asks, Blocks, Completes}
-use Rattle.posix_terms.specs.Step as posix
-use Rattle.posix_terms.specs.Step.{Carried, Stepped, closes_door, concluded, effect_of, failed, is_again, nothing_carried, step, waited}
+use Rattle.sequential_object.specs.Effects.{Effect, Asks, Blocks, Completes}
+use Rattle.sequential_object.specs.Step as posix
+use Rattle.sequential_object.specs.Step.{Carried, Stepped, closes_door, concluded, effect_of, failed, is_again, nothing_carried, step, waited}
 use Rattle.posix_terms.specs.declared.call.Call.{Call}
 use Rattle.posix_terms.specs.declared.errno.Errno.{Errno}
 use Rattle.posix_terms.specs.declared.errno.Errno.TheVariants.{EAGAIN, EINTR}
@@ -24,7 +24,7 @@ use Rattle.posix_terms.specs.declared.reply.Reply.{Reply}
 use Rattle.posix_terms.specs.declared.reply.Reply.TheVariants as reply
 use Rattle.posix_terms.specs.declared.request.Request.{Request}
 use Rattle.posix_terms.specs.declared.transcript.Settings.{Settings}
-use Rattle.posix_terms.proofs.Refused.{again_leaves_state, fail_leaves_state}
+use Rattle.sequential_object.proofs.Refused.{again_leaves_state, fail_leaves_state}
 use Rattle.descriptor_table.specs.Acts as acts
 use Rattle.descriptor_table.specs.Acts.{Acted, ActsAsStep, Holds, IsActed, acted, ended, held_after, outside_content, outside_ending, told_outside}
 use Rattle.descriptor_table.specs.Agreement.{TellsAsStep, numbers_told}
@@ -38,13 +38,13 @@ use Rattle.descriptor_table.specs.declared.plan.Op.TheVariants as op
 use Rattle.descriptor_table.specs.declared.plan.Plan.{Plan}
 use Rattle.descriptor_table.specs.declared.plan.Plan.TheVariants as plan
 use Rattle.descriptor_table.proofs.ActLemmas.{acts-as_step}
-use Rattle.lock_model.specs.Numbers.{world_with}
-use Rattle.lock_model.specs.Terms.{World}
+use Rattle.sequential_object.specs.Numbers.{world_with}
+use Rattle.sequential_object.specs.Worlds.{World}
 use Rattle.object_store.specs.Bodies.{Kept, kept_as}
 use Rattle.object_store.specs.Errands.{waits_by, waits_outside}
 use Rattle.object_store.specs.Patience.{EndsOutside, as_answer}
-use Rattle.lock_model.specs.declared.turn_end.TurnEnd.{TurnEnd}
-use Rattle.lock_model.specs.declared.turn_end.TurnEnd.TheVariants as end
+use Rattle.sequential_object.specs.declared.turn_end.TurnEnd.{TurnEnd}
+use Rattle.sequential_object.specs.declared.turn_end.TurnEnd.TheVariants as end
 use Rattle.object_store.specs.declared.patience.TurnStart.TheVariants as start
 use Rattle.object_store.specs.Store.{LeavesTable, Makes, Opens, Stands, Stored, TableMade, at_port, kept_at, opens_door}
 use Rattle.object_store.proofs.Errands.{door_known}

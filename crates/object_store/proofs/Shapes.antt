@@ -5,14 +5,14 @@ use Rattle.std.specs.FinMap as fin
 use Rattle.std.specs.Ordering.{int_eq}
 use Rattle.std.specs.Prelude.{ℤ, nat_le, nat_lt, if◌then◌else◌}
 use Rattle.posix_terms.specs.Calls.{can_read, can_write}
-use Rattle.posix_terms.specs.Doors.{host_path, port_of}
-use Rattle.posix_terms.specs.Duplicates.{descriptor_number}
-use Rattle.posix_terms.specs.Names.{file_named, links_of, removed_dir}
+use Rattle.sequential_object.specs.Doors.{host_path, port_of}
+use Rattle.sequential_object.specs.Duplicates.{descriptor_number}
+use Rattle.sequential_object.specs.Names.{file_named, links_of, removed_dir}
 use Rattle.posix_terms.specs.Ends.{is_end}
-use Rattle.posix_terms.specs.Object.{State, Content, Node, FileNode, Directory, content_of}
-use Rattle.posix_terms.specs.Paths.{node_at, resolved}
-use Rattle.posix_terms.specs.Refusals.{◌>>=◌, count_of, position_of, refuse_if, some_or}
-use Rattle.posix_terms.specs.Transfers.{size_of}
+use Rattle.sequential_object.specs.Object.{State, Content, Node, FileNode, Directory, content_of}
+use Rattle.sequential_object.specs.Paths.{node_at, resolved}
+use Rattle.sequential_object.specs.Refusals.{◌>>=◌, count_of, position_of, refuse_if, some_or}
+use Rattle.sequential_object.specs.Transfers.{size_of}
 use Rattle.posix_terms.specs.declared.call.Access.{Access}
 use Rattle.posix_terms.specs.declared.call.Call.{Call}
 use Rattle.posix_terms.specs.declared.call.Call.TheVariants as call

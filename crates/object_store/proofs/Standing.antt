@@ -6,9 +6,9 @@ use Rattle.std.specs.FinMap as fin
 use Rattle.std.specs.Option.{option_map}
 use Rattle.std.specs.Ordering.{nat_cmp}
 use Rattle.std.specs.Prelude.{is_some, unwrap_or}
-use Rattle.posix_terms.specs.Locked.{locked_object}
-use Rattle.posix_terms.specs.Object.{FileNode, path_cmp}
-use Rattle.posix_terms.specs.Step.{Carried, asks, step}
+use Rattle.sequential_object.specs.Locked.{locked_object}
+use Rattle.sequential_object.specs.Object.{FileNode, path_cmp}
+use Rattle.sequential_object.specs.Step.{Carried, asks, step}
 use Rattle.posix_terms.specs.declared.call.Call.{Call}
 use Rattle.posix_terms.specs.declared.limits.TheConstants.Limits as limit
 use Rattle.posix_terms.specs.declared.reply.Answer.{Answer}
@@ -25,9 +25,9 @@ use Rattle.descriptor_table.proofs.PathLemmas.{birth_is}
 use Rattle.descriptor_table.proofs.PlanLemmas.{plans-as_step}
 use Rattle.descriptor_table.proofs.SoundLemmas.{sound-empty}
 use Rattle.file_descriptions.proofs.SoundLemmas.{AreSound-none}
-use Rattle.lock_model.specs.Numbers.{first_free, first_world, number_in, number_of}
-use Rattle.lock_model.specs.RealCalls.{numbered}
-use Rattle.lock_model.specs.Terms.{World}
+use Rattle.sequential_object.specs.Numbers.{first_free, first_world, number_in, number_of}
+use Rattle.sequential_object.specs.Answers.{numbered}
+use Rattle.sequential_object.specs.Worlds.{World}
 use Rattle.object_store.proofs.Numbering.{first_free_is, lowest_is_free, next_is_new, number_in_is}
 use Rattle.object_store.specs.Store.{Stands, Stored, first_stored, number_locked}
 

@@ -6,8 +6,8 @@ use Rattle.std.proofs.lemmas.List.{get_or-set_same, get_or-set_other, length-set
 use Rattle.std.specs.FinMap as fin
 use Rattle.std.specs.Option.{option_map}
 use Rattle.std.specs.Prelude.{is_some, slice_index_or, unwrap_or}
-use Rattle.posix_terms.specs.Object as posix
-use Rattle.posix_terms.specs.Object.{State, Content, File}
+use Rattle.sequential_object.specs.Object as posix
+use Rattle.sequential_object.specs.Object.{State, Content, File}
 use Rattle.file_descriptions.specs.Descriptions as held
 use Rattle.file_descriptions.specs.Descriptions.{AreSound, ContainsKey, description_at}
 use Rattle.file_descriptions.specs.declared.description.Description.{Description}
@@ -26,8 +26,8 @@ use Rattle.descriptor_table.proofs.ChangeLemmas.{shows-set_offset}
 use Rattle.descriptor_table.proofs.KnownLemmas.{lowest_below}
 use Rattle.descriptor_table.proofs.PathLemmas.{birth_is}
 use Rattle.descriptor_table.proofs.SoundLemmas.{get-insert_other, get-insert_same, known_at, sound-kept}
-use Rattle.lock_model.specs.Numbers.{first_free, if_there, with_births, world_with}
-use Rattle.lock_model.specs.Terms.{World}
+use Rattle.sequential_object.specs.Numbers.{first_free, if_there, with_births, world_with}
+use Rattle.sequential_object.specs.Worlds.{World}
 use Rattle.object_store.specs.Store.{Stands, Stored, kept_at}
 use Rattle.object_store.proofs.Lists.{maps_agree}
 use Rattle.object_store.proofs.Numbering.{first_free_is, lowest_is_free, next_is_new}

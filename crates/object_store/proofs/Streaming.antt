@@ -2,9 +2,10 @@
 use Rattle.std.proofs.Common.{◌≡◌, ℕ, List, length, take, drop, ◌++◌, ◌==◌, Bool, true, false, if◌then◌else◌, refl, ap, ◌∙◌, Option, Some}
 use Rattle.std.proofs.Math.Seq.{take-append_seam}
 use Rattle.posix_terms.specs.declared.reply.Reply.{Reply}
-use Rattle.posix_terms.specs.Object.{Content, Pair}
-use Rattle.posix_terms.specs.Streams as stream
-use Rattle.posix_terms.specs.Streams.{Half, PairState, Reading, Writing, peer_of, stream_read, with_waiting}
+use Rattle.sequential_object.specs.Object.{Content, Pair}
+use Rattle.sequential_object.specs.Streams as stream
+use Rattle.sequential_object.specs.Streams.{Half, PairState, Reading, Writing, stream_read, with_waiting}
+use Rattle.posix_terms.specs.Ends.{peer_of}
 use Rattle.posix_terms.specs.declared.object.Side.{Side}
 use Rattle.posix_terms.specs.declared.reply.Reply.TheVariants as reply
 use Rattle.descriptor_table.specs.Acts as acts

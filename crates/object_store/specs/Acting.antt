@@ -11,8 +11,8 @@ use Rattle.file_descriptions.specs.declared.description.Description.{Description
 use Rattle.descriptor_table.specs.declared.plan.Op.{Op}
 use Rattle.descriptor_table.specs.declared.plan.Op.TheVariants as op
 use Rattle.descriptor_table.specs.declared.plan.Opened.{Opened}
-use Rattle.posix_terms.specs.Object.{Content, DoorTo, File, Pair, Pipe}
-use Rattle.posix_terms.specs.Files.{bytes_at, written}
+use Rattle.sequential_object.specs.Object.{Content, DoorTo, File, Pair, Pipe}
+use Rattle.sequential_object.specs.Files.{bytes_at, written}
 use Rattle.posix_terms.specs.declared.object.End.{End}
 use Rattle.posix_terms.specs.declared.object.End.TheVariants as part
 use Rattle.pipes.specs.declared.body.PipeAnswer.{PipeAnswer}

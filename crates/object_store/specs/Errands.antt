@@ -1,11 +1,11 @@
 -- Believed: a contract of the headline stands on it.
 -- What a call takes along that goes outside, by the definitions of the calls.
 use Rattle.std.specs.Prelude.{◌≡◌, is_some, ℕ, Bool, true, false, Option, Some, None, Result, Ok, Err}
-use Rattle.posix_terms.specs.Descriptors.{described}
-use Rattle.posix_terms.specs.Effects.{Effect, Asks}
-use Rattle.posix_terms.specs.Locked.{keeps_table, locked_object}
-use Rattle.posix_terms.specs.Object.{State, Description}
-use Rattle.posix_terms.specs.Step.{Carried, asks, effect_of}
+use Rattle.sequential_object.specs.Descriptors.{described}
+use Rattle.sequential_object.specs.Effects.{Effect, Asks}
+use Rattle.sequential_object.specs.Locked.{keeps_table, locked_object}
+use Rattle.sequential_object.specs.Object.{State, Description}
+use Rattle.sequential_object.specs.Step.{Carried, asks, effect_of}
 use Rattle.posix_terms.specs.declared.call.Call.{Call}
 use Rattle.posix_terms.specs.declared.call.Call.TheVariants as call
 use Rattle.posix_terms.specs.declared.errno.Errno.{Errno}

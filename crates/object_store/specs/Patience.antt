@@ -2,20 +2,20 @@
 -- How a turn of a call ended, and how long a call waits that cannot go on.
 use Rattle.std.specs.Prelude.{◌≡◌, ℕ, Bool, Some, if◌then◌else◌, Option, None}
 use Rattle.posix_terms.specs.declared.reply.Reply.{Reply}
-use Rattle.posix_terms.specs.Object.{State}
-use Rattle.posix_terms.specs.Step.{Carried, waited}
+use Rattle.sequential_object.specs.Object.{State}
+use Rattle.sequential_object.specs.Step.{Carried, waited}
 use Rattle.posix_terms.specs.declared.errno.Errno.TheVariants.{EAGAIN}
 use Rattle.posix_terms.specs.declared.outcome.Outcome.{Outcome}
 use Rattle.posix_terms.specs.declared.reply.Answer as posix
 use Rattle.posix_terms.specs.declared.reply.Reply.TheVariants.{Fail}
 use Rattle.posix_terms.specs.declared.transcript.Settings.{Settings}
-use Rattle.lock_model.specs.RealCalls.{answer_in, answered_with}
+use Rattle.sequential_object.specs.Answers.{answer_in, answered_with}
 use Rattle.descriptor_table.specs.Acts as acts
 use Rattle.descriptor_table.specs.Plans.{reply_bytes}
 use Rattle.descriptor_table.specs.declared.plan.Errand.{Errand}
 use Rattle.descriptor_table.specs.declared.plan.NewNumbers.{NewNumbers}
-use Rattle.lock_model.specs.declared.turn_end.TurnEnd.{TurnEnd}
-use Rattle.lock_model.specs.declared.turn_end.TurnEnd.TheVariants as end
+use Rattle.sequential_object.specs.declared.turn_end.TurnEnd.{TurnEnd}
+use Rattle.sequential_object.specs.declared.turn_end.TurnEnd.TheVariants as end
 
 -- how many bytes the end of a turn brings
 abbrev pub turn_bytes : TurnEnd → ℕ

@@ -2,10 +2,10 @@
 -- The shared table with the bodies of its objects, and the world that they stand for.
 use Rattle.std.specs.Prelude.{◌≡◌, ℕ, ◌≤◌, ◌<◌, Bool, true, false, List, nat_le, replicate, slice_index_or, Option, Some, None}
 use Rattle.std.specs.FinMap as map
-use Rattle.posix_terms.specs.Object.{Content}
-use Rattle.posix_terms.specs.Locked.{keeps_table, locked_object}
+use Rattle.sequential_object.specs.Object.{Content}
+use Rattle.sequential_object.specs.Locked.{keeps_table, locked_object}
 use Rattle.posix_terms.specs.Outcomes.{fits}
-use Rattle.posix_terms.specs.Step.{Carried, asks, step}
+use Rattle.sequential_object.specs.Step.{Carried, asks, step}
 use Rattle.posix_terms.specs.declared.call.Call.{Call}
 use Rattle.posix_terms.specs.declared.call.Call.TheVariants as call
 use Rattle.posix_terms.specs.declared.limits.TheConstants.Limits as limit
@@ -28,15 +28,15 @@ use Rattle.descriptor_table.specs.declared.plan.NewNumbers.TheVariants as number
 use Rattle.descriptor_table.specs.declared.plan.Op.{Op}
 use Rattle.descriptor_table.specs.declared.plan.Op.TheVariants as op
 use Rattle.descriptor_table.specs.declared.plan.Plan.TheVariants as plan
-use Rattle.lock_model.specs.Numbers.{world_with}
-use Rattle.lock_model.specs.RealCalls.{answer_in, numbered}
-use Rattle.lock_model.specs.Terms.{World}
+use Rattle.sequential_object.specs.Numbers.{world_with}
+use Rattle.sequential_object.specs.Answers.{answer_in, numbered}
+use Rattle.sequential_object.specs.Worlds.{World}
 use Rattle.descriptor_table.specs.Acts as acts
 use Rattle.object_store.specs.Bodies.{Kept, first_kept, kept_as}
 use Rattle.object_store.specs.Errands.{door_taken, waits_outside}
 use Rattle.object_store.specs.Patience.{turn_bytes}
-use Rattle.lock_model.specs.declared.turn_end.TurnEnd.{TurnEnd}
-use Rattle.lock_model.specs.declared.turn_end.TurnEnd.TheVariants as end
+use Rattle.sequential_object.specs.declared.turn_end.TurnEnd.{TurnEnd}
+use Rattle.sequential_object.specs.declared.turn_end.TurnEnd.TheVariants as end
 use Rattle.object_store.specs.declared.patience.AtTable.{AtTable}
 use Rattle.object_store.specs.declared.patience.AtTable.TheVariants as at
 use Rattle.object_store.specs.declared.patience.TurnStart.{TurnStart}

@@ -4,7 +4,7 @@ use Rattle.std.specs.Prelude.{ℕ, Bool, List, refl}
 use Rattle.std.specs.Coded.{Coded, code_by, coded×, coded_bool, coded_list, coded_ℕ}
 use Rattle.descriptor_table.specs.Table.{TableState}
 use Rattle.descriptor_table.specs.TableCode.{table_code}
-use Rattle.posix_terms.specs.Streams.{Half}
+use Rattle.sequential_object.specs.Streams.{Half}
 use Rattle.object_store.specs.Bodies.{Kept}
 use Rattle.object_store.specs.Store.{Stored}
 

@@ -1,19 +1,20 @@
 ghost use Rattle.std.specs.Prelude.{◌≡◌, ℕ, ◌^◌, ◌+◌, ◌-◌, ◌<◌, ◌≤◌, ◌==◌, ◌+ℤ◌, pos, length, true, false, IfOk};
-ghost use Rattle.posix_terms.specs.Files.{bytes_at, resized, written};
-ghost use Rattle.posix_terms.specs.Transfers.{base_of, offset_of};
+ghost use Rattle.sequential_object.specs.Files.{bytes_at, resized, written};
+ghost use Rattle.sequential_object.specs.Transfers.{base_of, offset_of};
 ghost use Rattle.posix_terms.specs.declared.limits.TheConstants.Limits as limit;
 ghost use Rattle.file_descriptions.specs.Descriptions.{ContainsKey};
 ghost use Rattle.posix_terms.specs.declared.reply.ObjectKind.TheVariants.{File};
 ghost use Rattle.posix_terms.specs.declared.reply.Reply.TheVariants.{Data, Done, Stat};
 ghost use Rattle.descriptor_table.specs.Acts.{numbers_reply};
-ghost use Rattle.descriptor_table.specs.Plans.{reply_bytes};
+ghost use Rattle.descriptor_table.specs.Plans.{planned, reply_bytes};
 ghost use Rattle.object_store.specs.Acting.{Seeks, Writes, cut_bodies, release_reply, moved, offset_of_key, rewritten, start_at};
 ghost use Rattle.descriptor_table.specs.declared.plan.Op.TheVariants as op;
+ghost use Rattle.descriptor_table.specs.declared.plan.Plan.TheVariants as plan;
 ghost use Rattle.object_store.specs.Patience.{act_bytes};
 ghost use Rattle.object_store.specs.Store.{EndsTurn, IsPlanned, Replies, body_at};
 
 use crate::store::Store;
-use descriptor_table::{NewNumbers, Opened};
+use descriptor_table::{NewNumbers, Op, Opened, Plan};
 use memory_files::FileBody;
 use posix_terms::{Bytes, Call, Errno, ObjectKind, Reply, Whence};
 
@@ -176,16 +177,22 @@ impl Store {
     }
 
     // A file is opened: it is cut to nothing if it is new or the call says so.
-    pub(crate) fn open(&mut self, call: &Call, node: usize, cut: bool) -> Reply
+    pub(crate) fn open(&mut self, call: &Call, node: usize, cut: bool, keep_table: bool) -> Reply
         requires descriptions { self.old.table.descriptions.made < 2 ^ 127 }
         requires objects { self.old.table.made_objects < 2 ^ 127 }
         requires inside { node < limit.OBJECTS }
-        requires planned { IsPlanned self.old call.now node (op.Open cut) }
+        requires planned { planned self.old.table call.now ≡ plan.Node node (op.Open cut) keep_table }
         ensures reply { Replies self.old call.now result self.new }
         ensures few { reply_bytes result ≡ 0 }
         ensures births { (self.new.table.descriptions.made ≤ self.old.table.descriptions.made + 2) × (self.new.table.made_objects ≤ self.old.table.made_objects + 1) }
     {
-        let plan = self.table.plan(call);
+        // What holds of every store holds of this one: each number has its body.
+        let _ = &self.bodies;
+        let plan = Plan::Node {
+            node,
+            op: Op::Open { cut },
+            keep_table,
+        };
         let given = self.change(call, &plan, None);
         self.cut_body(node, cut);
         numbers_reply(given)
@@ -202,15 +209,19 @@ impl Store {
     }
 
     // What referred to an object does so no more.
-    pub(crate) fn release(&mut self, call: &Call) -> Reply
+    pub(crate) fn release(&mut self, call: &Call, node: usize, keep_table: bool) -> Reply
         requires descriptions { self.old.table.descriptions.made < 2 ^ 127 }
         requires objects { self.old.table.made_objects < 2 ^ 127 }
-        requires planned { (node : ℕ) × IsPlanned self.old call.now node op.Release }
+        requires planned { planned self.old.table call.now ≡ plan.Node node op.Release keep_table }
         ensures reply { Replies self.old call.now result self.new }
         ensures few { reply_bytes result ≡ 0 }
         ensures births { (self.new.table.descriptions.made ≤ self.old.table.descriptions.made + 2) × (self.new.table.made_objects ≤ self.old.table.made_objects + 1) }
     {
-        let plan = self.table.plan(call);
+        let plan = Plan::Node {
+            node,
+            op: Op::Release,
+            keep_table,
+        };
         let _ = self.change(call, &plan, None);
         release_reply(call)
     }

@@ -12,8 +12,8 @@ use crate::acts::numbers_reply;
 use crate::patience::fail_outside;
 use crate::store::Store;
 use descriptor_table::{Errand, NewNumbers, Op, Plan};
-use lock_model::TurnEnd;
 use posix_terms::{Call, Errno, Outcome, Reply};
+use sequential_object::TurnEnd;
 
 // Calls that go outside.
 impl Store {

@@ -39,7 +39,7 @@ mod store;
 mod streams;
 
 pub use laws::locks_and_doors;
-pub use lock_model::TurnEnd;
 pub use patience::{AtTable, TurnStart, copied, end_outside};
 pub use room::Room;
+pub use sequential_object::TurnEnd;
 pub use store::Store;

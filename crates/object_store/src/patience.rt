@@ -8,8 +8,8 @@ ghost use Rattle.descriptor_table.specs.declared.plan.NewNumbers.TheVariants as 
 ghost use Rattle.object_store.specs.Patience.{EndsOutside, Waits, act_bytes, stopped_ending, turn_bytes};
 
 use descriptor_table::Errand;
-use lock_model::TurnEnd;
 use posix_terms::{Bytes, Errno, OutKind, Outcome, Reply};
+use sequential_object::TurnEnd;
 use std::mem::replace;
 
 /// What a call comes to once its thread has the table.

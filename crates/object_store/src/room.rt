@@ -9,8 +9,8 @@ ghost use Rattle.object_store.specs.Store.{Makes};
 use crate::patience::{TurnStart, copied, end_outside};
 use crate::store::Store;
 use descriptor_table::{Errand, read_count};
-use lock_model::TurnEnd;
 use posix_terms::{Call, Outcome, Reply};
+use sequential_object::TurnEnd;
 use std::alloc::{AllocError, Global};
 use std::marker::Model;
 

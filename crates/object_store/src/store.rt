@@ -11,8 +11,8 @@ ghost use Rattle.object_store.specs.Store.{ComesTo, EndsTurn, IsPlanned, UsesRoo
 use crate::body::Body;
 use crate::patience::{AtTable, TurnStart, blocked};
 use descriptor_table::{NewNumbers, Op, Plan, Table};
-use lock_model::TurnEnd;
 use posix_terms::{Call, Limits, Outcome, Reply};
+use sequential_object::TurnEnd;
 use std::alloc::{AllocError, Global};
 use std::marker::Model;
 use std::mem::replace;
@@ -20,7 +20,9 @@ use std::mem::replace;
 /// The shared descriptor table, and by object number the bodies of the objects.
 #[derive(Drop)]
 pub struct Store {
-    /// What descriptors, descriptions and names there are.
+    /// What descriptors, descriptions and names there are. It is public for `Table::made`, which tells what the
+    /// store asks of its caller. Whoever changes it otherwise than by the store's own functions may leave a store
+    /// that stands for no world; `Makes` then says nothing.
     pub table: Table,
     pub(crate) bodies: Vec<Body>,
 
@@ -107,8 +109,12 @@ impl Store {
                 self.go_out(call, node, errand, keep_table);
                 TurnStart::GoesOut(errand)
             }
-            Plan::Node { node, op, .. } => {
-                TurnStart::Ended(match self.act(call, node, op, room) {
+            Plan::Node {
+                node,
+                op,
+                keep_table,
+            } => {
+                TurnStart::Ended(match self.act(call, node, op, keep_table, room) {
                     Some(reply) => TurnEnd::Reply(reply),
                     None => blocked(patience, turns),
                 })
@@ -156,8 +162,16 @@ impl Store {
         given
     }
 
-    // Makes a turn of a call that acts on the object with this number.
-    fn act(&mut self, call: &Call, node: usize, op: Op, room: &mut Vec<u8>) -> Option<Reply>
+    // Makes a turn of a call that acts on the object with this number, as the table planned it.
+    fn act(
+        &mut self,
+        call: &Call,
+        node: usize,
+        op: Op,
+        keep_table: bool,
+        room: &mut Vec<u8>,
+    ) -> Option<Reply>
+        requires whole { planned self.old.table call.now ≡ plan.Node node op keep_table }
         requires descriptions { self.old.table.descriptions.made < 2 ^ 127 }
         requires objects { self.old.table.made_objects < 2 ^ 127 }
         requires planned { IsPlanned self.old call.now node op }
@@ -174,8 +188,8 @@ impl Store {
         match op {
             Op::Read { from, count } => self.read(node, from, taken(room, count)),
             Op::Write { to } => self.write_call(call, node, to),
-            Op::Open { cut } => Some(self.open(call, node, cut)),
-            Op::Release => Some(self.release(call)),
+            Op::Open { cut } => Some(self.open(call, node, cut, keep_table)),
+            Op::Release => Some(self.release(call, node, keep_table)),
             Op::Pread { count, position } => {
                 Some(self.pread(node, position, taken(room, count)))
             }
@@ -183,8 +197,8 @@ impl Store {
             Op::Fstat { links } => Some(self.fstat(node, links)),
             Op::Pwrite { position } => Some(self.pwrite_call(call, node, position)),
             Op::Lseek { at } => Some(self.lseek_call(call, node, at)),
-            Op::Pipe => Some(self.open_pipe(call, node)),
-            Op::Socketpair => Some(self.open_pair(call, node)),
+            Op::Pipe => Some(self.open_pipe(call, node, keep_table)),
+            Op::Socketpair => Some(self.open_pair(call, node, keep_table)),
             Op::Shutdown { side, how } => Some(self.shutdown(node, side, how)),
             Op::Ask(_) => unreachable!(),
         }

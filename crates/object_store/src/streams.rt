@@ -1,6 +1,7 @@
 ghost use Rattle.std.specs.Prelude.{◌≡◌, ◌+◌, ◌^◌, ◌<◌, ◌≤◌, [], length};
-ghost use Rattle.posix_terms.specs.Object.{Pair, Pipe};
-ghost use Rattle.posix_terms.specs.Streams.{half_at, new_pair, pair_read, pair_write, peer_of, shut, with_waiting};
+ghost use Rattle.sequential_object.specs.Object.{Pair, Pipe};
+ghost use Rattle.sequential_object.specs.Streams.{half_at, new_pair, pair_read, pair_write, shut, with_waiting};
+ghost use Rattle.posix_terms.specs.Ends.{peer_of};
 ghost use Rattle.posix_terms.specs.declared.object.End.TheVariants as part;
 ghost use Rattle.posix_terms.specs.declared.reply.Reply.TheVariants.{Done};
 ghost use Rattle.file_descriptions.specs.Descriptions.{ContainsKey};
@@ -8,16 +9,17 @@ ghost use Rattle.posix_terms.specs.declared.limits.TheConstants.Limits as limit;
 ghost use Rattle.pipes.specs.Pipe.{read_answer, write_answer};
 ghost use Rattle.stream_sockets.specs.Pair.{left_by_read, left_by_write, read_into};
 ghost use Rattle.descriptor_table.specs.Acts.{has_read, has_written, is_open, read_acted, write_acted};
-ghost use Rattle.descriptor_table.specs.Plans.{reply_bytes};
+ghost use Rattle.descriptor_table.specs.Plans.{planned, reply_bytes};
 ghost use Rattle.descriptor_table.specs.declared.plan.Op.TheVariants as op;
+ghost use Rattle.descriptor_table.specs.declared.plan.Plan.TheVariants as plan;
 ghost use Rattle.object_store.specs.Acting.{ActsOn, HasRead, HasWritten, ending_of_read, ending_of_write, holding, offset_of_key};
 ghost use Rattle.object_store.specs.Patience.{act_bytes};
-ghost use Rattle.object_store.specs.Store.{IsPlanned, Replies, kept_at};
+ghost use Rattle.object_store.specs.Store.{Replies, kept_at};
 
 use crate::acts::numbers_reply;
 use crate::patience::stopped;
 use crate::store::Store;
-use descriptor_table::Opened;
+use descriptor_table::{Op, Opened, Plan};
 use pipes::PipeAnswer;
 use posix_terms::{Bytes, Call, End, Errno, Reply, ShutdownHow, Side};
 
@@ -128,16 +130,22 @@ impl Store {
     }
 
     // POSIX.1-2017, `pipe`: the new pipe has nothing in it, whatever was under its number before.
-    pub(crate) fn open_pipe(&mut self, call: &Call, node: usize) -> Reply
+    pub(crate) fn open_pipe(&mut self, call: &Call, node: usize, keep_table: bool) -> Reply
         requires descriptions { self.old.table.descriptions.made < 2 ^ 127 }
         requires objects { self.old.table.made_objects < 2 ^ 127 }
         requires inside { node < limit.OBJECTS }
-        requires planned { IsPlanned self.old call.now node op.Pipe }
+        requires planned { planned self.old.table call.now ≡ plan.Node node op.Pipe keep_table }
         ensures reply { Replies self.old call.now result self.new }
         ensures few { reply_bytes result ≡ 0 }
         ensures births { (self.new.table.descriptions.made ≤ self.old.table.descriptions.made + 2) × (self.new.table.made_objects ≤ self.old.table.made_objects + 1) }
     {
-        let plan = self.table.plan(call);
+        // What holds of every store holds of this one: each number has its body.
+        let _ = &self.bodies;
+        let plan = Plan::Node {
+            node,
+            op: Op::Pipe,
+            keep_table,
+        };
         let given = self.change(call, &plan, None);
         self.clear_pipe(node);
         numbers_reply(given)
@@ -152,16 +160,22 @@ impl Store {
     }
 
     // POSIX.1-2017, `socketpair`: nothing waits in the new pair, and nothing is shut.
-    pub(crate) fn open_pair(&mut self, call: &Call, node: usize) -> Reply
+    pub(crate) fn open_pair(&mut self, call: &Call, node: usize, keep_table: bool) -> Reply
         requires descriptions { self.old.table.descriptions.made < 2 ^ 127 }
         requires objects { self.old.table.made_objects < 2 ^ 127 }
         requires inside { node < limit.OBJECTS }
-        requires planned { IsPlanned self.old call.now node op.Socketpair }
+        requires planned { planned self.old.table call.now ≡ plan.Node node op.Socketpair keep_table }
         ensures reply { Replies self.old call.now result self.new }
         ensures few { reply_bytes result ≡ 0 }
         ensures births { (self.new.table.descriptions.made ≤ self.old.table.descriptions.made + 2) × (self.new.table.made_objects ≤ self.old.table.made_objects + 1) }
     {
-        let plan = self.table.plan(call);
+        // What holds of every store holds of this one: each number has its body.
+        let _ = &self.bodies;
+        let plan = Plan::Node {
+            node,
+            op: Op::Socketpair,
+            keep_table,
+        };
         let given = self.change(call, &plan, None);
         self.clear_pair(node);
         numbers_reply(given)

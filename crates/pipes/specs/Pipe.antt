@@ -1,7 +1,7 @@
 -- Internal: no contract of the headline or of a command stands on it.
 -- How the calls of a pipe answer, and what they leave in it.
 use Rattle.std.specs.Prelude.{ℕ, List, length}
-use Rattle.posix_terms.specs.Streams.{Reading, Reads, Ends, NothingYet, Writing, Writes, Breaks, NoRoom}
+use Rattle.sequential_object.specs.Streams.{Reading, Reads, Ends, NothingYet, Writing, Writes, Breaks, NoRoom}
 use Rattle.pipes.specs.declared.body.PipeAnswer.{PipeAnswer}
 use Rattle.pipes.specs.declared.body.PipeAnswer.TheVariants as answer
 

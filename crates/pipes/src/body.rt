@@ -1,7 +1,8 @@
-ghost use Rattle.std.specs.Prelude.{◌≡◌, ◌+◌, ◌≤◌, List, [], ◌++◌, length, take, drop, vec_len, vec_capacity, IfOk};
-ghost use Rattle.posix_terms.specs.Streams.{stream_read, stream_write};
+ghost use Rattle.std.specs.Prelude.{◌≡◌, [], ◌++◌, length, take, drop, IfOk};
+ghost use Rattle.sequential_object.specs.Streams.{stream_read, stream_write};
 ghost use Rattle.pipes.specs.Pipe.{left_by_read, left_by_write, read_answer, write_answer};
 
+use circular_buffer::HeapCircularBuffer;
 use posix_terms::Limits;
 use std::alloc::{AllocError, Global};
 use std::marker::Model;
@@ -22,21 +23,22 @@ pub enum PipeAnswer {
 }
 
 /// The bytes that wait in a pipe: at most `Limits::PIPE_BYTES`, all of whose room is taken when it is
-/// made. Contracts see the list of them.
+/// made. They stand in a ring, so that a read moves none of those that it leaves. Contracts see the list
+/// of them.
 #[derive(Drop)]
 pub struct PipeBody {
-    bytes: Vec<u8>,
+    bytes: HeapCircularBuffer<u8>,
 }
 
 impl Model for PipeBody {
-    ghost use Rattle.std.specs.Prelude.{ℕ, ◌≤◌, List, vec_len, vec_capacity};
+    ghost use Rattle.std.specs.Prelude.{◌≡◌, ℕ, List};
     ghost use Rattle.posix_terms.specs.declared.limits.TheConstants.Limits as limit;
 
     ghost Value = { List ℕ };
 
     ghost view = { λ p. p.bytes.items };
 
-    ghost invariant = { λ p. (vec_len p.bytes ≤ limit.PIPE_BYTES) × (limit.PIPE_BYTES ≤ vec_capacity p.bytes) };
+    ghost invariant = { λ p. p.bytes.capacity ≡ limit.PIPE_BYTES };
 }
 
 impl PipeBody {
@@ -45,7 +47,7 @@ impl PipeBody {
         ensures { IfOk result (λ pipe. pipe ≡ []) }
     {
         Ok(PipeBody {
-            bytes: Vec::with_capacity(alloc, Limits::PIPE_BYTES)?,
+            bytes: HeapCircularBuffer::with_capacity(alloc, Limits::PIPE_BYTES)?,
         })
     }
 
@@ -63,10 +65,7 @@ impl PipeBody {
                 PipeAnswer::End
             };
         }
-        let count = into.len().min(self.bytes.len());
-        into[..count].copy_from_slice(&self.bytes[..count]);
-        remove_front(&mut self.bytes, count);
-        PipeAnswer::Data(count)
+        PipeAnswer::Data(self.bytes.read_into(into))
     }
 
     /// Writes all of the bytes behind those that wait, where they fit. Where no read end is open the pipe
@@ -81,8 +80,7 @@ impl PipeBody {
         if bytes.len() > Limits::PIPE_BYTES - self.bytes.len() {
             return PipeAnswer::Block;
         }
-        self.bytes.extend_from_slice(bytes).unwrap();
-        PipeAnswer::Count(bytes.len())
+        PipeAnswer::Count(self.bytes.fill_from_slice(bytes))
     }
 
     /// Drops all bytes.
@@ -91,15 +89,4 @@ impl PipeBody {
     {
         self.bytes.clear();
     }
-}
-
-// Takes away so many bytes at the front.
-fn remove_front(bytes: &mut Vec<u8>, count: usize)
-    requires { count ≤ vec_len bytes.old }
-    ensures items { bytes.new.items ≡ drop count bytes.old.items }
-    ensures room { vec_capacity bytes.new ≡ vec_capacity bytes.old }
-{
-    let kept = bytes.len() - count;
-    bytes.copy_within(count.., 0);
-    bytes.truncate(kept);
 }

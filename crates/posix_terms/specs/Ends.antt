@@ -33,3 +33,7 @@ is_end d e = false
 abbrev pub side_of : End → Side
 side_of (part.Socket side) = side
 side_of e = Side0
+
+abbrev pub peer_of : Side → Side
+peer_of Side0 = Side1
+peer_of Side1 = Side0

@@ -1,15 +1,13 @@
-//! The words of the calls, for all other crates: errors, calls, replies, outcomes from outside,
-//! turns and transcripts; beside them, in `specs/`, stands the sequential object, which says what
-//! each call does to one shared table of descriptors.
+//! The words of the calls, for all other crates: errors, calls, steps, replies, outcomes from
+//! outside, turns and transcripts. What each call does is said in the crate `sequential_object`.
 //!
-//! A [`Call`] has its arguments as the thread gave them, a [`Reply`] is what comes back, and an
+//! A [`Call`] has its arguments as the thread gave them, a [`Step`] is a call, work or the end, a
+//! [`Reply`] is what comes back, and an
 //! [`Outcome`] is what came from outside; `Outcome::fits` tells whether it answers what was asked.
 //! A [`Transcript`] is what one thread saw, a [`HistoryRow`] one granted turn of a run, and
 //! [`Limits`] has the limits of the profile. Contracts see plain values: of [`Bytes`] the list of
 //! bytes, of a transcript the list of its rows. Copies and `Transcript::push` take memory, and fail
-//! only for want of it; `from_vec` takes none. The laws of the sequential object, as
-//! `failed_calls_change_nothing`, are functions with an empty body: whoever calls one knows what
-//! its contract says.
+//! only for want of it; `from_vec` takes none.
 //!
 //! ```rust
 //! use posix_terms::{Bytes, Call, Errno, OutKind, Outcome, Reply, Row, Transcript, Turn};
@@ -33,28 +31,23 @@
 mod bytes;
 mod call;
 mod errno;
-mod examples;
-mod laws;
 mod limits;
 mod object;
 mod outcome;
 mod reply;
 mod request;
+mod step;
 mod text;
 mod transcript;
 
 pub use bytes::Bytes;
 pub use call::{Access, Call, CallKind, OpenFlags, ShutdownHow, Whence};
 pub use errno::{Errno, codes_lead_back, errno_name};
-pub use examples::{worked_door_examples, worked_examples};
-pub use laws::{
-    blocked_calls_change_nothing, calls_outside, failed_calls_change_nothing,
-    nothing_unused_is_held,
-};
 pub use limits::Limits;
 pub use object::{Door, End, Side};
 pub use outcome::{Given, OutKind, Outcome, Outcomes};
 pub use reply::{Answer, ObjectKind, Reply};
 pub use request::Request;
+pub use step::Step;
 pub use text::{pieces, split};
 pub use transcript::{HistoryRow, Row, Settings, Transcript, Transcripts, Turn};

@@ -1,6 +1,5 @@
 ghost use Rattle.std.specs.Prelude.{◌≡◌};
-ghost use Rattle.posix_terms.specs.Ends.{is_first};
-ghost use Rattle.posix_terms.specs.Streams.{peer_of};
+ghost use Rattle.posix_terms.specs.Ends.{is_first, peer_of};
 
 /// Which end of its object an open file description is of.
 #[derive(Clone, Copy, Debug, PartialEq, Eq)]

@@ -110,7 +110,7 @@ pub(crate) fn recorded<R: Threads + Wait + Sync, O: Outside + Send + Drop>(
     let log = LogTo { path: "a.log", log };
     let mut output: Vec<u8> = Vec::new(alloc);
     let mut errors: Vec<u8> = Vec::new(alloc);
-    let status = record_over(
+    let recorded = record_over(
         rt,
         alloc,
         settings,
@@ -122,7 +122,7 @@ pub(crate) fn recorded<R: Threads + Wait + Sync, O: Outside + Send + Drop>(
         &mut errors,
     )?;
     Ok(Told {
-        status,
+        status: recorded.status,
         output,
         errors,
     })

@@ -5,7 +5,7 @@ use Rattle.std.proofs.lemmas.Bool.{true≢false}
 use Rattle.posix_terms.specs.declared.reply.Reply.{Reply}
 use Rattle.thread_scripts.specs.Meaning.{next_of}
 use Rattle.thread_scripts.specs.declared.actor.ScriptState.{ScriptState}
-use Rattle.thread_scripts.specs.declared.actor.Step.TheVariants as step
+use Rattle.posix_terms.specs.declared.step.Step.TheVariants as step
 use Rattle.lock_machine.specs.Waiting.{is_call}
 use Rattle.worker_notes.specs.Plays.{AreHeard, AreHeardSoFar, Plays, PlaysTo, gave_end, reply_after, with_reply}
 use Rattle.recorder.specs.Seats.{EndsInCall}

@@ -6,8 +6,8 @@ use Rattle.lock_machine.specs.Waiting.{is_call}
 use Rattle.posix_terms.specs.declared.reply.Reply.{Reply}
 use Rattle.posix_terms.specs.declared.transcript.HistoryRow.{HistoryRow}
 use Rattle.thread_scripts.specs.declared.actor.ScriptState.{ScriptState}
-use Rattle.thread_scripts.specs.declared.actor.Step.{Step}
-use Rattle.thread_scripts.specs.declared.actor.Step.TheVariants as step
+use Rattle.posix_terms.specs.declared.step.Step.{Step}
+use Rattle.posix_terms.specs.declared.step.Step.TheVariants as step
 use Rattle.worker_notes.specs.Agrees.{Agree, AgreeFrom, AgreesWith, before, replies_in, replies_noted, steps_noted}
 use Rattle.worker_notes.specs.Leads.{Giving, LeadsTo}
 use Rattle.worker_notes.specs.Plays.{AreHeardSoFar, PlaysTo, noted}

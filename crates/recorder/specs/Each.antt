@@ -3,7 +3,7 @@
 use Rattle.std.specs.Prelude.{◌≡◌, ℕ, ◌+◌, Bool, List, [], ◌∷◌}
 use Rattle.posix_terms.specs.declared.transcript.HistoryRow.{HistoryRow}
 use Rattle.thread_scripts.specs.declared.actor.ScriptState.{ScriptState}
-use Rattle.thread_scripts.specs.declared.actor.Step.{Step}
+use Rattle.posix_terms.specs.declared.step.Step.{Step}
 use Rattle.worker_notes.specs.Agrees.{brought_in, replies_in}
 use Rattle.worker_notes.specs.Leads.{Giving, LeadsTo}
 use Rattle.worker_notes.specs.Plays.{PlaysTo, noted}

@@ -4,8 +4,8 @@ use Rattle.std.specs.Prelude.{◌≡◌, ℕ, ◌≤◌, Bool, true, false, not,
 use Rattle.lock_machine.specs.Waiting.{is_call}
 use Rattle.posix_terms.specs.declared.limits.TheConstants.Limits as limit
 use Rattle.thread_scripts.specs.declared.actor.ScriptState.{ScriptState}
-use Rattle.thread_scripts.specs.declared.actor.Step.{Step}
-use Rattle.thread_scripts.specs.declared.actor.Step.TheVariants as step
+use Rattle.posix_terms.specs.declared.step.Step.{Step}
+use Rattle.posix_terms.specs.declared.step.Step.TheVariants as step
 use Rattle.worker_notes.specs.Leads.{Giving, LeadsTo}
 use Rattle.worker_notes.specs.Plays.{AreHeard, AreHeardSoFar, IsHeard, PlaysTo, gave_end}
 use Rattle.worker_notes.specs.declared.own.Brought.{Brought}

@@ -2,8 +2,8 @@ ghost use Rattle.std.specs.Prelude.{◌≡◌, IfOk};
 ghost use Rattle.lock_machine.specs.Refusals.{is_end};
 ghost use Rattle.recorder.specs.Seats.{kind_of};
 
+use posix_terms::Step;
 use std::alloc::AllocError;
-use thread_scripts::Step;
 
 // What kind of step was asked.
 #[derive(Clone, Copy)]

@@ -1,10 +1,9 @@
 ghost use Rattle.std.specs.Prelude.{◌≡◌, ◌<◌, [], get_or, length, replicate};
 
 use lock_machine::{Asked, Left};
-use posix_terms::HistoryRow;
+use posix_terms::{HistoryRow, Step};
 use std::alloc::Global;
 use std::marker::Model;
-use thread_scripts::Step;
 
 /// What happened in a run: a row for each granted turn, in the order of the turns, and the steps that each thread asked, with `End` last once
 /// it has ended.

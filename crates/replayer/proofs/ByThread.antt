@@ -8,10 +8,10 @@ use Rattle.std.specs.List.{cons_option}
 use Rattle.call_machine.specs.History.{reply_before, transcript_of, transcripts_of}
 use Rattle.input_log.specs.Grammar.{number_of}
 use Rattle.input_log.specs.declared.log.Record.{Record}
-use Rattle.lock_model.specs.declared.turn_end.TurnEnd.{TurnEnd}
-use Rattle.lock_model.specs.declared.turn_end.TurnEnd.TheVariants as turn_end
+use Rattle.sequential_object.specs.declared.turn_end.TurnEnd.{TurnEnd}
+use Rattle.sequential_object.specs.declared.turn_end.TurnEnd.TheVariants as turn_end
 use Rattle.lock_model.specs.History.{rows_of}
-use Rattle.lock_model.specs.RealCalls.{outcome_in}
+use Rattle.sequential_object.specs.Answers.{outcome_in}
 use Rattle.lock_model.specs.Rows.{shown, shown_answer}
 use Rattle.lock_model.specs.State.{Row}
 use Rattle.lock_model.specs.Transcripts as lock

@@ -10,7 +10,7 @@ use Rattle.lock_model.specs.Machine.{Setup}
 use Rattle.lock_model.specs.Schedule.{IsOver, after_event, plain, plain_run}
 use Rattle.lock_model.specs.State.{Job, Phase, State, Thread, live_clocks, nobody, start, thread_of}
 use Rattle.lock_model.specs.State.Phase.{Outside}
-use Rattle.lock_model.specs.Terms.{World}
+use Rattle.sequential_object.specs.Worlds.{World}
 use Rattle.lock_model.specs.Transcripts.{outcomes_of}
 use Rattle.logical_clocks.specs.TurnOrder.{turn_holder}
 use Rattle.posix_terms.specs.declared.outcome.Given.{Given}

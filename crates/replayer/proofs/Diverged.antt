@@ -11,7 +11,7 @@ use Rattle.lock_model.specs.Programs.{Finite}
 use Rattle.lock_model.specs.Schedule.{EndsIn, plain_run}
 use Rattle.lock_model.specs.State.{Job, Phase, State, start, thread_of}
 use Rattle.lock_model.specs.State.Phase.{Outside}
-use Rattle.lock_model.specs.Terms.{World}
+use Rattle.sequential_object.specs.Worlds.{World}
 use Rattle.posix_terms.specs.declared.outcome.Given.{Given}
 use Rattle.replayer.proofs.CameAgain.{came_supplied, diverged_outside}
 use Rattle.replayer.proofs.Known.{KnownOfThreads}

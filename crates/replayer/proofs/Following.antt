@@ -8,17 +8,17 @@ use Rattle.lock_machine.specs.Conditions.{setup_under}
 use Rattle.lock_machine.specs.Whole.{settings_in, thread_at}
 use Rattle.lock_model.specs.History.{rows_of}
 use Rattle.lock_model.specs.Laws.{Begins}
-use Rattle.lock_model.specs.Numbers.{first_world}
+use Rattle.sequential_object.specs.Numbers.{first_world}
 use Rattle.lock_model.specs.Programs.{Supply}
 use Rattle.lock_model.specs.RealLaws.{real_setup, real_start}
 use Rattle.lock_model.specs.Rows.{shown, shown_answer}
 use Rattle.lock_model.specs.Runs.{Follows, calls_in, own}
 use Rattle.lock_model.specs.Schedule.{EndsIn}
-use Rattle.lock_model.specs.ScriptPrograms.{next_at, reached_after, replies_behind, reply_to, scripted}
+use Rattle.thread_scripts.specs.ScriptPrograms.{next_at, reached_after, replies_behind, reply_to, scripted}
 use Rattle.lock_model.specs.State.{Row, State, thread_of}
 use Rattle.lock_model.specs.Transcripts.{replies_of, reply_in}
-use Rattle.lock_model.specs.declared.turn_end.TurnEnd.{TurnEnd}
-use Rattle.lock_model.specs.declared.turn_end.TurnEnd.TheVariants as turn_end
+use Rattle.sequential_object.specs.declared.turn_end.TurnEnd.{TurnEnd}
+use Rattle.sequential_object.specs.declared.turn_end.TurnEnd.TheVariants as turn_end
 use Rattle.logged_machine.specs.Kept.{IsKept}
 use Rattle.logged_machine.specs.Runs.{terms_with}
 use Rattle.logged_machine.specs.Shown.{Shown}
@@ -30,8 +30,8 @@ use Rattle.posix_terms.specs.declared.transcript.Settings.{Settings}
 use Rattle.recorder.specs.Each.{ArePlayedFrom}
 use Rattle.thread_scripts.specs.Meaning.{next_of, start_of}
 use Rattle.thread_scripts.specs.declared.actor.ScriptState.{ScriptState}
-use Rattle.thread_scripts.specs.declared.actor.Step.{Step}
-use Rattle.thread_scripts.specs.declared.actor.Step.TheVariants as step
+use Rattle.posix_terms.specs.declared.step.Step.{Step}
+use Rattle.posix_terms.specs.declared.step.Step.TheVariants as step
 use Rattle.thread_scripts.specs.declared.line.Line.{Line}
 use Rattle.worker_notes.specs.Agrees.{before, replies_in, reply_of}
 use Rattle.worker_notes.specs.Plays.{Plays, PlaysTo, noted}

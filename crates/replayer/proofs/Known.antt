@@ -8,7 +8,7 @@ use Rattle.input_log.specs.Writing.{IsSound, Writing, log_of}
 use Rattle.input_log.specs.declared.log.LogText.{LogText}
 use Rattle.lock_model.specs.Came.{CameIsRows, OutsideStays, OverUnderCame, PlainArises, PlainCount, PlainLeads, RepliesAreRows, SameUnderCame}
 use Rattle.lock_model.specs.Laws.{EndedOrTurn, HolderHasTurn, PrefixLawOfCame, PrefixLawOfFollowed, RunFollows, SomeEnd, UniqueEnd}
-use Rattle.lock_model.specs.ScriptPrograms.{ScriptsEnd}
+use Rattle.thread_scripts.specs.ScriptPrograms.{ScriptsEnd}
 
 pub record Known : Type 0 where
   -- plain runs, and those under the outcomes that came

@@ -16,11 +16,11 @@ use Rattle.input_log.specs.declared.log.LogText.{LogText}
 use Rattle.lock_model.specs.History.{IsPrefixOf}
 use Rattle.lock_model.specs.Laws.{Begins}
 use Rattle.lock_model.specs.Machine.{Setup}
-use Rattle.lock_model.specs.Numbers.{first_world}
+use Rattle.sequential_object.specs.Numbers.{first_world}
 use Rattle.lock_model.specs.RealLaws.{real_setup}
 use Rattle.lock_model.specs.Rows.{shown}
 use Rattle.lock_model.specs.Schedule.{EndsIn, IsOver, plain_run}
-use Rattle.lock_model.specs.ScriptPrograms.{scripted}
+use Rattle.thread_scripts.specs.ScriptPrograms.{scripted}
 use Rattle.lock_model.specs.State as lock
 use Rattle.lock_model.specs.State.{Job, Phase, Row, State, live_clocks, thread_of}
 use Rattle.lock_model.specs.State.Phase.{Outside}

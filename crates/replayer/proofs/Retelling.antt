@@ -21,7 +21,7 @@ use Rattle.lock_machine.specs.declared.thread.Phase.{Phase}
 use Rattle.lock_machine.specs.declared.thread.Phase.TheVariants as phase
 use Rattle.lock_model.specs.History.{IsPrefixOf}
 use Rattle.lock_model.specs.Laws.{Begins, HaveEnded}
-use Rattle.lock_model.specs.Numbers.{first_world}
+use Rattle.sequential_object.specs.Numbers.{first_world}
 use Rattle.lock_model.specs.Rows.{shown}
 use Rattle.lock_model.specs.Runs.{own}
 use Rattle.lock_model.specs.Schedule.{EndsIn, IsOver, plain_run}

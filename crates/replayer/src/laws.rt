@@ -4,10 +4,8 @@ ghost use Rattle.replayer.specs.Threads.{RecordedRunsAreReplayed, RunsAgreeWithR
 use call_machine::logs_of_plain_runs;
 use host_doors::Outside;
 use input_log::{one_fault, one_value, what_was_written_is_read};
-use lock_model::{
-    arising_states, outcomes_that_came, plain_run_ends, prefix_law, programs_of_scripts, turn_order,
-};
-use thread_scripts::Actor;
+use lock_model::{arising_states, outcomes_that_came, plain_run_ends, prefix_law, turn_order};
+use thread_scripts::{Actor, programs_of_scripts};
 
 /// A replay of the log that a plain run itself wrote, with the run's own scripts, gives that run again: the same
 /// transcripts, the same history where it came to its end, and the same stop. Where the run stopped because an

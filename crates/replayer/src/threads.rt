@@ -72,6 +72,7 @@ fn supply_of(alloc: Global, log: &[u8], threads: usize) -> Result<Supplied, Repl
     ensures sound { IfOk result (λ s. s.sink.failures ≡ 0) }
     ensures fault { IfErr result (IsNoReplay log.now threads) }
 {
+    // The run may write an end, which its log may lack.
     let room = log.len().saturating_add(END_LENGTH);
     let log = decode_front(alloc, log)?;
     if usize::from(log.header.threads) != threads {

@@ -1,8 +1,7 @@
 use lock_machine::{Attempt, LockMachine, Refused};
-use posix_terms::{Access, Bytes, Call, OpenFlags, Settings};
+use posix_terms::{Access, Bytes, Call, OpenFlags, Settings, Step};
 use std::alloc::{AllocError, Global};
 use std::test::Fail;
-use thread_scripts::Step;
 
 const SETTINGS: Settings = Settings {
     patience: 1000,

@@ -1,10 +1,11 @@
 use call_machine::{Machine, NotRecorded, Refused, Stop};
 use input_log::{Header, LogWriter, MemorySink};
 use lock_machine::{Attempt, Phase};
-use posix_terms::{Access, Answer, Bytes, Call, HistoryRow, OpenFlags, Outcome, Reply, Settings};
+use posix_terms::{
+    Access, Answer, Bytes, Call, HistoryRow, OpenFlags, Outcome, Reply, Settings, Step,
+};
 use std::alloc::{AllocError, Global};
 use std::test::Fail;
-use thread_scripts::Step;
 
 const SETTINGS: Settings = Settings {
     patience: 1000,

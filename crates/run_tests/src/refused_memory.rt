@@ -1,10 +1,9 @@
 use call_machine::{Machine, Refused};
 use input_log::{Header, LogWriter, MemorySink};
 use lock_machine::Phase;
-use posix_terms::{Access, Answer, Bytes, Call, HistoryRow, OpenFlags, Reply, Settings};
+use posix_terms::{Access, Answer, Bytes, Call, HistoryRow, OpenFlags, Reply, Settings, Step};
 use std::alloc::{AllocError, Global};
 use std::test::Fail;
-use thread_scripts::Step;
 
 const SETTINGS: Settings = Settings {
     patience: 1000,

@@ -42,6 +42,10 @@ const BAD_LINES: &[(&[u8], usize)] = &[
     (b"open /a rw creat", 1),
     (b"open /\x01 rw", 1),
     (b"open /\x7f rw", 1),
+    (b"write 0 x0", 1),
+    (b"read 0 99999999999999999999", 1),
+    (b"read 0 1 1", 1),
+    (b"close 0\nclose \xc8\nclose 0\n", 2),
 ];
 
 #[test]

@@ -1,7 +1,8 @@
 -- Internal: no contract of the headline or of a command stands on it.
 -- What the calls of a pair of sockets leave in it.
 use Rattle.std.specs.Prelude.{ℕ, List, ◌++◌, length, take, drop, if◌then◌else◌}
-use Rattle.posix_terms.specs.Streams.{Half, PairState, Reading, Reads, Ends, NothingYet, Writing, Writes, Breaks, NoRoom, peer_of, with_waiting}
+use Rattle.sequential_object.specs.Streams.{Half, PairState, Reading, Reads, Ends, NothingYet, Writing, Writes, Breaks, NoRoom, with_waiting}
+use Rattle.posix_terms.specs.Ends.{peer_of}
 use Rattle.posix_terms.specs.declared.object.Side.{Side}
 
 -- a read at a side takes what it read

@@ -1,5 +1,5 @@
 ghost use Rattle.std.specs.Prelude.{◌≡◌, ◌&&◌, not, length, IfOk, if◌then◌else◌};
-ghost use Rattle.posix_terms.specs.Streams.{Reading, Ends, half_shut, new_half, stream_read, stream_write};
+ghost use Rattle.sequential_object.specs.Streams.{Reading, Ends, half_shut, new_half, stream_read, stream_write};
 ghost use Rattle.pipes.specs.Pipe.{left_by_read, left_by_write, read_answer, write_answer};
 ghost use Rattle.stream_sockets.specs.Pair.{read_into};
 
@@ -17,7 +17,7 @@ pub struct HalfBody {
 }
 
 impl Model for HalfBody {
-    ghost use Rattle.posix_terms.specs.Streams.{Half};
+    ghost use Rattle.sequential_object.specs.Streams.{Half};
 
     ghost Value = { Half };
 

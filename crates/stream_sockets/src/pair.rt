@@ -1,5 +1,5 @@
 ghost use Rattle.std.specs.Prelude.{◌≡◌, length, IfOk};
-ghost use Rattle.posix_terms.specs.Streams.{half_at, new_pair, pair_read, pair_write, shut};
+ghost use Rattle.sequential_object.specs.Streams.{half_at, new_pair, pair_read, pair_write, shut};
 ghost use Rattle.pipes.specs.Pipe.{read_answer, write_answer};
 ghost use Rattle.stream_sockets.specs.Pair.{left_by_read, left_by_write, read_into};
 
@@ -18,7 +18,7 @@ pub struct PairBody {
 }
 
 impl Model for PairBody {
-    ghost use Rattle.posix_terms.specs.Streams.{PairState};
+    ghost use Rattle.sequential_object.specs.Streams.{PairState};
 
     ghost Value = { PairState };
 

@@ -12,7 +12,12 @@ enum FileStep {
     Write(u64, &'static [u8], Result<usize, Errno>),
     // The file has these bytes at a position and then ends, or goes on behind nine of them.
     Has(u64, &'static [u8]),
+    // A read of as many bytes at a position gives these.
+    Reads(u64, &'static [u8]),
     Len(u64),
+    // The file is cut to this length, or extended to it.
+    SetLen(u64),
+    Clear,
 }
 
 // Whether a file has these bytes at a position and then ends, or goes on behind nine of them.
@@ -22,12 +27,28 @@ fn has(file: &FileBody, position: u64, wanted: &[u8]) -> bool {
     &bytes[..count.min(9)] == wanted
 }
 
+// Whether a read of as many bytes at a position, at most nine, gives these.
+fn reads(file: &FileBody, position: u64, wanted: &[u8]) -> bool {
+    let mut bytes = [0xee; 9];
+    let into = &mut bytes[..wanted.len().min(9)];
+    file.read_at(position, into) == wanted.len() && &*into == wanted
+}
+
 // Whether a file answers a step so.
 fn file_answers(file: &mut FileBody, step: &FileStep) -> bool {
     match step {
         FileStep::Write(position, bytes, wanted) => file.write_at(*position, bytes) == *wanted,
         FileStep::Has(position, wanted) => has(file, *position, wanted),
+        FileStep::Reads(position, wanted) => reads(file, *position, wanted),
         FileStep::Len(wanted) => file.len() == *wanted,
+        FileStep::SetLen(size) => {
+            file.set_len((*size).min(65_536));
+            true
+        }
+        FileStep::Clear => {
+            file.clear();
+            true
+        }
     }
 }
 
@@ -80,6 +101,41 @@ const AT_THE_LIMIT: &[FileStep] = &[
 #[test]
 fn stops_at_the_limit(rt: HostRuntime) -> Result<(), Fail> {
     assert_file(&rt, rt.alloc(), AT_THE_LIMIT)
+}
+
+const PAGES_READ_ZERO: &[FileStep] = &[
+    FileStep::Write(0, &[0xff; 600], Ok(600)),
+    FileStep::SetLen(100),
+    FileStep::SetLen(600),
+    FileStep::Reads(99, b"\xff\0"),
+    FileStep::Reads(511, b"\0\0"),
+    FileStep::Write(65_535, b"\xff", Ok(1)),
+    FileStep::Clear,
+    FileStep::SetLen(65_536),
+    FileStep::Reads(65_535, b"\0"),
+];
+
+#[test]
+fn pages_read_zero(rt: HostRuntime) -> Result<(), Fail> {
+    assert_file(&rt, rt.alloc(), PAGES_READ_ZERO)
+}
+
+// All pages are taken, given back, and one of them is taken again behind a gap.
+const PAGES_TAKEN_AGAIN: &[FileStep] = &[
+    FileStep::Write(0, &[0xff; 32_768], Ok(32_768)),
+    FileStep::Write(32_768, &[0xff; 32_768], Ok(32_768)),
+    FileStep::Write(510, b"abcd", Ok(4)),
+    FileStep::Has(509, b"\xffabcd\xff\xff\xff\xff"),
+    FileStep::Clear,
+    FileStep::Len(0),
+    FileStep::Write(1_022, b"abcd", Ok(4)),
+    FileStep::Has(1_020, b"\0\0abcd"),
+    FileStep::Has(511, b"\0\0\0\0\0\0\0\0\0"),
+];
+
+#[test]
+fn pages_are_taken_again(rt: HostRuntime) -> Result<(), Fail> {
+    assert_file(&rt, rt.alloc(), PAGES_TAKEN_AGAIN)
 }
 
 // What is done to a pipe, and what it answers. A read is one of three bytes, which are nines before.
@@ -154,6 +210,20 @@ const FULL_PIPE: &[PipeStep] = &[
 #[test]
 fn a_full_pipe_blocks(rt: HostRuntime) -> Result<(), Fail> {
     assert_pipe(&rt, rt.alloc(), FULL_PIPE)
+}
+
+#[test]
+fn bytes_of_a_pipe_go_round(rt: HostRuntime) -> Result<(), Fail> {
+    let mut pipe = PipeBody::new(rt.alloc())?;
+    let mut into = [9; 32_766];
+    assert!(rt; pipe.put(&[7; 32_766], true) == PipeAnswer::Count(32_766));
+    assert!(rt; pipe.take(&mut into[..32_765], true) == PipeAnswer::Data(32_765));
+    // two of these bytes stand at the end of the room, and two at its start
+    assert!(rt; pipe.put(b"abcd", true) == PipeAnswer::Count(4));
+    assert!(rt; pipe.take(&mut into, true) == PipeAnswer::Data(5));
+    assert!(rt; &into[..6] == b"\x07abcd\x07".as_slice());
+    assert!(rt; pipe.take(&mut into, true) == PipeAnswer::Block);
+    Ok(())
 }
 
 // What is done to one side of a pair, and what it answers. A read is one of three bytes, which are nines before.

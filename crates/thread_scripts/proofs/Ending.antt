@@ -4,8 +4,8 @@ use Rattle.posix_terms.specs.declared.reply.Reply.{Reply}
 use Rattle.thread_scripts.specs.Meaning.{action_of, behind, end_or, given_or, is_failure, lines_left, next_of, next_within, past, step_given, stored}
 use Rattle.thread_scripts.specs.declared.line.Line.{Line}
 use Rattle.thread_scripts.specs.declared.actor.ScriptState.{ScriptState}
-use Rattle.thread_scripts.specs.declared.actor.Step.{Step}
-use Rattle.thread_scripts.specs.declared.actor.Step.TheVariants as step
+use Rattle.posix_terms.specs.declared.step.Step.{Step}
+use Rattle.posix_terms.specs.declared.step.Step.TheVariants as step
 use Rattle.thread_scripts.proofs.Executing.{performed_executed, performed_script}
 
 -- the end, or a step behind one to n executed lines

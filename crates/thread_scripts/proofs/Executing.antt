@@ -5,8 +5,8 @@ use Rattle.thread_scripts.specs.Meaning.{action_of, behind, lines_left, next_wit
 use Rattle.thread_scripts.specs.declared.line.Line.{Line}
 use Rattle.thread_scripts.specs.declared.state.Action.{Action}
 use Rattle.thread_scripts.specs.declared.state.Action.TheVariants as action
-use Rattle.thread_scripts.specs.declared.actor.Step.{Step}
-use Rattle.thread_scripts.specs.declared.actor.Step.TheVariants as step
+use Rattle.posix_terms.specs.declared.step.Step.{Step}
+use Rattle.posix_terms.specs.declared.step.Step.TheVariants as step
 use Rattle.thread_scripts.specs.declared.actor.ScriptState.{ScriptState}
 
 pub performed_executed : (a : Action) (s : ScriptState) → (performed a s).executed ≡ s.executed

@@ -6,3 +6,4 @@ pub mod Gathering
 pub mod Jumps
 pub mod Targets
 pub mod Keeping
+pub mod ScriptEnds

@@ -11,7 +11,7 @@ use Rattle.thread_scripts.specs.Words.{lines_of, words_of}
 use Rattle.thread_scripts.specs.declared.line.Line.{Line}
 use Rattle.thread_scripts.specs.declared.line.Line.TheVariants as line
 use Rattle.thread_scripts.specs.declared.actor.ScriptState.{ScriptState}
-use Rattle.thread_scripts.specs.declared.actor.Step.TheVariants as step
+use Rattle.posix_terms.specs.declared.step.Step.TheVariants as step
 
 -- line k, counted from 0, is bad, and those before it are good
 pub record IsFirstBad (readings : List (Option (Option Line))) (k : ℕ) : Type 0 where

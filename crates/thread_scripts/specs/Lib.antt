@@ -10,3 +10,4 @@ pub mod Meaning
 pub mod Saving
 pub mod Rules
 pub mod Laws
+pub mod ScriptPrograms

@@ -31,8 +31,8 @@ use Rattle.thread_scripts.specs.declared.line.Line.{Line}
 use Rattle.thread_scripts.specs.declared.line.Line.TheVariants as line
 use Rattle.thread_scripts.specs.declared.state.Action.{Action}
 use Rattle.thread_scripts.specs.declared.state.Action.TheVariants as action
-use Rattle.thread_scripts.specs.declared.actor.Step.{Step}
-use Rattle.thread_scripts.specs.declared.actor.Step.TheVariants as step
+use Rattle.posix_terms.specs.declared.step.Step.{Step}
+use Rattle.posix_terms.specs.declared.step.Step.TheVariants as step
 use Rattle.thread_scripts.specs.declared.actor.ScriptState.{ScriptState}
 
 -- a script before its first line: every register is 0, every byte register empty

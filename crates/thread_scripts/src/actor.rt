@@ -3,17 +3,8 @@ ghost use Rattle.thread_scripts.specs.declared.actor.ScriptState.{ScriptState};
 
 use crate::fault::Memory;
 use crate::script::Script;
-use posix_terms::{Bytes, Call, Reply};
+use posix_terms::{Bytes, Reply, Step};
 use std::marker::Model;
-
-/// What a thread does next.
-#[derive(Debug, PartialEq, Eq, Drop)]
-pub enum Step {
-    /// It works on its own for so many units of its clock.
-    Work(u64),
-    Call(Call),
-    End,
-}
 
 /// A script and how far it has come.
 #[derive(Debug, Drop)]

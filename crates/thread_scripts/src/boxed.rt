@@ -1,8 +1,8 @@
 ghost use Rattle.thread_scripts.specs.declared.actor.ScriptState.{ScriptState};
 
-use crate::actor::{Actor, Step};
+use crate::actor::Actor;
 use crate::fault::Memory;
-use posix_terms::Reply;
+use posix_terms::{Reply, Step};
 
 /// An actor of any type, behind a box: so actors of several types stand in one list, and each runs in a
 /// thread of its own.

@@ -1,4 +1,5 @@
 ghost use Rattle.thread_scripts.specs.Laws.{AcceptedExactly, BadLineIsFirst, JumpsLeadByName, JumpsLeadToLabels, ReadScriptsKeepRules, RunsEnd, ScriptStays, TooLongIsCounted};
+ghost use Rattle.thread_scripts.specs.ScriptPrograms.{NeverLacks, ScriptsEnd};
 
 /// The law of texts that are too long: those with more than 1,000 lines, whatever these are.
 pub fn too_long_is_counted()
@@ -37,3 +38,12 @@ pub fn runs_end()
 pub fn script_stays()
     ensures { ScriptStays }
 {}
+
+/// The law of scripts as programs, which give a next step after any steps and replies. A script never lacks it: behind its last line it goes
+/// on ending (`next`). And each comes to its end: behind so many steps it gives nothing else, whatever the replies (`end`).
+pub fn programs_of_scripts()
+    ensures next { NeverLacks }
+    ensures end { ScriptsEnd }
+{
+    runs_end();
+}

@@ -45,16 +45,17 @@ mod state;
 mod texts;
 mod words;
 
-pub use actor::{Actor, ScriptActor, ScriptState, Step};
+pub use actor::{Actor, ScriptActor, ScriptState};
 pub use boxed::BoxedActor;
 pub use fault::{Memory, ScriptFault};
 pub use grammar::parse;
 pub use laws::{
-    accepted_exactly, bad_line_is_the_first, jumps_lead_to_labels, read_scripts_keep_rules,
-    runs_end, script_stays, too_long_is_counted,
+    accepted_exactly, bad_line_is_the_first, jumps_lead_to_labels, programs_of_scripts,
+    read_scripts_keep_rules, runs_end, script_stays, too_long_is_counted,
 };
 pub use line::{
     ByteRegister, CallLine, Data, DescriptorLine, DoorLine, Line, Number, NumberRegister, PathLine,
     Register, StatusLine, StreamLine, TransferLine,
 };
+pub use posix_terms::Step;
 pub use script::Script;

@@ -1,13 +1,13 @@
 ghost use Rattle.std.specs.Prelude.{◌≡◌, ◌+◌, ◌^◌, ◌<◌, IfOk, IfSome, OnOk, OnErr, option_copied, slice_get};
 ghost use Rattle.thread_scripts.specs.Meaning.{path_call_of};
 
-use crate::actor::{ScriptState, Step};
+use crate::actor::ScriptState;
 use crate::line::{
     ByteRegister, CallLine, Data, DescriptorLine, DoorLine, Line, Number, NumberRegister, PathLine,
     StatusLine, StreamLine, TransferLine,
 };
 use crate::script::Script;
-use posix_terms::{Bytes, Call, Limits, Reply};
+use posix_terms::{Bytes, Call, Limits, Reply, Step};
 use std::alloc::AllocError;
 
 /// What a line does.

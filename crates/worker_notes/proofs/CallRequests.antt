@@ -3,15 +3,15 @@ use Rattle.std.proofs.Common.{◌≡◌, ℕ, ℤ, List, Bool, true, false, Opti
 use Rattle.std.proofs.lemmas.Bool.Decides.{nat_tests}
 use Rattle.std.proofs.lemmas.Option.{none-some}
 use Rattle.lock_machine.specs.Requests.{AskTheirKind, IsOfKind, kind_asked}
-use Rattle.posix_terms.specs.Descriptors.{close_result, described, ends_door, freed, released}
-use Rattle.posix_terms.specs.Doors.{host_open_result, tcp_accept_result, tcp_connect_result, tcp_listen_result}
-use Rattle.posix_terms.specs.Effects.{Effect, Completes, asks_of}
-use Rattle.posix_terms.specs.Object as object
-use Rattle.posix_terms.specs.Object.{State}
-use Rattle.posix_terms.specs.Refusals.{◌>>=◌}
-use Rattle.posix_terms.specs.Sockets.{shutdown_result}
-use Rattle.posix_terms.specs.Step.{Carried, asks, request_of}
-use Rattle.posix_terms.specs.Transfers.{lseek_result, read_result, write_result}
+use Rattle.sequential_object.specs.Descriptors.{close_result, described, ends_door, freed, released}
+use Rattle.sequential_object.specs.Doors.{host_open_result, tcp_accept_result, tcp_connect_result, tcp_listen_result}
+use Rattle.sequential_object.specs.Effects.{Effect, Completes, asks_of}
+use Rattle.sequential_object.specs.Object as object
+use Rattle.sequential_object.specs.Object.{State}
+use Rattle.sequential_object.specs.Refusals.{◌>>=◌}
+use Rattle.sequential_object.specs.Sockets.{shutdown_result}
+use Rattle.sequential_object.specs.Step.{Carried, asks, request_of}
+use Rattle.sequential_object.specs.Transfers.{lseek_result, read_result, write_result}
 use Rattle.posix_terms.specs.declared.call.Access.{Access}
 use Rattle.posix_terms.specs.declared.call.Call.{Call}
 use Rattle.posix_terms.specs.declared.call.Call.TheVariants as call

@@ -7,7 +7,7 @@ use Rattle.posix_terms.specs.declared.reply.Answer.TheVariants as answer
 use Rattle.posix_terms.specs.declared.reply.Reply.{Reply}
 use Rattle.posix_terms.specs.declared.request.Request.{Request}
 use Rattle.posix_terms.specs.declared.transcript.HistoryRow.{HistoryRow}
-use Rattle.thread_scripts.specs.declared.actor.Step.{Step}
+use Rattle.posix_terms.specs.declared.step.Step.{Step}
 use Rattle.worker_notes.specs.Requests.{request_for}
 use Rattle.worker_notes.specs.declared.own.Brought.{Brought}
 use Rattle.worker_notes.specs.declared.own.Noted.{Noted}

@@ -4,8 +4,8 @@ use Rattle.std.specs.Prelude.{◌≡◌, ◌⊎◌, Bool, true, false, List, [],
 use Rattle.posix_terms.specs.declared.reply.Reply.{Reply}
 use Rattle.thread_scripts.specs.Meaning.{next_of}
 use Rattle.thread_scripts.specs.declared.actor.ScriptState.{ScriptState}
-use Rattle.thread_scripts.specs.declared.actor.Step.{Step}
-use Rattle.thread_scripts.specs.declared.actor.Step.TheVariants as step
+use Rattle.posix_terms.specs.declared.step.Step.{Step}
+use Rattle.posix_terms.specs.declared.step.Step.TheVariants as step
 use Rattle.lock_machine.specs.Waiting.{is_call}
 use Rattle.worker_notes.specs.declared.own.Noted.{Noted}
 

@@ -2,8 +2,8 @@
 -- The request with which a call goes outside, if it goes there: it is known of the call alone.
 use Rattle.std.specs.Prelude.{◌≡◌, ℕ, ℤ, pos, negsuc, length, Option, Some, None}
 use Rattle.lock_machine.specs.Requests.{kind_asked}
-use Rattle.posix_terms.specs.Object.{State}
-use Rattle.posix_terms.specs.Step.{Carried, asks}
+use Rattle.sequential_object.specs.Object.{State}
+use Rattle.sequential_object.specs.Step.{Carried, asks}
 use Rattle.posix_terms.specs.declared.call.Call.{Call}
 use Rattle.posix_terms.specs.declared.call.Call.TheVariants as call
 use Rattle.posix_terms.specs.declared.outcome.OutKind.{OutKind}

@@ -5,8 +5,7 @@ use crate::own::{Brought, Noted, Own};
 use crate::requests::{is_request_of, kind_asked};
 use crate::same::{same_outcome, same_reply, same_step};
 use lock_machine::Asked;
-use posix_terms::{Answer, HistoryRow, Reply};
-use thread_scripts::Step;
+use posix_terms::{Answer, HistoryRow, Reply, Step};
 
 /// Whether what the workers noted is what a history says of their threads: the steps that each asked, the replies of its rows, and what
 /// these brought from outside, each with the request of its call.

@@ -11,7 +11,7 @@
 //! ```rust
 //! use lock_machine::Left;
 //! use posix_terms::{Call, Reply};
-//! use thread_scripts::Step;
+//! use posix_terms::Step;
 //! use worker_notes::{Noted, Own, agree, last_reply, note_reply};
 //!
 //! let mut own = Own::new(alloc);

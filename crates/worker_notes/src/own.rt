@@ -1,9 +1,8 @@
 ghost use Rattle.std.specs.Prelude.{◌≡◌, [], option_copied, false};
 ghost use Rattle.worker_notes.specs.Plays.{last_reply, with_reply};
 
-use posix_terms::{Outcome, Reply, Request};
+use posix_terms::{Outcome, Reply, Request, Step};
 use std::alloc::Global;
-use thread_scripts::Step;
 
 /// A step that the machine took, with its reply, if it was a call and one came.
 #[derive(Debug, Drop)]

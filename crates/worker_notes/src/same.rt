@@ -1,7 +1,6 @@
 ghost use Rattle.std.specs.Prelude.{◌≡◌, ◌↔◌, IsTrue};
 
-use posix_terms::{Call, Outcome, Reply};
-use thread_scripts::Step;
+use posix_terms::{Call, Outcome, Reply, Step};
 
 // Each says that `==` tells which values are equal.
 

@@ -1,5 +1,5 @@
 use Rattle.posix_terms.specs.declared.limits.TheConstants.Limits as limit
-use Rattle.lock_model.specs.Numbers.{first_world}
+use Rattle.sequential_object.specs.Numbers.{first_world}
 use Rattle.lock_model.specs.RealLaws.{real_setup, real_start}
 use Rattle.lock_model.proofs.Ends.{some_end}
 use Rattle.lock_model.proofs.RealLaws.{real_legal, real_legal_arisen, real_prefix}
@@ -7,10 +7,10 @@ use Rattle.lock_model.proofs.Rising.{rising_law}
 use Rattle.lock_model.proofs.real_runs.Goals as goal
 
 pub returns-clause-legal : goal.returns-clause-legal
-returns-clause-legal c = real_legal
+returns-clause-legal c = real_legal c.calls_outside.ensures.locks c.calls_outside.ensures.leaves
 
 pub returns-clause-arisen : goal.returns-clause-arisen
-returns-clause-arisen c = real_legal_arisen
+returns-clause-arisen c = real_legal_arisen c.calls_outside.ensures.locks c.calls_outside.ensures.leaves
 
 pub returns-clause-rising : goal.returns-clause-rising
 returns-clause-rising c = λ settings supply threads events. rising_law (real_setup settings supply) threads limit.OBJECTS first_world events

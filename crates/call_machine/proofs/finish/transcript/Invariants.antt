@@ -3,4 +3,4 @@ use Rattle.call_machine.specs.History.{transcript_of}
 use Rattle.call_machine.proofs.finish.transcript.Given as goal
 
 abbrev pub invariant-loop-row : goal.invariant-loop-row
-invariant-loop-row l = l.transcript ++ transcript_of l.thread (drop l.row-index l.rows) ≡ transcript_of l.thread l.rows
+invariant-loop-row l = l.own.items ++ transcript_of l.thread (drop l.row-index l.rows) ≡ transcript_of l.thread l.rows

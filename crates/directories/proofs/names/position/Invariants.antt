@@ -1,7 +1,7 @@
 use Rattle.std.proofs.Common.{◌≡◌, drop, map, take}
 use Rattle.std.specs.FinMap as fin
-use Rattle.posix_terms.specs.Object.{path_cmp}
-use Rattle.posix_terms.specs.Paths.{components_of}
+use Rattle.sequential_object.specs.Object.{path_cmp}
+use Rattle.sequential_object.specs.Paths.{components_of}
 use Rattle.directories.specs.Entries.{entry_of}
 use Rattle.directories.proofs.names.position.Given as goal
 

@@ -1,5 +1,5 @@
 use Rattle.std.proofs.Common.{◌≡◌, ◌+◌, ◌≤◌, length}
-use Rattle.posix_terms.specs.Paths.{components_of}
+use Rattle.sequential_object.specs.Paths.{components_of}
 use Rattle.directories.proofs.path.component_count.Given as goal
 
 abbrev pub invariant-loop-next : goal.invariant-loop-next

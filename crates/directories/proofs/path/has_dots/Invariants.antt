@@ -1,6 +1,6 @@
 use Rattle.std.proofs.Common.{◌≡◌, length}
 use Rattle.std.specs.List.{list_any}
-use Rattle.posix_terms.specs.Paths.{components_of, is_dots}
+use Rattle.sequential_object.specs.Paths.{components_of, is_dots}
 use Rattle.directories.proofs.path.has_dots.Given as goal
 
 abbrev pub invariant-loop-name : goal.invariant-loop-name

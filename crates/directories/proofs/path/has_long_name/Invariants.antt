@@ -1,6 +1,6 @@
 use Rattle.std.proofs.Common.{◌≡◌, length, nat_lt, List, ℕ}
 use Rattle.std.specs.List.{list_any}
-use Rattle.posix_terms.specs.Paths.{components_of}
+use Rattle.sequential_object.specs.Paths.{components_of}
 use Rattle.directories.proofs.path.has_long_name.Given as goal
 
 abbrev pub invariant-loop-name : goal.invariant-loop-name

@@ -1,7 +1,7 @@
 use Rattle.std.proofs.Common.{◌≡◌, ◌∙◌, ◌∷◌, ◌<◌, [], ◌==◌, None, length, ap, sym, arith}
 use Rattle.std.proofs.lemmas.Grind.{common_steps}
 use Rattle.std.specs.Prelude.{position}
-use Rattle.posix_terms.specs.Paths.{slash, components_of}
+use Rattle.sequential_object.specs.Paths.{slash, components_of}
 use Rattle.directories.proofs.ComponentLemmas.{components-last, none_of}
 use Rattle.directories.proofs.path.split_first.Goals as goal
 

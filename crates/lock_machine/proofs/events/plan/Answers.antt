@@ -1,7 +1,7 @@
 use Rattle.std.proofs.Common.{◌≡◌, ℕ, None, [], ◌∷◌, ◌++◌, length, ap, rules}
 use Rattle.object_store.specs.Store.{Makes, number_locked}
 use Rattle.object_store.specs.declared.patience.TurnStart.TheVariants as start
-use Rattle.lock_model.specs.declared.turn_end.TurnEnd.TheVariants as end
+use Rattle.sequential_object.specs.declared.turn_end.TurnEnd.TheVariants as end
 use Rattle.lock_machine.specs.Events.{granted_row, parts}
 use Rattle.lock_machine.specs.Threads.{timed}
 use Rattle.lock_machine.specs.declared.thread.Phase.TheVariants as phase

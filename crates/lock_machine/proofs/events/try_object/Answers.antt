@@ -2,7 +2,7 @@ use Rattle.std.proofs.Common.{◌≡◌, ◌+◌, ◌^◌, Some, true, false, re
 use Rattle.std.proofs.lemmas.Bool.{false≢true}
 use Rattle.det_mutex.specs.Attempt.{freed}
 use Rattle.logical_clocks.specs.ThreadClocks.{clock_at}
-use Rattle.posix_terms.specs.Locked.{keeps_table}
+use Rattle.sequential_object.specs.Locked.{keeps_table}
 use Rattle.lock_machine.specs.Events.{GrantsObject, Parts, in_time, object_cost, object_taken, parts, takes_object}
 use Rattle.lock_machine.specs.Threads.{timed}
 use Rattle.lock_machine.specs.declared.machine.Shared.{Shared}

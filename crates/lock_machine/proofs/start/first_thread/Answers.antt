@@ -1,6 +1,6 @@
 use Rattle.std.proofs.Common.{◌≡◌, List, [], sym, ap₂, subst}
 use Rattle.std.specs.Coded.{×_prop, le_prop}
-use Rattle.thread_scripts.specs.declared.actor.Step.{Step}
+use Rattle.posix_terms.specs.declared.step.Step.{Step}
 use Rattle.lock_machine.specs.Rooms.{HasSpace}
 use Rattle.object_store.specs.Space.{Space, no_space}
 use Rattle.lock_machine.specs.Starting.{first_item}

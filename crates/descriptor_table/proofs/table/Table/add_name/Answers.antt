@@ -1,6 +1,6 @@
 use Rattle.std.proofs.Common.{◌≡◌, true, Err}
-use Rattle.posix_terms.specs.Names.{added}
-use Rattle.posix_terms.specs.Object.{FileNode}
+use Rattle.sequential_object.specs.Names.{added}
+use Rattle.sequential_object.specs.Object.{FileNode}
 use Rattle.descriptor_table.specs.Table.{TableState, is_used}
 use Rattle.descriptor_table.proofs.SoundLemmas.{sound-added, sound-tried}
 use Rattle.descriptor_table.proofs.table.Table.add_name.Goals as goal

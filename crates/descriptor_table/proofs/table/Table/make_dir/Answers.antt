@@ -1,6 +1,6 @@
 use Rattle.std.proofs.Common.{◌≡◌, Err}
-use Rattle.posix_terms.specs.Names.{added}
-use Rattle.posix_terms.specs.Object.{Directory}
+use Rattle.sequential_object.specs.Names.{added}
+use Rattle.sequential_object.specs.Object.{Directory}
 use Rattle.descriptor_table.specs.Table.{TableState}
 use Rattle.descriptor_table.proofs.SoundLemmas.{sound-added_directory, sound-tried}
 use Rattle.descriptor_table.proofs.table.Table.make_dir.Goals as goal

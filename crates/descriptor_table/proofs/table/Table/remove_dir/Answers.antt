@@ -1,5 +1,5 @@
 use Rattle.std.proofs.Common.{◌≡◌, Err}
-use Rattle.posix_terms.specs.Names.{removed_dir}
+use Rattle.sequential_object.specs.Names.{removed_dir}
 use Rattle.descriptor_table.specs.Table.{TableState}
 use Rattle.descriptor_table.proofs.SoundLemmas.{sound-removed_dir, sound-tried}
 use Rattle.descriptor_table.proofs.table.Table.remove_dir.Goals as goal

@@ -1,5 +1,5 @@
 use Rattle.std.proofs.Common.{◌≡◌, Err}
-use Rattle.posix_terms.specs.Names.{removed}
+use Rattle.sequential_object.specs.Names.{removed}
 use Rattle.descriptor_table.specs.Table.{TableState}
 use Rattle.descriptor_table.proofs.SoundLemmas.{sound-removed, sound-tried}
 use Rattle.descriptor_table.proofs.table.Table.remove_name.Goals as goal

@@ -1,7 +1,7 @@
 use Rattle.std.proofs.Common.{refl}
 use Rattle.file_descriptions.specs.Descriptions.{ContainsKey, description_at}
 use Rattle.descriptor_table.specs.Table.{TableState}
-use Rattle.posix_terms.specs.Object.{State}
+use Rattle.sequential_object.specs.Object.{State}
 use Rattle.file_descriptions.specs.Descriptions.{AreSound}
 use Rattle.descriptor_table.specs.Shows.{Shows}
 use Rattle.descriptor_table.proofs.ChangeLemmas.{shows-set_offset}

@@ -1,6 +1,6 @@
 use Rattle.std.proofs.Common.{◌≡◌, drop}
-use Rattle.posix_terms.specs.Paths.{components_of}
-use Rattle.posix_terms.specs.Names.{has_entries}
+use Rattle.sequential_object.specs.Paths.{components_of}
+use Rattle.sequential_object.specs.Names.{has_entries}
 use Rattle.directories.proofs.NameLemmas.{leads_in}
 use Rattle.directories.proofs.names.Names.has_entries.Given as goal
 

@@ -1,5 +1,5 @@
 use Rattle.std.proofs.Common.{◌≡◌, ◌≤◌, ◌∙◌, length, ap, sym, zero-add, arith}
-use Rattle.posix_terms.specs.Names.{PathMap, links_of}
+use Rattle.sequential_object.specs.Names.{PathMap, links_of}
 use Rattle.directories.proofs.NameLemmas.{links_in, links_in-le, links_of-names_of}
 use Rattle.directories.proofs.names.Names.links.Goals as goal
 

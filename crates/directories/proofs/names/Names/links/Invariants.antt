@@ -1,5 +1,5 @@
 use Rattle.std.proofs.Common.{◌≡◌, ◌+◌, ◌≤◌, drop}
-use Rattle.posix_terms.specs.Names.{links_of}
+use Rattle.sequential_object.specs.Names.{links_of}
 use Rattle.directories.proofs.NameLemmas.{links_in}
 use Rattle.directories.proofs.names.Names.links.Given as goal
 

@@ -1,10 +1,10 @@
 use Rattle.std.proofs.Common.{◌≡◌, ◌∙◌, None, ap, sym, take, map, length, arith}
 use Rattle.std.proofs.lemmas.List.{take_all}
 use Rattle.std.specs.FinMap as fin
-use Rattle.posix_terms.specs.Object.{path_cmp}
-use Rattle.posix_terms.specs.Paths.{components_of}
+use Rattle.sequential_object.specs.Object.{path_cmp}
+use Rattle.sequential_object.specs.Paths.{components_of}
 use Rattle.directories.specs.Entries.{IsAt, entry_of, names_of}
-use Rattle.posix_terms.specs.Names.{PathMap}
+use Rattle.sequential_object.specs.Names.{PathMap}
 use Rattle.directories.proofs.NameLemmas.{names_of-remove, names_of-remove_none}
 use Rattle.directories.proofs.names.Names.remove_entry.Goals as goal
 

@@ -1,6 +1,6 @@
 use Rattle.std.proofs.Common.{◌≡◌, ◌+◌, ◌<◌, ◌∙◌, Some, length, sym, take, arith}
-use Rattle.posix_terms.specs.Object.{FileNode}
-use Rattle.posix_terms.specs.Paths.{components_of, node_at}
+use Rattle.sequential_object.specs.Object.{FileNode}
+use Rattle.sequential_object.specs.Paths.{components_of, node_at}
 use Rattle.directories.proofs.NameLemmas.{walked_file}
 use Rattle.directories.proofs.names.Names.walk.Goals as goal
 

@@ -1,5 +1,5 @@
 use Rattle.std.proofs.Common.{◌≡◌, drop, take, []}
-use Rattle.posix_terms.specs.Paths.{components_of, walked}
+use Rattle.sequential_object.specs.Paths.{components_of, walked}
 use Rattle.directories.proofs.names.Names.walk.Given as goal
 
 abbrev pub invariant-loop-passed : goal.invariant-loop-passed

@@ -1,7 +1,7 @@
 use Rattle.std.proofs.Common.{◌≡◌, true, rules}
 use Rattle.lock_machine.specs.Refusals.{phase_at, works}
 use Rattle.lock_machine.specs.Shows.{AsksFor}
-use Rattle.thread_scripts.specs.declared.actor.Step.TheVariants as step
+use Rattle.posix_terms.specs.declared.step.Step.TheVariants as step
 use Rattle.lock_machine.proofs.Refusing.{comes_moved, moved_rests}
 use Rattle.lock_machine.proofs.machine.LockMachine.end.Goals as goal
 

@@ -2,7 +2,7 @@ use Rattle.lock_machine.specs.Threads.{joined}
 use Rattle.std.proofs.lemmas.List.{length-set}
 use Rattle.std.proofs.Common.{ℕ, ◌<◌, length, rules, set, sym, ◌≡◌, subst, refl}
 use Rattle.std.specs.Prelude.{Ok}
-use Rattle.thread_scripts.specs.declared.actor.Step.TheVariants as step
+use Rattle.posix_terms.specs.declared.step.Step.TheVariants as step
 use Rattle.lock_machine.proofs.Inside.{clock_inside, count_kept, inside_of, item_in, lives_in, whole_by}
 use Rattle.lock_machine.specs.Whole.{Whole}
 use Rattle.lock_machine.specs.Refusals.{Rests}

@@ -1,13 +1,14 @@
-use Rattle.std.proofs.Common.{◌≡◌, ◌<◌, length, true, sym, arith}
-use Rattle.std.proofs.lemmas.List.{length-map}
-use Rattle.logical_clocks.specs.ThreadClocks.{live_clocks}
-use Rattle.logical_clocks.specs.TurnOrder.{has_turn, turn_holder}
-use Rattle.logical_clocks.proofs.TurnLemmas.{first_below_found}
+use Rattle.std.proofs.Common.{◌∙◌, ap, sym}
+use Rattle.logical_clocks.specs.TurnRow.{IsTurnRow}
+use Rattle.logical_clocks.proofs.LiveLemmas.{holder_in_row, thread_of}
 use Rattle.logical_clocks.proofs.clocks.Clocks.turn_holder.Goals as goal
 
-pub returns-then-is_turn : goal.returns-then-is_turn
-unfolding turn_holder
-returns-then-is_turn c =
-    let here : has_turn (live_clocks c.args.self.now) c.loop-i.i ≡ true = cc in
-    let inside : c.loop-i.i < length (live_clocks c.args.self.now) = grind (arith, length-map) in
-    sym (first_below_found (length (live_clocks c.args.self.now)) c.loop-i.i (has_turn (live_clocks c.args.self.now)) inside c.loop-i.invariant here)
+pub returns-in_err-first : goal.returns-in_err-first
+returns-in_err-first c =
+    let row : IsTurnRow c.args.self.now c.deref.result.now = rw (c.deref.ensures.0, ← c.self.view_is) c.self.invariant.1 in
+    c.from_residual.ensures ∙ ap thread_of c.in_err-first.ensures.value ∙ sym (holder_in_row c.args.self.now c.deref.result.now row)
+
+pub returns : goal.returns
+returns c =
+    let row : IsTurnRow c.args.self.now c.deref.result.now = rw (c.deref.ensures.0, ← c.self.view_is) c.self.invariant.1 in
+    ap thread_of c.in_ok-first.ensures.value ∙ sym (holder_in_row c.args.self.now c.deref.result.now row)

@@ -1,5 +1,5 @@
 use Rattle.std.proofs.Common.{◌≡◌, ℕ, ◌<◌, ◌≤◌, length, ap, ◌∙◌, subst, arith, rules}
-use Rattle.posix_terms.specs.Files.{bytes_at}
+use Rattle.sequential_object.specs.Files.{bytes_at}
 use Rattle.posix_terms.specs.declared.reply.Reply.TheVariants.{Data}
 use Rattle.object_store.specs.Acting.{HasRead}
 use Rattle.object_store.specs.Store.{IsPlanned, body_at}

@@ -1,6 +1,6 @@
 use Rattle.std.proofs.Common.{length, rules}
 use Rattle.std.specs.Prelude.{pos, ◌+ℤ◌}
-use Rattle.posix_terms.specs.Transfers.{base_of, offset_of}
+use Rattle.sequential_object.specs.Transfers.{base_of, offset_of}
 use Rattle.object_store.specs.Acting.{Seeks, offset_of_key}
 use Rattle.object_store.specs.Store.{body_at}
 use Rattle.object_store.proofs.Making.{lseek_makes, only_lseek}

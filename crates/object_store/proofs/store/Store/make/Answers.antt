@@ -7,8 +7,8 @@ use Rattle.object_store.specs.Patience.{act_bytes, turn_bytes}
 use Rattle.object_store.specs.Store.{EndsTurn, IsPlanned, LeavesTable, Makes, Replies, Stored}
 use Rattle.posix_terms.specs.declared.reply.Reply.{Reply}
 use Rattle.posix_terms.specs.declared.call.Call.{Call}
-use Rattle.lock_model.specs.declared.turn_end.TurnEnd.{TurnEnd}
-use Rattle.lock_model.specs.declared.turn_end.TurnEnd.TheVariants as end
+use Rattle.sequential_object.specs.declared.turn_end.TurnEnd.{TurnEnd}
+use Rattle.sequential_object.specs.declared.turn_end.TurnEnd.TheVariants as end
 use Rattle.object_store.specs.declared.patience.TurnStart.TheVariants as start
 use Rattle.object_store.proofs.Making.{AsksNothing, act_alone, act_replied, act_waits, reply_alone, turn_replied}
 use Rattle.object_store.proofs.Outside.{goes_out}

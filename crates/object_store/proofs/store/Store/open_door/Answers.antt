@@ -4,7 +4,7 @@ use Rattle.descriptor_table.specs.Plans.{planned}
 use Rattle.descriptor_table.specs.declared.plan.Op.TheVariants as op
 use Rattle.descriptor_table.specs.declared.plan.Plan.TheVariants as plan
 use Rattle.object_store.specs.Store.{TableMade, at_port}
-use Rattle.lock_model.specs.declared.turn_end.TurnEnd.TheVariants as end
+use Rattle.sequential_object.specs.declared.turn_end.TurnEnd.TheVariants as end
 use Rattle.posix_terms.specs.declared.errno.Errno.TheVariants.{EIO}
 use Rattle.posix_terms.specs.declared.reply.Reply.TheVariants.{Fail}
 use Rattle.object_store.proofs.Outside.{door_opens, off_port}

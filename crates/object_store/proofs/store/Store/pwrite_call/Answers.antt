@@ -1,5 +1,5 @@
 use Rattle.std.proofs.Common.{◌≡◌, ◌<◌, ◌==◌, length, true, false, rules}
-use Rattle.posix_terms.specs.Files.{written}
+use Rattle.sequential_object.specs.Files.{written}
 use Rattle.object_store.specs.Acting.{Writes}
 use Rattle.object_store.specs.Store.{body_at}
 use Rattle.object_store.proofs.Making.{has_body, only_pwrite, pwrite_makes, pwrite_none_makes}

@@ -1,7 +1,8 @@
 use Rattle.std.proofs.Common.{◌≡◌, ◌&&◌, not, List, ℕ, length, take, drop, ◌++◌, ap, ap₂, refl, sym, ◌∙◌, rules}
 use Rattle.std.proofs.Math.Seq.{take-append_seam}
-use Rattle.posix_terms.specs.Object.{Pair}
-use Rattle.posix_terms.specs.Streams.{half_at, pair_read, peer_of, with_waiting}
+use Rattle.sequential_object.specs.Object.{Pair}
+use Rattle.sequential_object.specs.Streams.{half_at, pair_read, with_waiting}
+use Rattle.posix_terms.specs.Ends.{peer_of}
 use Rattle.posix_terms.specs.declared.object.End.TheVariants as part
 use Rattle.descriptor_table.specs.Acts.{is_open}
 use Rattle.pipes.specs.Pipe.{read_answer}

@@ -1,6 +1,7 @@
 use Rattle.std.proofs.Common.{◌≡◌, List, ℕ, length, ap, sym, ◌∙◌, rules}
-use Rattle.posix_terms.specs.Object.{Pair}
-use Rattle.posix_terms.specs.Streams.{pair_write, peer_of, with_waiting}
+use Rattle.sequential_object.specs.Object.{Pair}
+use Rattle.sequential_object.specs.Streams.{pair_write, with_waiting}
+use Rattle.posix_terms.specs.Ends.{peer_of}
 use Rattle.posix_terms.specs.declared.object.End.TheVariants as part
 use Rattle.descriptor_table.specs.Acts.{is_open}
 use Rattle.pipes.specs.Pipe.{write_answer}

@@ -1,5 +1,0 @@
-use Rattle.posix_terms.proofs.Refused.{fail_leaves_state}
-use Rattle.posix_terms.proofs.laws.failed_calls_change_nothing.Goals as goal
-
-pub returns : goal.returns
-returns c = fail_leaves_state

@@ -1,0 +1,223 @@
+-- A call that is not refused does not answer a failure.
+use Rattle.std.proofs.Common.{◌≡◌, ◌&&◌, ℕ, ℤ, List, Bool, true, false, Option, Some, None, Result, Ok, Err, arith, refl, sym}
+use Rattle.std.proofs.lemmas.Bool.{false≢true}
+use Rattle.std.specs.Prelude.{IfOk, ◌+◌, if◌then◌else◌, is_some, nat_lt}
+use Rattle.sequential_object.specs.Descriptors.{open_result, close_result}
+use Rattle.sequential_object.specs.Duplicates.{dup_result, dup_from_result, dup2_result}
+use Rattle.sequential_object.specs.Doors.{host_open_result, tcp_accept_result, tcp_connect_result, tcp_listen_result}
+use Rattle.sequential_object.specs.Effects.{Effect, Asks, Blocks, Completes}
+use Rattle.sequential_object.specs.Names.{link_result, unlink_result, mkdir_result, rmdir_result}
+use Rattle.sequential_object.specs.Object.{State}
+use Rattle.sequential_object.specs.Status.{fstat_result, getfl_result, setfl_result}
+use Rattle.sequential_object.specs.Sockets.{pipe_result, socketpair_result, shutdown_result}
+use Rattle.sequential_object.specs.Step.{step, Carried, Stepped, closes_door, effect_of, concluded, failed, is_again, nothing_carried, request_of, waited}
+use Rattle.sequential_object.specs.Transfers.{read_result, write_result, pread_result, pwrite_result, lseek_result, ftruncate_result}
+use Rattle.posix_terms.specs.declared.call.Access.{Access}
+use Rattle.posix_terms.specs.declared.call.Call.{Call}
+use Rattle.posix_terms.specs.declared.call.Call.TheVariants as call
+use Rattle.posix_terms.specs.declared.call.OpenFlags.{OpenFlags}
+use Rattle.posix_terms.specs.declared.call.ShutdownHow.{ShutdownHow}
+use Rattle.posix_terms.specs.declared.call.Whence.{Whence}
+use Rattle.posix_terms.specs.declared.errno.Errno.{Errno}
+use Rattle.posix_terms.specs.declared.errno.Errno.TheVariants.{EINTR}
+use Rattle.posix_terms.specs.declared.outcome.Outcome.{Outcome}
+use Rattle.posix_terms.specs.declared.outcome.Outcome.TheVariants as out
+use Rattle.posix_terms.specs.declared.reply.Answer.TheVariants as answer
+use Rattle.posix_terms.specs.declared.transcript.Settings.{Settings}
+use Rattle.posix_terms.specs.declared.reply.Reply.{Reply}
+use Rattle.posix_terms.specs.declared.reply.Reply.TheVariants as reply
+
+abbrev pub is_failure : Reply → Bool
+is_failure (reply.Fail e) = true
+is_failure _ = false
+
+-- a call that was granted answers no failure of its own, and what it asks outside leaves the state where that fails
+abbrev pub IsGranted : State → Effect → Type 0
+IsGranted s (Completes after r) = is_failure r ≡ false
+IsGranted s Blocks = Unit {0}
+IsGranted s (Asks a) = ((value : ℕ) (bytes : List ℕ) → is_failure (a.succeeds value bytes).1 ≡ false) × (a.otherwise ≡ s)
+
+granted-open : (s : State) (path : List ℕ) (access : Access) (flags : OpenFlags) → IfOk (open_result s path access flags) (IsGranted s)
+unfolding open_result
+granted-open s path access flags = grind arith
+
+-- what closes a door leaves the state without it
+abbrev pub IsClosed : Effect → Type 0
+IsClosed (Completes after r) = is_failure r ≡ false
+IsClosed Blocks = Unit {0}
+IsClosed (Asks a) = Unit {0}
+
+granted-close : (s : State) (descriptor : ℤ) → IfOk (close_result s descriptor) IsClosed
+unfolding close_result
+granted-close s descriptor = grind arith
+
+granted-read : (s : State) (descriptor count : ℤ) → IfOk (read_result s descriptor count) (IsGranted s)
+unfolding read_result
+granted-read s descriptor count = grind arith
+
+granted-write : (s : State) (descriptor : ℤ) (bytes : List ℕ) → IfOk (write_result s descriptor bytes) (IsGranted s)
+unfolding write_result
+granted-write s descriptor bytes = grind arith
+
+granted-lseek : (s : State) (descriptor offset : ℤ) (whence : Whence) → IfOk (lseek_result s descriptor offset whence) (IsGranted s)
+unfolding lseek_result
+granted-lseek s descriptor offset whence = grind arith
+
+granted-pread : (s : State) (descriptor count position : ℤ) → IfOk (pread_result s descriptor count position) (IsGranted s)
+unfolding pread_result
+granted-pread s descriptor count position = grind arith
+
+granted-pwrite : (s : State) (descriptor : ℤ) (bytes : List ℕ) (position : ℤ) → IfOk (pwrite_result s descriptor bytes position) (IsGranted s)
+unfolding pwrite_result
+granted-pwrite s descriptor bytes position = grind arith
+
+granted-ftruncate : (s : State) (descriptor size : ℤ) → IfOk (ftruncate_result s descriptor size) (IsGranted s)
+unfolding ftruncate_result
+granted-ftruncate s descriptor size = grind arith
+
+granted-fstat : (s : State) (descriptor : ℤ) → IfOk (fstat_result s descriptor) (IsGranted s)
+unfolding fstat_result
+granted-fstat s descriptor = grind arith
+
+granted-dup : (s : State) (descriptor : ℤ) → IfOk (dup_result s descriptor) (IsGranted s)
+unfolding dup_result
+granted-dup s descriptor = grind arith
+
+granted-dup_from : (s : State) (descriptor least : ℤ) → IfOk (dup_from_result s descriptor least) (IsGranted s)
+unfolding dup_from_result
+granted-dup_from s descriptor least = grind arith
+
+granted-dup2 : (s : State) (descriptor target : ℤ) → IfOk (dup2_result s descriptor target) (IsGranted s)
+unfolding dup2_result
+granted-dup2 s descriptor target = grind arith
+
+granted-getfl : (s : State) (descriptor : ℤ) → IfOk (getfl_result s descriptor) (IsGranted s)
+unfolding getfl_result
+granted-getfl s descriptor = grind arith
+
+granted-setfl : (s : State) (descriptor : ℤ) (append nonblock : Bool) → IfOk (setfl_result s descriptor append nonblock) (IsGranted s)
+unfolding setfl_result
+granted-setfl s descriptor append nonblock = grind arith
+
+granted-link : (s : State) (old_path new_path : List ℕ) → IfOk (link_result s old_path new_path) (IsGranted s)
+unfolding link_result
+granted-link s old_path new_path = grind arith
+
+granted-unlink : (s : State) (path : List ℕ) → IfOk (unlink_result s path) (IsGranted s)
+unfolding unlink_result
+granted-unlink s path = grind arith
+
+granted-mkdir : (s : State) (path : List ℕ) → IfOk (mkdir_result s path) (IsGranted s)
+unfolding mkdir_result
+granted-mkdir s path = grind arith
+
+granted-rmdir : (s : State) (path : List ℕ) → IfOk (rmdir_result s path) (IsGranted s)
+unfolding rmdir_result
+granted-rmdir s path = grind arith
+
+granted-pipe : (s : State) → IfOk (pipe_result s) (IsGranted s)
+unfolding pipe_result
+granted-pipe s = grind arith
+
+granted-socketpair : (s : State) → IfOk (socketpair_result s) (IsGranted s)
+unfolding socketpair_result
+granted-socketpair s = grind arith
+
+granted-shutdown : (s : State) (descriptor : ℤ) (how : ShutdownHow) → IfOk (shutdown_result s descriptor how) (IsGranted s)
+unfolding shutdown_result
+granted-shutdown s descriptor how = grind arith
+
+granted-host_open : (s : State) (path : List ℕ) (access : Access) (flags : OpenFlags) → IfOk (host_open_result s path access flags) (IsGranted s)
+unfolding host_open_result
+granted-host_open s path access flags = grind arith
+
+granted-listen : (s : State) (port : ℤ) → IfOk (tcp_listen_result s port) (IsGranted s)
+unfolding tcp_listen_result
+granted-listen s port = grind arith
+
+granted-connect : (s : State) (port : ℤ) → IfOk (tcp_connect_result s port) (IsGranted s)
+unfolding tcp_connect_result
+granted-connect s port = grind arith
+
+granted-accept : (s : State) (descriptor : ℤ) → IfOk (tcp_accept_result s descriptor) (IsGranted s)
+unfolding tcp_accept_result
+granted-accept s descriptor = grind arith
+
+-- any call but a `close` that goes outside
+granted : (s : State) (c : Call) (carried : Carried) → closes_door s c carried ≡ false → IfOk (effect_of s c carried) (IsGranted s)
+granted s (call.Open path access flags) carried alone = granted-open s path access flags
+granted s (call.Close descriptor) carried alone = by_effect (close_result s descriptor) (granted-close s descriptor) alone
+  where
+    by_effect : (r : Result Effect Errno) → IfOk r IsClosed → is_some (request_of (call.Close descriptor) r) ≡ false → IfOk r (IsGranted s)
+    by_effect (Ok (Completes after x)) closed alone = closed
+    by_effect (Ok Blocks) closed alone = tt
+    by_effect (Ok (Asks a)) closed alone = absurd (false≢true (sym alone))
+    by_effect (Err e) closed alone = tt
+granted s (call.Read descriptor count) carried alone = granted-read s descriptor count
+granted s (call.Write descriptor bytes) carried alone = granted-write s descriptor bytes
+granted s (call.Lseek descriptor offset whence) carried alone = granted-lseek s descriptor offset whence
+granted s (call.Pread descriptor count position) carried alone = granted-pread s descriptor count position
+granted s (call.Pwrite descriptor bytes position) carried alone = granted-pwrite s descriptor bytes position
+granted s (call.Ftruncate descriptor size) carried alone = granted-ftruncate s descriptor size
+granted s (call.Fstat descriptor) carried alone = granted-fstat s descriptor
+granted s (call.Dup descriptor) carried alone = granted-dup s descriptor
+granted s (call.DupFrom descriptor least) carried alone = granted-dup_from s descriptor least
+granted s (call.Dup2 descriptor target) carried alone = granted-dup2 s descriptor target
+granted s (call.Getfl descriptor) carried alone = granted-getfl s descriptor
+granted s (call.Setfl descriptor append nonblock) carried alone = granted-setfl s descriptor append nonblock
+granted s (call.Link old_path new_path) carried alone = granted-link s old_path new_path
+granted s (call.Unlink path) carried alone = granted-unlink s path
+granted s (call.Mkdir path) carried alone = granted-mkdir s path
+granted s (call.Rmdir path) carried alone = granted-rmdir s path
+granted s call.Pipe carried alone = granted-pipe s
+granted s call.Socketpair carried alone = granted-socketpair s
+granted s (call.Shutdown descriptor how) carried alone = granted-shutdown s descriptor how
+granted s (call.HostOpen path access flags) carried alone = granted-host_open s path access flags
+granted s (call.TcpListen port) carried alone = granted-listen s port
+granted s (call.TcpConnect port) carried alone = granted-connect s port
+granted s (call.TcpAccept descriptor) carried alone = granted-accept s descriptor
+
+-- a turn that is blocked changes nothing
+pub waited_alone : (settings : Settings) (s : State) (carried : Carried) → (waited settings s carried).after ≡ s
+waited_alone settings s carried = by_test (nat_lt (carried + 1) settings.patience)
+  where
+    by_test : (b : Bool) → (let stepped : Stepped = if b then record { after = s; answer = answer.Again; carried = carried + 1 } else record { after = s; answer = answer.Reply (reply.Fail EINTR); carried = nothing_carried } in stepped.after) ≡ s
+    by_test true = refl
+    by_test false = refl
+
+blocked_alone : (settings : Settings) (s : State) (outcome : Option Outcome) (carried : Carried) (r : Result Effect Errno)
+    → (concluded settings s outcome carried r).answer ≡ answer.Again → (concluded settings s outcome carried r).after ≡ s
+blocked_alone settings s outcome carried (Ok (Completes after x)) again = cc
+blocked_alone settings s outcome carried (Ok Blocks) again = waited_alone settings s carried
+blocked_alone settings s (Some (out.Ok value bytes)) carried (Ok (Asks a)) again = cc
+blocked_alone settings s (Some (out.Fail e)) carried (Ok (Asks a)) again = by_test (a.waits && is_again e) again
+  where
+    by_test : (b : Bool) → (if b then waited settings s carried else failed a.otherwise e).answer ≡ answer.Again → (if b then waited settings s carried else failed a.otherwise e).after ≡ s
+    by_test true again = waited_alone settings s carried
+    by_test false again = cc
+blocked_alone settings s None carried (Ok (Asks a)) again = cc
+blocked_alone settings s outcome carried (Err f) again = refl
+
+pub again_leaves_state : (settings : Settings) (s : State) (c : Call) (outcome : Option Outcome) (carried : Carried)
+    → (step settings s c outcome carried).answer ≡ answer.Again → (step settings s c outcome carried).after ≡ s
+again_leaves_state settings s c outcome carried again = blocked_alone settings s outcome carried (effect_of s c carried) again
+
+left_alone : (settings : Settings) (s : State) (outcome : Option Outcome) (carried : Carried) (r : Result Effect Errno) (e : Errno) → IfOk r (IsGranted s)
+    → (concluded settings s outcome carried r).answer ≡ answer.Reply (reply.Fail e) → (concluded settings s outcome carried r).after ≡ s
+left_alone settings s outcome carried (Ok (Completes after x)) e granted fails = grind arith
+left_alone settings s outcome carried (Ok Blocks) e granted fails = waited_alone settings s carried
+left_alone settings s (Some (out.Ok value bytes)) carried (Ok (Asks a)) e granted fails = absurd (not_failed (a.succeeds value bytes).1 (granted.0 value bytes) fails)
+  where
+    not_failed : (r : Reply) → is_failure r ≡ false → answer.Reply r ≡ answer.Reply (reply.Fail e) → ⊥
+    not_failed r quiet is = grind arith
+left_alone settings s (Some (out.Fail f)) carried (Ok (Asks a)) e granted fails = by_test (a.waits && is_again f)
+  where
+    by_test : (b : Bool) → (if b then waited settings s carried else failed a.otherwise f).after ≡ s
+    by_test true = waited_alone settings s carried
+    by_test false = granted.1
+left_alone settings s None carried (Ok (Asks a)) e granted fails = granted.1
+left_alone settings s outcome carried (Err f) e granted fails = refl
+
+pub fail_leaves_state : (settings : Settings) (s : State) (c : Call) (outcome : Option Outcome) (carried : Carried) (e : Errno)
+    → closes_door s c carried ≡ false → (step settings s c outcome carried).answer ≡ answer.Reply (reply.Fail e) → (step settings s c outcome carried).after ≡ s
+fail_leaves_state settings s c outcome carried e alone fails = left_alone settings s outcome carried (effect_of s c carried) e (granted s c carried alone) fails

@@ -1,0 +1,379 @@
+-- The states between the calls of the examples.
+use Rattle.std.proofs.Common.{◌≡◌, ℕ, ◌+◌, pos, Bool, List, [], ◌∷◌, None, true, false, codes, refl, ap, ◌∙◌, if◌then◌else◌, nat_lt}
+use Rattle.std.specs.FinMap as map
+use Rattle.sequential_object.specs.Descriptors.{open_result, close_result, lowest_from}
+use Rattle.sequential_object.specs.Duplicates.{dup_result, dup_from_result, dup2_result}
+use Rattle.sequential_object.specs.Examples.{gap_reads_zero, dup2_from_nothing, shared_offset, unlinked_but_open, directory_refusals, positioned_write_and_truncate, shared_flags, pipe_and_its_ends, half_closed_pair, AnswersAfter, closed_last, unlinked_last, replaced_last, linked_still, shared_still, closed_pipe, half_closed_pipe}
+use Rattle.sequential_object.specs.Names.{added, file_named, removed, removed_dir, link_result, mkdir_result, rmdir_result, unlink_result}
+use Rattle.sequential_object.specs.Object.{State, Description, File, Pipe, Pair, FileNode, Directory, empty_state}
+use Rattle.sequential_object.specs.Paths.{path_form}
+use Rattle.sequential_object.specs.Sockets.{pipe_result, shutdown_result, socketpair_result}
+use Rattle.sequential_object.specs.Streams.{Half, PairState, new_half, new_pair}
+use Rattle.sequential_object.specs.Step.{Stepped, nothing_carried, step, waited}
+use Rattle.sequential_object.specs.Status.{fstat_result, getfl_result, setfl_result}
+use Rattle.sequential_object.specs.Transfers.{ftruncate_result, lseek_result, pread_result, pwrite_result, read_result, write_result}
+use Rattle.posix_terms.specs.declared.call.Access.TheVariants as access
+use Rattle.posix_terms.specs.declared.call.Call.TheVariants as call
+use Rattle.posix_terms.specs.declared.errno.Errno.TheVariants.{EINTR}
+use Rattle.posix_terms.specs.declared.object.End.TheVariants as part
+use Rattle.posix_terms.specs.declared.reply.Answer.{Answer}
+use Rattle.posix_terms.specs.declared.reply.Answer.TheVariants as answer
+use Rattle.posix_terms.specs.declared.reply.Reply.TheVariants as reply
+use Rattle.posix_terms.specs.declared.object.Side.TheVariants.{Side0, Side1}
+use Rattle.posix_terms.specs.declared.transcript.Settings.{Settings}
+use Rattle.sequential_object.proofs.Chains.{description, description_of, final, holding, Runs}
+use Rattle.sequential_object.proofs.Listed.{listed}
+
+abbrev gap_1 : State
+gap_1 = holding ((0, 0) ∷ []) ((0, description 0 access.ReadWrite 0 false false) ∷ []) ((0, File []) ∷ []) ((codes "a" ∷ [], FileNode 0) ∷ []) 1 1
+
+abbrev gap_2 : State
+gap_2 = holding ((0, 0) ∷ []) ((0, description 0 access.ReadWrite 10 false false) ∷ []) ((0, File []) ∷ []) ((codes "a" ∷ [], FileNode 0) ∷ []) 1 1
+
+abbrev gap_3 : State
+gap_3 = holding ((0, 0) ∷ []) ((0, description 0 access.ReadWrite 11 false false) ∷ []) ((0, File (0 ∷ 0 ∷ 0 ∷ 0 ∷ 0 ∷ 0 ∷ 0 ∷ 0 ∷ 0 ∷ 0 ∷ 255 ∷ [])) ∷ []) ((codes "a" ∷ [], FileNode 0) ∷ []) 1 1
+
+abbrev pub gap_states : List State
+gap_states = gap_1 ∷ gap_2 ∷ gap_2 ∷ gap_3 ∷ gap_3 ∷ []
+
+pub gap : (settings : Settings) → Runs settings empty_state gap_reads_zero gap_states
+unfolding open_result lowest_from path_form lseek_result fstat_result write_result pread_result
+gap settings = (simp listed, (simp listed, (simp listed, (simp listed, (simp listed, tt)))))
+
+abbrev dup2_1 : State
+dup2_1 = holding ((0, 0) ∷ []) ((0, description 0 access.ReadWrite 0 false false) ∷ []) ((0, File []) ∷ []) ((codes "a" ∷ [], FileNode 0) ∷ []) 1 1
+
+abbrev dup2_2 : State
+dup2_2 = holding ((0, 0) ∷ []) ((0, description 0 access.ReadWrite 1 false false) ∷ []) ((0, File (codes "a")) ∷ []) ((codes "a" ∷ [], FileNode 0) ∷ []) 1 1
+
+abbrev pub dup2_states : List State
+dup2_states = dup2_1 ∷ dup2_2 ∷ dup2_2 ∷ dup2_2 ∷ dup2_2 ∷ []
+
+pub dup2 : (settings : Settings) → Runs settings empty_state dup2_from_nothing dup2_states
+unfolding open_result lowest_from path_form write_result dup2_result pread_result
+dup2 settings = (simp listed, (simp listed, (simp listed, (simp listed, (simp listed, tt)))))
+
+abbrev shared_1 : State
+shared_1 = holding ((0, 0) ∷ []) ((0, description 0 access.ReadWrite 0 false false) ∷ []) ((0, File []) ∷ []) ((codes "a" ∷ [], FileNode 0) ∷ []) 1 1
+
+abbrev shared_2 : State
+shared_2 = holding ((0, 0) ∷ (1, 0) ∷ []) ((0, description 0 access.ReadWrite 0 false false) ∷ []) ((0, File []) ∷ []) ((codes "a" ∷ [], FileNode 0) ∷ []) 1 1
+
+abbrev shared_3 : State
+shared_3 = holding ((0, 0) ∷ (1, 0) ∷ []) ((0, description 0 access.ReadWrite 2 false false) ∷ []) ((0, File (codes "ab")) ∷ []) ((codes "a" ∷ [], FileNode 0) ∷ []) 1 1
+
+abbrev shared_4 : State
+shared_4 = holding ((0, 0) ∷ (1, 0) ∷ (5, 0) ∷ []) ((0, description 0 access.ReadWrite 2 false false) ∷ []) ((0, File (codes "ab")) ∷ []) ((codes "a" ∷ [], FileNode 0) ∷ []) 1 1
+
+abbrev pub shared_states : List State
+shared_states = shared_1 ∷ shared_2 ∷ shared_3 ∷ shared_3 ∷ shared_4 ∷ shared_4 ∷ shared_4 ∷ []
+
+pub shared : (settings : Settings) → Runs settings empty_state shared_offset shared_states
+unfolding open_result lowest_from path_form dup_result write_result lseek_result dup_from_result read_result
+shared settings = (simp listed, (simp listed, (simp listed, (simp listed, (simp listed, (simp listed, (simp listed, tt)))))))
+
+abbrev unlinked_1 : State
+unlinked_1 = holding ((0, 0) ∷ []) ((0, description 0 access.ReadWrite 0 false false) ∷ []) ((0, File []) ∷ []) ((codes "a" ∷ [], FileNode 0) ∷ []) 1 1
+
+abbrev unlinked_2 : State
+unlinked_2 = holding ((0, 0) ∷ []) ((0, description 0 access.ReadWrite 2 false false) ∷ []) ((0, File (codes "ab")) ∷ []) ((codes "a" ∷ [], FileNode 0) ∷ []) 1 1
+
+abbrev unlinked_3 : State
+unlinked_3 = holding ((0, 0) ∷ []) ((0, description 0 access.ReadWrite 2 false false) ∷ []) ((0, File (codes "ab")) ∷ []) [] 1 1
+
+abbrev unlinked_4 : State
+unlinked_4 = holding [] [] [] [] 1 1
+
+abbrev pub unlinked_states : List State
+unlinked_states = unlinked_1 ∷ unlinked_2 ∷ unlinked_3 ∷ unlinked_3 ∷ unlinked_3 ∷ unlinked_4 ∷ unlinked_4 ∷ []
+
+pub unlinked : (settings : Settings) → Runs settings empty_state unlinked_but_open unlinked_states
+unfolding open_result lowest_from path_form write_result unlink_result removed fstat_result pread_result close_result
+unlinked settings = (simp listed, (simp listed, (simp listed, (simp listed, (simp listed, (simp listed, (simp listed, tt)))))))
+
+abbrev directories_1 : State
+directories_1 = holding [] [] [] ((codes "d" ∷ [], Directory) ∷ []) 0 0
+
+abbrev directories_2 : State
+directories_2 = holding ((0, 0) ∷ []) ((0, description 0 access.ReadWrite 0 false false) ∷ []) ((0, File []) ∷ []) ((codes "d" ∷ [], Directory) ∷ (codes "d" ∷ codes "x" ∷ [], FileNode 0) ∷ []) 1 1
+
+abbrev directories_3 : State
+directories_3 = holding ((0, 0) ∷ []) ((0, description 0 access.ReadWrite 0 false false) ∷ []) ((0, File []) ∷ []) ((codes "d" ∷ [], Directory) ∷ (codes "d" ∷ codes "x" ∷ [], FileNode 0) ∷ (codes "y" ∷ [], FileNode 0) ∷ []) 1 1
+
+abbrev directories_4 : State
+directories_4 = holding ((0, 0) ∷ []) ((0, description 0 access.ReadWrite 0 false false) ∷ []) ((0, File []) ∷ []) ((codes "d" ∷ [], Directory) ∷ (codes "y" ∷ [], FileNode 0) ∷ []) 1 1
+
+abbrev directories_5 : State
+directories_5 = holding ((0, 0) ∷ []) ((0, description 0 access.ReadWrite 0 false false) ∷ []) ((0, File []) ∷ []) ((codes "y" ∷ [], FileNode 0) ∷ []) 1 1
+
+abbrev pub directories_states : List State
+directories_states = directories_1 ∷ directories_1 ∷ directories_1 ∷ directories_2 ∷ directories_2 ∷ directories_2 ∷ directories_2 ∷ directories_2 ∷ directories_3 ∷ directories_4 ∷ directories_5 ∷ directories_5 ∷ directories_5 ∷ directories_5 ∷ []
+
+pub directories : (settings : Settings) → Runs settings empty_state directory_refusals directories_states
+unfolding mkdir_result added path_form open_result lowest_from rmdir_result removed_dir unlink_result removed link_result file_named fstat_result
+directories settings = (simp listed, (simp listed, (simp listed, (simp listed, (simp listed, (simp listed, (simp listed, (refl, (simp listed, (simp listed, (simp listed, (simp listed, (refl, (refl, tt))))))))))))))
+
+abbrev positioned_1 : State
+positioned_1 = holding ((0, 0) ∷ []) ((0, description 0 access.WriteOnly 0 true false) ∷ []) ((0, File []) ∷ []) ((codes "a" ∷ [], FileNode 0) ∷ []) 1 1
+
+abbrev positioned_2 : State
+positioned_2 = holding ((0, 0) ∷ []) ((0, description 0 access.WriteOnly 3 true false) ∷ []) ((0, File (codes "abc")) ∷ []) ((codes "a" ∷ [], FileNode 0) ∷ []) 1 1
+
+abbrev positioned_3 : State
+positioned_3 = holding ((0, 0) ∷ []) ((0, description 0 access.WriteOnly 3 true false) ∷ []) ((0, File (codes "zbc")) ∷ []) ((codes "a" ∷ [], FileNode 0) ∷ []) 1 1
+
+abbrev positioned_4 : State
+positioned_4 = holding ((0, 0) ∷ []) ((0, description 0 access.WriteOnly 3 true false) ∷ []) ((0, File (122 ∷ 98 ∷ 99 ∷ 0 ∷ 0 ∷ [])) ∷ []) ((codes "a" ∷ [], FileNode 0) ∷ []) 1 1
+
+abbrev positioned_5 : State
+positioned_5 = holding ((0, 0) ∷ (1, 1) ∷ []) ((0, description 0 access.WriteOnly 3 true false) ∷ (1, description 0 access.ReadOnly 0 false false) ∷ []) ((0, File (122 ∷ 98 ∷ 99 ∷ 0 ∷ 0 ∷ [])) ∷ []) ((codes "a" ∷ [], FileNode 0) ∷ []) 2 1
+
+abbrev pub positioned_states : List State
+positioned_states = positioned_1 ∷ positioned_2 ∷ positioned_3 ∷ positioned_4 ∷ positioned_4 ∷ positioned_4 ∷ positioned_4 ∷ positioned_4 ∷ positioned_5 ∷ positioned_5 ∷ positioned_5 ∷ positioned_5 ∷ []
+
+pub positioned : (settings : Settings) → Runs settings empty_state positioned_write_and_truncate positioned_states
+unfolding open_result lowest_from path_form write_result pwrite_result ftruncate_result lseek_result pread_result
+positioned settings = (simp listed, (simp listed, (simp listed, (simp listed, (simp listed, (simp listed, (simp listed, (simp listed, (simp listed, (simp listed, (simp listed, (simp listed, tt))))))))))))
+
+abbrev flags_1 : State
+flags_1 = holding ((0, 0) ∷ []) ((0, description 0 access.WriteOnly 0 false false) ∷ []) ((0, File []) ∷ []) ((codes "a" ∷ [], FileNode 0) ∷ []) 1 1
+
+abbrev flags_2 : State
+flags_2 = holding ((0, 0) ∷ (1, 0) ∷ []) ((0, description 0 access.WriteOnly 0 false false) ∷ []) ((0, File []) ∷ []) ((codes "a" ∷ [], FileNode 0) ∷ []) 1 1
+
+abbrev flags_3 : State
+flags_3 = holding ((0, 0) ∷ (1, 0) ∷ []) ((0, description 0 access.WriteOnly 0 true false) ∷ []) ((0, File []) ∷ []) ((codes "a" ∷ [], FileNode 0) ∷ []) 1 1
+
+abbrev flags_4 : State
+flags_4 = holding ((0, 0) ∷ (1, 0) ∷ []) ((0, description 0 access.WriteOnly 2 true false) ∷ []) ((0, File (codes "ab")) ∷ []) ((codes "a" ∷ [], FileNode 0) ∷ []) 1 1
+
+abbrev flags_5 : State
+flags_5 = holding ((0, 0) ∷ (1, 0) ∷ (2, 1) ∷ []) ((0, description 0 access.WriteOnly 2 true false) ∷ (1, description 1 access.ReadWrite 0 false false) ∷ []) ((0, File (codes "ab")) ∷ (1, File []) ∷ []) ((codes "a" ∷ [], FileNode 0) ∷ (codes "b" ∷ [], FileNode 1) ∷ []) 2 2
+
+abbrev flags_6 : State
+flags_6 = holding ((0, 0) ∷ (1, 0) ∷ (2, 1) ∷ []) ((0, description 0 access.WriteOnly 2 true false) ∷ (1, description 1 access.ReadWrite 0 false false) ∷ []) ((0, File (codes "ab")) ∷ (1, File []) ∷ []) ((codes "a" ∷ [], FileNode 0) ∷ (codes "b" ∷ [], FileNode 1) ∷ (codes "c" ∷ [], FileNode 1) ∷ []) 2 2
+
+abbrev flags_7 : State
+flags_7 = holding ((0, 0) ∷ (1, 0) ∷ (2, 1) ∷ []) ((0, description 0 access.WriteOnly 2 true false) ∷ (1, description 1 access.ReadWrite 0 false false) ∷ []) ((0, File (codes "ab")) ∷ (1, File []) ∷ []) ((codes "a" ∷ [], FileNode 0) ∷ (codes "c" ∷ [], FileNode 1) ∷ []) 2 2
+
+abbrev flags_8 : State
+flags_8 = holding ((0, 0) ∷ (1, 0) ∷ (2, 1) ∷ []) ((0, description 0 access.WriteOnly 2 true false) ∷ (1, description 1 access.ReadWrite 0 false false) ∷ []) ((0, File (codes "ab")) ∷ (1, File []) ∷ []) ((codes "a" ∷ [], FileNode 0) ∷ []) 2 2
+
+abbrev flags_9 : State
+flags_9 = holding ((0, 0) ∷ (1, 0) ∷ (2, 0) ∷ []) ((0, description 0 access.WriteOnly 2 true false) ∷ []) ((0, File (codes "ab")) ∷ []) ((codes "a" ∷ [], FileNode 0) ∷ []) 2 2
+
+abbrev flags_10 : State
+flags_10 = holding ((0, 0) ∷ (1, 0) ∷ (2, 0) ∷ []) ((0, description 0 access.WriteOnly 2 false true) ∷ []) ((0, File (codes "ab")) ∷ []) ((codes "a" ∷ [], FileNode 0) ∷ []) 2 2
+
+abbrev flags_11 : State
+flags_11 = holding ((1, 0) ∷ (2, 0) ∷ []) ((0, description 0 access.WriteOnly 2 false true) ∷ []) ((0, File (codes "ab")) ∷ []) ((codes "a" ∷ [], FileNode 0) ∷ []) 2 2
+
+abbrev pub flags_states : List State
+flags_states = flags_1 ∷ flags_1 ∷ flags_2 ∷ flags_3 ∷ flags_3 ∷ flags_4 ∷ flags_5 ∷ flags_6 ∷ flags_6 ∷ flags_7 ∷ flags_8 ∷ flags_9 ∷ flags_9 ∷ flags_10 ∷ flags_10 ∷ flags_11 ∷ flags_11 ∷ flags_11 ∷ []
+
+pub flags : (settings : Settings) → Runs settings empty_state shared_flags flags_states
+unfolding open_result lowest_from path_form getfl_result dup_result setfl_result write_result link_result file_named added fstat_result unlink_result removed dup2_result close_result lseek_result
+flags settings = (simp listed, (simp listed, (simp listed, (simp listed, (simp listed, (simp listed, (simp listed, (simp listed, (simp listed, (simp listed, (simp listed, (simp listed, (simp listed, (simp listed, (simp listed, (simp listed, (simp listed, (simp listed, tt))))))))))))))))))
+
+abbrev closing_1 : State
+closing_1 = holding ((0, 0) ∷ []) ((0, description 0 access.ReadWrite 0 false false) ∷ []) ((0, File []) ∷ []) ((codes "a" ∷ [], FileNode 0) ∷ []) 1 1
+
+abbrev closing_2 : State
+closing_2 = holding ((0, 0) ∷ []) ((0, description 0 access.ReadWrite 0 false false) ∷ []) ((0, File []) ∷ []) [] 1 1
+
+abbrev closing_3 : State
+closing_3 = holding [] [] [] [] 1 1
+
+abbrev pub closing_states : List State
+closing_states = closing_1 ∷ closing_2 ∷ closing_3 ∷ []
+
+pub closing : (settings : Settings) → Runs settings empty_state closed_last closing_states
+unfolding open_result lowest_from path_form unlink_result removed close_result
+closing settings = (simp listed, (simp listed, (simp listed, tt)))
+
+pub closing-leaves : map.len (final empty_state closing_states).objects ≡ 0
+closing-leaves = simp listed
+
+abbrev unlinking_1 : State
+unlinking_1 = holding ((0, 0) ∷ []) ((0, description 0 access.ReadWrite 0 false false) ∷ []) ((0, File []) ∷ []) ((codes "a" ∷ [], FileNode 0) ∷ []) 1 1
+
+abbrev unlinking_2 : State
+unlinking_2 = holding [] [] ((0, File []) ∷ []) ((codes "a" ∷ [], FileNode 0) ∷ []) 1 1
+
+abbrev unlinking_3 : State
+unlinking_3 = holding [] [] [] [] 1 1
+
+abbrev pub unlinking_states : List State
+unlinking_states = unlinking_1 ∷ unlinking_2 ∷ unlinking_3 ∷ []
+
+pub unlinking : (settings : Settings) → Runs settings empty_state unlinked_last unlinking_states
+unfolding open_result lowest_from path_form close_result unlink_result removed
+unlinking settings = (simp listed, (simp listed, (simp listed, tt)))
+
+pub unlinking-leaves : map.len (final empty_state unlinking_states).objects ≡ 0
+unlinking-leaves = simp listed
+
+abbrev replacing_1 : State
+replacing_1 = holding ((0, 0) ∷ []) ((0, description 0 access.ReadWrite 0 false false) ∷ []) ((0, File []) ∷ []) ((codes "a" ∷ [], FileNode 0) ∷ []) 1 1
+
+abbrev replacing_2 : State
+replacing_2 = holding ((0, 0) ∷ []) ((0, description 0 access.ReadWrite 0 false false) ∷ []) ((0, File []) ∷ []) [] 1 1
+
+abbrev replacing_3 : State
+replacing_3 = holding ((0, 0) ∷ (1, 1) ∷ []) ((0, description 0 access.ReadWrite 0 false false) ∷ (1, description 1 access.ReadWrite 0 false false) ∷ []) ((0, File []) ∷ (1, File []) ∷ []) ((codes "b" ∷ [], FileNode 1) ∷ []) 2 2
+
+abbrev replacing_4 : State
+replacing_4 = holding ((0, 1) ∷ (1, 1) ∷ []) ((1, description 1 access.ReadWrite 0 false false) ∷ []) ((1, File []) ∷ []) ((codes "b" ∷ [], FileNode 1) ∷ []) 2 2
+
+abbrev pub replacing_states : List State
+replacing_states = replacing_1 ∷ replacing_2 ∷ replacing_3 ∷ replacing_4 ∷ []
+
+pub replacing : (settings : Settings) → Runs settings empty_state replaced_last replacing_states
+unfolding open_result lowest_from path_form unlink_result removed dup2_result
+replacing settings = (simp listed, (simp listed, (simp listed, (simp listed, tt))))
+
+pub replacing-leaves : map.len (final empty_state replacing_states).objects ≡ 1
+replacing-leaves = simp listed
+
+abbrev linking_1 : State
+linking_1 = holding ((0, 0) ∷ []) ((0, description 0 access.ReadWrite 0 false false) ∷ []) ((0, File []) ∷ []) ((codes "a" ∷ [], FileNode 0) ∷ []) 1 1
+
+abbrev linking_2 : State
+linking_2 = holding ((0, 0) ∷ []) ((0, description 0 access.ReadWrite 0 false false) ∷ []) ((0, File []) ∷ []) ((codes "a" ∷ [], FileNode 0) ∷ (codes "b" ∷ [], FileNode 0) ∷ []) 1 1
+
+abbrev linking_3 : State
+linking_3 = holding ((0, 0) ∷ []) ((0, description 0 access.ReadWrite 0 false false) ∷ []) ((0, File []) ∷ []) ((codes "b" ∷ [], FileNode 0) ∷ []) 1 1
+
+abbrev linking_4 : State
+linking_4 = holding [] [] ((0, File []) ∷ []) ((codes "b" ∷ [], FileNode 0) ∷ []) 1 1
+
+abbrev pub linking_states : List State
+linking_states = linking_1 ∷ linking_2 ∷ linking_3 ∷ linking_4 ∷ []
+
+pub linking : (settings : Settings) → Runs settings empty_state linked_still linking_states
+unfolding open_result lowest_from path_form link_result file_named added unlink_result removed close_result
+linking settings = (simp listed, (simp listed, (simp listed, (simp listed, tt))))
+
+pub linking-leaves : map.len (final empty_state linking_states).objects ≡ 1
+linking-leaves = simp listed
+
+abbrev sharing_1 : State
+sharing_1 = holding ((0, 0) ∷ []) ((0, description 0 access.ReadWrite 0 false false) ∷ []) ((0, File []) ∷ []) ((codes "a" ∷ [], FileNode 0) ∷ []) 1 1
+
+abbrev sharing_2 : State
+sharing_2 = holding ((0, 0) ∷ (1, 0) ∷ []) ((0, description 0 access.ReadWrite 0 false false) ∷ []) ((0, File []) ∷ []) ((codes "a" ∷ [], FileNode 0) ∷ []) 1 1
+
+abbrev sharing_3 : State
+sharing_3 = holding ((0, 0) ∷ (1, 0) ∷ []) ((0, description 0 access.ReadWrite 0 false false) ∷ []) ((0, File []) ∷ []) [] 1 1
+
+abbrev sharing_4 : State
+sharing_4 = holding ((1, 0) ∷ []) ((0, description 0 access.ReadWrite 0 false false) ∷ []) ((0, File []) ∷ []) [] 1 1
+
+abbrev pub sharing_states : List State
+sharing_states = sharing_1 ∷ sharing_2 ∷ sharing_3 ∷ sharing_4 ∷ []
+
+pub sharing : (settings : Settings) → Runs settings empty_state shared_still sharing_states
+unfolding open_result lowest_from path_form dup_result unlink_result removed close_result
+sharing settings = (simp listed, (simp listed, (simp listed, (simp listed, tt))))
+
+pub sharing-leaves : map.len (final empty_state sharing_states).objects ≡ 1
+sharing-leaves = simp listed
+
+-- the read end of a pipe and its write end
+abbrev reads_0 : Bool → Description
+reads_0 nonblock = description_of part.Read 0 access.ReadOnly 0 false nonblock
+
+abbrev writes_0 : Description
+writes_0 = description_of part.Write 0 access.WriteOnly 0 false false
+
+abbrev pipe_1 : List ℕ → Bool → State
+pipe_1 bytes nonblock = holding ((0, 0) ∷ (1, 1) ∷ []) ((0, reads_0 nonblock) ∷ (1, writes_0) ∷ []) ((0, Pipe bytes) ∷ []) [] 2 1
+
+abbrev pipe_2 : State
+pipe_2 = holding ((0, 0) ∷ []) ((0, reads_0 true) ∷ []) ((0, Pipe []) ∷ []) [] 2 1
+
+abbrev pipe_3 : State
+pipe_3 =
+    holding ((0, 0) ∷ (1, 2) ∷ (2, 3) ∷ [])
+    ((0, reads_0 true) ∷ (2, description_of part.Read 1 access.ReadOnly 0 false false) ∷ (3, description_of part.Write 1 access.WriteOnly 0 false false) ∷ [])
+    ((0, Pipe []) ∷ (1, Pipe []) ∷ []) [] 4 2
+
+abbrev pipe_4 : State
+pipe_4 =
+    holding ((0, 0) ∷ (2, 3) ∷ []) ((0, reads_0 true) ∷ (3, description_of part.Write 1 access.WriteOnly 0 false false) ∷ [])
+    ((0, Pipe []) ∷ (1, Pipe []) ∷ []) [] 4 2
+
+abbrev pub pipe_states : List State
+pipe_states =
+    pipe_1 [] false ∷ pipe_1 (codes "abc") false ∷ pipe_1 (codes "c") false ∷ pipe_1 (codes "c") false ∷ pipe_1 (codes "c") false ∷ pipe_1 (codes "c") false ∷ pipe_1 (codes "c") true
+    ∷ pipe_1 [] true ∷ pipe_1 [] true ∷ pipe_1 [] true ∷ pipe_2 ∷ pipe_2 ∷ pipe_2 ∷ pipe_3 ∷ pipe_4 ∷ pipe_4 ∷ pipe_4 ∷ []
+
+pub pipe : (settings : Settings) → Runs settings empty_state pipe_and_its_ends pipe_states
+unfolding pipe_result lowest_from write_result read_result fstat_result lseek_result setfl_result close_result shutdown_result
+pipe settings =
+    (simp listed, (simp listed, (simp listed, (simp listed, (simp listed, (simp listed, (simp listed, (simp listed, (simp listed, (simp listed, (simp listed, (simp listed, (simp listed, (simp listed, (simp listed, (simp listed, (simp listed, tt)))))))))))))))))
+
+-- a pipe with only its write end
+abbrev pipe_written : State
+pipe_written = holding ((1, 1) ∷ []) ((1, writes_0) ∷ []) ((0, Pipe []) ∷ []) [] 2 1
+
+abbrev pub half_closing_states : List State
+half_closing_states = pipe_1 [] false ∷ pipe_written ∷ []
+
+pub half_closing : (settings : Settings) → Runs settings empty_state half_closed_pipe half_closing_states
+unfolding pipe_result lowest_from close_result
+half_closing settings = (simp listed, (simp listed, tt))
+
+pub half_closing-leaves : map.len (final empty_state half_closing_states).objects ≡ 1
+half_closing-leaves = simp listed
+
+abbrev pub pipe_closing_states : List State
+pipe_closing_states = pipe_1 [] false ∷ pipe_written ∷ holding [] [] [] [] 2 1 ∷ []
+
+pub pipe_closing : (settings : Settings) → Runs settings empty_state closed_pipe pipe_closing_states
+unfolding pipe_result lowest_from close_result
+pipe_closing settings = (simp listed, (simp listed, (simp listed, tt)))
+
+pub pipe_closing-leaves : map.len (final empty_state pipe_closing_states).objects ≡ 0
+pipe_closing-leaves = simp listed
+
+abbrev socket_of : List ℕ → Bool → Half
+socket_of waiting shut = record { waiting = waiting; reading_shut = false; writing_shut = shut }
+
+abbrev sockets_of : Half → Half → PairState
+sockets_of side0 side1 = record { side0 = side0; side1 = side1 }
+
+abbrev socket_0 : Description
+socket_0 = description_of (part.Socket Side0) 0 access.ReadWrite 0 false false
+
+abbrev pair_1 : PairState → State
+pair_1 p = holding ((0, 0) ∷ (1, 1) ∷ []) ((0, socket_0) ∷ (1, description_of (part.Socket Side1) 0 access.ReadWrite 0 false false) ∷ []) ((0, Pair p) ∷ []) [] 2 1
+
+abbrev pair_2 : PairState → State
+pair_2 p = holding ((0, 0) ∷ []) ((0, socket_0) ∷ []) ((0, Pair p) ∷ []) [] 2 1
+
+abbrev pub pair_states : List State
+pair_states =
+    pair_1 new_pair ∷ pair_1 (sockets_of new_half (socket_of (codes "ab") false)) ∷ pair_1 (sockets_of (socket_of [] true) (socket_of (codes "ab") false)) ∷ pair_1 (sockets_of (socket_of [] true) (socket_of (codes "ab") false))
+    ∷ pair_1 (sockets_of (socket_of [] true) new_half) ∷ pair_1 (sockets_of (socket_of [] true) new_half) ∷ pair_1 (sockets_of (socket_of (codes "d") true) new_half) ∷ pair_1 (sockets_of (socket_of [] true) new_half)
+    ∷ pair_2 (sockets_of (socket_of [] true) new_half) ∷ pair_2 (sockets_of (socket_of [] true) new_half) ∷ []
+
+pub pair : (settings : Settings) → Runs settings empty_state half_closed_pair pair_states
+unfolding socketpair_result lowest_from write_result read_result close_result shutdown_result
+pair settings = (simp listed, (simp listed, (simp listed, (simp listed, (simp listed, (simp listed, (simp listed, (simp listed, (simp listed, (simp listed, tt))))))))))
+
+-- ## Patience
+
+read_waits : (settings : Settings) (turns : ℕ) → step settings (step settings empty_state call.Pipe None nothing_carried).after (call.Read (pos 0) (pos 4)) None turns ≡ waited settings (pipe_1 [] false) turns
+unfolding pipe_result lowest_from read_result
+read_waits settings turns = simp listed
+
+abbrev answer_by : State → ℕ → ℕ → Answer
+answer_by s turns patience =
+    let stepped : Stepped = if nat_lt (turns + 1) patience then record { after = s; answer = answer.Again; carried = turns + 1 } else record { after = s; answer = answer.Reply (reply.Fail EINTR); carried = nothing_carried } in stepped.answer
+
+patient_at : (turns : ℕ) → AnswersAfter 3 turns (answer_by (pipe_1 [] false) turns 3)
+patient_at turns settings is = ap (λ (stepped : Stepped). stepped.answer) (read_waits settings turns) ∙ ap (answer_by (pipe_1 [] false) turns) is
+
+pub patient : AnswersAfter 3 0 answer.Again × AnswersAfter 3 1 answer.Again × AnswersAfter 3 2 (answer.Reply (reply.Fail EINTR))
+patient = (patient_at 0, patient_at 1, patient_at 2)

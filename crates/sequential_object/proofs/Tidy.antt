@@ -1,0 +1,415 @@
+-- States that hold nothing unused, by what refers to what, and how the changes of a state keep them so.
+use Rattle.std.proofs.Common.{◌≡◌, ◌⊎◌, ℕ, zero, suc, ◌+◌, ◌<◌, ◌||◌, ℤ, pos, negsuc, List, [], Option, Some, None, Bool, true, false, if◌then◌else◌, inl, inr, refl, sym, ap, ◌∙◌, subst, arith}
+use Rattle.std.proofs.lemmas.Bool.{cases_eq, false≢true}
+use Rattle.std.proofs.lemmas.Option.{none-some, same_Some}
+use Rattle.std.proofs.lemmas.Cmp.{lists_total}
+use Rattle.std.specs.Cmp.{IsTotalOrder, nat_cmp_total}
+use Rattle.std.specs.FinMap as fin
+use Rattle.std.specs.FinMap.{FinMap, get-empty}
+use Rattle.std.specs.Ordering.{nat_cmp}
+use Rattle.sequential_object.specs.Descriptors.{freed, has_description, has_descriptor, has_end, has_path, is_file, is_key, is_of, is_of_end, key_at, opened, released, truncated, with_file, without_unused}
+use Rattle.sequential_object.specs.Duplicates.{shared}
+use Rattle.sequential_object.specs.Names.{PathMap, with_paths}
+use Rattle.sequential_object.specs.Object.{Content, Description, Directory, File, FileNode, Node, State, any_below, empty_state, path_cmp, with_content, with_object}
+use Rattle.sequential_object.specs.Unused.{EndsAreOpen, HoldsNothingUnused, IsOpenAt}
+use Rattle.posix_terms.specs.declared.call.Access.{Access}
+use Rattle.posix_terms.specs.declared.limits.TheConstants.Limits as limit
+use Rattle.posix_terms.specs.declared.object.End.{End}
+use Rattle.sequential_object.proofs.Maps.{any_of, insert_keeps, insert_other, insert_same, left_there, number_same, remove_other, same_number, standing_in}
+
+pub paths_total : IsTotalOrder path_cmp
+paths_total = lists_total (lists_total nat_cmp_total)
+
+-- ## What refers to what
+
+-- a descriptor of a description
+pub record Open (descriptors : FinMap nat_cmp ℕ) (key : ℕ) : Type 0 where
+  pub number : ℕ
+  pub below : number < limit.DESCRIPTORS
+  pub refers : fin.get descriptors number ≡ Some key
+
+-- a description of an object
+pub record Described (descriptions : FinMap nat_cmp Description) (object : ℕ) : Type 0 where
+  pub key : ℕ
+  pub description : Description
+  pub there : fin.get descriptions key ≡ Some description
+  pub refers : description.object ≡ object
+
+-- a path of an object
+pub record Named (paths : PathMap) (object : ℕ) : Type 0 where
+  pub path : List (List ℕ)
+  pub refers : fin.get paths path ≡ Some (FileNode object)
+
+-- what refers to an object
+abbrev pub Used : State → ℕ → Type 0
+Used s object = Described s.descriptions object ⊎ Named s.paths object
+
+abbrev pub AreNumbered : State → Type 0
+AreNumbered s = (key : ℕ) (d : Description) → fin.get s.descriptions key ≡ Some d → key < s.next_description
+
+pub record IsTidy (s : State) : Type 0 where
+  pub opens : (key : ℕ) (d : Description) → fin.get s.descriptions key ≡ Some d → Open s.descriptors key
+  pub uses : (object : ℕ) (c : Content) → fin.get s.objects object ≡ Some c → Used s object
+  pub numbered : AreNumbered s
+
+-- nothing is unused but one object, which may be
+pub record IsTidyBut (object : ℕ) (s : State) : Type 0 where
+  pub opens : (key : ℕ) (d : Description) → fin.get s.descriptions key ≡ Some d → Open s.descriptors key
+  pub uses : (other : ℕ) (c : Content) → (other ≡ object → ⊥) → fin.get s.objects other ≡ Some c → Used s other
+  pub numbered : AreNumbered s
+
+-- nothing is unused but one description, which may be
+pub record IsTidyWithout (key : ℕ) (s : State) : Type 0 where
+  pub opens : (other : ℕ) (d : Description) → (other ≡ key → ⊥) → fin.get s.descriptions other ≡ Some d → Open s.descriptors other
+  pub uses : (object : ℕ) (c : Content) → fin.get s.objects object ≡ Some c → Used s object
+  pub numbered : AreNumbered s
+
+pub but_one : (s : State) (object : ℕ) → IsTidy s → IsTidyBut object s
+but_one s object h = record { opens = h.opens; uses = λ other c apart at. h.uses other c at; numbered = h.numbered }
+
+-- ## By tests
+
+any_of_first : (n : ℕ) (p : ℕ → Bool) → any_below n p ≡ true → (m : ℕ) × (m < n) × (p m ≡ true)
+any_of_first zero p any = absurd (false≢true any)
+any_of_first (suc n) p any = by_test (p n) refl (λ below. any_of_first n p below)
+  where
+    or_left : (a : Bool) → (a || false) ≡ true → a ≡ true
+    or_left true h = refl
+    or_left false h = absurd (false≢true h)
+
+    by_test : (b : Bool) → p n ≡ b → (any_below n p ≡ true → (m : ℕ) × (m < n) × (p m ≡ true)) → (m : ℕ) × (m < suc n) × (p m ≡ true)
+    by_test true h earlier = (n, omega arith, h)
+    by_test false h earlier =
+        let at = earlier (or_left (any_below n p) (ap (λ (b : Bool). any_below n p || b) (sym h) ∙ any)) in
+        let below : at.0 < n = at.1 in
+        (at.0, omega arith, at.2)
+
+first_of_any : (n : ℕ) (p : ℕ → Bool) (m : ℕ) → m < n → p m ≡ true → any_below n p ≡ true
+first_of_any zero p m below holds = absurd (omega arith)
+first_of_any (suc n) p m below holds =
+    elim (cases_eq m n) [
+      | inl e ↦ or_right (any_below n p) (p n) (ap p (sym e) ∙ holds)
+      | inr apart ↦ ap (λ (b : Bool). b || p n) (first_of_any n p m (omega arith) holds)
+    ]
+  where
+    or_right : (a b : Bool) → b ≡ true → (a || b) ≡ true
+    or_right true b h = refl
+    or_right false b h = h
+
+is_key_some : (o : Option ℕ) (key : ℕ) → is_key o key ≡ true → o ≡ Some key
+is_key_some None key h = absurd (false≢true h)
+is_key_some (Some other) key h = ap (λ (n : ℕ). Some n) (same_number other key h)
+
+is_of_some : (o : Option Description) (object : ℕ) → is_of o object ≡ true → (d : Description) × (o ≡ Some d) × (d.object ≡ object)
+is_of_some None object h = absurd (false≢true h)
+is_of_some (Some d) object h = (d, refl, same_number d.object object h)
+
+is_file_of : (node : Node) (object : ℕ) → is_file node object ≡ true → node ≡ FileNode object
+is_file_of (FileNode other) object h = ap (λ (n : ℕ). FileNode n) (same_number other object h)
+is_file_of Directory object h = absurd (false≢true h)
+
+open_of : (s : State) (key : ℕ) → has_descriptor s key ≡ true → Open s.descriptors key
+open_of s key has =
+    let at = any_of_first limit.DESCRIPTORS (λ (n : ℕ). is_key (fin.get s.descriptors n) key) has in
+    record { number = at.0; below = at.1; refers = is_key_some (fin.get s.descriptors at.0) key at.2 }
+
+has_open : (s : State) (key : ℕ) → Open s.descriptors key → has_descriptor s key ≡ true
+has_open s key o =
+    first_of_any limit.DESCRIPTORS (λ (n : ℕ). is_key (fin.get s.descriptors n) key) o.number o.below
+    (ap (λ (x : Option ℕ). is_key x key) o.refers ∙ number_same key key refl)
+
+described_of : (s : State) (object : ℕ) → has_description s object ≡ true → Described s.descriptions object
+described_of s object has =
+    let at = any_of_first s.next_description (λ (key : ℕ). is_of (fin.get s.descriptions key) object) has in
+    let its = is_of_some (fin.get s.descriptions at.0) object at.2 in
+    record { key = at.0; description = its.0; there = its.1; refers = its.2 }
+
+has_described : (s : State) (object : ℕ) → AreNumbered s → Described s.descriptions object → has_description s object ≡ true
+has_described s object numbered d =
+    first_of_any s.next_description (λ (key : ℕ). is_of (fin.get s.descriptions key) object) d.key (numbered d.key d.description d.there)
+    (ap (λ (x : Option Description). is_of x object) d.there ∙ number_same _ object d.refers)
+
+is_of_end_some :
+    (o : Option Description) (object : ℕ) (which : End)
+    → is_of_end o object which ≡ true
+    → (d : Description) × (o ≡ Some d) × (is_of_end (Some d) object which ≡ true)
+is_of_end_some None object which h = absurd (false≢true h)
+is_of_end_some (Some d) object which h = (d, refl, h)
+
+-- an end counts as open just where some description is of it
+pub ends_are_open : EndsAreOpen
+ends_are_open s object which tidy = (found, counted)
+  where
+    found : has_end s object which ≡ true → IsOpenAt s object which
+    found has =
+        let at = any_of_first s.next_description (λ (key : ℕ). is_of_end (fin.get s.descriptions key) object which) has in
+        let its = is_of_end_some (fin.get s.descriptions at.0) object which at.2 in
+        record { key = at.0; description = its.0; there = its.1; its = its.2 }
+
+    counted : IsOpenAt s object which → has_end s object which ≡ true
+    counted h =
+        first_of_any s.next_description (λ (key : ℕ). is_of_end (fin.get s.descriptions key) object which) h.key
+        (tidy.numbered h.key h.description h.there)
+        (ap (λ (x : Option Description). is_of_end x object which) h.there ∙ h.its)
+
+named_of : (s : State) (object : ℕ) → has_path s object ≡ true → Named s.paths object
+named_of s object has =
+    let at = standing_in paths_total (λ (entry : List (List ℕ) × Node). is_file entry.1 object) s.paths has in
+    record { path = at.0; refers = at.2 ∙ ap (λ (x : Node). Some x) (is_file_of at.1 object at.3) }
+
+has_named : (s : State) (object : ℕ) → Named s.paths object → has_path s object ≡ true
+has_named s object n = any_of path_cmp (λ (x : Node). is_file x object) s.paths n.path (FileNode object) n.refers (number_same object object refl)
+
+used_of : (s : State) (object : ℕ) → (has_description s object || has_path s object) ≡ true → Used s object
+used_of s object has = by_test (has_description s object) refl
+  where
+    by_test : (b : Bool) → has_description s object ≡ b → Used s object
+    by_test true h = inl (described_of s object h)
+    by_test false h = inr (named_of s object (ap (λ (b : Bool). b || has_path s object) (sym h) ∙ has))
+
+has_used : (s : State) (object : ℕ) → AreNumbered s → Used s object → (has_description s object || has_path s object) ≡ true
+has_used s object numbered (inl d) = ap (λ (b : Bool). b || has_path s object) (has_described s object numbered d)
+has_used s object numbered (inr n) = or_right (has_description s object) (has_path s object) (has_named s object n)
+  where
+    or_right : (a b : Bool) → b ≡ true → (a || b) ≡ true
+    or_right true b h = refl
+    or_right false b h = h
+
+pub tidy_of : (s : State) → HoldsNothingUnused s → IsTidy s
+tidy_of s h =
+    record {
+      opens = λ key d at. open_of s key (h.described key d at);
+      uses = λ object c at. used_of s object (h.used object c at);
+      numbered = h.numbered;
+    }
+
+pub nothing_unused : (s : State) → IsTidy s → HoldsNothingUnused s
+nothing_unused s h =
+    record {
+      described = λ key d at. has_open s key (h.opens key d at);
+      used = λ object c at. has_used s object h.numbered (h.uses object c at);
+      numbered = h.numbered;
+    }
+
+pub starts_tidy : HoldsNothingUnused empty_state
+starts_tidy =
+    record {
+      described = λ key d at. absurd (none-some d (sym (get-empty nat_cmp key) ∙ at));
+      used = λ object c at. absurd (none-some c (sym (get-empty nat_cmp object) ∙ at));
+      numbered = λ key d at. absurd (none-some d (sym (get-empty nat_cmp key) ∙ at));
+    }
+
+-- ## States
+
+-- a new content of an object that is used
+pub content_tidy : (s : State) (object : ℕ) (c : Content) → Used s object → IsTidy s → IsTidy (with_content s object c)
+content_tidy s object c used h =
+    record {
+      opens = h.opens;
+      uses = λ other d at. elim (cases_eq other object) [
+        | inl own ↦ subst (Used s) (sym own) used
+        | inr apart ↦ h.uses other d (sym (insert_other s.objects object c other apart) ∙ at)
+      ];
+      numbered = h.numbered;
+    }
+
+-- a new object, which nothing refers to yet
+pub object_tidy : (s : State) (c : Content) → IsTidy s → IsTidyBut s.next_object (with_object s c)
+object_tidy s c h =
+    record {
+      opens = h.opens;
+      uses = λ other d apart at. h.uses other d (sym (insert_other s.objects s.next_object c other apart) ∙ at);
+      numbered = h.numbered;
+    }
+
+-- paths by which each file keeps its names
+abbrev pub KeepsFiles : PathMap → PathMap → Type 0
+KeepsFiles old new = (path : List (List ℕ)) (object : ℕ) → fin.get old path ≡ Some (FileNode object) → fin.get new path ≡ Some (FileNode object)
+
+used_by : (s : State) (paths : PathMap) (object : ℕ) → ((path : List (List ℕ)) → fin.get s.paths path ≡ Some (FileNode object) → fin.get paths path ≡ Some (FileNode object)) → Used s object → Described s.descriptions object ⊎ Named paths object
+used_by s paths object kept (inl d) = inl d
+used_by s paths object kept (inr n) = inr (record { path = n.path; refers = kept n.path n.refers })
+
+pub paths_tidy : (s : State) (paths : PathMap) → KeepsFiles s.paths paths → IsTidy s → IsTidy (with_paths s paths)
+paths_tidy s paths kept h =
+    record {
+      opens = h.opens;
+      uses = λ object c at. used_by s paths object (λ path is. kept path object is) (h.uses object c at);
+      numbered = h.numbered;
+    }
+
+-- paths by which each other file keeps its names
+pub unnamed_tidy : (s : State) (paths : PathMap) (object : ℕ) → ((path : List (List ℕ)) (other : ℕ) → (other ≡ object → ⊥) → fin.get s.paths path ≡ Some (FileNode other) → fin.get paths path ≡ Some (FileNode other)) → IsTidy s → IsTidyBut object (with_paths s paths)
+unnamed_tidy s paths object kept h =
+    record {
+      opens = h.opens;
+      uses = λ other c apart at. used_by s paths other (λ path is. kept path other apart is) (h.uses other c at);
+      numbered = h.numbered;
+    }
+
+pub file_tidy : (s : State) (components : List (List ℕ)) → fin.get s.paths components ≡ None → IsTidy s → IsTidyBut s.next_object (with_file s components)
+file_tidy s components new h =
+    record {
+      opens = h.opens;
+      uses = λ other c apart at.
+          used_by s (fin.insert s.paths components (FileNode s.next_object)) other (λ path is. insert_keeps paths_total s.paths components (FileNode s.next_object) path (FileNode other) new is)
+          (h.uses other c (sym (insert_other s.objects s.next_object (File []) other apart) ∙ at));
+      numbered = h.numbered;
+    }
+
+pub cut_tidy : (s : State) (object : ℕ) (b : Bool) → IsTidy s → IsTidyBut object (truncated s object b)
+cut_tidy s object true h =
+    record {
+      opens = h.opens;
+      uses = λ other c apart at. h.uses other c (sym (insert_other s.objects object (File []) other apart) ∙ at);
+      numbered = h.numbered;
+    }
+cut_tidy s object false h = but_one s object h
+
+-- a description that is changed, and stays one of its object
+redescribed : (m : FinMap nat_cmp Description) (key : ℕ) (x y : Description) (object : ℕ) → fin.get m key ≡ Some x → x.object ≡ y.object → Described m object → Described (fin.insert m key y) object
+redescribed m key x y object there own d =
+    elim (cases_eq d.key key) [
+      | inl is ↦
+          let same : x ≡ d.description = same_Some x d.description (sym there ∙ ap (fin.get m) (sym is) ∙ d.there) in
+          record { key = key; description = y; there = insert_same m key y; refers = sym own ∙ ap (λ (z : Description). z.object) same ∙ d.refers }
+      | inr apart ↦ record { key = d.key; description = d.description; there = insert_other m key y d.key apart ∙ d.there; refers = d.refers }
+    ]
+
+pub own_tidy : (s : State) (key : ℕ) (x y : Description) → fin.get s.descriptions key ≡ Some x → x.object ≡ y.object → IsTidy s → IsTidy (record s { descriptions = fin.insert s.descriptions key y })
+own_tidy s key x y there own h =
+    record {
+      opens = λ other d at. elim (cases_eq other key) [
+        | inl is ↦ subst (Open s.descriptors) (sym is) (h.opens key x there)
+        | inr apart ↦ h.opens other d (sym (insert_other s.descriptions key y other apart) ∙ at)
+      ];
+      uses = λ object c at. by_use object (h.uses object c at);
+      numbered = λ other d at. elim (cases_eq other key) [
+        | inl is ↦ subst (λ (n : ℕ). n < s.next_description) (sym is) (h.numbered key x there)
+        | inr apart ↦ h.numbered other d (sym (insert_other s.descriptions key y other apart) ∙ at)
+      ];
+    }
+  where
+    by_use : (object : ℕ) → Used s object → Described (fin.insert s.descriptions key y) object ⊎ Named s.paths object
+    by_use object (inl d) = inl (redescribed s.descriptions key x y object there own d)
+    by_use object (inr n) = inr n
+
+-- a number that refers to no description is no description's only one
+open_still : (m : FinMap nat_cmp ℕ) (n key other : ℕ) → (fin.get m n ≡ Some other → ⊥) → Open m other → Open (fin.insert m n key) other
+open_still m n key other free o =
+    record {
+      number = o.number;
+      below = o.below;
+      refers = insert_other m n key o.number (λ (is : o.number ≡ n). free (ap (fin.get m) (sym is) ∙ o.refers)) ∙ o.refers;
+    }
+
+pub shared_tidy : (s : State) (n key : ℕ) → ((other : ℕ) (d : Description) → fin.get s.descriptions other ≡ Some d → fin.get s.descriptors n ≡ Some other → ⊥) → IsTidy s → IsTidy (shared s n key)
+shared_tidy s n key free h =
+    record {
+      opens = λ other d at. open_still s.descriptors n key other (free other d at) (h.opens other d at);
+      uses = h.uses;
+      numbered = h.numbered;
+    }
+
+-- a number that is free
+pub record IsFree (s : State) (n : ℕ) : Type 0 where
+  pub free : fin.get s.descriptors n ≡ None
+  pub below : n < limit.DESCRIPTORS
+
+pub opened_tidy : (s : State) (n object : ℕ) (which : End) (access : Access) (append nonblock : Bool) → IsFree s n → IsTidyBut object s → IsTidy (opened s n object which access append nonblock)
+opened_tidy s n object which access append nonblock number h =
+    record {
+      opens = λ key d at. elim (cases_eq key s.next_description) [
+        | inl is ↦ record { number = n; below = number.below; refers = insert_same s.descriptors n s.next_description ∙ ap (λ (k : ℕ). Some k) (sym is) }
+        | inr apart ↦ open_still s.descriptors n s.next_description key (λ is. none-some key (sym number.free ∙ is)) (h.opens key d (sym (insert_other s.descriptions s.next_description x key apart) ∙ at))
+      ];
+      uses = λ other c at. elim (cases_eq other object) [
+        | inl is ↦ inl (record { key = s.next_description; description = x; there = insert_same s.descriptions s.next_description x; refers = sym is })
+        | inr apart ↦ by_use other (h.uses other c apart at)
+      ];
+      numbered = λ key d at. elim (cases_eq key s.next_description) [
+        | inl is ↦ omega arith
+        | inr apart ↦ later key (h.numbered key d (sym (insert_other s.descriptions s.next_description x key apart) ∙ at))
+      ];
+    }
+  where
+    x : Description
+    x = record { object = object; «end» = which; access = access; offset = 0; append = append; nonblock = nonblock }
+
+    later : (key : ℕ) → key < s.next_description → key < s.next_description + 1
+    later key below = omega arith
+
+    still : (other : ℕ) → Described s.descriptions other → Described (fin.insert s.descriptions s.next_description x) other
+    still other d =
+        let below : d.key < s.next_description = h.numbered d.key d.description d.there in
+        let apart : d.key ≡ s.next_description → ⊥ = λ is. omega arith in
+        record { key = d.key; description = d.description; there = insert_other s.descriptions s.next_description x d.key apart ∙ d.there; refers = d.refers }
+
+    by_use : (other : ℕ) → Used s other → Described (fin.insert s.descriptions s.next_description x) other ⊎ Named s.paths other
+    by_use other (inl d) = inl (still other d)
+    by_use other (inr n) = inr n
+
+-- an object that may be unused is removed where it is
+pub unused_tidy : (s : State) (object : ℕ) → IsTidyBut object s → IsTidy (without_unused s object)
+unused_tidy s object h = by_test (has_description s object || has_path s object) refl
+  where
+    by_test : (b : Bool) → (has_description s object || has_path s object) ≡ b → IsTidy (if b then s else record s { objects = fin.remove s.objects object })
+    by_test true has =
+        record {
+          opens = h.opens;
+          uses = λ other c at. elim (cases_eq other object) [
+            | inl own ↦ subst (Used s) (sym own) (used_of s object has)
+            | inr apart ↦ h.uses other c apart at
+          ];
+          numbered = h.numbered;
+        }
+    by_test false has =
+        record {
+          opens = h.opens;
+          uses = λ other c at. let was = left_there s.objects object other c at in h.uses other c was.0 was.1;
+          numbered = h.numbered;
+        }
+
+-- a description that may have no descriptor is removed where it has none, and then its object
+pub released_tidy : (s : State) (key : ℕ) (d : Description) → fin.get s.descriptions key ≡ Some d → IsTidyWithout key s → IsTidy (released s key d)
+released_tidy s key d there h = by_test (has_descriptor s key) refl
+  where
+    left : State
+    left = record s { descriptions = fin.remove s.descriptions key }
+
+    still : (object : ℕ) → (object ≡ d.object → ⊥) → Used s object → Used left object
+    still object apart (inl e) =
+        let kept : e.key ≡ key → ⊥ = λ is. apart (sym e.refers ∙ ap (λ (z : Description). z.object) (same_Some e.description d (sym e.there ∙ ap (fin.get s.descriptions) is ∙ there))) in
+        inl (record { key = e.key; description = e.description; there = remove_other s.descriptions key e.key kept ∙ e.there; refers = e.refers })
+    still object apart (inr n) = inr n
+
+    by_test : (b : Bool) → has_descriptor s key ≡ b → IsTidy (if b then s else without_unused left d.object)
+    by_test true has =
+        record {
+          opens = λ other e at. elim (cases_eq other key) [
+            | inl own ↦ subst (Open s.descriptors) (sym own) (open_of s key has)
+            | inr apart ↦ h.opens other e apart at
+          ];
+          uses = h.uses;
+          numbered = h.numbered;
+        }
+    by_test false has =
+        unused_tidy left d.object (record {
+          opens = λ other e at. let was = left_there s.descriptions key other e at in h.opens other e was.0 was.1;
+          uses = λ object c apart at. still object apart (h.uses object c at);
+          numbered = λ other e at. h.numbered other e (left_there s.descriptions key other e at).1;
+        })
+
+pub freed_tidy : (s : State) (descriptor : ℤ) (key : ℕ) → key_at s descriptor ≡ Some key → IsTidy s → IsTidyWithout key (freed s descriptor)
+freed_tidy s (negsuc n) key is h = absurd (none-some key is)
+freed_tidy s (pos n) key is h =
+    record {
+      opens = λ other d apart at. still other apart (h.opens other d at);
+      uses = h.uses;
+      numbered = h.numbered;
+    }
+  where
+    still : (other : ℕ) → (other ≡ key → ⊥) → Open s.descriptors other → Open (fin.remove s.descriptors n) other
+    still other apart o =
+        let kept : o.number ≡ n → ⊥ = λ own. apart (same_Some other key (sym o.refers ∙ ap (fin.get s.descriptors) own ∙ is)) in
+        record { number = o.number; below = o.below; refers = remove_other s.descriptors n o.number kept ∙ o.refers }

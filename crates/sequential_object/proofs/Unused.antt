@@ -1,0 +1,546 @@
+-- Each call keeps a state in which nothing is unused.
+use Rattle.std.proofs.Common.{◌≡◌, ℕ, zero, suc, ◌+◌, ◌-◌, ◌<◌, ◌≤◌, ◌==◌, ℤ, pos, negsuc, List, [], ◌∷◌, length, Option, Some, None, is_some, Result, Ok, Err, Bool, true, false, not, ◌&&◌, ◌||◌, nat_lt, nat_le, if◌then◌else◌, inl, refl, sym, ap, ◌∙◌, subst, arith}
+use Rattle.std.proofs.lemmas.Bool.{true≢false}
+use Rattle.std.proofs.lemmas.Option.{none-some, same_Some}
+use Rattle.std.specs.FinMap as fin
+use Rattle.std.specs.FinMap.{FinMap}
+use Rattle.std.specs.Ordering.{int_eq, nat_cmp}
+use Rattle.std.specs.Prelude.{◌+ℤ◌, is_ok}
+use Rattle.posix_terms.specs.Calls.{can_read, can_write}
+use Rattle.sequential_object.specs.Descriptors.{close_result, described, ends_door, freed, has_description, has_descriptor, has_path, key_at, lowest_free, lowest_from, open_node, open_result, open_there, opened, released, truncated, with_file}
+use Rattle.sequential_object.specs.Doors.{NewDoor, host_open_result, host_path, listener_in, opens, port_of, tcp_accept_result, tcp_connect_result, tcp_listen_result}
+use Rattle.sequential_object.specs.Duplicates.{closed, descriptor_number, dup_from_result, ends_a_door, dup_result, dup2_result, shared}
+use Rattle.sequential_object.specs.Effects.{Asks, Blocks, Completes, Effect, asks_of}
+use Rattle.sequential_object.specs.Files.{resized, written}
+use Rattle.sequential_object.specs.Names.{PathMap, added, file_named, file_node, has_entries, link_result, mkdir_result, removed, removed_dir, removed_dir_at, rmdir_result, unlink_result, with_paths}
+use Rattle.sequential_object.specs.Object.{Content, Description, Directory, DoorTo, File, FileNode, Node, Pair, Pipe, State, content_of, with_content, with_object}
+use Rattle.sequential_object.specs.Paths.{node_at, resolved}
+use Rattle.sequential_object.specs.Refusals.{◌>>=◌, count_of, position_of, refuse_if, some_or}
+use Rattle.sequential_object.specs.Sockets.{NewEnd, pipe_result, shut_content, shuttable, shutdown_result, socketpair_result, two_ends, two_numbers}
+use Rattle.sequential_object.specs.Status.{fstat_result, getfl_result, setfl_result}
+use Rattle.sequential_object.specs.Step.{Carried, concluded, effect_of, failed, is_again, step, waited}
+use Rattle.sequential_object.specs.Streams.{Breaks, Ends, NoRoom, NothingYet, Reading, Reads, Writes, Writing, new_pair}
+use Rattle.sequential_object.specs.Transfers.{base_of, file_in, ftruncate_result, host_offset, lseek_result, not_listener, offset_of, pread_result, pwrite_result, read_content, read_done, read_result, readable, seek_content, size_of, start_of, with_offset, writable, write_content, write_done, write_result}
+use Rattle.sequential_object.specs.Unused.{HoldsNothingUnused}
+use Rattle.posix_terms.specs.declared.call.Access.{Access}
+use Rattle.posix_terms.specs.declared.call.Call.{Call}
+use Rattle.posix_terms.specs.declared.call.Call.TheVariants as call
+use Rattle.posix_terms.specs.declared.call.OpenFlags.{OpenFlags}
+use Rattle.posix_terms.specs.declared.call.ShutdownHow.{ShutdownHow}
+use Rattle.posix_terms.specs.declared.call.Whence.{Whence}
+use Rattle.posix_terms.specs.declared.errno.Errno.{Errno}
+use Rattle.posix_terms.specs.declared.errno.Errno.TheVariants.{EBADF, EBUSY, EEXIST, EINVAL, EMFILE, ENFILE, ENOENT, ENOSPC, ENOTEMPTY, ESPIPE}
+use Rattle.posix_terms.specs.declared.limits.TheConstants.Limits as limit
+use Rattle.posix_terms.specs.declared.object.Door.TheVariants as door
+use Rattle.posix_terms.specs.declared.object.End.TheVariants as part
+use Rattle.posix_terms.specs.declared.outcome.OutKind.TheVariants as kind
+use Rattle.posix_terms.specs.declared.outcome.Outcome.{Outcome}
+use Rattle.posix_terms.specs.declared.outcome.Outcome.TheVariants as out
+use Rattle.posix_terms.specs.declared.reply.Reply.TheVariants as reply
+use Rattle.posix_terms.specs.declared.transcript.Settings.{Settings}
+use Rattle.sequential_object.proofs.Maps.{insert_keeps, insert_other, insert_same, remove_keeps, remove_same}
+use Rattle.sequential_object.proofs.Refused.{waited_alone}
+use Rattle.sequential_object.proofs.Tidy.{IsFree, IsTidy, KeepsFiles, Used, but_one, content_tidy, cut_tidy, file_tidy, freed_tidy, nothing_unused, object_tidy, opened_tidy, own_tidy, paths_tidy, paths_total, released_tidy, shared_tidy, tidy_of, unnamed_tidy, unused_tidy}
+
+-- ## Effects
+
+abbrev LeavesTidy : Result Effect Errno → Type 0
+LeavesTidy (Ok (Completes after r)) = IsTidy after
+LeavesTidy (Ok Blocks) = Unit {0}
+LeavesTidy (Ok (Asks a)) = ((value : ℕ) (bytes : List ℕ) → IsTidy (a.succeeds value bytes).0) × IsTidy a.otherwise
+LeavesTidy (Err e) = Unit {0}
+
+-- whatever comes of a call, the state that it leaves is tidy
+record TidyBy (r : Result Effect Errno) : Type 0 where
+  it : LeavesTidy r
+
+chain : {A : Type 0} (r : Result A Errno) (f : A → Result Effect Errno) → ((a : A) → r ≡ Ok a → TidyBy (f a)) → TidyBy (r >>= f)
+chain (Ok a) f h = h a refl
+chain (Err e) f h = record { it = tt }
+
+either : (b : Bool) (x y : Result Effect Errno) → TidyBy x → TidyBy y → TidyBy (if b then x else y)
+either true x y hx hy = hx
+either false x y hx hy = hy
+
+either_effect : (b : Bool) (x y : Effect) → TidyBy (Ok x) → TidyBy (Ok y) → TidyBy (Ok (if b then x else y))
+either_effect true x y hx hy = hx
+either_effect false x y hx hy = hy
+
+either_state : (b : Bool) (x y : State) → IsTidy x → IsTidy y → IsTidy (if b then x else y)
+either_state true x y hx hy = hx
+either_state false x y hx hy = hy
+
+-- ## Chains that gave something
+
+abbrev out_of_ok : {A : Type 0} → A → Result A Errno → A
+out_of_ok a (Ok x) = x
+out_of_ok a (Err e) = a
+
+same_ok : {A : Type 0} (a b : A) → (let r : Result A Errno = Ok a in r ≡ Ok b) → a ≡ b
+same_ok a b h = ap (out_of_ok a) h
+
+gave : {A B : Type 0} (r : Result A Errno) (f : A → Result B Errno) (b : B) → r >>= f ≡ Ok b → (a : A) × ((r ≡ Ok a) × (f a ≡ Ok b))
+gave (Ok a) f b h = (a, (refl, h))
+gave (Err e) f b h = absurd (true≢false (sym (ap is_ok h)))
+
+some_gave : {A : Type 0} (o : Option A) (e : Errno) (a : A) → some_or o e ≡ Ok a → o ≡ Some a
+some_gave (Some x) e a h = ap Some (same_ok x a h)
+some_gave None e a h = absurd (true≢false (sym (ap is_ok h)))
+
+not_refused : (b : Bool) (e : Errno) (a : Unit {0}) → refuse_if b e ≡ Ok a → b ≡ false
+not_refused true e a h = absurd (true≢false (sym (ap is_ok h)))
+not_refused false e a h = refl
+
+-- a description that was found, and where
+record Found (s : State) (descriptor : ℤ) (found : ℕ × Description) : Type 0 where
+  at : key_at s descriptor ≡ Some found.0
+  there : fin.get s.descriptions found.0 ≡ Some found.1
+
+-- the description of a key, with it
+abbrev keyed : State → ℕ → Option Description → Result (ℕ × Description) Errno
+keyed s key o = some_or o EBADF >>= (λ (d : Description). Ok (key, d))
+
+abbrev found_at : State → Option ℕ → Result (ℕ × Description) Errno
+found_at s o = some_or o EBADF >>= (λ (key : ℕ). keyed s key (fin.get s.descriptions key))
+
+key_found : (s : State) (o : Option ℕ) (found : ℕ × Description) → found_at s o ≡ Ok found → (o ≡ Some found.0) × (fin.get s.descriptions found.0 ≡ Some found.1)
+key_found s o found h =
+    let one = gave (some_or o EBADF) _ found h in
+    let two = gave (some_or (fin.get s.descriptions one.0) EBADF) _ found one.1.1 in
+    let same : (one.0, two.0) ≡ found = same_ok (one.0, two.0) found two.1.1 in
+    subst (λ (p : ℕ × Description). (o ≡ Some p.0) × (fin.get s.descriptions p.0 ≡ Some p.1)) same (some_gave o EBADF one.0 one.1.0, some_gave (fin.get s.descriptions one.0) EBADF two.0 two.1.0)
+
+is_found : (s : State) (descriptor : ℤ) (found : ℕ × Description) → described s descriptor ≡ Ok found → Found s descriptor found
+is_found s descriptor found h = let its = key_found s (key_at s descriptor) found h in record { at = its.0; there = its.1 }
+
+readable_found : (s : State) (descriptor : ℤ) (found : ℕ × Description) → readable s descriptor ≡ Ok found → Found s descriptor found
+readable_found s descriptor found h =
+    let one = gave (described s descriptor) _ found h in
+    let d = one.0.1 in
+    let two = gave (not_listener (content_of s d.object)) _ found one.1.1 in
+    let three = gave (refuse_if (not (can_read d.access)) EBADF) _ found two.1.1 in
+    is_found s descriptor found (one.1.0 ∙ ap Ok (same_ok one.0 found three.1.1))
+
+writable_found : (s : State) (descriptor : ℤ) (bytes : List ℕ) (found : ℕ × Description) → writable s descriptor bytes ≡ Ok found → Found s descriptor found
+writable_found s descriptor bytes found h =
+    let one = gave (described s descriptor) _ found h in
+    let d = one.0.1 in
+    let two = gave (not_listener (content_of s d.object)) _ found one.1.1 in
+    let three = gave (refuse_if (not (can_write d.access)) EBADF) _ found two.1.1 in
+    let four = gave (refuse_if (nat_lt limit.COUNT (length bytes)) EINVAL) _ found three.1.1 in
+    is_found s descriptor found (one.1.0 ∙ ap Ok (same_ok one.0 found four.1.1))
+
+-- the lowest number is free, and one of those that were looked at
+record IsLowest (s : State) (left first n : ℕ) : Type 0 where
+  free : fin.get s.descriptors n ≡ None
+  least : first ≤ n
+  below : n < first + left
+
+lowest_is : (s : State) (left first n : ℕ) → lowest_from s left first ≡ Some n → IsLowest s left first n
+unfolding lowest_from
+lowest_is s zero first n is = absurd (none-some n is)
+lowest_is s (suc left) first n is = by_test (fin.get s.descriptors first) refl is (λ later. lowest_is s left (first + 1) n later)
+  where
+    here : fin.get s.descriptors first ≡ None → first ≡ n → IsLowest s (suc left) first n
+    here free same = record { free = ap (fin.get s.descriptors) (sym same) ∙ free; least = omega arith; below = omega arith }
+
+    further : IsLowest s left (first + 1) n → IsLowest s (suc left) first n
+    further it =
+        let least : first + 1 ≤ n = it.least in
+        let below : n < first + 1 + left = it.below in
+        record { free = it.free; least = omega arith; below = omega arith }
+
+    by_test : (o : Option ℕ) → fin.get s.descriptors first ≡ o → (if is_some o then lowest_from s left (first + 1) else Some first) ≡ Some n → (lowest_from s left (first + 1) ≡ Some n → IsLowest s left (first + 1) n) → IsLowest s (suc left) first n
+    by_test (Some key) at is later = further (later is)
+    by_test None at is later = here at (same_Some first n is)
+
+free_is : (s : State) (n : ℕ) → some_or (lowest_free s) EMFILE ≡ Ok n → IsFree s n
+free_is s n h =
+    let it = lowest_is s limit.DESCRIPTORS 0 n (some_gave (lowest_free s) EMFILE n h) in
+    let below : n < 0 + limit.DESCRIPTORS = it.below in
+    record { free = it.free; below = omega arith }
+
+-- ## Names
+
+-- nothing stands where nothing is named
+no_node : (paths : PathMap) (components : List (List ℕ)) → node_at paths components ≡ None → fin.get paths components ≡ None
+no_node paths [] is = absurd (none-some Directory (sym is))
+no_node paths (name ∷ names) is = is
+
+file_there : (paths : PathMap) (components : List (List ℕ)) (object : ℕ) → node_at paths components ≡ Some (FileNode object) → fin.get paths components ≡ Some (FileNode object)
+file_there paths [] object is = cc
+file_there paths (name ∷ names) object is = is
+
+file_node_is : (o : Option Node) (object : ℕ) → file_node o ≡ Ok object → o ≡ Some (FileNode object)
+file_node_is None object h = absurd (true≢false (sym (ap is_ok h)))
+file_node_is (Some Directory) object h = absurd (true≢false (sym (ap is_ok h)))
+file_node_is (Some (FileNode other)) object h = ap (λ (n : ℕ). Some (FileNode n)) (same_ok other object h)
+
+is_none : {A : Type 0} (o : Option A) → is_some o ≡ false → o ≡ None
+is_none (Some x) h = absurd (true≢false h)
+is_none None h = refl
+
+added_keeps : (paths : PathMap) (path : List ℕ) (node : Node) (new : PathMap) → added paths path node ≡ Ok new → KeepsFiles paths new
+unfolding added
+added_keeps paths path node new h =
+    let one = gave (resolved paths path) _ new h in
+    let components = one.0 in
+    let two = gave (refuse_if (is_some (node_at paths components)) EEXIST) _ new one.1.1 in
+    let three = gave (refuse_if (nat_le limit.NAMES (fin.len paths)) ENOSPC) _ new two.1.1 in
+    let free = no_node paths components (is_none (node_at paths components) (not_refused (is_some (node_at paths components)) EEXIST two.0 two.1.0)) in
+    subst (KeepsFiles paths) (same_ok (fin.insert paths components node) new three.1.1) (λ q object is. insert_keeps paths_total paths components node q (FileNode object) free is)
+
+-- a file that loses a name; each other one keeps its names
+abbrev KeepsOthers : PathMap → PathMap × ℕ → Type 0
+KeepsOthers paths without = (path : List (List ℕ)) (other : ℕ) → (other ≡ without.1 → ⊥) → fin.get paths path ≡ Some (FileNode other) → fin.get without.0 path ≡ Some (FileNode other)
+
+same_file : (a b : ℕ) → Some (FileNode a) ≡ Some (FileNode b) → a ≡ b
+same_file a b h = cc
+
+removed_keeps : (paths : PathMap) (path : List ℕ) (without : PathMap × ℕ) → removed paths path ≡ Ok without → KeepsOthers paths without
+unfolding removed
+removed_keeps paths path without h =
+    let one = gave (resolved paths path) _ without h in
+    let components = one.0 in
+    let two = gave (file_node (node_at paths components)) _ without one.1.1 in
+    let its = file_there paths components two.0 (file_node_is (node_at paths components) two.0 two.1.0) in
+    subst (KeepsOthers paths) (same_ok (fin.remove paths components, two.0) without two.1.1) (λ q other apart is.
+    remove_keeps paths_total paths components q (FileNode other) (λ at. apart (same_file other two.0 (sym at ∙ its))) is)
+
+removed_dir_keeps : (paths : PathMap) (components : List (List ℕ)) (o : Option Node) (new : PathMap) → node_at paths components ≡ o → removed_dir_at paths components o ≡ Ok new → KeepsFiles paths new
+removed_dir_keeps paths components None new is h = absurd (true≢false (sym (ap is_ok h)))
+removed_dir_keeps paths components (Some (FileNode object)) new is h = absurd (true≢false (sym (ap is_ok h)))
+removed_dir_keeps paths [] (Some Directory) new is h = absurd (true≢false (sym (ap is_ok h)))
+removed_dir_keeps paths (name ∷ names) (Some Directory) new is h =
+    let components : List (List ℕ) = name ∷ names in
+    let one = gave (refuse_if (length components == 0) EBUSY) _ new h in
+    let two = gave (refuse_if (has_entries paths components) ENOTEMPTY) _ new one.1.1 in
+    subst (KeepsFiles paths) (same_ok (fin.remove paths components) new two.1.1) (λ q object at. remove_keeps paths_total paths components q (FileNode object) (λ other. no_file object (sym is ∙ other)) at)
+  where
+    no_file : (object : ℕ) → Some Directory ≡ Some (FileNode object) → ⊥
+    no_file object e = cc
+
+dir_keeps : (paths : PathMap) (path : List ℕ) (new : PathMap) → removed_dir paths path ≡ Ok new → KeepsFiles paths new
+unfolding removed_dir
+dir_keeps paths path new h = let one = gave (resolved paths path) _ new h in removed_dir_keeps paths one.0 (node_at paths one.0) new refl one.1.1
+
+-- ## Descriptors
+
+own_used : (s : State) (key : ℕ) (d : Description) → fin.get s.descriptions key ≡ Some d → Used s d.object
+own_used s key d there = inl (record { key = key; description = d; there = there; refers = refl })
+
+cut_free : (s : State) (object : ℕ) (b : Bool) (n : ℕ) → IsFree s n → IsFree (truncated s object b) n
+cut_free s object true n f = record { free = f.free; below = f.below }
+cut_free s object false n f = f
+
+freed_there : (s : State) (descriptor : ℤ) (key : ℕ) (d : Description) → fin.get s.descriptions key ≡ Some d → (let after = freed s descriptor in fin.get after.descriptions key ≡ Some d)
+freed_there s (pos n) key d there = there
+freed_there s (negsuc n) key d there = there
+
+closed_tidy : (s : State) (descriptor : ℤ) (found : ℕ × Description) → Found s descriptor found → IsTidy s → IsTidy (released (freed s descriptor) found.0 found.1)
+closed_tidy s descriptor found its h = released_tidy (freed s descriptor) found.0 found.1 (freed_there s descriptor found.0 found.1 its.there) (freed_tidy s descriptor found.0 its.at h)
+
+released_descriptors : (s : State) (key : ℕ) (d : Description) → (let after = released s key d in after.descriptors) ≡ s.descriptors
+released_descriptors s key d = by_tests (has_descriptor s key) (has_description left d.object || has_path left d.object)
+  where
+    left : State
+    left = record s { descriptions = fin.remove s.descriptions key }
+
+    by_tests : (a b : Bool) → (let after : State = if a then s else (if b then left else record left { objects = fin.remove left.objects d.object }) in after.descriptors) ≡ s.descriptors
+    by_tests true b = refl
+    by_tests false true = refl
+    by_tests false false = refl
+
+-- a descriptor that is not found refers to no description
+found_of : (s : State) (o : Option ℕ) (key : ℕ) (d : Description) → o ≡ Some key → fin.get s.descriptions key ≡ Some d → found_at s o ≡ Ok (key, d)
+found_of s o key d at there = ap (found_at s) at ∙ ap (keyed s key) there
+
+target_tidy : (s : State) (m key : ℕ) → IsTidy s → IsTidy (shared (closed s (pos m) (described s (pos m))) m key)
+target_tidy s m key h = by_result (described s (pos m)) refl
+  where
+    by_result : (r : Result (ℕ × Description) Errno) → described s (pos m) ≡ r → IsTidy (shared (closed s (pos m) r) m key)
+    by_result (Ok found) is =
+        shared_tidy (released (freed s (pos m)) found.0 found.1) m key
+        (λ other d there at. none-some other (sym (ap (λ (x : FinMap nat_cmp ℕ). fin.get x m) (released_descriptors (freed s (pos m)) found.0 found.1) ∙ remove_same s.descriptors m) ∙ at))
+        (closed_tidy s (pos m) found (is_found s (pos m) found is) h)
+    by_result (Err e) is = shared_tidy s m key (λ other d there at. true≢false (sym (ap is_ok (sym is ∙ found_of s (fin.get s.descriptors m) other d at there)))) h
+
+number_is : (target : ℤ) (e : Errno) (n : ℕ) → descriptor_number target e ≡ Ok n → target ≡ pos n
+number_is (negsuc m) e n h = absurd (true≢false (sym (ap is_ok h)))
+number_is (pos m) e n h = by_test (nat_lt m limit.DESCRIPTORS) h
+  where
+    by_test : (b : Bool) → (if b then Ok m else Err e) ≡ Ok n → pos m ≡ pos n
+    by_test true h = ap pos (same_ok m n h)
+    by_test false h = absurd (true≢false (sym (ap is_ok h)))
+
+-- two numbers that are free, and no one number
+record AreFree (s : State) (numbers : ℕ × ℕ) : Type 0 where
+  first : IsFree s numbers.0
+  second : IsFree s numbers.1
+  apart : numbers.1 ≡ numbers.0 → ⊥
+
+two_free : (s : State) (numbers : ℕ × ℕ) → two_numbers s ≡ Ok numbers → AreFree s numbers
+two_free s numbers h =
+    let one = gave (some_or (lowest_free s) EMFILE) _ numbers h in
+    let two = gave (some_or (lowest_from s (limit.DESCRIPTORS - (one.0 + 1)) (one.0 + 1)) EMFILE) _ numbers one.1.1 in
+    let first = free_is s one.0 one.1.0 in
+    let it = lowest_is s (limit.DESCRIPTORS - (one.0 + 1)) (one.0 + 1) two.0 (some_gave (lowest_from s (limit.DESCRIPTORS - (one.0 + 1)) (one.0 + 1)) EMFILE two.0 two.1.0) in
+    subst (AreFree s) (same_ok (one.0, two.0) numbers two.1.1) (both one.0 two.0 first it)
+  where
+    both : (a b : ℕ) → IsFree s a → IsLowest s (limit.DESCRIPTORS - (a + 1)) (a + 1) b → AreFree s (a, b)
+    both a b first it =
+        let under : a < limit.DESCRIPTORS = first.below in
+        let least : a + 1 ≤ b = it.least in
+        let below : b < a + 1 + (limit.DESCRIPTORS - (a + 1)) = it.below in
+        record { first = first; second = record { free = it.free; below = omega arith }; apart = λ same. omega arith }
+
+-- ## Each call
+
+by_there : (s : State) (node : Node) (access : Access) (flags : OpenFlags) → IsTidy s → TidyBy (open_there s node access flags)
+by_there s Directory access flags h = record { it = tt }
+by_there s (FileNode object) access flags h =
+    chain (some_or (lowest_free s) EMFILE) _ (λ n is.
+    record { it = opened_tidy (truncated s object flags.truncate) n object part.Only access flags.append flags.nonblock (cut_free s object flags.truncate n (free_is s n is)) (cut_tidy s object flags.truncate h) })
+
+by_node : (s : State) (components : List (List ℕ)) (o : Option Node) (access : Access) (flags : OpenFlags) → IsTidy s → node_at s.paths components ≡ o → TidyBy (open_node s components o access flags)
+by_node s components None access flags h none =
+    chain (refuse_if (not flags.create) ENOENT) _ (λ _ _. chain (refuse_if (nat_le limit.NAMES (fin.len s.paths) || nat_le limit.OBJECTS (fin.len s.objects)) ENOSPC) _ (λ _ _. chain (some_or (lowest_free s) EMFILE) _ (λ n is.
+    let f = free_is s n is in
+    record { it = opened_tidy (with_file s components) n s.next_object part.Only access flags.append flags.nonblock (record { free = f.free; below = f.below }) (file_tidy s components (no_node s.paths components none) h) })))
+by_node s components (Some node) access flags h is = chain (refuse_if (flags.create && flags.exclusive) EEXIST) _ (λ _ _. by_there s node access flags h)
+
+by_open : (s : State) (path : List ℕ) (access : Access) (flags : OpenFlags) → IsTidy s → TidyBy (open_result s path access flags)
+unfolding open_result
+by_open s path access flags h = chain (refuse_if (flags.truncate && not (can_write access)) EINVAL) _ (λ _ _. chain (resolved s.paths path) _ (λ components _. by_node s components (node_at s.paths components) access flags h refl))
+
+by_close : (s : State) (descriptor : ℤ) → IsTidy s → TidyBy (close_result s descriptor)
+unfolding close_result
+by_close s descriptor h =
+    chain (described s descriptor) _ (λ found is.
+    let after = released (freed s descriptor) found.0 found.1 in
+    let tidy = closed_tidy s descriptor found (is_found s descriptor found is) h in
+    either_effect (ends_door s descriptor found) (asks_of after kind.Close 0 false (λ value bytes. reply.Done)) (Completes after reply.Done) (record { it = ((λ value bytes. tidy), tidy) }) (record { it = tidy }))
+
+by_reading : (s : State) (key : ℕ) (d : Description) (content : List ℕ → Content) (reading : Reading) → fin.get s.descriptions key ≡ Some d → IsTidy s → TidyBy (read_done s d content reading)
+by_reading s key d content (Reads bytes left) there h = record { it = content_tidy s d.object (content left) (own_used s key d there) h }
+by_reading s key d content Ends there h = record { it = h }
+by_reading s key d content NothingYet there h = either d.nonblock _ _ (record { it = tt }) (record { it = tt })
+
+by_read_content : (s : State) (key : ℕ) (d : Description) (n : ℕ) (c : Content) → fin.get s.descriptions key ≡ Some d → IsTidy s → TidyBy (read_content s key d n c)
+by_read_content s key d n (File file) there h = record { it = own_tidy s key d _ there refl h }
+by_read_content s key d n (Pipe bytes) there h = either (n == 0) _ _ (record { it = h }) (by_reading s key d Pipe _ there h)
+by_read_content s key d n (Pair p) there h = either (n == 0) _ _ (record { it = h }) (by_reading s key d _ _ there h)
+by_read_content s key d n (DoorTo x) there h = either_effect (n == 0) _ _ (record { it = h }) (record { it = ((λ value bytes. h), h) })
+
+by_read : (s : State) (descriptor count : ℤ) → IsTidy s → TidyBy (read_result s descriptor count)
+unfolding read_result
+by_read s descriptor count h =
+    chain (readable s descriptor) _ (λ found is. chain (count_of count) _ (λ n _.
+    by_read_content s found.0 found.1 n (content_of s (let d = found.1 in d.object)) (let its = readable_found s descriptor found is in its.there) h))
+
+by_writing : (s : State) (key : ℕ) (d : Description) (n : ℕ) (content : List ℕ → Content) (writing : Writing) → fin.get s.descriptions key ≡ Some d → IsTidy s → TidyBy (write_done s d n content writing)
+by_writing s key d n content (Writes left) there h = record { it = content_tidy s d.object (content left) (own_used s key d there) h }
+by_writing s key d n content Breaks there h = record { it = tt }
+by_writing s key d n content NoRoom there h = either d.nonblock _ _ (record { it = tt }) (record { it = tt })
+
+written_tidy : (s : State) (key : ℕ) (d : Description) (offset : ℕ) (c : Content) → fin.get s.descriptions key ≡ Some d → IsTidy s → IsTidy (with_content (with_offset s key d offset) d.object c)
+written_tidy s key d offset c there h =
+    let moved : Description = record d { offset = offset } in
+    content_tidy (with_offset s key d offset) d.object c (own_used (with_offset s key d offset) key moved (insert_same s.descriptions key moved)) (own_tidy s key d moved there refl h)
+
+by_write_content : (s : State) (key : ℕ) (d : Description) (bytes : List ℕ) (c : Content) → fin.get s.descriptions key ≡ Some d → IsTidy s → TidyBy (write_content s key d bytes c)
+by_write_content s key d bytes (File file) there h = chain (written file (start_of d file) bytes) _ (λ w _. record { it = written_tidy s key d (start_of d file + w.1) (File w.0) there h })
+by_write_content s key d bytes (Pipe waiting) there h = by_writing s key d _ Pipe _ there h
+by_write_content s key d bytes (Pair p) there h = by_writing s key d _ _ _ there h
+by_write_content s key d bytes (DoorTo x) there h = record { it = ((λ value sent. h), h) }
+
+by_write : (s : State) (descriptor : ℤ) (bytes : List ℕ) → IsTidy s → TidyBy (write_result s descriptor bytes)
+unfolding write_result
+by_write s descriptor bytes h =
+    chain (writable s descriptor bytes) _ (λ found is. either (length bytes == 0) _ _ (record { it = h })
+    (by_write_content s found.0 found.1 bytes (content_of s (let d = found.1 in d.object)) (let its = writable_found s descriptor bytes found is in its.there) h))
+
+by_pread : (s : State) (descriptor count position : ℤ) → IsTidy s → TidyBy (pread_result s descriptor count position)
+unfolding pread_result
+by_pread s descriptor count position h =
+    chain (described s descriptor) _ (λ found _. chain (file_in (content_of s (let d = found.1 in d.object)) ESPIPE) _ (λ _ _. chain (refuse_if (not (can_read (let d = found.1 in d.access))) EBADF) _ (λ _ _. chain (count_of count) _ (λ _ _. chain (position_of position) _ (λ _ _. record { it = h })))))
+
+by_pwrite : (s : State) (descriptor : ℤ) (bytes : List ℕ) (position : ℤ) → IsTidy s → TidyBy (pwrite_result s descriptor bytes position)
+unfolding pwrite_result
+by_pwrite s descriptor bytes position h =
+    chain (described s descriptor) _ (λ found is. let d = found.1 in
+    chain (file_in (content_of s d.object) ESPIPE) _ (λ file _. chain (refuse_if (not (can_write d.access)) EBADF) _ (λ _ _. chain (refuse_if (nat_lt limit.COUNT (length bytes)) EINVAL) _ (λ _ _. chain (position_of position) _ (λ start _.
+    either (length bytes == 0) _ _ (record { it = h }) (chain (written file start bytes) _ (λ w _. record { it = content_tidy s d.object (File w.0) (own_used s found.0 d (let its = is_found s descriptor found is in its.there)) h })))))))
+
+by_seek : (s : State) (key : ℕ) (d : Description) (offset : ℤ) (from : Whence) (c : Content) → fin.get s.descriptions key ≡ Some d → IsTidy s → TidyBy (seek_content s key d offset from c)
+by_seek s key d offset from (File file) there h = chain (offset_of (pos (base_of from d.offset (length file)) +ℤ offset)) _ (λ to _. record { it = own_tidy s key d _ there refl h })
+by_seek s key d offset from (DoorTo door.HostFile) there h = chain (host_offset offset from) _ (λ _ _. record { it = ((λ value bytes. h), h) })
+by_seek s key d offset from (DoorTo (door.Listener port)) there h = record { it = tt }
+by_seek s key d offset from (DoorTo door.Stream) there h = record { it = tt }
+by_seek s key d offset from (Pipe bytes) there h = record { it = tt }
+by_seek s key d offset from (Pair p) there h = record { it = tt }
+
+by_lseek : (s : State) (descriptor offset : ℤ) (from : Whence) → IsTidy s → TidyBy (lseek_result s descriptor offset from)
+unfolding lseek_result
+by_lseek s descriptor offset from h = chain (described s descriptor) _ (λ found is. by_seek s found.0 found.1 offset from (content_of s (let d = found.1 in d.object)) (let its = is_found s descriptor found is in its.there) h)
+
+by_ftruncate : (s : State) (descriptor size : ℤ) → IsTidy s → TidyBy (ftruncate_result s descriptor size)
+unfolding ftruncate_result
+by_ftruncate s descriptor size h =
+    chain (described s descriptor) _ (λ found is. let d = found.1 in
+    chain (refuse_if (not (can_write d.access)) EINVAL) _ (λ _ _. chain (file_in (content_of s d.object) EINVAL) _ (λ file _. chain (size_of size) _ (λ n _.
+    record { it = content_tidy s d.object (File (resized file n)) (own_used s found.0 d (let its = is_found s descriptor found is in its.there)) h }))))
+
+by_fstat : (s : State) (descriptor : ℤ) → IsTidy s → TidyBy (fstat_result s descriptor)
+unfolding fstat_result
+by_fstat s descriptor h = chain (described s descriptor) _ (λ _ _. record { it = h })
+
+-- one more descriptor of a description, at a number that is free
+free_shared : (s : State) (n key : ℕ) → fin.get s.descriptors n ≡ None → IsTidy s → IsTidy (shared s n key)
+free_shared s n key free h = shared_tidy s n key (λ other d there at. none-some other (sym free ∙ at)) h
+
+by_dup : (s : State) (descriptor : ℤ) → IsTidy s → TidyBy (dup_result s descriptor)
+unfolding dup_result
+by_dup s descriptor h =
+    chain (described s descriptor) _ (λ found _. chain (some_or (lowest_free s) EMFILE) _ (λ n is.
+    record { it = free_shared s n found.0 (let f = free_is s n is in f.free) h }))
+
+by_dup_from : (s : State) (descriptor least : ℤ) → IsTidy s → TidyBy (dup_from_result s descriptor least)
+unfolding dup_from_result
+by_dup_from s descriptor least h =
+    chain (described s descriptor) _ (λ found _. chain (descriptor_number least EINVAL) _ (λ first _. chain (some_or (lowest_from s (limit.DESCRIPTORS - first) first) EMFILE) _ (λ n is.
+    record { it = free_shared s n found.0 (let f = lowest_is s (limit.DESCRIPTORS - first) first n (some_gave (lowest_from s (limit.DESCRIPTORS - first) first) EMFILE n is) in f.free) h })))
+
+by_dup2 : (s : State) (descriptor target : ℤ) → IsTidy s → TidyBy (dup2_result s descriptor target)
+unfolding dup2_result
+by_dup2 s descriptor target h =
+    chain (described s descriptor) _ (λ found _. chain (descriptor_number target EBADF) _ (λ n is. chain (refuse_if (not (int_eq descriptor target) && ends_a_door s target (described s target)) EBUSY) _ (λ _ _.
+    record { it = either_state (int_eq descriptor target) s (shared (closed s target (described s target)) n found.0) h (subst (λ (to : ℤ). IsTidy (shared (closed s to (described s to)) n found.0)) (sym (number_is target EBADF n is)) (target_tidy s n found.0 h)) })))
+
+by_getfl : (s : State) (descriptor : ℤ) → IsTidy s → TidyBy (getfl_result s descriptor)
+unfolding getfl_result
+by_getfl s descriptor h = chain (described s descriptor) _ (λ _ _. record { it = h })
+
+by_setfl : (s : State) (descriptor : ℤ) (append nonblock : Bool) → IsTidy s → TidyBy (setfl_result s descriptor append nonblock)
+unfolding setfl_result
+by_setfl s descriptor append nonblock h =
+    chain (described s descriptor) _ (λ found is.
+    record { it = own_tidy s found.0 found.1 (record found.1 { append = append; nonblock = nonblock }) (let its = is_found s descriptor found is in its.there) refl h })
+
+by_link : (s : State) (old_path new_path : List ℕ) → IsTidy s → TidyBy (link_result s old_path new_path)
+unfolding link_result
+by_link s old_path new_path h = chain (file_named s.paths old_path) _ (λ object _. chain (added s.paths new_path (FileNode object)) _ (λ paths is. record { it = paths_tidy s paths (added_keeps s.paths new_path (FileNode object) paths is) h }))
+
+by_unlink : (s : State) (path : List ℕ) → IsTidy s → TidyBy (unlink_result s path)
+unfolding unlink_result
+by_unlink s path h = chain (removed s.paths path) _ (λ without is. record { it = unused_tidy (with_paths s without.0) without.1 (unnamed_tidy s without.0 without.1 (removed_keeps s.paths path without is) h) })
+
+by_mkdir : (s : State) (path : List ℕ) → IsTidy s → TidyBy (mkdir_result s path)
+unfolding mkdir_result
+by_mkdir s path h = chain (added s.paths path Directory) _ (λ paths is. record { it = paths_tidy s paths (added_keeps s.paths path Directory paths is) h })
+
+by_rmdir : (s : State) (path : List ℕ) → IsTidy s → TidyBy (rmdir_result s path)
+unfolding rmdir_result
+by_rmdir s path h = chain (removed_dir s.paths path) _ (λ paths is. record { it = paths_tidy s paths (dir_keeps s.paths path paths is) h })
+
+ends_tidy : (s : State) (c : Content) (numbers : ℕ × ℕ) (one other : NewEnd) → AreFree s numbers → IsTidy s
+    → IsTidy (opened (opened (with_object s c) numbers.0 s.next_object one.which one.access false false) numbers.1 s.next_object other.which other.access false false)
+ends_tidy s c numbers one other free h =
+    let first = free.first in
+    let second = free.second in
+    let between : State = opened (with_object s c) numbers.0 s.next_object one.which one.access false false in
+    let tidy = opened_tidy (with_object s c) numbers.0 s.next_object one.which one.access false false (record { free = first.free; below = first.below }) (object_tidy s c h) in
+    opened_tidy between numbers.1 s.next_object other.which other.access false false
+    (record { free = insert_other s.descriptors numbers.0 s.next_description numbers.1 free.apart ∙ second.free; below = second.below })
+    (but_one between s.next_object tidy)
+
+by_two_ends : (s : State) (c : Content) (one other : NewEnd) → IsTidy s → TidyBy (two_ends s c one other)
+by_two_ends s c one other h =
+    chain (two_numbers s) _ (λ numbers is. chain (refuse_if (nat_le limit.OBJECTS (fin.len s.objects)) ENFILE) _ (λ _ _.
+    record { it = ends_tidy s c numbers one other (two_free s numbers is) h }))
+
+by_pipe : (s : State) → IsTidy s → TidyBy (pipe_result s)
+unfolding pipe_result
+by_pipe s h = by_two_ends s (Pipe []) _ _ h
+
+by_socketpair : (s : State) → IsTidy s → TidyBy (socketpair_result s)
+unfolding socketpair_result
+by_socketpair s h = by_two_ends s (Pair new_pair) _ _ h
+
+by_shut : (s : State) (key : ℕ) (d : Description) (how : ShutdownHow) (c : Content) → fin.get s.descriptions key ≡ Some d → IsTidy s → TidyBy (Ok (shut_content s d how c))
+by_shut s key d how (Pair p) there h = record { it = content_tidy s d.object _ (own_used s key d there) h }
+by_shut s key d how (File bytes) there h = record { it = ((λ value bytes. h), h) }
+by_shut s key d how (Pipe bytes) there h = record { it = ((λ value bytes. h), h) }
+by_shut s key d how (DoorTo x) there h = record { it = ((λ value bytes. h), h) }
+
+by_shutdown : (s : State) (descriptor : ℤ) (how : ShutdownHow) → IsTidy s → TidyBy (shutdown_result s descriptor how)
+unfolding shutdown_result
+by_shutdown s descriptor how h = chain (described s descriptor) _ (λ found is. let d = found.1 in chain (shuttable (content_of s d.object)) _ (λ _ _. by_shut s found.0 d how (content_of s d.object) (let its = is_found s descriptor found is in its.there) h))
+
+by_opens : (s : State) (o : NewDoor) → IsTidy s → TidyBy (opens s o)
+by_opens s o h =
+    chain (some_or (lowest_free s) EMFILE) _ (λ n is. chain (refuse_if (nat_le limit.OBJECTS (fin.len s.objects)) ENFILE) _ (λ _ _.
+    let f = free_is s n is in
+    record { it = ((λ value bytes. opened_tidy (with_object s (DoorTo (o.door value))) n s.next_object (part.Door (o.door value)) o.access o.append false (record { free = f.free; below = f.below }) (object_tidy s (DoorTo (o.door value)) h)), h) }))
+
+by_host_open : (s : State) (path : List ℕ) (access : Access) (flags : OpenFlags) → IsTidy s → TidyBy (host_open_result s path access flags)
+unfolding host_open_result
+by_host_open s path access flags h = chain (refuse_if (flags.truncate && not (can_write access)) EINVAL) _ (λ _ _. chain (host_path path) _ (λ _ _. by_opens s _ h))
+
+by_listen : (s : State) (port : ℤ) → IsTidy s → TidyBy (tcp_listen_result s port)
+unfolding tcp_listen_result
+by_listen s port h = chain (port_of 0 port) _ (λ _ _. by_opens s _ h)
+
+by_connect : (s : State) (port : ℤ) → IsTidy s → TidyBy (tcp_connect_result s port)
+unfolding tcp_connect_result
+by_connect s port h = chain (port_of 1 port) _ (λ _ _. by_opens s _ h)
+
+by_accept : (s : State) (descriptor : ℤ) → IsTidy s → TidyBy (tcp_accept_result s descriptor)
+unfolding tcp_accept_result
+by_accept s descriptor h = chain (described s descriptor) _ (λ found _. chain (listener_in (content_of s (let d = found.1 in d.object))) _ (λ _ _. by_opens s _ h))
+
+by_call : (s : State) (c : Call) (carried : Carried) → IsTidy s → TidyBy (effect_of s c carried)
+by_call s (call.Open path access flags) carried h = by_open s path access flags h
+by_call s (call.Close descriptor) carried h = by_close s descriptor h
+by_call s (call.Read descriptor count) carried h = by_read s descriptor count h
+by_call s (call.Write descriptor bytes) carried h = by_write s descriptor bytes h
+by_call s (call.Pread descriptor count position) carried h = by_pread s descriptor count position h
+by_call s (call.Pwrite descriptor bytes position) carried h = by_pwrite s descriptor bytes position h
+by_call s (call.Lseek descriptor offset from) carried h = by_lseek s descriptor offset from h
+by_call s (call.Ftruncate descriptor size) carried h = by_ftruncate s descriptor size h
+by_call s (call.Fstat descriptor) carried h = by_fstat s descriptor h
+by_call s (call.Dup descriptor) carried h = by_dup s descriptor h
+by_call s (call.DupFrom descriptor least) carried h = by_dup_from s descriptor least h
+by_call s (call.Dup2 descriptor target) carried h = by_dup2 s descriptor target h
+by_call s (call.Getfl descriptor) carried h = by_getfl s descriptor h
+by_call s (call.Setfl descriptor append nonblock) carried h = by_setfl s descriptor append nonblock h
+by_call s (call.Link old_path new_path) carried h = by_link s old_path new_path h
+by_call s (call.Unlink path) carried h = by_unlink s path h
+by_call s (call.Mkdir path) carried h = by_mkdir s path h
+by_call s (call.Rmdir path) carried h = by_rmdir s path h
+by_call s call.Pipe carried h = by_pipe s h
+by_call s call.Socketpair carried h = by_socketpair s h
+by_call s (call.Shutdown descriptor how) carried h = by_shutdown s descriptor how h
+by_call s (call.HostOpen path access flags) carried h = by_host_open s path access flags h
+by_call s (call.TcpListen port) carried h = by_listen s port h
+by_call s (call.TcpConnect port) carried h = by_connect s port h
+by_call s (call.TcpAccept descriptor) carried h = by_accept s descriptor h
+
+-- ## The step
+
+by_step : (settings : Settings) (s : State) (outcome : Option Outcome) (carried : Carried) (r : Result Effect Errno) → IsTidy s → TidyBy r → IsTidy (concluded settings s outcome carried r).after
+by_step settings s outcome carried (Ok (Completes after x)) tidy h = h.it
+by_step settings s outcome carried (Ok Blocks) tidy h = subst IsTidy (sym (waited_alone settings s carried)) tidy
+by_step settings s (Some (out.Ok value bytes)) carried (Ok (Asks a)) tidy h = h.it.0 value bytes
+by_step settings s (Some (out.Fail e)) carried (Ok (Asks a)) tidy h = by_test (a.waits && is_again e) h.it.1
+  where
+    by_test : (b : Bool) → IsTidy a.otherwise → IsTidy (if b then waited settings s carried else failed a.otherwise e).after
+    by_test true otherwise = subst IsTidy (sym (waited_alone settings s carried)) tidy
+    by_test false otherwise = otherwise
+by_step settings s None carried (Ok (Asks a)) tidy h = h.it.1
+by_step settings s outcome carried (Err e) tidy h = tidy
+
+pub steps_keep_tidy : (settings : Settings) (s : State) (c : Call) (outcome : Option Outcome) (carried : Carried) → HoldsNothingUnused s → HoldsNothingUnused (step settings s c outcome carried).after
+steps_keep_tidy settings s c outcome carried h =
+    let tidy = tidy_of s h in
+    nothing_unused (step settings s c outcome carried).after (by_step settings s outcome carried (effect_of s c carried) tidy (by_call s c carried tidy))

@@ -1,0 +1,5 @@
+use Rattle.sequential_object.proofs.Refused.{fail_leaves_state}
+use Rattle.sequential_object.proofs.laws.failed_calls_change_nothing.Goals as goal
+
+pub returns : goal.returns
+returns c = fail_leaves_state

@@ -1,0 +1,126 @@
+-- Believed: a contract of the headline stands on it.
+-- What one call, taken alone, answers and leaves.
+use Rattle.std.specs.Prelude.{◌≡◌, ℕ, ◌+◌, Bool, true, false, ◌&&◌, Result, Ok, Err, Option, Some, None, is_some, if◌then◌else◌, nat_lt}
+use Rattle.sequential_object.specs.Descriptors.{open_result, close_result}
+use Rattle.sequential_object.specs.Duplicates.{dup_result, dup_from_result, dup2_result}
+use Rattle.sequential_object.specs.Doors.{host_open_result, tcp_accept_result, tcp_connect_result, tcp_listen_result}
+use Rattle.sequential_object.specs.Effects.{Effect, Asking, Asks, Blocks, Completes}
+use Rattle.sequential_object.specs.Names.{link_result, unlink_result, mkdir_result, rmdir_result}
+use Rattle.sequential_object.specs.Object.{State}
+use Rattle.sequential_object.specs.Sockets.{pipe_result, socketpair_result, shutdown_result}
+use Rattle.sequential_object.specs.Status.{fstat_result, getfl_result, setfl_result}
+use Rattle.sequential_object.specs.Transfers.{read_result, write_result, pread_result, pwrite_result, lseek_result, ftruncate_result}
+use Rattle.posix_terms.specs.declared.call.Call.{Call}
+use Rattle.posix_terms.specs.declared.call.Call.TheVariants as call
+use Rattle.posix_terms.specs.declared.errno.Errno.{Errno}
+use Rattle.posix_terms.specs.declared.errno.Errno.TheVariants.{EAGAIN, EINTR, EIO}
+use Rattle.posix_terms.specs.declared.outcome.Outcome.{Outcome}
+use Rattle.posix_terms.specs.declared.outcome.Outcome.TheVariants as outcome
+use Rattle.posix_terms.specs.declared.request.Request.{Request}
+use Rattle.posix_terms.specs.declared.reply.Answer.{Answer}
+use Rattle.posix_terms.specs.declared.reply.Answer.TheVariants as answer
+use Rattle.posix_terms.specs.declared.reply.Reply.TheVariants as reply
+use Rattle.posix_terms.specs.declared.transcript.Settings.{Settings}
+
+-- what a blocked call hands on to its next turn: the number of its turns so far
+abbrev pub Carried : Type 0
+Carried = ℕ
+
+-- a call at its first turn
+abbrev pub nothing_carried : Carried
+nothing_carried = 0
+
+-- what a call does, by the rows of the call table
+abbrev pub effect_of : State → Call → Carried → Result Effect Errno
+effect_of s (call.Open path access flags) carried = open_result s path access flags
+effect_of s (call.Close descriptor) carried = close_result s descriptor
+effect_of s (call.Read descriptor count) carried = read_result s descriptor count
+effect_of s (call.Write descriptor bytes) carried = write_result s descriptor bytes
+effect_of s (call.Pread descriptor count position) carried = pread_result s descriptor count position
+effect_of s (call.Pwrite descriptor bytes position) carried = pwrite_result s descriptor bytes position
+effect_of s (call.Lseek descriptor offset whence) carried = lseek_result s descriptor offset whence
+effect_of s (call.Ftruncate descriptor size) carried = ftruncate_result s descriptor size
+effect_of s (call.Fstat descriptor) carried = fstat_result s descriptor
+effect_of s (call.Dup descriptor) carried = dup_result s descriptor
+effect_of s (call.DupFrom descriptor least) carried = dup_from_result s descriptor least
+effect_of s (call.Dup2 descriptor target) carried = dup2_result s descriptor target
+effect_of s (call.Getfl descriptor) carried = getfl_result s descriptor
+effect_of s (call.Setfl descriptor append nonblock) carried = setfl_result s descriptor append nonblock
+effect_of s (call.Link old_path new_path) carried = link_result s old_path new_path
+effect_of s (call.Unlink path) carried = unlink_result s path
+effect_of s (call.Mkdir path) carried = mkdir_result s path
+effect_of s (call.Rmdir path) carried = rmdir_result s path
+effect_of s call.Pipe carried = pipe_result s
+effect_of s call.Socketpair carried = socketpair_result s
+effect_of s (call.Shutdown descriptor how) carried = shutdown_result s descriptor how
+effect_of s (call.HostOpen path access flags) carried = host_open_result s path access flags
+effect_of s (call.TcpListen port) carried = tcp_listen_result s port
+effect_of s (call.TcpConnect port) carried = tcp_connect_result s port
+effect_of s (call.TcpAccept descriptor) carried = tcp_accept_result s descriptor
+
+-- what a call asks of the outside, if it goes there
+abbrev pub request_of : Call → Result Effect Errno → Option Request
+request_of c (Ok (Asks a)) = Some (record { kind = a.kind; asked = a.asked; call = c })
+request_of c effect = None
+
+abbrev pub asks : State → Call → Carried → Option Request
+asks s c carried = request_of c (effect_of s c carried)
+
+-- the state after a turn of a call, how it was answered, and what the thread's next call turn carries
+pub record Stepped : Type 0 where
+  pub after : State
+  pub answer : Answer
+  pub carried : Carried
+
+-- a call that was blocked for so many turns before is blocked again: it is made anew at a later turn, until its patience is at its end
+abbrev pub waited : Settings → State → Carried → Stepped
+waited settings s carried =
+    if nat_lt (carried + 1) settings.patience
+    then record { after = s; answer = answer.Again; carried = carried + 1 }
+    else record { after = s; answer = answer.Reply (reply.Fail EINTR); carried = nothing_carried }
+
+abbrev pub is_again : Errno → Bool
+is_again EAGAIN = true
+is_again e = false
+
+-- a call that failed, and leaves this state
+abbrev pub failed : State → Errno → Stepped
+failed after e = record { after = after; answer = answer.Reply (reply.Fail e); carried = nothing_carried }
+
+-- how a call went on outside. EAGAIN may make it wait, and every other failure is its reply. An outcome that is still missing leaves what a
+-- failure leaves; until it comes, the answer says nothing
+abbrev pub outside : Settings → State → Asking → Option Outcome → Carried → Stepped
+outside settings s a (Some (outcome.Ok value bytes)) carried =
+    record { after = (a.succeeds value bytes).0; answer = answer.Reply (a.succeeds value bytes).1; carried = nothing_carried }
+outside settings s a (Some (outcome.Fail e)) carried = if a.waits && is_again e then waited settings s carried else failed a.otherwise e
+outside settings s a None carried = failed a.otherwise EIO
+
+-- The outcome is that of the request which the call makes of the outside
+abbrev pub concluded : Settings → State → Option Outcome → Carried → Result Effect Errno → Stepped
+concluded settings s outcome carried (Ok (Completes after r)) = record { after = after; answer = answer.Reply r; carried = nothing_carried }
+concluded settings s outcome carried (Ok Blocks) = waited settings s carried
+concluded settings s outcome carried (Ok (Asks a)) = outside settings s a outcome carried
+concluded settings s outcome carried (Err e) = failed s e
+
+abbrev pub step : Settings → State → Call → Option Outcome → Carried → Stepped
+step settings s c outcome carried = concluded settings s outcome carried (effect_of s c carried)
+
+-- a call that is blocked leaves the state as it was
+abbrev pub AgainChangesNothing : Type 0
+AgainChangesNothing =
+    (settings : Settings) (s : State) (c : Call) (outcome : Option Outcome) (carried : Carried)
+    → (step settings s c outcome carried).answer ≡ answer.Again
+    → (step settings s c outcome carried).after ≡ s
+
+-- a `close` that goes outside: its descriptor was the last of a door
+abbrev pub closes_door : State → Call → Carried → Bool
+closes_door s (call.Close descriptor) carried = is_some (asks s (call.Close descriptor) carried)
+closes_door s c carried = false
+
+-- any other call that fails leaves the state as it was
+abbrev pub FailChangesNothing : Type 0
+FailChangesNothing =
+    (settings : Settings) (s : State) (c : Call) (outcome : Option Outcome) (carried : Carried) (e : Errno)
+    → closes_door s c carried ≡ false
+    → (step settings s c outcome carried).answer ≡ answer.Reply (reply.Fail e)
+    → (step settings s c outcome carried).after ≡ s

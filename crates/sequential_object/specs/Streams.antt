@@ -1,0 +1,87 @@
+-- Believed: a contract of the headline stands on it.
+-- Streams of bytes in memory: what is in a pipe, and what goes each way between the two sockets of a pair.
+-- POSIX.1-2017, System Interfaces: `read`, `write`, `shutdown`. No write is longer than a stream holds, so each moves all of its bytes or none.
+use Rattle.std.specs.Prelude.{ℕ, ◌+◌, List, [], ◌++◌, length, take, drop, Bool, true, false, not, ◌&&◌, ◌==◌, nat_le, if◌then◌else◌}
+use Rattle.posix_terms.specs.declared.call.ShutdownHow.{ShutdownHow}
+use Rattle.posix_terms.specs.declared.call.ShutdownHow.TheVariants as how
+use Rattle.posix_terms.specs.declared.limits.TheConstants.Limits as limit
+use Rattle.posix_terms.specs.Ends.{peer_of}
+use Rattle.posix_terms.specs.declared.object.Side.{Side}
+use Rattle.posix_terms.specs.declared.object.Side.TheVariants.{Side0, Side1}
+
+-- ## One stream
+
+-- a read has these bytes and leaves those; or there are none and none will come; or there are none yet
+pub data Reading : Type 0 where
+  Reads : (bytes left : List ℕ) → Reading
+  Ends : Reading
+  NothingYet : Reading
+
+-- what waits longest is read first
+abbrev pub stream_read : List ℕ → ℕ → Bool → Reading
+stream_read waiting count more_to_come =
+    if length waiting == 0 then (if more_to_come then NothingYet else Ends) else
+    Reads (take count waiting) (drop count waiting)
+
+-- a write leaves these bytes; or nobody will read them; or there is no room yet
+pub data Writing : Type 0 where
+  Writes : (left : List ℕ) → Writing
+  Breaks : Writing
+  NoRoom : Writing
+
+-- the bytes go behind those that wait, all of them or none
+abbrev pub stream_write : List ℕ → List ℕ → Bool → Writing
+stream_write waiting bytes readers =
+    if not readers then Breaks else
+    if nat_le (length waiting + length bytes) limit.PIPE_BYTES then Writes (waiting ++ bytes) else NoRoom
+
+-- ## A pair of sockets
+
+-- one socket: the bytes that wait for it, and whether its reading and its writing are shut
+pub record Half : Type 0 where
+  pub waiting : List ℕ
+  pub reading_shut : Bool
+  pub writing_shut : Bool
+
+pub record PairState : Type 0 where
+  pub side0 : Half
+  pub side1 : Half
+
+abbrev pub new_half : Half
+new_half = record { waiting = []; reading_shut = false; writing_shut = false }
+
+abbrev pub new_pair : PairState
+new_pair = record { side0 = new_half; side1 = new_half }
+
+abbrev pub half_at : PairState → Side → Half
+half_at p Side0 = p.side0
+half_at p Side1 = p.side1
+
+abbrev pub with_half : PairState → Side → Half → PairState
+with_half p Side0 half = record p { side0 = half }
+with_half p Side1 half = record p { side1 = half }
+
+-- these bytes wait for a side
+abbrev pub with_waiting : PairState → Side → List ℕ → PairState
+with_waiting p side bytes = with_half p side (record (half_at p side) { waiting = bytes })
+
+-- a read at a side, whose peer is open or not
+abbrev pub pair_read : PairState → Side → ℕ → Bool → Reading
+pair_read p side count peer_open =
+    let own = half_at p side in
+    if own.reading_shut then Ends else stream_read own.waiting count (peer_open && not (half_at p (peer_of side)).writing_shut)
+
+-- a write at a side, which goes to the peer
+abbrev pub pair_write : PairState → Side → List ℕ → Bool → Writing
+pair_write p side bytes peer_open =
+    let peer = half_at p (peer_of side) in
+    stream_write peer.waiting bytes (peer_open && (not (half_at p side).writing_shut && not peer.reading_shut))
+
+-- the bytes that wait where reading is shut are dropped
+abbrev pub half_shut : Half → ShutdownHow → Half
+half_shut half how.Read = record half { waiting = []; reading_shut = true }
+half_shut half how.Write = record half { writing_shut = true }
+half_shut half how.Both = record { waiting = []; reading_shut = true; writing_shut = true }
+
+abbrev pub shut : PairState → Side → ShutdownHow → PairState
+shut p side how = with_half p side (half_shut (half_at p side) how)

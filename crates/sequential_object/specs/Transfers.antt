@@ -1,0 +1,191 @@
+-- Believed: a contract of the headline stands on it.
+-- Reading, writing, moving the offset and cutting.
+-- POSIX.1-2017, System Interfaces: `read`, `pread`, `write`, `pwrite`, `lseek`, `ftruncate`.
+use Rattle.std.specs.Prelude.{ℕ, ◌+◌, ◌^◌, ℤ, pos, negsuc, ◌+ℤ◌, Bool, false, List, [], length, not, ◌==◌, nat_lt, Result, Ok, Err, if◌then◌else◌}
+use Rattle.std.specs.FinMap as map
+use Rattle.posix_terms.specs.Calls.{can_read, can_write}
+use Rattle.sequential_object.specs.Descriptors.{described, has_end}
+use Rattle.sequential_object.specs.Effects.{Effect, Completes, Blocks, asks_of}
+use Rattle.posix_terms.specs.Ends.{side_of, peer_of}
+use Rattle.sequential_object.specs.Files.{bytes_at, resized, written}
+use Rattle.sequential_object.specs.Object.{State, Description, Content, File, Pipe, Pair, DoorTo, content_of, with_content}
+use Rattle.sequential_object.specs.Refusals.{◌>>=◌, refuse_if, count_of, position_of}
+use Rattle.sequential_object.specs.Streams.{Reading, Reads, Ends, NothingYet, Writing, Writes, Breaks, NoRoom, pair_read, pair_write, stream_read, stream_write, with_waiting}
+use Rattle.posix_terms.specs.declared.call.Whence.{Whence}
+use Rattle.posix_terms.specs.declared.call.Whence.TheVariants as whence
+use Rattle.posix_terms.specs.declared.errno.Errno.{Errno}
+use Rattle.posix_terms.specs.declared.errno.Errno.TheVariants.{EAGAIN, EBADF, EINVAL, EOVERFLOW, EPIPE, ESPIPE, EFBIG}
+use Rattle.posix_terms.specs.declared.limits.TheConstants.Limits as limit
+use Rattle.posix_terms.specs.declared.object.End.TheVariants as part
+use Rattle.posix_terms.specs.declared.outcome.OutKind.TheVariants as kind
+use Rattle.posix_terms.specs.declared.object.Side.{Side}
+use Rattle.posix_terms.specs.declared.reply.Reply.TheVariants as reply
+use Rattle.posix_terms.specs.declared.object.Door.TheVariants as door
+
+abbrev pub with_offset : State → ℕ → Description → ℕ → State
+with_offset s key d offset = record s { descriptions = map.insert s.descriptions key (record d { offset = offset }) }
+
+-- a call that cannot go on: O_NONBLOCK decides whether it waits
+abbrev pub blocked : Description → Result Effect Errno
+blocked d = if d.nonblock then Err EAGAIN else Ok Blocks
+
+-- a read of a stream, which leaves its object with this content
+abbrev pub read_done : State → Description → (List ℕ → Content) → Reading → Result Effect Errno
+read_done s d content (Reads bytes left) = Ok (Completes (with_content s d.object (content left)) (reply.Data bytes))
+read_done s d content Ends = Ok (Completes s (reply.Data []))
+read_done s d content NothingYet = blocked d
+
+-- a read of no bytes of a stream does nothing
+abbrev pub read_stream : State → Description → ℕ → (List ℕ → Content) → Reading → Result Effect Errno
+read_stream s d count content reading = if count == 0 then Ok (Completes s (reply.Data [])) else read_done s d content reading
+
+-- whether the peer of a socket is open
+abbrev pub has_peer : State → ℕ → Side → Bool
+has_peer s object side = has_end s object (part.Socket (peer_of side))
+
+abbrev pub read_content : State → ℕ → Description → ℕ → Content → Result Effect Errno
+read_content s key d count (File file) =
+    let bytes = bytes_at file d.offset count in
+    Ok (Completes (with_offset s key d (d.offset + length bytes)) (reply.Data bytes))
+read_content s key d count (Pipe bytes) = read_stream s d count Pipe (stream_read bytes count (has_end s d.object part.Write))
+read_content s key d count (Pair p) =
+    let side = side_of d.«end» in
+    read_stream s d count (λ left. Pair (with_waiting p side left)) (pair_read p side count (has_peer s d.object side))
+read_content s key d count door =
+    Ok (if count == 0 then Completes s (reply.Data []) else asks_of s kind.Read count (not d.nonblock) (λ value bytes. reply.Data bytes))
+
+-- a listener takes part in no transfer
+abbrev pub not_listener : Content → Result (Unit {0}) Errno
+not_listener (DoorTo (door.Listener port)) = Err EINVAL
+not_listener c = Ok tt
+
+-- the description of a descriptor that is open for reading
+abbrev pub readable : State → ℤ → Result (ℕ × Description) Errno
+readable s descriptor = do
+  found ← described s descriptor
+  _ ← not_listener (content_of s found.1.object)
+  _ ← refuse_if (not (can_read found.1.access)) EBADF
+  Ok found
+
+-- `read`
+unfoldable pub read_result : State → ℤ → ℤ → Result Effect Errno
+read_result s descriptor count = do
+  found ← readable s descriptor
+  n ← count_of count
+  read_content s found.0 found.1 n (content_of s found.1.object)
+
+-- where a write starts: with O_APPEND at the end
+abbrev pub start_of : Description → List ℕ → ℕ
+start_of d file = if d.append then length file else d.offset
+
+-- a write of so many bytes to a stream, which leaves its object with this content
+abbrev pub write_done : State → Description → ℕ → (List ℕ → Content) → Writing → Result Effect Errno
+write_done s d count content (Writes left) = Ok (Completes (with_content s d.object (content left)) (reply.Count count))
+write_done s d count content Breaks = Err EPIPE
+write_done s d count content NoRoom = blocked d
+
+abbrev pub write_content : State → ℕ → Description → List ℕ → Content → Result Effect Errno
+write_content s key d bytes (File file) = do
+  w ← written file (start_of d file) bytes
+  Ok (Completes (with_content (with_offset s key d (start_of d file + w.1)) d.object (File w.0)) (reply.Count w.1))
+write_content s key d bytes (Pipe waiting) = write_done s d (length bytes) Pipe (stream_write waiting bytes (has_end s d.object part.Read))
+write_content s key d bytes (Pair p) =
+    let side = side_of d.«end» in
+    write_done s d (length bytes) (λ left. Pair (with_waiting p (peer_of side) left)) (pair_write p side bytes (has_peer s d.object side))
+write_content s key d bytes door = Ok (asks_of s kind.Write (length bytes) (not d.nonblock) (λ value sent. reply.Count value))
+
+-- the description of a descriptor that is open for writing, where a call can write these bytes
+abbrev pub writable : State → ℤ → List ℕ → Result (ℕ × Description) Errno
+writable s descriptor bytes = do
+  found ← described s descriptor
+  _ ← not_listener (content_of s found.1.object)
+  _ ← refuse_if (not (can_write found.1.access)) EBADF
+  _ ← refuse_if (nat_lt limit.COUNT (length bytes)) EINVAL
+  Ok found
+
+-- `write`; of no bytes it does nothing, and with O_APPEND too leaves the offset
+unfoldable pub write_result : State → ℤ → List ℕ → Result Effect Errno
+write_result s descriptor bytes = do
+  found ← writable s descriptor bytes
+  if length bytes == 0 then Ok (Completes s (reply.Count 0)) else write_content s found.0 found.1 bytes (content_of s found.1.object)
+
+-- an offset is a number below 2^63
+abbrev pub offset_of : ℤ → Result ℕ Errno
+offset_of (pos n) = if nat_lt n (2 ^ 63) then Ok n else Err EOVERFLOW
+offset_of (negsuc n) = Err EINVAL
+
+abbrev pub base_of : Whence → ℕ → ℕ → ℕ
+base_of whence.Set offset size = 0
+base_of whence.Current offset size = offset
+base_of whence.End offset size = size
+
+-- from the start, an offset in a file of the host is not negative
+abbrev pub host_offset : ℤ → Whence → Result (Unit {0}) Errno
+host_offset (negsuc n) whence.Set = Err EINVAL
+host_offset offset from = Ok tt
+
+-- an object with an offset
+abbrev pub seekable : Content → ℤ → Whence → Result (Unit {0}) Errno
+seekable (File file) offset from = Ok tt
+seekable (DoorTo door.HostFile) offset from = host_offset offset from
+seekable c offset from = Err ESPIPE
+
+abbrev pub seek_content : State → ℕ → Description → ℤ → Whence → Content → Result Effect Errno
+seek_content s key d offset from (File file) = do
+  to ← offset_of (pos (base_of from d.offset (length file)) +ℤ offset)
+  Ok (Completes (with_offset s key d to) (reply.Number (pos to)))
+seek_content s key d offset from (DoorTo door.HostFile) = do
+  _ ← host_offset offset from
+  Ok (asks_of s kind.Seek 0 false (λ value bytes. reply.Number (pos value)))
+seek_content s key d offset from c = Err ESPIPE
+
+-- `lseek`
+unfoldable pub lseek_result : State → ℤ → ℤ → Whence → Result Effect Errno
+lseek_result s descriptor offset from = do
+  found ← described s descriptor
+  seek_content s found.0 found.1 offset from (content_of s found.1.object)
+
+-- the bytes of a regular file; another object is refused
+abbrev pub file_in : Content → Errno → Result (List ℕ) Errno
+file_in (File file) e = Ok file
+file_in c e = Err e
+
+-- `pread`: the offset stays
+unfoldable pub pread_result : State → ℤ → ℤ → ℤ → Result Effect Errno
+pread_result s descriptor count position = do
+  found ← described s descriptor
+  file ← file_in (content_of s found.1.object) ESPIPE
+  _ ← refuse_if (not (can_read found.1.access)) EBADF
+  n ← count_of count
+  start ← position_of position
+  Ok (Completes s (reply.Data (bytes_at file start n)))
+
+-- a write at a position, which is no matter of the offset or of O_APPEND
+abbrev pub write_at : State → ℕ → List ℕ → ℕ → List ℕ → Result Effect Errno
+write_at s object file start bytes = do
+  w ← written file start bytes
+  Ok (Completes (with_content s object (File w.0)) (reply.Count w.1))
+
+-- `pwrite`; of no bytes it does nothing
+unfoldable pub pwrite_result : State → ℤ → List ℕ → ℤ → Result Effect Errno
+pwrite_result s descriptor bytes position = do
+  found ← described s descriptor
+  file ← file_in (content_of s found.1.object) ESPIPE
+  _ ← refuse_if (not (can_write found.1.access)) EBADF
+  _ ← refuse_if (nat_lt limit.COUNT (length bytes)) EINVAL
+  start ← position_of position
+  if length bytes == 0 then Ok (Completes s (reply.Count 0)) else write_at s found.1.object file start bytes
+
+-- a length that a file can have
+abbrev pub size_of : ℤ → Result ℕ Errno
+size_of (pos n) = if nat_lt limit.FILE_BYTES n then Err EFBIG else Ok n
+size_of (negsuc n) = Err EINVAL
+
+-- `ftruncate`; the offset stays
+unfoldable pub ftruncate_result : State → ℤ → ℤ → Result Effect Errno
+ftruncate_result s descriptor size = do
+  found ← described s descriptor
+  _ ← refuse_if (not (can_write found.1.access)) EINVAL
+  file ← file_in (content_of s found.1.object) EINVAL
+  n ← size_of size
+  Ok (Completes (with_content s found.1.object (File (resized file n))) reply.Done)

@@ -1,0 +1,33 @@
+ghost use Rattle.sequential_object.specs.Locked.{KeepsOutside, LeavesAlike, OutsideLocks};
+ghost use Rattle.sequential_object.specs.Step.{AgainChangesNothing, FailChangesNothing};
+ghost use Rattle.sequential_object.specs.Unused.{EndsAreOpen, StartsTidy, StepsKeepTidy};
+
+/// A law of the sequential object: a call that fails leaves the state as it was, but for a `close` of a door's
+/// last descriptor.
+pub fn failed_calls_change_nothing()
+    ensures { FailChangesNothing }
+{}
+
+/// And so does a turn of a call that is blocked.
+pub fn blocked_calls_change_nothing()
+    ensures { AgainChangesNothing }
+{}
+
+/// A call that goes outside takes the lock of a door, or of the one that it would open (`locks`). The calls that
+/// open one keep the table where they go outside, and no others (`keeps`); so what a call leaves that frees the
+/// table before it goes is the same whatever its outcome (`leaves`).
+pub fn calls_outside()
+    ensures locks { OutsideLocks }
+    ensures keeps { KeepsOutside }
+    ensures leaves { LeavesAlike }
+{}
+
+/// The maps hold nothing unused: each description has a descriptor, and each object, be it a file, a pipe, a pair
+/// or a door, has a description or a path. It is so at the start (`starts`), and each turn of each call keeps it so
+/// (`steps`), whether it succeeds, fails or waits, and while its outcome is missing. So a pipe, a pair or a door has an
+/// end just where some description is of it (`ends`).
+pub fn nothing_unused_is_held()
+    ensures starts { StartsTidy }
+    ensures steps { StepsKeepTidy }
+    ensures ends { EndsAreOpen }
+{}

@@ -1,0 +1,183 @@
+"""Scripts made by chance, for the tools: the same for the same seed. A line is written for each call that detio has."""
+
+PATHS = ["/a", "/b", "/c", "a", "//b", "/d", "/d/x", "/d/y", "/d/e", "/d/e/z"]
+ODD_PATHS = ["/", "///", '""', "/d/", "/.", "/d/../a", "/a/x", "/no/x", "/abcdefghijklmn", "/abcdefghijklmno", "/" + "p" * 300,
+             "/d/abcdefghijklmno", "/a/abcdefghijklmno", "/no/../x", "a/"]
+HOST_PATHS = ["h0", "h1", "h2", "h3"]
+ODD_HOST_PATHS = ["no/h", ".", '""', "p" * 256, "h0/x"]
+GREATEST = 2**63 - 1
+
+
+class Chance:
+    """Draws the words of lines. `wide` is how many descriptors it names, `own` keeps to those that the thread opened."""
+
+    def __init__(self, draw, own=False):
+        self.draw, self.own, self.wide = draw, own, draw.choice([3, 6, 6, 12, 32])
+
+    def one(self, *words):
+        return self.draw.choice(words)
+
+    def is_odd(self, often=0.06):
+        return self.draw.random() < often
+
+    def path(self):
+        return self.draw.choice(ODD_PATHS if self.is_odd(0.08) else PATHS)
+
+    def host_path(self):
+        return self.draw.choice(ODD_HOST_PATHS if self.is_odd(0.1) else HOST_PATHS)
+
+    def number(self):
+        if self.own:
+            return f"r{self.draw.randrange(4, 12)}"
+        if self.is_odd():
+            return self.one("-1", "31", "32", "33", str(GREATEST), str(-GREATEST - 1), "r4", "r15")
+        return self.one("r0", "r1") if self.is_odd(0.1) else str(self.draw.randrange(self.wide))
+
+    def count(self):
+        if self.is_odd():
+            return self.one("-1", "0", "32767", "32768", str(GREATEST), str(-GREATEST - 1))
+        return self.one("1", "2", "4", "9", "32767") if self.is_odd(0.3) else str(self.draw.randrange(40))
+
+    def octets(self):
+        if self.is_odd(0.04):
+            return self.one("b0", "b1", "x", "x" + "5a" * 32767, "x" + "5a" * 9000)
+        return "x" + self.draw.randbytes(self.draw.randrange(1, 12)).hex()
+
+    def place(self):
+        if self.is_odd(0.1):
+            return self.one("-1", "65530", "65535", "65536", "65537", "70000", str(GREATEST), str(-GREATEST - 1))
+        return str(self.draw.randrange(60))
+
+    def offset(self):
+        return f"-{self.draw.randrange(70)}" if self.is_odd(0.2) else self.place()
+
+    def flags(self, *words):
+        return "".join(f" {it}" for it in words if self.draw.random() < 0.35)
+
+    def access(self):
+        return self.one("r", "w", "rw", "rw", "rw")
+
+    def call(self, word):
+        """A line of this call, without loops and jumps."""
+        number = self.number()
+        return {
+            "open": lambda: f"open {self.path()} {self.access()} create{self.flags('excl', 'trunc', 'append', 'nonblock')}"
+            if self.draw.random() < 0.7 else f"open {self.path()} {self.access()}{self.flags('trunc', 'append', 'excl')}",
+            "host_open": lambda: f"host_open {self.host_path()} {self.access()}{self.flags('create', 'trunc', 'append')}",
+            "close": lambda: f"close {number}",
+            "read": lambda: f"read {number} {self.count()}",
+            "write": lambda: f"write {number} {self.octets()}",
+            "pread": lambda: f"pread {number} {self.count()} {self.place()}",
+            "pwrite": lambda: f"pwrite {number} {self.octets()} {self.place()}",
+            "lseek": lambda: f"lseek {number} {self.offset()} {self.one('set', 'cur', 'end')}",
+            "ftruncate": lambda: f"ftruncate {number} {self.place()}",
+            "fstat": lambda: f"fstat {number}",
+            "dup": lambda: f"dup {number}",
+            "dup_from": lambda: f"dup_from {number} {self.one(self.number(), '4', '30', '0')}",
+            "dup2": lambda: f"dup2 {number} {self.number()}",
+            "getfl": lambda: f"getfl {number}",
+            "setfl": lambda: f"setfl {number}{self.flags('append', 'nonblock')}",
+            "link": lambda: f"link {self.path()} {self.path()}",
+            "unlink": lambda: f"unlink {self.path()}",
+            "mkdir": lambda: f"mkdir {self.one('/d', '/d/e', self.path())}",
+            "rmdir": lambda: f"rmdir {self.one('/d', '/d/e', self.path())}",
+            "pipe": lambda: "pipe",
+            "socketpair": lambda: "socketpair",
+            "shutdown": lambda: f"shutdown {number} {self.one('read', 'write', 'both')}",
+            "tcp_listen": lambda: f"tcp_listen {self.one('0', '-1', '65536')}",
+            "tcp_connect": lambda: f"tcp_connect {self.one('0', '-5', '65536')}",
+            "tcp_accept": lambda: f"tcp_accept {number}",
+        }[word]()
+
+
+IN_MEMORY = {"open": 10, "close": 6, "read": 14, "write": 14, "pread": 4, "pwrite": 4, "lseek": 5, "ftruncate": 3, "fstat": 3, "dup": 3,
+             "dup_from": 2, "dup2": 3, "getfl": 2, "setfl": 3, "link": 3, "unlink": 4, "mkdir": 4, "rmdir": 3, "pipe": 3, "socketpair": 3,
+             "shutdown": 2}
+WITH_DOORS = {**IN_MEMORY, "host_open": 10, "tcp_listen": 1, "tcp_connect": 1, "tcp_accept": 1}
+
+
+def wild_lines(chance, weights):
+    """A thread that names any descriptor. It makes no stream: a read there could wait for a peer for ever."""
+    words, lines = chance.draw.choices(list(weights), list(weights.values()), k=chance.draw.randrange(3, 40)), []
+    for at, word in enumerate(words):
+        lines.append(chance.call(word))
+        lines += decoration(chance, at) if chance.draw.random() < 0.25 else []
+    if chance.is_odd(0.08):
+        lines[0:0] = crowd(chance)
+    return lines
+
+
+def decoration(chance, at):
+    """A line that is no call, or a few with a loop or a jump."""
+    draw, call = chance.draw, chance.call(chance.one("read", "write", "open", "dup", "close", "pread"))
+    return draw.choice([
+        [f"work {draw.choice([0, 1, 7, 60, 300])}"],
+        [f"set r{draw.randrange(16)} {draw.randrange(-2, 9)}", f"add r{draw.randrange(16)} {draw.randrange(-3, 4)}"],
+        [f"setb b{draw.randrange(4)} x{draw.randbytes(draw.randrange(5)).hex()}"],
+        [f"jfail f{at}", call, f"label f{at}"],
+        [f"set r2 -{draw.randrange(1, 8)}", f"label l{at}", call, "add r2 1", f"jzero r2 d{at}", f"jump l{at}", f"label d{at}"],
+        ["# a line that does nothing", ""],
+    ])
+
+
+def crowd(chance):
+    """What fills a table, all names, all objects or a pipe."""
+    fills = [
+        ["set r2 -33", "label full", "open /a rw create", "add r2 1", "jzero r2 filled", "jump full", "label filled"],
+        [f"mkdir /n{at}" for at in range(66)],
+        [line for at in range(50) for line in (f"open /o{at} rw create", "close r0")],
+        ["pipe", "set r9 r1", f"write r9 x{'5a' * 32767}", "write r9 x5a", "write r9 x5a"],
+        [f"socketpair\nset r9 r1\nwrite r9 x{'5a' * 32767}\nwrite r9 x5a5a"],
+    ]
+    return chance.draw.choice(fills)
+
+
+def own_lines(chance, tcp):
+    """A thread that names only descriptors that it opened itself, which it keeps in r4 to r11; so it may make streams."""
+    lines, draw = [f"set r{at} -1" for at in range(4, 15)], chance.draw
+    for _ in range(draw.randrange(2, 14)):
+        to = draw.randrange(4, 12)
+        kind = draw.choice(["file", "host", "call", "call", "call", "pipe", *["tcp"] * 2 * tcp])
+        if kind == "tcp":
+            lines += tcp_lines(chance)
+        elif kind == "call":
+            words = [it for it in IN_MEMORY if it not in ("dup", "dup2", "dup_from", "open", "close", "pipe", "socketpair")]
+            lines.append(chance.call(draw.choice(words)))
+        elif kind == "pipe":
+            lines += ["set r1 -1", chance.one("pipe", "socketpair"), f"set r{to} r0", f"set r{4 + (to - 3) % 8} r1"]
+        else:
+            lines += [f"close r{to}", chance.call("open" if kind == "file" else "host_open"), f"set r{to} r0"]
+    return lines
+
+
+def tcp_lines(chance):
+    """A connection of a thread with itself, over loopback. It reads only what was written before, or behind a shutdown."""
+    draw, count = chance.draw, chance.draw.randrange(1, 9)
+    opened = ["tcp_listen 0", "set r12 r0", "jfail x", "fstat r12", "set r15 r0", "tcp_listen r15", "tcp_connect r15", "set r13 r0",
+              "jfail x", "tcp_accept r12", "set r14 r0", "jfail x"]
+    moved = [f"write r13 x{draw.randbytes(count).hex()}", "jfail x", f"read r14 {draw.randrange(1, count + 1)}",
+             "shutdown r13 write", "read r14 32767", "read r14 5", "write r14 x6869", "jfail x", "read r13 1"]
+    refused = ["tcp_connect 1", "close r0"] if chance.is_odd(0.2) else ["tcp_accept r12"] if chance.is_odd(0.2) else []
+    return [*opened, *moved, *refused, "label x", "close r14", "close r13", "close r12", "set r12 -1", "set r13 -1", "set r14 -1"]
+
+
+def numbered(lines):
+    """Gives the labels of each repeated part names of its own."""
+    found, number = [], 0
+    for line in "\n".join(lines).split("\n"):
+        words = line.split(" ")
+        if words[0] in ("jfail", "label") and words[-1] == "x":
+            found.append(f"{words[0]} x{number}")
+            number += words[0] == "label"
+        else:
+            found.append(line)
+    return found
+
+
+def scripts(draw):
+    """The scripts of a run, of 1 to 8 threads; some have doors, and some streams."""
+    threads, style = draw.choice([1, 2, 2, 3, 4, 8, draw.randrange(1, 9)]), draw.random()
+    if style < 0.2:
+        return ["\n".join(numbered(own_lines(Chance(draw, own=True), tcp=draw.random() < 0.7))) + "\n" for _ in range(threads)]
+    weights = IN_MEMORY if style < 0.55 else WITH_DOORS
+    return ["\n".join(wild_lines(Chance(draw), weights)) + "\n" for _ in range(threads)]
