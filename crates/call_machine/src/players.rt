@@ -22,11 +22,8 @@ impl Player {
         ensures step { IfOk result (λ step. step ≡ (next_of self.old.last self.old.actor).0) }
         ensures after { IfOk result (λ _. self.new ≡ record self.old { actor = (next_of self.old.last self.old.actor).1; last = None }) }
     {
-        match self.actor.next_unsaved(self.last.as_ref()) {
-            Ok(step) => {
-                self.last = None;
-                Ok(step)
-            }
+        match self.actor.next_unsaved(self.last.take()) {
+            Ok(step) => Ok(step),
             Err(_) => Err(AllocError),
         }
     }

@@ -1,4 +1,4 @@
-use super::devices::{Device, compared};
+use super::devices::{Device, compared, texts};
 use super::logs::THREE_RECORDS;
 use std::alloc::Global;
 use std::io;
@@ -14,16 +14,33 @@ struct Comparison {
     printed: &'static str,
 }
 
+// Whether `compare` says this of what is on these devices, unless memory is wanted.
+fn tells(
+    alloc: Global,
+    log: Device,
+    other: Device,
+    scripts: &[Device],
+    status: u8,
+    printed: &str,
+    errors: &str,
+) -> io::Result<bool> {
+    Ok(compared(alloc, log, other, scripts)?.may_be(status, printed, errors))
+}
+
 // Whether `compare` says this, unless memory is wanted.
 fn compares(alloc: Global, comparison: &Comparison) -> io::Result<bool> {
-    let mut scripts = Vec::new(alloc);
-    for script in comparison.scripts {
-        scripts.push(Device::Text(script.as_bytes()))?;
-    }
+    let scripts = texts(alloc, comparison.scripts)?;
     let log = Device::Text(comparison.log);
     let other = Device::Text(comparison.other);
-    let told = compared(alloc, log, other, &scripts)?;
-    Ok(told.may_be(comparison.status, comparison.printed, ""))
+    tells(
+        alloc,
+        log,
+        other,
+        &scripts,
+        comparison.status,
+        comparison.printed,
+        "",
+    )
 }
 
 const SHORT_WRITE: &str = "host_open out w create
@@ -121,17 +138,37 @@ const CUTS: &[(usize, usize, u8, &str)] = &[
     (73, 78, 0, "same\n"),
 ];
 
+// Whether these logs of the short write compare so.
+fn cuts_compare(
+    alloc: Global,
+    log: &'static [u8],
+    other: &'static [u8],
+    status: u8,
+    printed: &'static str,
+) -> io::Result<bool> {
+    let comparison = Comparison {
+        log,
+        other,
+        scripts: &[SHORT_WRITE],
+        status,
+        printed,
+    };
+    compares(alloc, &comparison)
+}
+
 #[test]
 fn cut_logs_compared(rt: HostRuntime) -> Result<(), Fail> {
     for (length, other, status, printed) in CUTS {
-        let comparison = Comparison {
-            log: &THREE_RECORDS[..*length],
-            other: &THREE_RECORDS[..*other],
-            scripts: &[SHORT_WRITE],
-            status: *status,
-            printed,
-        };
-        assert!(rt; compares(rt.alloc(), &comparison)?, "{length} {other}");
+        assert!(rt;
+            cuts_compare(
+                rt.alloc(),
+                &THREE_RECORDS[..*length],
+                &THREE_RECORDS[..*other],
+                *status,
+                printed
+            )?,
+            "{length} {other}"
+        );
     }
     Ok(())
 }
@@ -195,8 +232,10 @@ const FAULTS: &[(Device, Device, &[Device], u8, &str)] = &[
 #[test]
 fn faults_of_comparisons(rt: HostRuntime) -> Result<(), Fail> {
     for (log, other, scripts, status, line) in FAULTS {
-        let told = compared(rt.alloc(), *log, *other, scripts)?;
-        assert!(rt; told.may_be(*status, "", line), "{line}");
+        assert!(rt;
+            tells(rt.alloc(), *log, *other, scripts, *status, "", line)?,
+            "{line}"
+        );
     }
     Ok(())
 }

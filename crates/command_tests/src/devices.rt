@@ -37,6 +37,15 @@ impl Write for Device {
     }
 }
 
+/// These scripts as devices.
+pub(crate) fn texts(alloc: Global, scripts: &[&'static str]) -> io::Result<Vec<Device>> {
+    let mut texts = Vec::new(alloc);
+    for script in scripts {
+        texts.push(Device::Text(script.as_bytes()))?;
+    }
+    Ok(texts)
+}
+
 const PATHS: &[&str] = &["0", "1", "2", "3", "4", "5", "6", "7", "8"];
 
 // These devices as the sources "0", "1" and so on.
@@ -52,7 +61,7 @@ fn sources(alloc: Global, devices: &[Device]) -> io::Result<Vec<Source<'static, 
 }
 
 /// What `plain` tells of scripts on these devices.
-pub(crate) fn run(alloc: Global, devices: &[Device]) -> io::Result<Told> {
+fn run(alloc: Global, devices: &[Device]) -> io::Result<Told> {
     let sources = sources(alloc, devices)?;
     let mut output: Vec<u8> = Vec::new(alloc);
     let mut errors: Vec<u8> = Vec::new(alloc);
@@ -62,6 +71,16 @@ pub(crate) fn run(alloc: Global, devices: &[Device]) -> io::Result<Told> {
         output,
         errors,
     })
+}
+
+/// Whether `plain` tells just this of scripts on these devices, and prints nothing.
+pub(crate) fn refuses(
+    alloc: Global,
+    devices: &[Device],
+    status: u8,
+    line: &str,
+) -> io::Result<bool> {
+    Ok(run(alloc, devices)?.is(status, "", line))
 }
 
 /// What `replay` tells of a log, which is "a.log", and of scripts.

@@ -1,7 +1,10 @@
-use super::devices::{Device, run};
-use super::runs::{DEFAULTS, end_well, refuse};
-use commands::{Source, cannot_write, no_memory, plain_over};
+use super::devices::{Device, refuses};
+use super::runs::{DEFAULTS, end_well, refuse, sources};
+use commands::{cannot_write, no_memory, plain_over};
 use posix_terms::Settings;
+use std::alloc::Global;
+use std::io;
+use std::process::Abort;
 use std::test::Fail;
 
 const BAD: &[(&[&str], &str)] = &[
@@ -14,36 +17,34 @@ const BAD: &[(&[&str], &str)] = &[
     (&["end\nend\nx\n", "x\n"], "script 0: bad line 3\n"),
 ];
 
+// Asserts that scripts are bad, with this line on standard error and nothing on standard output.
+fn assert_bad(rt: &impl Abort, alloc: Global, scripts: &[&str], wanted: &str) -> Result<(), Fail> {
+    assert!(rt; refuse(alloc, DEFAULTS, scripts, 3, wanted)?, "{wanted}");
+    Ok(())
+}
+
 // Faults: their text on standard error, nothing on standard output, and their status.
 #[test]
 fn faults(rt: HostRuntime) -> Result<(), Fail> {
     for (scripts, wanted) in BAD {
-        assert!(rt;
-            refuse(rt.alloc(), DEFAULTS, scripts, 3, wanted)?,
-            "{wanted}"
-        );
+        assert_bad(&rt, rt.alloc(), scripts, wanted)?;
     }
     Ok(())
+}
+
+// Asserts what is told of this script, which is too long, by itself, beside a good one and beside bad ones.
+fn assert_too_long(rt: &impl Abort, alloc: Global, long: &str) -> Result<(), Fail> {
+    assert_bad(rt, alloc, &[long], "script 0: too long\n")?;
+    assert_bad(rt, alloc, &["close 0\n", long], "script 1: too long\n")?;
+    assert_bad(rt, alloc, &["x\n", long], "script 0: bad line 1\n")?;
+    assert_bad(rt, alloc, &[long, "x\n"], "script 0: too long\n")
 }
 
 #[test]
 fn faults_of_long_scripts(rt: HostRuntime) -> Result<(), Fail> {
     // One line more than a script may have.
     let text = "\n".repeat(rt.alloc(), 1001)?;
-    let long = text.as_str();
-    let cases: &[(&[&str], &str)] = &[
-        (&[long], "script 0: too long\n"),
-        (&["close 0\n", long], "script 1: too long\n"),
-        (&["x\n", long], "script 0: bad line 1\n"),
-        (&[long, "x\n"], "script 0: too long\n"),
-    ];
-    for (scripts, wanted) in cases {
-        assert!(rt;
-            refuse(rt.alloc(), DEFAULTS, scripts, 3, wanted)?,
-            "{wanted}"
-        );
-    }
-    Ok(())
+    assert_too_long(&rt, rt.alloc(), text.as_str())
 }
 
 const OUT_OF_RANGE: &[(u32, u32)] = &[(0, 100), (1_000_001, 100), (1000, 0), (1000, 1_000_001)];
@@ -54,6 +55,19 @@ const REFUSED: &[(&[&str], u8, &str)] = &[
     (&[], 2, "needs 1 to 8 scripts\n"),
 ];
 
+// Asserts what is refused where the settings are out of range.
+fn assert_refused(rt: &impl Abort, alloc: Global, settings: Settings) -> Result<(), Fail> {
+    for (scripts, status, line) in REFUSED {
+        assert!(rt;
+            refuse(alloc, settings, scripts, *status, line)?,
+            "{} {}: {line}",
+            settings.patience,
+            settings.door_cost
+        );
+    }
+    Ok(())
+}
+
 // Settings out of range are told last.
 #[test]
 fn faults_of_settings(rt: HostRuntime) -> Result<(), Fail> {
@@ -62,12 +76,7 @@ fn faults_of_settings(rt: HostRuntime) -> Result<(), Fail> {
             patience: *patience,
             door_cost: *door_cost,
         };
-        for (scripts, status, line) in REFUSED {
-            assert!(rt;
-                refuse(rt.alloc(), settings, scripts, *status, line)?,
-                "{patience} {door_cost}: {line}"
-            );
-        }
+        assert_refused(&rt, rt.alloc(), settings)?;
     }
     Ok(())
 }
@@ -106,34 +115,37 @@ const UNREADABLE: &[(&[Device], u8, &str)] = &[
 #[test]
 fn failing_readers(rt: HostRuntime) -> Result<(), Fail> {
     for (devices, status, wanted) in UNREADABLE {
-        assert!(rt;
-            run(rt.alloc(), devices)?.is(*status, "", wanted),
-            "{wanted}"
-        );
+        assert!(rt; refuses(rt.alloc(), devices, *status, wanted)?, "{wanted}");
     }
     Ok(())
 }
 
-#[test]
-fn full_device(rt: HostRuntime) -> Result<(), Fail> {
-    let alloc = rt.alloc();
-    let mut sources = Vec::new(alloc);
-    sources.push(Source {
-        path: "a.script",
-        reader: b"close 0".as_slice(),
-    })?;
+// Whether `plain` says that its output cannot be written.
+fn plain_cannot_write(alloc: Global) -> io::Result<bool> {
+    let sources = sources(alloc, &["close 0"])?;
     let mut errors: Vec<u8> = Vec::new(alloc);
     let mut full = Device::Broken;
     let status = plain_over(alloc, DEFAULTS, false, sources, &mut full, &mut errors)?;
-    assert!(rt; status == 4 && errors.as_slice() == b"cannot write -\n".as_slice());
+    Ok(status == 4 && errors.as_slice() == b"cannot write -\n".as_slice())
+}
+
+#[test]
+fn full_device(rt: HostRuntime) -> Result<(), Fail> {
+    assert!(rt; plain_cannot_write(rt.alloc())?);
     Ok(())
+}
+
+// Whether both messages are written, one behind the other, with their status.
+fn are_written(alloc: Global) -> io::Result<bool> {
+    let mut errors: Vec<u8> = Vec::new(alloc);
+    let first = no_memory(&mut errors)?;
+    let second = cannot_write(&mut errors)?;
+    let wanted = b"no memory\ncannot write -\n".as_slice();
+    Ok(first == 4 && second == 4 && errors.as_slice() == wanted)
 }
 
 #[test]
 fn messages(rt: HostRuntime) -> Result<(), Fail> {
-    let mut errors: Vec<u8> = Vec::new(rt.alloc());
-    let statuses = [no_memory(&mut errors)?, cannot_write(&mut errors)?];
-    let wanted = b"no memory\ncannot write -\n".as_slice();
-    assert!(rt; statuses == [4, 4] && errors.as_slice() == wanted);
+    assert!(rt; are_written(rt.alloc())?);
     Ok(())
 }

@@ -1,15 +1,26 @@
 use super::runs::{answers, assert_answers};
 use std::alloc::Global;
 use std::io;
+use std::ops::Range;
 use std::test::Fail;
+
+// Adds these calls with each of these numbers between them.
+fn push_numbered(
+    calls: &mut String,
+    before: &str,
+    numbers: Range<u32>,
+    after: &str,
+) -> io::Result<()> {
+    for number in numbers {
+        write!(calls, "{before}{number}{after}\n")?;
+    }
+    Ok(())
+}
 
 // Opens a file by all numbers from 0 to 31.
 fn full_table(alloc: Global) -> io::Result<String> {
     let mut calls = String::new(alloc);
-    for number in 0u32..32 {
-        let line = format!(in alloc; "open /a rw create = number {number}\n")?;
-        calls.push_str(line.as_str())?;
-    }
+    push_numbered(&mut calls, "open /a rw create = number ", 0..32, "")?;
     Ok(calls)
 }
 
@@ -77,10 +88,12 @@ fn full_tables(rt: HostRuntime) -> Result<(), Fail> {
 // Makes 48 files with the names 0 to 47, and leaves none open.
 fn full_objects(alloc: Global) -> io::Result<String> {
     let mut calls = String::new(alloc);
-    for file in 0u32..48 {
-        let line = format!(in alloc; "open /{file} w create = number 0\nclose 0 = done\n")?;
-        calls.push_str(line.as_str())?;
-    }
+    push_numbered(
+        &mut calls,
+        "open /",
+        0..48,
+        " w create = number 0\nclose 0 = done",
+    )?;
     Ok(calls)
 }
 
@@ -137,10 +150,7 @@ fn all_objects(rt: HostRuntime) -> Result<(), Fail> {
 // Makes 64 names: a file, a directory and 62 directories in it.
 fn full_names(alloc: Global) -> io::Result<String> {
     let mut calls = String::from_str(alloc, "open /a rw create = number 0\nmkdir /d = done\n")?;
-    for name in 0u32..62 {
-        let line = format!(in alloc; "mkdir /d/{name} = done\n")?;
-        calls.push_str(line.as_str())?;
-    }
+    push_numbered(&mut calls, "mkdir /d/", 0..62, " = done")?;
     Ok(calls)
 }
 
@@ -175,12 +185,8 @@ fn all_names(rt: HostRuntime) -> Result<(), Fail> {
 }
 
 // Opens the numbers from 1 to 31 as duplicates of 0.
-fn fill_numbers(alloc: Global, calls: &mut String) -> io::Result<()> {
-    for number in 1u32..32 {
-        let line = format!(in alloc; "dup 0 = number {number}\n")?;
-        calls.push_str(line.as_str())?;
-    }
-    Ok(())
+fn fill_numbers(calls: &mut String) -> io::Result<()> {
+    push_numbered(calls, "dup 0 = number ", 1..32, "")
 }
 
 const NAMES_AND_NUMBERS: &[(&str, &str)] = &[
@@ -198,7 +204,7 @@ fstat 31 = stat 1 0 0
 #[test]
 fn all_names_and_numbers(rt: HostRuntime) -> Result<(), Fail> {
     let mut before = full_names(rt.alloc())?;
-    fill_numbers(rt.alloc(), &mut before)?;
+    fill_numbers(&mut before)?;
     assert_answers(&rt, rt.alloc(), before.as_str(), NAMES_AND_NUMBERS)
 }
 
@@ -238,7 +244,7 @@ pipe = pair 4 31
 fn all_objects_and_numbers(rt: HostRuntime) -> Result<(), Fail> {
     let mut before = full_objects(rt.alloc())?;
     before.push_str("open /0 r = number 0\n")?;
-    fill_numbers(rt.alloc(), &mut before)?;
+    fill_numbers(&mut before)?;
     assert_answers(&rt, rt.alloc(), before.as_str(), OBJECTS_AND_NUMBERS)
 }
 
@@ -307,21 +313,20 @@ fn long_path_answers(
     answers(alloc, calls.as_str())
 }
 
-// Paths of 255 bytes, and of 256: those are too long, whatever else is wrong with them.
-#[test]
-fn long_paths(rt: HostRuntime) -> Result<(), Fail> {
-    let alloc = rt.alloc();
+// Whether a path of 255 bytes is answered so, and one of 256 is too long, whatever else is wrong with it.
+fn answers_at_limit(alloc: Global, call: &str, name: &str, reply: &str) -> io::Result<bool> {
     let open = "open /m r create = number 0\n";
     let too_long = "fail ENAMETOOLONG";
+    Ok(
+        long_path_answers(alloc, "", call, 255, name, reply)?
+            && long_path_answers(alloc, open, call, 256, name, too_long)?,
+    )
+}
+
+#[test]
+fn long_paths(rt: HostRuntime) -> Result<(), Fail> {
     for (call, name, reply) in LONG_PATHS {
-        assert!(rt;
-            long_path_answers(alloc, "", call, 255, name, reply)?,
-            "{call}"
-        );
-        assert!(rt;
-            long_path_answers(alloc, open, call, 256, name, too_long)?,
-            "{call}"
-        );
+        assert!(rt; answers_at_limit(rt.alloc(), call, name, reply)?, "{call}");
     }
     Ok(())
 }

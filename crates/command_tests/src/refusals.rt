@@ -1,4 +1,7 @@
 use super::runs::{answers, assert_answers, assert_each_answers};
+use std::alloc::Global;
+use std::io;
+use std::process::Abort;
 use std::test::Fail;
 
 // The refusals of each call, in the order in which they are looked for: each line is a script of its own.
@@ -65,17 +68,28 @@ setfl N append nonblock
 shutdown N both
 ";
 
+// Whether this number in place of N is refused as one that is not open.
+fn is_not_open(alloc: Global, call: &str, number: i64) -> io::Result<bool> {
+    let (word, operands) = call.split_once("N").unwrap_or((call, ""));
+    let calls = format!(in alloc;
+        "open /a r create = number 0\n{word}{number}{operands} = fail EBADF\n"
+    )?;
+    answers(alloc, calls.as_str())
+}
+
+// Asserts that of each call.
+fn assert_not_open(rt: &impl Abort, alloc: Global, number: i64) -> Result<(), Fail> {
+    for call in NUMBERED.lines() {
+        assert!(rt; is_not_open(alloc, call, number)?, "{call} {number}");
+    }
+    Ok(())
+}
+
 // A number that is not open is the first refusal of each call that is given one.
 #[test]
 fn numbers_that_are_not_open(rt: HostRuntime) -> Result<(), Fail> {
     for number in &[-1, 1, 31, 32, i64::MAX, i64::MIN] {
-        for call in NUMBERED.lines() {
-            let (word, operands) = call.split_once("N").unwrap_or((call, ""));
-            let calls = format!(in rt.alloc();
-                "open /a r create = number 0\n{word}{number}{operands} = fail EBADF\n"
-            )?;
-            assert!(rt; answers(rt.alloc(), calls.as_str())?, "{calls}");
-        }
+        assert_not_open(&rt, rt.alloc(), *number)?;
     }
     Ok(())
 }
@@ -107,18 +121,34 @@ mkdir P
 rmdir P
 ";
 
+// Whether this path in place of P is refused with this error, and nothing changes.
+fn is_refused(alloc: Global, call: &str, path: &str, error: &str) -> io::Result<bool> {
+    let (before, after) = call.split_once("P").unwrap_or((call, ""));
+    let calls = format!(in alloc;
+        "open /a rw create = number 0\nmkdir /d = done\n{before}{path}{after} = fail {error}\nrmdir /d = done\n"
+    )?;
+    answers(alloc, calls.as_str())
+}
+
+// Asserts that of each call.
+fn assert_path_refused(
+    rt: &impl Abort,
+    alloc: Global,
+    path: &str,
+    error: &str,
+) -> Result<(), Fail> {
+    for call in CALLS_ON_PATHS.lines() {
+        assert!(rt; is_refused(alloc, call, path, error)?, "{call} {path}");
+    }
+    Ok(())
+}
+
 // What is wrong with a path is told alike by each call that takes one, and nothing changes.
 #[test]
 fn refusals_of_paths(rt: HostRuntime) -> Result<(), Fail> {
     for line in REFUSED_PATHS.lines() {
         let (path, error) = line.split_once(" ").unwrap_or((line, ""));
-        for call in CALLS_ON_PATHS.lines() {
-            let (before, after) = call.split_once("P").unwrap_or((call, ""));
-            let calls = format!(in rt.alloc();
-                "open /a rw create = number 0\nmkdir /d = done\n{before}{path}{after} = fail {error}\nrmdir /d = done\n"
-            )?;
-            assert!(rt; answers(rt.alloc(), calls.as_str())?, "{calls}");
-        }
+        assert_path_refused(&rt, rt.alloc(), path, error)?;
     }
     Ok(())
 }

@@ -1,5 +1,6 @@
-use super::devices::{Device, replayed};
+use super::devices::{Device, replayed, texts};
 use super::logs::THREE_RECORDS;
+use super::runs::sources;
 use commands::{Source, replay_over};
 use std::alloc::Global;
 use std::io;
@@ -7,10 +8,7 @@ use std::test::Fail;
 
 // Whether `replay` says this, unless memory is wanted.
 fn replays(alloc: Global, replay: &Replay, errors: &str) -> io::Result<bool> {
-    let mut scripts = Vec::new(alloc);
-    for script in replay.scripts {
-        scripts.push(Device::Text(script.as_bytes()))?;
-    }
+    let scripts = texts(alloc, replay.scripts)?;
     let told = replayed(alloc, replay.turns, Device::Text(replay.log), &scripts)?;
     Ok(told.may_be(replay.status, replay.printed, errors))
 }
@@ -312,17 +310,37 @@ const CUTS: &[(usize, u8, &str, &str)] = &[
     (77, 0, THREE, ""),
 ];
 
+// Whether the replay of the short write by this log says this.
+fn cut_replays(
+    alloc: Global,
+    log: &'static [u8],
+    status: u8,
+    printed: &'static str,
+    errors: &str,
+) -> io::Result<bool> {
+    let replay = Replay {
+        log,
+        turns: true,
+        scripts: &[SHORT_WRITE],
+        status,
+        printed,
+    };
+    replays(alloc, &replay, errors)
+}
+
 #[test]
 fn cut_logs(rt: HostRuntime) -> Result<(), Fail> {
     for (length, status, printed, errors) in CUTS {
-        let replay = Replay {
-            log: &THREE_RECORDS[..*length],
-            turns: true,
-            scripts: &[SHORT_WRITE],
-            status: *status,
-            printed,
-        };
-        assert!(rt; replays(rt.alloc(), &replay, errors)?, "{length}");
+        assert!(rt;
+            cut_replays(
+                rt.alloc(),
+                &THREE_RECORDS[..*length],
+                *status,
+                printed,
+                errors
+            )?,
+            "{length}"
+        );
     }
     Ok(())
 }
@@ -370,17 +388,27 @@ const FAULTS: &[(&[u8], &[&str], &str)] = &[
     (b"XIOL", &["", "\nx"], "script 1: bad line 2\n"),
 ];
 
+// Whether the replay prints nothing but this fault.
+fn is_fault(
+    alloc: Global,
+    log: &'static [u8],
+    scripts: &'static [&'static str],
+    line: &str,
+) -> io::Result<bool> {
+    let replay = Replay {
+        log,
+        turns: true,
+        scripts,
+        status: 3,
+        printed: "",
+    };
+    replays(alloc, &replay, line)
+}
+
 #[test]
 fn faults_of_replays(rt: HostRuntime) -> Result<(), Fail> {
     for (log, scripts, line) in FAULTS {
-        let replay = Replay {
-            log,
-            turns: true,
-            scripts,
-            status: 3,
-            printed: "",
-        };
-        assert!(rt; replays(rt.alloc(), &replay, line)?, "{line}");
+        assert!(rt; is_fault(rt.alloc(), log, scripts, line)?, "{line}");
     }
     Ok(())
 }
@@ -406,23 +434,28 @@ const UNREADABLE: &[(Device, &[Device], u8, &str)] = &[
     (LOG, &[Device::Endless, GOOD], 4, "cannot read 0\n"),
 ];
 
+// Whether `replay` says this of what is on these devices, unless memory is wanted.
+fn tells(
+    alloc: Global,
+    log: Device,
+    scripts: &[Device],
+    status: u8,
+    line: &str,
+) -> io::Result<bool> {
+    Ok(replayed(alloc, false, log, scripts)?.may_be(status, "", line))
+}
+
 #[test]
 fn devices_of_replays(rt: HostRuntime) -> Result<(), Fail> {
     for (log, scripts, status, line) in UNREADABLE {
-        let told = replayed(rt.alloc(), false, *log, scripts)?;
-        assert!(rt; told.may_be(*status, "", line), "{line}");
+        assert!(rt; tells(rt.alloc(), *log, scripts, *status, line)?, "{line}");
     }
     Ok(())
 }
 
-#[test]
-fn full_device_of_a_replay(rt: HostRuntime) -> Result<(), Fail> {
-    let alloc = rt.alloc();
-    let mut sources = Vec::new(alloc);
-    sources.push(Source {
-        path: "a.script",
-        reader: SHORT_WRITE.as_bytes(),
-    })?;
+// Whether `replay` says that its output cannot be written.
+fn replay_cannot_write(alloc: Global) -> io::Result<bool> {
+    let sources = sources(alloc, &[SHORT_WRITE])?;
     let log = Source {
         path: "a.log",
         reader: THREE_RECORDS,
@@ -430,6 +463,11 @@ fn full_device_of_a_replay(rt: HostRuntime) -> Result<(), Fail> {
     let mut errors: Vec<u8> = Vec::new(alloc);
     let mut full = Device::Broken;
     let status = replay_over(alloc, true, log, sources, &mut full, &mut errors)?;
-    assert!(rt; status == 4 && errors.as_slice() == b"cannot write -\n".as_slice());
+    Ok(status == 4 && errors.as_slice() == b"cannot write -\n".as_slice())
+}
+
+#[test]
+fn full_device_of_a_replay(rt: HostRuntime) -> Result<(), Fail> {
+    assert!(rt; replay_cannot_write(rt.alloc())?);
     Ok(())
 }

@@ -38,8 +38,11 @@ impl Told {
     }
 }
 
-// What `plain` tells of scripts.
-fn run(alloc: Global, settings: Settings, turns: bool, scripts: &[&str]) -> io::Result<Told> {
+/// These scripts as sources.
+pub(crate) fn sources<'a>(
+    alloc: Global,
+    scripts: &[&'a str],
+) -> io::Result<Vec<Source<'static, &'a [u8]>>> {
     let mut sources = Vec::new(alloc);
     for script in scripts {
         sources.push(Source {
@@ -47,8 +50,14 @@ fn run(alloc: Global, settings: Settings, turns: bool, scripts: &[&str]) -> io::
             reader: script.as_bytes(),
         })?;
     }
-    let mut output = Vec::new(alloc);
-    let mut errors = Vec::new(alloc);
+    Ok(sources)
+}
+
+// What `plain` tells of scripts.
+fn run(alloc: Global, settings: Settings, turns: bool, scripts: &[&str]) -> io::Result<Told> {
+    let sources = sources(alloc, scripts)?;
+    let mut output: Vec<u8> = Vec::new(alloc);
+    let mut errors: Vec<u8> = Vec::new(alloc);
     let status = plain_over(alloc, settings, turns, sources, &mut output, &mut errors)?;
     Ok(Told {
         status,
@@ -96,28 +105,46 @@ pub(crate) fn spelled(alloc: Global, text: &str) -> io::Result<String> {
     Ok(text.replace(alloc, "{zeros}", zeros.as_str())?)
 }
 
+// The script of these calls, a call a line with its reply behind ` = `.
+fn script_of(alloc: Global, calls: &str) -> io::Result<String> {
+    let mut script = String::new(alloc);
+    for line in calls.lines() {
+        let (call, _) = line.split_once(" = ").unwrap_or((line, ""));
+        script.push_str(call)?;
+        script.push_str("\n")?;
+    }
+    Ok(script)
+}
+
+// What such a script prints where its calls have these replies.
+fn printed_of(alloc: Global, calls: &str) -> io::Result<String> {
+    let mut printed = String::new(alloc);
+    for (row, line) in calls.lines().enumerate() {
+        let (call, reply) = line.split_once(" = ").unwrap_or((line, ""));
+        let word = call.split(" ").next().unwrap_or("");
+        write!(printed, "0 {row} {word} {reply}\n")?;
+    }
+    printed.push_str("end\n")?;
+    Ok(printed)
+}
+
+/// Whether one script of one thread ends well and prints this, unless memory is wanted.
+pub(crate) fn prints(alloc: Global, script: &str, wanted: &str) -> io::Result<bool> {
+    print(alloc, DEFAULTS, false, &[script], 0, wanted)
+}
+
 /// Whether the calls of one script, a call a line with its reply behind ` = `, are printed with these replies.
 pub(crate) fn answers(alloc: Global, calls: &str) -> io::Result<bool> {
     let calls = spelled(alloc, calls)?;
-    let mut script = String::new(alloc);
-    let mut printed = String::new(alloc);
-    for (row, line) in calls.as_str().lines().enumerate() {
-        let (call, reply) = line.split_once(" = ").unwrap_or((line, ""));
-        let word = call.split(" ").next().unwrap_or("");
-        script.push_str(call)?;
-        script.push_str("\n")?;
-        let text = format!(in alloc; "0 {row} {word} {reply}\n")?;
-        printed.push_str(text.as_str())?;
-    }
-    printed.push_str("end\n")?;
-    print(
-        alloc,
-        DEFAULTS,
-        false,
-        &[script.as_str()],
-        0,
-        printed.as_str(),
-    )
+    let script = script_of(alloc, calls.as_str())?;
+    let printed = printed_of(alloc, calls.as_str())?;
+    prints(alloc, script.as_str(), printed.as_str())
+}
+
+// Whether these calls are answered so behind those before them.
+fn answers_behind(alloc: Global, before: &str, calls: &str) -> io::Result<bool> {
+    let calls = format!(in alloc; "{before}{calls}")?;
+    answers(alloc, calls.as_str())
 }
 
 /// Asserts that the calls of each case, with these before them, are answered so.
@@ -128,8 +155,7 @@ pub(crate) fn assert_answers(
     cases: &[(&str, &str)],
 ) -> Result<(), Fail> {
     for (name, calls) in cases {
-        let calls = format!(in alloc; "{before}{calls}")?;
-        assert!(rt; answers(alloc, calls.as_str())?, "{name}");
+        assert!(rt; answers_behind(alloc, before, calls)?, "{name}");
     }
     Ok(())
 }
@@ -142,8 +168,7 @@ pub(crate) fn assert_each_answers(
     lines: &str,
 ) -> Result<(), Fail> {
     for line in lines.lines() {
-        let calls = format!(in alloc; "{before}{line}\n")?;
-        assert!(rt; answers(alloc, calls.as_str())?, "{line}");
+        assert!(rt; answers_behind(alloc, before, line)?, "{line}");
     }
     Ok(())
 }

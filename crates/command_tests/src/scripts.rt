@@ -1,4 +1,4 @@
-use super::runs::{DEFAULTS, print};
+use super::runs::prints;
 use std::test::Fail;
 
 // Scripts of one thread, and what they print.
@@ -153,10 +153,7 @@ end
 #[test]
 fn worked_examples(rt: HostRuntime) -> Result<(), Fail> {
     for (script, wanted) in SCRIPTS {
-        assert!(rt;
-            print(rt.alloc(), DEFAULTS, false, &[script], 0, wanted)?,
-            "{script}"
-        );
+        assert!(rt; prints(rt.alloc(), script, wanted)?, "{script}");
     }
     Ok(())
 }

@@ -1,4 +1,6 @@
 use super::runs::{DEFAULTS, NO_PATIENCE, assert_answers, print, spelled};
+use std::alloc::Global;
+use std::io;
 use std::test::Fail;
 
 // Pipes and pairs with room for one byte more from 1 to 0, where 1 has O_NONBLOCK.
@@ -144,6 +146,12 @@ fn ends(rt: HostRuntime) -> Result<(), Fail> {
     assert_answers(&rt, rt.alloc(), "", ENDS)
 }
 
+// Whether a script without patience ends well and prints this, with the clocks of its turns, unless memory is wanted.
+fn prints_without_patience(alloc: Global, script: &str, wanted: &str) -> io::Result<bool> {
+    let script = spelled(alloc, script)?;
+    print(alloc, NO_PATIENCE, true, &[script.as_str()], 0, wanted)
+}
+
 #[test]
 fn no_patience_to_read(rt: HostRuntime) -> Result<(), Fail> {
     let script = "pipe
@@ -165,7 +173,7 @@ read 2 1
 0 7 27 read fail EINTR
 end
 ";
-    assert!(rt; print(rt.alloc(), NO_PATIENCE, true, &[script], 0, wanted)?);
+    assert!(rt; prints_without_patience(rt.alloc(), script, wanted)?);
     Ok(())
 }
 
@@ -185,15 +193,20 @@ write 1 x62
 0 4 17 write fail EINTR
 end
 ";
-    let script = spelled(rt.alloc(), script)?;
-    assert!(rt; print(rt.alloc(), NO_PATIENCE, true, &[script.as_str()], 0, wanted)?);
+    assert!(rt; prints_without_patience(rt.alloc(), script, wanted)?);
     Ok(())
+}
+
+// Whether two scripts end well and print this, unless memory is wanted.
+fn both_print(alloc: Global, first: &str, second: &str, wanted: &str) -> io::Result<bool> {
+    let first = spelled(alloc, first)?;
+    print(alloc, DEFAULTS, false, &[first.as_str(), second], 0, wanted)
 }
 
 // A writer waits until another thread has made room for all that it writes.
 #[test]
 fn writer_waits(rt: HostRuntime) -> Result<(), Fail> {
-    let writer = spelled(rt.alloc(), "pipe\nwrite 1 x00{zeros}\nwrite 1 x616263\n")?;
+    let writer = "pipe\nwrite 1 x00{zeros}\nwrite 1 x616263\n";
     let reader = "work 30\nread 0 1\nwork 30\nread 0 1\n";
     let wanted = "0 0 pipe pair 0 1
 0 1 write count 32767
@@ -202,16 +215,7 @@ fn writer_waits(rt: HostRuntime) -> Result<(), Fail> {
 1 1 read data 00
 end
 ";
-    assert!(rt;
-        print(
-            rt.alloc(),
-            DEFAULTS,
-            false,
-            &[writer.as_str(), reader],
-            0,
-            wanted
-        )?
-    );
+    assert!(rt; both_print(rt.alloc(), writer, reader, wanted)?);
     Ok(())
 }
 
@@ -249,10 +253,7 @@ end
 #[test]
 fn threads_talk(rt: HostRuntime) -> Result<(), Fail> {
     for (first, second, wanted) in TALKS {
-        assert!(rt;
-            print(rt.alloc(), DEFAULTS, false, &[first, second], 0, wanted)?,
-            "{wanted}"
-        );
+        assert!(rt; both_print(rt.alloc(), first, second, wanted)?, "{wanted}");
     }
     Ok(())
 }

@@ -1,4 +1,6 @@
 use super::runs::{DEFAULTS, print};
+use std::alloc::Global;
+use std::io;
 use std::test::Fail;
 
 // Scripts that run together, and what they print with the clocks of their turns and without.
@@ -64,16 +66,25 @@ end
     ),
 ];
 
+// Whether scripts print this with turns, and that without.
+fn print_both(
+    alloc: Global,
+    scripts: &[&str],
+    with_turns: &str,
+    without: &str,
+) -> io::Result<bool> {
+    Ok(
+        print(alloc, DEFAULTS, true, scripts, 0, with_turns)?
+            && print(alloc, DEFAULTS, false, scripts, 0, without)?,
+    )
+}
+
 #[test]
 fn turns(rt: HostRuntime) -> Result<(), Fail> {
     for (scripts, with_turns, without) in TURNS {
         assert!(rt;
-            print(rt.alloc(), DEFAULTS, true, scripts, 0, with_turns)?,
+            print_both(rt.alloc(), scripts, with_turns, without)?,
             "{with_turns}"
-        );
-        assert!(rt;
-            print(rt.alloc(), DEFAULTS, false, scripts, 0, without)?,
-            "{without}"
         );
     }
     Ok(())

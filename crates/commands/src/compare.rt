@@ -3,10 +3,10 @@ ghost use Rattle.command_texts.specs.Printing.{Prints};
 ghost use Rattle.command_texts.specs.Reading.{scripts_from};
 ghost use Rattle.commands.specs.Compares.{ComparePrints, LogCompares, LogsCompare, ScriptsCompare, SeenCompares, verdict_line, verdict_printed, verdict_status};
 
+use crate::plain::needs_scripts;
 use crate::told::{Told, told_of};
 use command_texts::{
-    Printed, ReadFault, Source, Unread, cannot_read, fault, fits, no_memory, print, read_all,
-    read_text,
+    Printed, ReadFault, Source, Unread, cannot_read, fits, no_memory, print, read_all, read_text,
 };
 use comparator::{Verdict, compare};
 use posix_terms::{Bytes, Transcripts};
@@ -54,7 +54,7 @@ fn compare_printed<R: Read + Drop>(
         (map (λ s. (s.path.now, R.remaining s.reader)) sources.entry.items)) }
 {
     if !fits(sources.len()) {
-        return fault(alloc, 2, "needs 1 to 8 scripts\n");
+        return needs_scripts(alloc);
     }
     match read_text(alloc, log.reader) {
         Ok(text) => log_compared(alloc, &text, other, sources),

@@ -1,7 +1,7 @@
 ghost use Rattle.std.specs.Prelude.{◌≡◌, [], length, map, IfOk, replicate, true};
 ghost use Rattle.call_machine.specs.Plain.{counts_fit};
 ghost use Rattle.logged_machine.specs.Starting.{are_settings};
-ghost use Rattle.command_texts.specs.Printing.{Prints};
+ghost use Rattle.command_texts.specs.Printing.{Prints, needs_scripts};
 ghost use Rattle.command_texts.specs.Reading.{scripts_from};
 ghost use Rattle.commands.specs.Plains.{PlainPrints, RunPrints, ScriptsPrint, bad_settings, inputs_of};
 
@@ -46,7 +46,7 @@ fn plain_printed<R: Read + Drop>(
     ensures { IfOk result (PlainPrints settings turns (map (λ s. (s.path.now, R.remaining s.reader)) sources.entry.items)) }
 {
     if !fits(sources.len()) {
-        return fault(alloc, 2, "needs 1 to 8 scripts\n");
+        return needs_scripts(alloc);
     }
     match read_all(alloc, sources) {
         Ok(texts) => texts_printed(alloc, settings, turns, &texts),
@@ -101,6 +101,12 @@ fn no_outcomes(alloc: Global, scripts: usize) -> Result<Vec<Outcomes>, AllocErro
         outcomes.push(Outcomes::from_vec(Vec::new(alloc)))?;
     }
     Ok(outcomes)
+}
+
+pub fn needs_scripts(alloc: Global) -> Result<Printed, AllocError>
+    ensures { IfOk result (λ printed. printed ≡ needs_scripts) }
+{
+    fault(alloc, 2, "needs 1 to 8 scripts\n")
 }
 
 pub fn bad_settings(alloc: Global) -> Result<Printed, AllocError>

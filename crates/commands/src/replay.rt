@@ -3,10 +3,11 @@ ghost use Rattle.command_texts.specs.Printing.{Prints};
 ghost use Rattle.commands.specs.Replays.{IsToReplay, LogIsRead, ReplayPrints, ToldPrints};
 ghost use Rattle.commands.specs.Tells.{RunTells, ThreadsTell};
 
+use crate::plain::needs_scripts;
 use crate::told::{Told, threads_told_of, told_of};
 use command_texts::{
-    Printed, ReadFault, Source, Unread, cannot_read, fault, fits, no_memory, print, read_all,
-    read_text, run_printed,
+    Printed, ReadFault, Source, Unread, cannot_read, fits, no_memory, print, read_all, read_text,
+    run_printed,
 };
 use posix_terms::Bytes;
 use std::alloc::{AllocError, Global};
@@ -120,7 +121,7 @@ fn to_replay<R: Read + Drop>(
         (map (λ s. (s.path.now, R.remaining s.reader)) sources.entry.items)) }
 {
     if !fits(sources.len()) {
-        return Ok(ToReplay::Fault(fault(alloc, 2, "needs 1 to 8 scripts\n")?));
+        return Ok(ToReplay::Fault(needs_scripts(alloc)?));
     }
     match read_text(alloc, log.reader) {
         Ok(text) => log_read(alloc, text, sources),

@@ -1,22 +1,20 @@
 -- The act of each plan, beside what the sequential object does with the file.
-use Rattle.std.proofs.Common.{◌≡◌, ℕ, ◌+◌, ◌-◌, ◌==◌, ◌&&◌, ◌||◌, List, [], ◌∷◌, length, map, Option, Some, None, is_some, unwrap_or, Result, Ok, Err, Bool, true, false, cond, not, if◌then◌else◌, count_by, refl, sym, ap, ◌∙◌, subst, inl, inr}
-use Rattle.std.proofs.lemmas.Bool.{cases_eq, false≢true, true≢false}
-use Rattle.std.proofs.lemmas.List.Sums.{sum_by-cons}
-use Rattle.std.proofs.lemmas.Option.{none-some, same_Some}
+use Rattle.std.proofs.Common.{◌≡◌, ℕ, ◌+◌, ◌-◌, ◌==◌, ◌&&◌, ◌||◌, List, [], length, Option, Some, None, is_some, unwrap_or, Result, Ok, Err, Bool, true, false, not, if◌then◌else◌, refl, sym, ap, ◌∙◌, subst}
+use Rattle.std.proofs.lemmas.Bool.{true≢false}
+use Rattle.std.proofs.lemmas.Option.{same_Some}
 use Rattle.std.specs.FinMap as fin
-use Rattle.std.specs.List.{list_any}
 use Rattle.std.specs.Ordering.{int_eq}
 use Rattle.std.specs.Option.{option_map}
-use Rattle.std.specs.Prelude.{ℤ, ◌+ℤ◌, pos, negsuc, nat_le, nat_lt, slice_index_or}
+use Rattle.std.specs.Prelude.{ℤ, ◌+ℤ◌, pos, nat_le, nat_lt, slice_index_or}
 use Rattle.posix_terms.specs.Calls.{can_read, can_write}
 use Rattle.sequential_object.specs.Descriptors as posix
-use Rattle.sequential_object.specs.Descriptors.{close_result, is_file, open_result}
+use Rattle.sequential_object.specs.Descriptors.{close_result, open_result}
 use Rattle.sequential_object.specs.Doors.{NewDoor, host_open_result, host_path, opens, port_of, tcp_accept_result, tcp_connect_result, tcp_listen_result}
 use Rattle.sequential_object.specs.Duplicates as duplicates
 use Rattle.sequential_object.specs.Duplicates.{dup2_result, descriptor_number}
 use Rattle.sequential_object.specs.Effects.{Effect, Asks, Blocks, Completes, asks_of}
 use Rattle.sequential_object.specs.Files.{bytes_at, resized, written}
-use Rattle.sequential_object.specs.Names.{PathMap, file_named, file_node, links_of, removed, removed_dir, unlink_result, with_paths}
+use Rattle.sequential_object.specs.Names.{file_named, file_node, links_of, removed, removed_dir, unlink_result, with_paths}
 use Rattle.sequential_object.specs.Paths.{node_at, resolved}
 use Rattle.sequential_object.specs.Object.{State, Content, File, Pipe, Pair, DoorTo, Node, FileNode, Directory, with_content, content_of, is_door}
 use Rattle.sequential_object.specs.Object as object
@@ -56,17 +54,18 @@ use Rattle.file_descriptions.specs.Descriptions.{AreSound}
 use Rattle.file_descriptions.specs.declared.description.Description.{Description}
 use Rattle.descriptor_table.proofs.ChangeLemmas.{birth_got}
 use Rattle.descriptor_table.proofs.EndLemmas.{Kind, IsDoor, IsFile, IsPipe, IsPair, has_end_shown, kind_of, of_file_file, of_file_stream, socket_stream}
-use Rattle.descriptor_table.proofs.EntryLemmas.{standing_in}
 use Rattle.descriptor_table.proofs.FollowLemmas.{waited_after}
-use Rattle.descriptor_table.proofs.PathLemmas.{births_alike, entries_shown, names_shown, node_shown, resolved_shown}
+use Rattle.descriptor_table.proofs.PathLemmas.{names_shown, node_shown, resolved_shown}
 use Rattle.descriptor_table.proofs.PlanLemmas.{asking_of, ends_shown, full_shown, last_open, listener_by, lowest_none, moves_file_inside, moves_inside, moves_outside, outside_at, transfers_by, two_shown}
-use Rattle.descriptor_table.proofs.ShownLemmas.{FoundBoth, Shut, Open, found_both, lowest_shown}
-use Rattle.descriptor_table.proofs.SoundLemmas.{get-insert_same, get-remove_other, get-remove_same, paths_total}
+use Rattle.descriptor_table.specs.Laws.{FoundBoth}
+use Rattle.descriptor_table.specs.Laws.FoundBoth.{Open, Shut}
+use Rattle.descriptor_table.proofs.ShownLemmas.{found_both, lowest_shown}
+use Rattle.descriptor_table.proofs.SoundLemmas.{get-insert_same}
 use Rattle.descriptor_table.specs.Acts.{Acted, ActsAsStep, Holds, IsActed, StandsAt, acted, ended, has_read, has_written, held_after, is_open, offset_at, outside_content, outside_ending, read_acted, replied, sought, told_outside, write_acted, wrote}
 use Rattle.descriptor_table.specs.Agreement.{numbers_told}
 use Rattle.descriptor_table.specs.Plans.{act_or_ask, answered, close_plan, ends_a_door, errand, fstat_plan, ftruncate_plan, host_open_plan, leads_outside, locks, lseek_plan, moves, not_listener, of_file, of_listener, opens_plan, seekable, shut_act, shutdown_plan, stat_by, stat_plan, tcp_accept_plan, tcp_connect_plan, tcp_listen_plan, two_ends_plan, pread_plan, pwrite_plan, read_plan, seen, write_plan, addable, dup2_plan, dup_from_plan, dup_plan, getfl_plan, link_plan, mkdir_plan, open_new, open_node, open_plan, open_there, planned, replaced, rmdir_plan, setfl_plan, unlink_plan}
 use Rattle.descriptor_table.specs.Shows.{Shows, birth_at, birth_of, is_of, shown, shown_node}
-use Rattle.descriptor_table.specs.Table.{TableState, IsSound, described, free_object, is_last_name, is_used, lowest_from, two_numbers}
+use Rattle.descriptor_table.specs.Table.{TableState, IsSound, described, free_object, is_last_name, lowest_from, two_numbers}
 use Rattle.descriptor_table.specs.declared.plan.Errand.{Errand}
 use Rattle.descriptor_table.specs.declared.plan.NewNumbers.TheVariants as numbers
 use Rattle.descriptor_table.specs.declared.plan.Op.{Op}
@@ -74,91 +73,7 @@ use Rattle.descriptor_table.specs.declared.plan.Op.TheVariants as op
 use Rattle.descriptor_table.specs.declared.plan.Opened.{Opened}
 use Rattle.descriptor_table.specs.declared.plan.Plan.{Plan}
 use Rattle.descriptor_table.specs.declared.plan.Plan.TheVariants as plan
-
--- ## Contents
-
-pub same_content : (s : State) (birth : ℕ) (content : Content) → content_of s birth ≡ content → Holds s birth content
-same_content s birth content is other at = sym (ap (λ (o : Option Content). unwrap_or o (File [])) at) ∙ is
-
--- what stays when an object leaves the map, or not
-kept_content : (s : State) (birth other : ℕ) (content : Content) → Holds s birth content → Holds (record s { objects = fin.remove s.objects other }) birth content
-kept_content s birth other content holds now at =
-    elim (cases_eq birth other) [
-      | inl e ↦ absurd (none-some _ (sym (ap (fin.get (fin.remove s.objects other)) e ∙ get-remove_same s.objects other) ∙ at))
-      | inr apart ↦ holds now (sym (get-remove_other s.objects other birth apart) ∙ at)
-    ]
-
-put_content : (s : State) (birth : ℕ) (content : Content) → Holds (with_content s birth content) birth content
-put_content s birth content now at = same_Some _ _ (sym at ∙ get-insert_same s.objects birth content)
-
-unused_content : (s : State) (birth other : ℕ) (content : Content) → Holds s birth content → Holds (posix.without_unused s other) birth content
-unused_content s birth other content holds = by_used (posix.has_description s other || posix.has_path s other)
-  where
-    by_used : (b : Bool) → Holds (if b then s else record s { objects = fin.remove s.objects other }) birth content
-    by_used true = holds
-    by_used false = kept_content s birth other content holds
-
-released_content : (s : State) (key birth : ℕ) (d : object.Description) (content : Content) → Holds s birth content → Holds (posix.released s key d) birth content
-released_content s key birth d content holds = by_last (posix.has_descriptor s key)
-  where
-    by_last : (b : Bool) → Holds (if b then s else posix.without_unused (record s { descriptions = fin.remove s.descriptions key }) d.object) birth content
-    by_last true = holds
-    by_last false = unused_content (record s { descriptions = fin.remove s.descriptions key }) birth d.object content holds
-
-freed_content : (s : State) (descriptor : ℤ) (birth : ℕ) (content : Content) → Holds s birth content → Holds (posix.freed s descriptor) birth content
-freed_content s (pos n) birth content holds = holds
-freed_content s (negsuc n) birth content holds = holds
-
--- ## How many names a file has
-
-differs : Bool → Bool → Bool
-differs true b = not b
-differs false b = b
-
-count_alike : {X : Type 0} (p q : X → Bool) (xs : List X) → list_any (λ x. differs (p x) (q x)) xs ≡ false → count_by p xs ≡ count_by q xs
-unfolding differs
-count_alike p q [] same = refl
-count_alike p q (x ∷ xs) same = by_tests (p x) (q x) refl refl (λ later. count_alike p q xs later)
-  where
-    rest : (b : Bool) → differs (p x) (q x) ≡ b → (b || list_any (λ x. differs (p x) (q x)) xs) ≡ false
-    rest b is = ap (λ (c : Bool). c || list_any (λ x. differs (p x) (q x)) xs) (sym is) ∙ same
-
-    one : (a : Bool) → p x ≡ a → q x ≡ a → count_by p xs ≡ count_by q xs → count_by p (x ∷ xs) ≡ count_by q (x ∷ xs)
-    one a is its more = sum_by-cons (λ y. cond (p y) 1 0) x xs ∙ ap (λ (n : ℕ). cond (p x) 1 0 + n) more ∙ ap (λ (c : Bool). cond c 1 0 + count_by q xs) (is ∙ sym its) ∙ sym (sum_by-cons (λ y. cond (q y) 1 0) x xs)
-
-    by_tests : (a b : Bool) → p x ≡ a → q x ≡ b → (list_any (λ x. differs (p x) (q x)) xs ≡ false → count_by p xs ≡ count_by q xs) → count_by p (x ∷ xs) ≡ count_by q (x ∷ xs)
-    by_tests true true is its later = one true is its (later (rest false (ap (λ (c : Bool). differs c (q x)) is ∙ ap not its)))
-    by_tests false false is its later = one false is its (later (rest false (ap (λ (c : Bool). differs c (q x)) is ∙ its)))
-    by_tests true false is its later = absurd (true≢false (rest true (ap (λ (c : Bool). differs c (q x)) is ∙ ap not its)))
-    by_tests false true is its later = absurd (true≢false (rest true (ap (λ (c : Bool). differs c (q x)) is ∙ its)))
-
-count_mapped : {X Y : Type 0} (f : X → Y) (p : Y → Bool) (xs : List X) → count_by p (map f xs) ≡ count_by (λ x. p (f x)) xs
-count_mapped f p [] = refl
-count_mapped f p (x ∷ xs) = sum_by-cons (λ y. cond (p y) 1 0) (f x) (map f xs) ∙ ap (λ (n : ℕ). cond (p (f x)) 1 0 + n) (count_mapped f p xs) ∙ sym (sum_by-cons (λ y. cond (p (f y)) 1 0) x xs)
-
-pub links_shown : (t : TableState) (s : State) (node : ℕ) → IsSound t → Shows t s → is_used t node ≡ true → links_of s.paths (birth_at t node) ≡ links_of t.paths node
-unfolding differs
-links_shown t s node sound shows used =
-    ap (count_by (λ (e : List (List ℕ) × Node). is_file e.1 (birth_at t node))) (entries_shown t s shows)
-    ∙ count_mapped (λ (e : List (List ℕ) × Node). (e.0, shown_node t e.1)) (λ (e : List (List ℕ) × Node). is_file e.1 (birth_at t node)) (fin.entries t.paths)
-    ∙ count_alike (λ (e : List (List ℕ) × Node). is_file (shown_node t e.1) (birth_at t node)) (λ (e : List (List ℕ) × Node). is_file e.1 node) (fin.entries t.paths) (none_differs (list_any (λ (e : List (List ℕ) × Node). differs (is_file (shown_node t e.1) (birth_at t node)) (is_file e.1 node)) (fin.entries t.paths)) refl)
-  where
-    not_differs : (b : Bool) → differs b b ≡ false
-    not_differs true = refl
-    not_differs false = refl
-
-    same_there : (path : List (List ℕ)) (x : Node) → fin.get t.paths path ≡ Some x → differs (is_file (shown_node t x) (birth_at t node)) (is_file x node) ≡ false
-    same_there path Directory at = refl
-    same_there path (FileNode n) at = ap (λ (b : Bool). differs b (n == node)) (births_alike t n node sound (sound.named_objects path n at) used) ∙ not_differs (n == node)
-
-    none_differs : (b : Bool) → list_any (λ (e : List (List ℕ) × Node). differs (is_file (shown_node t e.1) (birth_at t node)) (is_file e.1 node)) (fin.entries t.paths) ≡ b → list_any (λ (e : List (List ℕ) × Node). differs (is_file (shown_node t e.1) (birth_at t node)) (is_file e.1 node)) (fin.entries t.paths) ≡ false
-    none_differs false is = is
-    none_differs true is =
-        let at = standing_in paths_total (λ (e : List (List ℕ) × Node). differs (is_file (shown_node t e.1) (birth_at t node)) (is_file e.1 node)) t.paths is in
-        absurd (false≢true (sym (same_there at.0 at.1 at.2) ∙ at.3))
-
-abbrev pub without_name : State → List (List ℕ) → ℕ → Result (PathMap × ℕ) Errno
-without_name s components object = Ok (fin.remove s.paths components, object)
+use Rattle.descriptor_table.proofs.ContentLemmas.{freed_content, links_shown, put_content, released_content, same_content, unused_content, without_name}
 
 -- ## Each call
 

@@ -14,7 +14,7 @@ use Rattle.sequential_object.specs.Duplicates as duplicates
 use Rattle.sequential_object.specs.Names.{links_of}
 use Rattle.sequential_object.specs.Object as object
 use Rattle.sequential_object.specs.Object.{State, Content, File, Node, FileNode, Directory, path_cmp, content_of}
-use Rattle.file_descriptions.proofs.SoundLemmas.{AreSound-removed}
+use Rattle.file_descriptions.specs.Laws.{ChangesKeepSound}
 use Rattle.file_descriptions.specs.Descriptions.{AreSound, ContainsKey, DescriptionMap, description_at, new_description, no_description, with_description, with_holder, with_new, with_offset, without}
 use Rattle.file_descriptions.specs.declared.description.Description.{Description}
 use Rattle.posix_terms.specs.declared.object.End.{End}
@@ -322,9 +322,9 @@ alone_at t s n key d sound all shows at got last k apart is =
     first_of_any 32 (λ m. is_key (fin.get (fin.remove s.descriptors n) m) d.birth) k (omega (arith, long)) (ap (λ (o : Option ℕ). is_key o d.birth) refers ∙ same_nat (birth_of t key) d.birth (birth_got t.descriptions key d got)) in
     true≢false (sym found ∙ last_shown t s n key d sound all shows at got ∙ ap not last)
 
-pub shows-closed : (t : TableState) (s : State) (n key offset : ℕ) → IsSound t → AreSound t.descriptions → Shows t s → slice_index_or t.descriptors n None ≡ Some key → fin.get t.descriptions.by_key key ≡ Some (description_at t.descriptions key)
+pub shows-closed : ChangesKeepSound → (t : TableState) (s : State) (n key offset : ℕ) → IsSound t → AreSound t.descriptions → Shows t s → slice_index_or t.descriptors n None ≡ Some key → fin.get t.descriptions.by_key key ≡ Some (description_at t.descriptions key)
     → Shows (closed t n key) (posix.released (posix.freed s (pos n)) (birth_of t key) (shown t (description_at t.descriptions key) offset))
-shows-closed t s n key offset sound all shows at got =
+shows-closed keep t s n key offset sound all shows at got =
     subst (λ (b : Bool). Shows (closed t n key) (if b then posix.freed s (pos n) else posix.without_unused (record (posix.freed s (pos n)) { descriptions = fin.remove s.descriptions d.birth }) (birth_at t d.node)))
     (sym (last_shown t s n key d sound all shows at got))
     (by_last (d.holders == 1) refl)
@@ -341,7 +341,7 @@ shows-closed t s n key offset sound all shows at got =
     by_last : (b : Bool) → (d.holders == 1) ≡ b → Shows (if b then without_gone (left b) d.node else left b) (if not b then posix.freed s (pos n) else posix.without_unused (record (posix.freed s (pos n)) { descriptions = fin.remove s.descriptions d.birth }) (birth_at t d.node))
     by_last true is =
         shows-without_gone (left true) (record (posix.freed s (pos n)) { descriptions = fin.remove s.descriptions d.birth }) d.node
-        (subst (λ (b : Bool). IsSound (left b)) is (sound-let_go t n key sound (omega (arith, inside, sound.numbers)) at)) (AreSound-removed t.descriptions key all)
+        (subst (λ (b : Bool). IsSound (left b)) is (sound-let_go t n key sound (omega (arith, inside, sound.numbers)) at)) (keep.removed t.descriptions key all)
         (shows-ended t s n key d sound all shows inside at got (alone_at t s n key d sound all shows at got is)) (sound.described_objects key d got)
     by_last false is = shows-still t s n key d sound all shows inside at got
 

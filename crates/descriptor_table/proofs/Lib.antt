@@ -1,9 +1,12 @@
 pub mod ActLemmas
 pub mod Agreeing
+pub mod CallLemmas
 pub mod ChangeLemmas
+pub mod ContentLemmas
 pub mod EndLemmas
 pub mod EntryLemmas
 pub mod FollowLemmas
+pub mod Following
 pub mod KnownLemmas
 pub mod NumberLemmas
 pub mod ObjectLemmas

@@ -56,7 +56,9 @@ use Rattle.descriptor_table.proofs.EndLemmas.{Kind, IsDoor, IsFile, IsPipe, IsPa
 use Rattle.descriptor_table.proofs.FollowLemmas.{file_is, waited_after}
 use Rattle.descriptor_table.proofs.PathLemmas.{names_shown, node_shown, resolved_shown}
 use Rattle.descriptor_table.proofs.PlanLemmas.{asking_of, full_shown, listener_by, lowest_none, moves_file_inside, moves_inside, moves_outside, transfers_by, two_shown}
-use Rattle.descriptor_table.proofs.ShownLemmas.{FoundBoth, Shut, Open, found_both, lowest_shown}
+use Rattle.descriptor_table.specs.Laws.{FoundBoth}
+use Rattle.descriptor_table.specs.Laws.FoundBoth.{Open, Shut}
+use Rattle.descriptor_table.proofs.ShownLemmas.{found_both, lowest_shown}
 use Rattle.descriptor_table.proofs.SoundLemmas.{get-insert_other, get-insert_same, get-remove_other, get-remove_same}
 use Rattle.descriptor_table.specs.Acts.{OthersStay, StaysAsStep, offset_at}
 use Rattle.descriptor_table.specs.Plans.{act_or_ask, answered, errand, ftruncate_plan, host_open_plan, leads_outside, locks, lseek_plan, moves, not_listener, of_file, of_listener, open_new, open_node, open_plan, open_there, opens_plan, planned, pwrite_plan, read_plan, seekable, seen, shut_act, shutdown_plan, tcp_accept_plan, tcp_connect_plan, tcp_listen_plan, two_ends_plan, write_plan}

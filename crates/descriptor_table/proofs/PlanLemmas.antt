@@ -55,7 +55,9 @@ use Rattle.posix_terms.specs.declared.reply.Reply.{Reply}
 use Rattle.posix_terms.specs.declared.reply.Reply.TheVariants as reply
 use Rattle.file_descriptions.specs.Descriptions.{AreSound}
 use Rattle.file_descriptions.specs.declared.description.Description.{Description}
-use Rattle.descriptor_table.proofs.ShownLemmas.{FoundBoth, Shut, Open, found_both, last_shown, lowest_shown}
+use Rattle.descriptor_table.specs.Laws.{FoundBoth}
+use Rattle.descriptor_table.specs.Laws.FoundBoth.{Open, Shut}
+use Rattle.descriptor_table.proofs.ShownLemmas.{found_both, last_shown, lowest_shown}
 use Rattle.descriptor_table.proofs.EndLemmas.{Kind, IsDoor, IsFile, IsPipe, IsPair, acts_inside, asks_outside, kind_of, moves_file, moves_stream}
 use Rattle.descriptor_table.proofs.EntryLemmas.{counted-remove}
 use Rattle.descriptor_table.proofs.KnownLemmas.{lowest_above, lowest_below, was_some}

@@ -1,5 +1,5 @@
 -- What a table shows of a state: descriptors and their descriptions.
-use Rattle.std.proofs.Common.{◌≡◌, ℕ, zero, suc, ◌+◌, ◌<◌, ◌==◌, ◌||◌, List, [], ◌∷◌, length, Option, Some, None, is_some, unwrap_or, Ok, Err, Bool, true, false, cond, not, if◌then◌else◌, refl, sym, ap, ◌∙◌, inl, inr, arith}
+use Rattle.std.proofs.Common.{◌≡◌, ℕ, zero, suc, ◌+◌, ◌<◌, ◌==◌, ◌||◌, List, [], ◌∷◌, length, Option, Some, None, is_some, unwrap_or, Bool, true, false, cond, not, if◌then◌else◌, refl, sym, ap, ◌∙◌, inl, inr, arith}
 use Rattle.std.proofs.lemmas.Bool.{cases_eq, false≢true}
 use Rattle.std.proofs.lemmas.Bool.Decides.{nat_tests}
 use Rattle.std.proofs.lemmas.List.{length-set, get_or-set_same, get_or-set_other}
@@ -13,20 +13,14 @@ use Rattle.std.specs.Prelude.{ℤ, pos, negsuc, slice_index_or, slice_set}
 use Rattle.sequential_object.specs.Descriptors as posix
 use Rattle.sequential_object.specs.Descriptors.{is_key}
 use Rattle.sequential_object.specs.Object.{State, Content, Description as ADescription, any_below, empty_state, path_cmp}
-use Rattle.posix_terms.specs.declared.errno.Errno.TheVariants.{EBADF}
 use Rattle.file_descriptions.specs.Descriptions.{AreSound, description_at, no_description}
 use Rattle.file_descriptions.specs.declared.description.Description.{Description}
 use Rattle.descriptor_table.proofs.SoundLemmas.{get-remove_other, get-remove_same, held-set, held_by, itself, known_at, known_of, none_past, same_nat, slot_replicate}
 use Rattle.descriptor_table.proofs.KnownLemmas.{equal_nat, some_inside}
-use Rattle.descriptor_table.specs.Shows.{Shows, birth_of, shown, shown_node}
+use Rattle.descriptor_table.specs.Laws.{FoundBoth}
+use Rattle.descriptor_table.specs.Laws.FoundBoth.{Open, Shut}
+use Rattle.descriptor_table.specs.Shows.{Shows, birth_of, shown_node}
 use Rattle.descriptor_table.specs.Table.{TableState, IsSound, described, empty_table, key_at, lowest_from}
-
--- what a descriptor refers to, in the table and in the state
-pub data FoundBoth (t : TableState) (s : State) (descriptor : ℤ) : Type 0 where
-  Shut : (table : described t descriptor ≡ Err EBADF) → (state : posix.described s descriptor ≡ Err EBADF) → FoundBoth t s descriptor
-  Open : (key : ℕ) (d : Description) (offset : ℕ)
-      → (at : key_at t descriptor ≡ Some key) → (got : fin.get t.descriptions.by_key key ≡ Some d) → (there : fin.get s.descriptions d.birth ≡ Some (shown t d offset))
-      → (table : described t descriptor ≡ Ok (key, d)) → (state : posix.described s descriptor ≡ Ok (d.birth, shown t d offset)) → FoundBoth t s descriptor
 
 pub key_shown : (t : TableState) (s : State) (descriptor : ℤ) → Shows t s → posix.key_at s descriptor ≡ option_map (birth_of t) (key_at t descriptor)
 key_shown t s (pos n) shows = shows.descriptors n

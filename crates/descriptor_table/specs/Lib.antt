@@ -5,3 +5,4 @@ pub mod Changes
 pub mod Shows
 pub mod Agreement
 pub mod Acts
+pub mod Laws

@@ -13,8 +13,9 @@ use crate::numbers::descriptor_number;
 use crate::plan::{NewNumbers, Plan};
 use crate::table::Table;
 use directories::Node;
-use file_descriptions::StatusFlags;
+use file_descriptions::{StatusFlags, changes_keep_sound};
 use posix_terms::{Access, Call, Door, End, Errno, Limits, OpenFlags, Outcome, Side};
+use sequential_object::failed_calls_change_nothing;
 
 impl Table {
     /// Makes the change of a call that was planned: of descriptors, descriptions, names and objects. After
@@ -35,6 +36,8 @@ impl Table {
         ensures tells { plan.now ≡ planned self.old call.now → TellsAsStep self.old call.now (option_copied outcome.entry) result }
     {
         self.known();
+        changes_keep_sound();
+        failed_calls_change_nothing();
         if plan.is_refused() {
             return NewNumbers::None;
         }

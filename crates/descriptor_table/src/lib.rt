@@ -37,7 +37,7 @@ mod planning;
 mod slots;
 mod table;
 
-pub use laws::opens_as_planned;
+pub use laws::table_follows_step;
 pub use numbers::read_count;
 pub use plan::{Errand, NewNumbers, Op, Opened, Plan};
 pub use table::Table;

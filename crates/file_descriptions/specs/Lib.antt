@@ -1,2 +1,3 @@
 pub mod Descriptions
 pub mod DescriptionCode
+pub mod Laws

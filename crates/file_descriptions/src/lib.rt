@@ -29,6 +29,8 @@
 
 mod description;
 mod descriptions;
+mod laws;
 
 pub use description::{Description, StatusFlags};
 pub use descriptions::Descriptions;
+pub use laws::changes_keep_sound;

@@ -1,9 +1,9 @@
 -- The answer of a thread's call is that of the lock machine.
 use Rattle.std.proofs.Common.{◌≡◌, ℕ, zero, suc, ◌+◌, ◌<◌, ◌≤◌, ◌^◌, List, [], ◌∷◌, length, map, get_or, set, slice_get, Option, Some, None, Bool, true, false, ◌==◌, ◌&&◌, ◌||◌, not, sym, refl, ap, ap₂, ◌∙◌, subst, arith, ⊎_elim}
 use Rattle.std.proofs.lemmas.Bool.{cases_Bool, eq-eqb, eqb-false, leb-true, leb-false, ne_eqb}
-use Rattle.std.proofs.lemmas.List.{get_or-set_same, map-set}
+use Rattle.std.proofs.lemmas.List.{get_or-set_same, map-set, set-get_or}
 use Rattle.std.proofs.lemmas.Option.{same_Some, none-some, slice_get-map}
-use Rattle.std.specs.Prelude.{IfSome, is_some, option_map}
+use Rattle.std.specs.Prelude.{is_some, option_map}
 use Rattle.sequential_object.specs.Step.{step}
 use Rattle.posix_terms.specs.declared.call.Call.{Call}
 use Rattle.posix_terms.specs.declared.limits.TheConstants.Limits as limit
@@ -23,7 +23,6 @@ use Rattle.lock_model.specs.State as lock
 use Rattle.lock_model.specs.State.{Job, Row, State, nobody, thread_of}
 use Rattle.lock_model.specs.State.Phase.{Granted}
 use Rattle.sequential_object.specs.Worlds.{World}
-use Rattle.lock_model.proofs.Commute.{advance_move, lock_mine, lock_other, row_closed, row_open}
 use Rattle.lock_machine.specs.Events.{Answers, AnswersIn, AnswersWith, Parts, in_time, parts, row_answered}
 use Rattle.lock_machine.specs.Held.{end_held, phase_behind, told_as}
 use Rattle.lock_machine.specs.Conditions.{Conditions, setup_under}
@@ -36,8 +35,7 @@ use Rattle.lock_machine.specs.declared.thread.Phase.{Phase}
 use Rattle.lock_machine.specs.declared.thread.Phase.TheVariants as phase
 use Rattle.lock_machine.specs.Threads.{Thread}
 use Rattle.lock_machine.proofs.AskShows.{within_no, within_yes}
-use Rattle.object_store.proofs.Lists.{set_same}
-use Rattle.lock_machine.proofs.ShownThreads.{first_kept, whole_moved, whole_still}
+use Rattle.lock_machine.proofs.ShownThreads.{advance_by, first_kept, lock_left, row_left, whole_moved, whole_still}
 
 -- ## The one row that is open
 
@@ -45,7 +43,7 @@ fill_none : (i : ℕ) (e : Effect) (rows : List Row) → ((j : ℕ) (q : Row) �
 fill_none i e [] h = refl
 fill_none i e (r ∷ rows) h =
     ap₂ ◌∷◌
-    (row_closed i e r (not_open (is_open i r) (λ o. h 0 r refl o)))
+    (row_left i e r false (not_open (is_open i r) (λ o. h 0 r refl o)))
     (fill_none i e rows (λ j q at o. h (suc j) q at o))
   where
     not_open : (b : Bool) → (b ≡ true → ⊥) → b ≡ false
@@ -57,14 +55,14 @@ pub fill_one : (i : ℕ) (e : Effect) (rows : List Row) (k : ℕ) (r : Row) → 
 fill_one i e [] k r at o one = absurd (none-some r at)
 fill_one i e (x ∷ rows) zero r at o one =
     let same : x ≡ r = same_Some x r at in
-    let head : row_after i e x ≡ filled_by e r = ap (row_after i e) same ∙ row_open i e r o in
+    let head : row_after i e x ≡ filled_by e r = ap (row_after i e) same ∙ row_left i e r true o in
     ap₂ ◌∷◌ head (fill_none i e rows (λ j q there open_too. not_zero j (one (suc j) q there open_too)))
   where
     not_zero : (j : ℕ) → suc j ≡ 0 → ⊥
     not_zero j h = omega arith
 fill_one i e (x ∷ rows) (suc k) r at o one =
     ap₂ ◌∷◌
-    (row_closed i e x (not_open (is_open i x) (λ open_too. not_suc k (one 0 x refl open_too))))
+    (row_left i e x false (not_open (is_open i x) (λ open_too. not_suc k (one 0 x refl open_too))))
     (fill_one i e rows k r at o (λ j q there open_too. less j k (one (suc j) q there open_too)))
   where
     not_open : (b : Bool) → (b ≡ true → ⊥) → b ≡ false
@@ -81,17 +79,17 @@ fill_one i e (x ∷ rows) (suc k) r at o one =
 
 locks_unheld : (i : ℕ) (o : Option ℕ) (ls : List DetLock) → ((k : ℕ) → k < length ls → is_number (get_or ls k new_lock).holder i ≡ false) → map (lock_after i o) ls ≡ ls
 locks_unheld i o [] h = refl
-locks_unheld i o (l ∷ ls) h = ap₂ ◌∷◌ (lock_other i o l (h 0 (omega arith))) (locks_unheld i o ls (λ k inside. h (suc k) (omega arith)))
+locks_unheld i o (l ∷ ls) h = ap₂ ◌∷◌ (lock_left i o l false (h 0 (omega arith))) (locks_unheld i o ls (λ k inside. h (suc k) (omega arith)))
 
 pub locks_freed : (i n clock : ℕ) (ls : List DetLock) → n < length ls → is_number (get_or ls n new_lock).holder i ≡ true → ((k : ℕ) → k < length ls → (k ≡ n → ⊥) → is_number (get_or ls k new_lock).holder i ≡ false)
     → map (lock_after i (Some clock)) ls ≡ set ls n (freed clock)
 locks_freed i n clock [] inside mine others = absurd (omega arith)
-locks_freed i zero clock (l ∷ ls) inside mine others = ap₂ ◌∷◌ (lock_mine i (Some clock) l mine) (locks_unheld i (Some clock) ls (λ k within. others (suc k) (omega arith) (not_zero k)))
+locks_freed i zero clock (l ∷ ls) inside mine others = ap₂ ◌∷◌ (lock_left i (Some clock) l true mine) (locks_unheld i (Some clock) ls (λ k within. others (suc k) (omega arith) (not_zero k)))
   where
     not_zero : (k : ℕ) → suc k ≡ 0 → ⊥
     not_zero k e = omega arith
 locks_freed i (suc n) clock (l ∷ ls) inside mine others =
-    ap₂ ◌∷◌ (lock_other i (Some clock) l (others 0 (omega arith) (not_suc n))) (locks_freed i n clock ls (omega arith) mine (λ k within apart. others (suc k) (omega arith) (λ e. apart (one_less k n e))))
+    ap₂ ◌∷◌ (lock_left i (Some clock) l false (others 0 (omega arith) (not_suc n))) (locks_freed i n clock ls (omega arith) mine (λ k within apart. others (suc k) (omega arith) (λ e. apart (one_less k n e))))
   where
     not_suc : (k : ℕ) → 0 ≡ suc k → ⊥
     not_suc k e = omega arith
@@ -259,7 +257,7 @@ answered_yes terms w s i place None e job a room =
     let new = row_answered (parts_at w i None) place e (shown (row_of job)) in
     let inside : (n : ℕ) → n < length s.objects → is_number (get_or s.objects n new_lock).holder i ≡ false = one_held terms w s i place None e job a in
     whole_moved terms w s i new.thread m new.lock w.objects new.rows a.inside a.shows (move_made terms w s i place None e job a room) (thread_now terms w s i place None e job a (map (row_after i m.effect) s.rows) room)
-    (lock_mine i (Some (u.clock + 0)) s.table (table_held terms w s i place None e job a) ∙ ap freed (still u.clock ∙ h.clock))
+    (lock_left i (Some (u.clock + 0)) s.table true (table_held terms w s i place None e job a) ∙ ap freed (still u.clock ∙ h.clock))
     (locks_unheld i (Some u.clock) s.objects inside ∙ a.shows.objects)
     refl
     (rows_answered i s w.rows place job m.effect e a.rows a.shows.rows a.granted.thread a.granted.row refl refl)
@@ -273,17 +271,16 @@ answered_yes terms w s i place (Some n) e job a room =
     let new = row_answered (parts_at w i (Some n)) place e (shown (row_of job)) in
     let within : n < length s.objects = object_inside terms w s a.shows n a.granted.in_range in
     whole_moved terms w s i new.thread m w.lock (set w.objects n new.lock) new.rows a.inside a.shows (move_made terms w s i place (Some n) e job a room) (thread_now terms w s i place (Some n) e job a (map (row_after i m.effect) s.rows) room)
-    (lock_other i (Some (u.clock + 1)) s.table (table_held terms w s i place (Some n) e job a) ∙ a.shows.table)
+    (lock_left i (Some (u.clock + 1)) s.table false (table_held terms w s i place (Some n) e job a) ∙ a.shows.table)
     (locks_freed i n u.clock s.objects within (one_held terms w s i place (Some n) e job a n within ∙ eq-eqb n n refl)
     (λ k inside apart. one_held terms w s i place (Some n) e job a k inside ∙ ne_eqb n k (λ e. apart (sym e)))
     ∙ ap₂ (λ (ls : List DetLock) (c : ℕ). set ls n (freed c)) a.shows.objects h.clock)
     refl
     (rows_answered i s w.rows place job m.effect e a.rows a.shows.rows a.granted.thread a.granted.row refl refl)
 
-same_lock : (terms : Conditions) (w : Whole) (s : State) → Shows terms w s → (object : Option ℕ) (ts : List Thread) → IfSome object (λ n. n < limit.OBJECTS) → with_lock w object (lock_held w object) ts w.rows ≡ record w { threads = ts }
-same_lock terms w s h None ts inside = refl
-same_lock terms w s h (Some n) ts inside =
-    ap (λ (ls : List DetLock). let z : Whole = record w { threads = ts; objects = ls } in z) (set_same w.objects n new_lock (subst (λ (k : ℕ). n < k) (sym h.object_count) inside))
+same_lock : (w : Whole) (object : Option ℕ) (ts : List Thread) → with_lock w object (lock_held w object) ts w.rows ≡ record w { threads = ts }
+same_lock w None ts = refl
+same_lock w (Some n) ts = ap (λ (ls : List DetLock). let z : Whole = record w { threads = ts; objects = ls } in z) (set-get_or w.objects n new_lock)
 
 move_refused : (terms : Conditions) (w : Whole) (s : State) (i place : ℕ) (object : Option ℕ) (e : TurnEnd) (job : Job) → Answering terms w s i place object e job → 2 ^ 62 ≤ (thread_at w i).clock → moves (setup_under terms) i (thread_of s i) ≡ None
 move_refused terms w s i place object e job a full =
@@ -301,17 +298,17 @@ answered_no terms w s i place object e job a full =
     let t = thread_at w i in
     let still = whole_still terms w s i t a.inside a.shows (move_refused terms w s i place object e job a full) (a.shows.threads i) in
     let P : Whole → Type 0 = λ z. Shows terms z (advance (setup_under terms) i s) in
-    (still.0, subst P (sym (same_lock terms w s a.shows object (set w.threads i t) a.granted.in_range)) still.1)
+    (still.0, subst P (sym (same_lock w object (set w.threads i t))) still.1)
 
 -- ## What is told
 
 pub replies_moved : (terms : Conditions) (s : State) (i : ℕ) (m : Moved) → i < length s.threads → moves (setup_under terms) i (thread_of s i) ≡ Some m → (thread_of (advance (setup_under terms) i s) i).replies ≡ m.thread.replies
 replies_moved terms s i m inside is =
-    ap (λ (z : State). (thread_of z i).replies) (advance_move (setup_under terms) i s ∙ ap (λ (o : Option Moved). machine.move i o s) is)
+    ap (λ (z : State). (thread_of z i).replies) (advance_by terms s i (Some m) is)
     ∙ ap (λ (t : lock.Thread). t.replies) (get_or-set_same s.threads i m.thread nobody inside)
 
 pub replies_still : (terms : Conditions) (s : State) (i : ℕ) → moves (setup_under terms) i (thread_of s i) ≡ None → (thread_of (advance (setup_under terms) i s) i).replies ≡ (thread_of s i).replies
-replies_still terms s i is = ap (λ (z : State). (thread_of z i).replies) (advance_move (setup_under terms) i s ∙ ap (λ (o : Option Moved). machine.move i o s) is)
+replies_still terms s i is = ap (λ (z : State). (thread_of z i).replies) (advance_by terms s i None is)
 
 pub replies_answered : (u : lock.Thread) (c : Call) (n : ℕ) (e : TurnEnd) → (answered u c n e).replies ≡ replied (Some (told_as e)) u.replies
 replies_answered u c n (end.Reply reply) = refl

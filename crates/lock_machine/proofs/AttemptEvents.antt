@@ -11,12 +11,13 @@ use Rattle.det_mutex.specs.declared.lock.DetLock.{DetLock}
 use Rattle.logical_clocks.specs.ThreadClocks.{clock_at, live_clocks}
 use Rattle.logical_clocks.specs.TurnOrder.{has_turn}
 use Rattle.logical_clocks.specs.declared.clocks.ThreadClock.{ThreadClock}
+use Rattle.lock_model.specs.Laws.{PlansOfArisen}
 use Rattle.lock_model.specs.Machine.{wants}
+use Rattle.sequential_object.specs.Locked.{KeepsOutside, OutsideLocks}
 use Rattle.sequential_object.specs.Numbers.{first_world}
 use Rattle.lock_model.specs.State as lock
 use Rattle.lock_model.specs.State.{Row, thread_of}
-use Rattle.lock_model.proofs.OwnPlans.{plans_arisen}
-use Rattle.object_store.specs.Store.{Stored}
+use Rattle.object_store.specs.Store.{LocksAsStep, Stored}
 use Rattle.lock_machine.specs.Events.{Parts, Reaches, Tries, parts}
 use Rattle.lock_machine.specs.Lives.{Agree}
 use Rattle.lock_machine.specs.Conditions.{Conditions, setup_under}
@@ -35,17 +36,17 @@ use Rattle.lock_machine.proofs.Turning.{clocks_shown}
 
 -- ## On the threads with their clocks
 
-table_event : (w : Whole) (i : ℕ) (call : Call) (turns : ℕ) (made : Bool) (new : Parts) → i < length w.threads → has_turn (clocks_of w.threads) i ≡ true → (thread_at w i).phase ≡ phase.WantsTable call turns
+table_event : OutsideLocks → LocksAsStep → (w : Whole) (i : ℕ) (call : Call) (turns : ℕ) (made : Bool) (new : Parts) → i < length w.threads → has_turn (clocks_of w.threads) i ≡ true → (thread_at w i).phase ≡ phase.WantsTable call turns
     → Tries w.patience made i (table_parts w i) new → Attempts made i w (table_tried w i new)
-table_event w i call turns made new inside turn is tries terms s (arises, h) =
-    let a = attempt_whole terms w s i call turns made new inside h (ap (λ cs. has_turn cs i) (clocks_shown terms w s h) ∙ turn) is tries in (a.0, a.1)
+table_event outside numbers w i call turns made new inside turn is tries terms s (arises, h) =
+    let a = attempt_whole outside numbers terms w s i call turns made new inside h (ap (λ cs. has_turn cs i) (clocks_shown terms w s h) ∙ turn) is tries in (a.0, a.1)
 
-object_event : (w : Whole) (i n clock : ℕ) (call : Call) (turns : ℕ) (made : Bool) (now : DetLock) (new : Parts) → i < length w.threads → has_turn (clocks_of w.threads) i ≡ true
+object_event : KeepsOutside → PlansOfArisen → (w : Whole) (i n clock : ℕ) (call : Call) (turns : ℕ) (made : Bool) (now : DetLock) (new : Parts) → i < length w.threads → has_turn (clocks_of w.threads) i ≡ true
     → (thread_at w i).phase ≡ phase.WantsObject call turns clock n
     → Reaches w.patience made i (lock_at w n) now (table_parts w i) new → Attempts made i w (object_tried w i n now new)
-object_event w i n clock call turns made now new inside turn is tries terms s (arises, h) =
-    let plans = plans_arisen (setup_under terms) terms.threads limit.OBJECTS first_world s arises in
-    let a = reach_whole terms w s i n clock call turns made now new inside h plans (ap (λ cs. has_turn cs i) (clocks_shown terms w s h) ∙ turn) is tries in (a.0, a.1)
+object_event outside law w i n clock call turns made now new inside turn is tries terms s (arises, h) =
+    let plans = law (setup_under terms) terms.threads limit.OBJECTS first_world s arises in
+    let a = reach_whole outside terms w s i n clock call turns made now new inside h plans (ap (λ cs. has_turn cs i) (clocks_shown terms w s h) ∙ turn) is tries in (a.0, a.1)
 
 -- a call whose object is past the last number is in no run
 object_past : (w : Whole) (i n clock : ℕ) (call : Call) (turns : ℕ) → (thread_at w i).phase ≡ phase.WantsObject call turns clock n → length w.objects ≤ n → Attempts false i w w
@@ -89,11 +90,11 @@ idle_event w i idles terms s (arises, h) =
 
 -- ## By the item and the clock that the code changes
 
-pub try_done : (w : Whole) (ts : List declared.Thread) (cs ds : List ThreadClock) (i : ℕ) (call : Call) (turns : ℕ) (x v : declared.Thread) (l : DetLock) (later : Stored) (rows : List HistoryRow) (r : Result Bool AllocError)
+pub try_done : OutsideLocks → LocksAsStep → (w : Whole) (ts : List declared.Thread) (cs ds : List ThreadClock) (i : ℕ) (call : Call) (turns : ℕ) (x v : declared.Thread) (l : DetLock) (later : Stored) (rows : List HistoryRow) (r : Result Bool AllocError)
     → Item ts cs i x v ds → Agree ts cs → has_turn (live_clocks cs) i ≡ true → x.phase ≡ phase.WantsTable call turns
     → IfOk r (λ made. Tries w.patience made i (parts (timed x (clock_at cs i)) w.lock w.table w.rows) (parts (timed v (clock_at ds i)) l later rows))
     → IfOk r (λ made. Attempts made i (run_at w ts cs) (record w { threads = joined (set ts i v) ds; lock = l; table = later; rows = rows }))
-try_done w ts cs ds i call turns x v l later rows r h agree turn is tried =
+try_done outside numbers w ts cs ds i call turns x v l later rows r h agree turn is tried =
     let z = run_at w ts cs in
     let new = parts (timed v (clock_at ds i)) l later rows in
     let P : Bool → Type 0 = λ made. Tries w.patience made i (parts (timed x (clock_at cs i)) w.lock w.table w.rows) new in
@@ -102,7 +103,7 @@ try_done w ts cs ds i call turns x v l later rows r h agree turn is tried =
     let R : Thread → Type 0 = λ t. Tries w.patience made i (parts t w.lock w.table w.rows) new in
     let T : List Thread → Type 0 = λ us. Attempts made i z (record w { threads = us; lock = l; table = later; rows = rows }) in
     subst T (sym (joined-kept ts cs ds i x v h.clocked h.kept))
-    (table_event z i call turns made new (joined_inside ts cs i h.inside) (turn_shown ts cs i true agree turn) (item_phase ts cs i x (phase.WantsTable call turns) h.inside h.item is)
+    (table_event outside numbers z i call turns made new (joined_inside ts cs i h.inside) (turn_shown ts cs i true agree turn) (item_phase ts cs i x (phase.WantsTable call turns) h.inside h.item is)
     (subst R (sym (item_thread ts cs i x h.inside h.item)) a))) tried
 
 abbrev WantsPhase : Phase → ℕ → Type 0
@@ -119,11 +120,11 @@ wants_phase (phase.Recorded o) n h = absurd h
 wants_phase (phase.Blocked turns) n h = absurd h
 wants_phase phase.Ended n h = absurd h
 
-pub reach_done : (w : Whole) (ts : List declared.Thread) (cs ds : List ThreadClock) (i n : ℕ) (x v : declared.Thread) (l before own : DetLock) (later : Stored) (rows : List HistoryRow) (r : Result Bool AllocError)
+pub reach_done : KeepsOutside → PlansOfArisen → (w : Whole) (ts : List declared.Thread) (cs ds : List ThreadClock) (i n : ℕ) (x v : declared.Thread) (l before own : DetLock) (later : Stored) (rows : List HistoryRow) (r : Result Bool AllocError)
     → Item ts cs i x v ds → Agree ts cs → has_turn (live_clocks cs) i ≡ true → WantsIn x.phase n → before ≡ get_or w.objects n new_lock
     → IfOk r (λ made. Reaches w.patience made i before own (parts (timed x (clock_at cs i)) w.lock w.table w.rows) (parts (timed v (clock_at ds i)) l later rows))
     → IfOk r (λ made. Attempts made i (run_at w ts cs) (record w { threads = joined (set ts i v) ds; lock = l; objects = set w.objects n own; table = later; rows = rows }))
-reach_done w ts cs ds i n x v l before own later rows r h agree turn wanting before_is tried =
+reach_done outside plans w ts cs ds i n x v l before own later rows r h agree turn wanting before_is tried =
     let z = run_at w ts cs in
     let new = parts (timed v (clock_at ds i)) l later rows in
     let found = wants_phase x.phase n wanting in
@@ -134,7 +135,7 @@ reach_done w ts cs ds i n x v l before own later rows r h agree turn wanting bef
     let K : DetLock → Type 0 = λ k. Reaches w.patience made i k own (parts (timed x (clock_at cs i)) w.lock w.table w.rows) new in
     let T : List Thread → Type 0 = λ us. Attempts made i z (record w { threads = us; lock = l; objects = set w.objects n own; table = later; rows = rows }) in
     subst T (sym (joined-kept ts cs ds i x v h.clocked h.kept))
-    (object_event z i n found.2 found.0 found.1 made own new (joined_inside ts cs i h.inside) (turn_shown ts cs i true agree turn) (item_phase ts cs i x (phase.WantsObject found.0 found.1 found.2 n) h.inside h.item found.3)
+    (object_event outside plans z i n found.2 found.0 found.1 made own new (joined_inside ts cs i h.inside) (turn_shown ts cs i true agree turn) (item_phase ts cs i x (phase.WantsObject found.0 found.1 found.2 n) h.inside h.item found.3)
     (subst R (sym (item_thread ts cs i x h.inside h.item)) (subst K before_is a)))) tried
 
 -- ## Where nothing is done

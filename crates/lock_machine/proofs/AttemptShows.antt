@@ -1,11 +1,10 @@
 -- An attempt at the lock of the table is that of the lock machine.
-use Rattle.std.proofs.Common.{◌≡◌, ℕ, ◌+◌, ◌<◌, ◌≤◌, ◌^◌, List, [], ◌∷◌, ◌++◌, length, map, set, get_or, slice_get, Option, Some, None, Bool, true, false, sym, refl, ap, ap₂, ◌∙◌, subst, ⊎_elim}
-use Rattle.std.proofs.lemmas.Bool.{cases_Bool, cond-true, cond-false, false≢true, le-leb, leb-true, leb-false, lt-leb}
-use Rattle.std.proofs.lemmas.List.{get_or-set_same, length-map, length-set, map-append}
-use Rattle.std.proofs.lemmas.Option.{none-some}
+use Rattle.std.proofs.Common.{◌≡◌, ℕ, ◌+◌, ◌<◌, ◌≤◌, ◌^◌, List, [], ◌∷◌, ◌++◌, length, map, set, get_or, slice_get, Option, Some, None, Bool, true, false, sym, refl, ap, ap₂, ◌∙◌, subst, arith, ⊎_elim}
+use Rattle.std.proofs.lemmas.Bool.{and_from, and_left, and_right, cases_Bool, cond-true, cond-false, false≢true, le-leb, leb-true, leb-false, lt-leb}
+use Rattle.std.proofs.lemmas.List.{get_or-set_same, get_or_append_left, get_or_push, length-append, length-map, length-set, map-append, set-get_or}
+use Rattle.std.proofs.lemmas.Option.{get_or_from_slice_get, none-some, slice_get-get_or, slice_get_within}
 use Rattle.std.specs.Prelude.{IfSome, is_some, nat_le}
-use Rattle.sequential_object.proofs.Outside.{locks_some}
-use Rattle.sequential_object.specs.Locked.{keeps_table, locked_object}
+use Rattle.sequential_object.specs.Locked.{OutsideLocks, keeps_table, locked_object, locks_door}
 use Rattle.sequential_object.specs.Step.{asks, step}
 use Rattle.posix_terms.specs.declared.call.Call.{Call}
 use Rattle.posix_terms.specs.declared.limits.TheConstants.Limits as limit
@@ -28,9 +27,7 @@ use Rattle.lock_model.specs.State as lock
 use Rattle.lock_model.specs.State.{Job, Row, State, live_clocks, nobody, thread_of}
 use Rattle.lock_model.specs.State.Phase.{WantsObject, WantsTable}
 use Rattle.sequential_object.specs.Worlds.{World}
-use Rattle.lock_model.proofs.Arising.{slice_get-prefix, slice_get-push}
-use Rattle.lock_model.proofs.Attempt.{attempt_can, attempt_not, can_in, can_out}
-use Rattle.object_store.specs.Store.{EndsAt, GoesOut, Stands, StartsIn, Stored, number_locked}
+use Rattle.object_store.specs.Store.{EndsAt, GoesOut, LocksAsStep, Stands, StartsIn, Stored, number_locked}
 use Rattle.lock_machine.specs.Held.{turn_started}
 use Rattle.lock_machine.specs.Events.{Grants, Parts, PlansTo, Tries, TriesIn, TriesInTime, TriesLock, granted_row, in_time, later, parts}
 use Rattle.lock_model.specs.Rows.{shown}
@@ -46,21 +43,17 @@ use Rattle.descriptor_table.specs.declared.plan.Errand.{Errand}
 use Rattle.lock_machine.specs.declared.thread.Outing.{Outing}
 use Rattle.lock_machine.specs.declared.thread.Phase.{Phase}
 use Rattle.lock_machine.specs.declared.thread.Phase.TheVariants as phase
-use Rattle.object_store.proofs.Lists.{set_same}
-use Rattle.object_store.proofs.Standing.{number_known}
 use Rattle.lock_machine.proofs.ShownThreads.{thread_rows, threads_set}
 
 -- ## Attempts that can't be made
 
-not_true : (b : Bool) → (b ≡ true → ⊥) → b ≡ false
-not_true true h = absurd (h refl)
-not_true false h = refl
-
 wants_none : (terms : Conditions) (s : State) (i : ℕ) → wants (thread_of s i).phase ≡ false → can_attempt (setup_under terms) s i ≡ false
-wants_none terms s i h = not_true (can_attempt (setup_under terms) s i) (λ can. false≢true (sym h ∙ (can_out (setup_under terms) s i can).wanting))
+unfolding can_attempt
+wants_none terms s i h = and_left _ _ h
 
 turn_none : (terms : Conditions) (s : State) (i : ℕ) → has_turn (live_clocks s) i ≡ false → can_attempt (setup_under terms) s i ≡ false
-turn_none terms s i h = not_true (can_attempt (setup_under terms) s i) (λ can. false≢true (sym h ∙ (can_out (setup_under terms) s i can).turn))
+unfolding can_attempt
+turn_none terms s i h = and_right _ _ (and_left _ _ h)
 
 abbrev pub Attempted : Conditions → State → ℕ → Bool → Whole → Type 0
 Attempted terms s i made z = (can_attempt (setup_under terms) s i ≡ made) × Shows terms z (attempt (setup_under terms) i s)
@@ -72,34 +65,40 @@ table_tried w i new = record w { threads = set w.threads i new.thread; lock = ne
 abbrev pub table_parts : Whole → ℕ → Parts
 table_parts w i = parts (thread_at w i) w.lock w.table w.rows
 
-pub whole_same : (terms : Conditions) (w : Whole) (s : State) → Shows terms w s → (i : ℕ) → i < length w.threads → Shows terms (record w { threads = set w.threads i (thread_at w i) }) s
-whole_same terms w s h i inside =
-    let P : List Thread → Type 0 = λ ts. Shows terms (record w { threads = ts }) s in subst P (sym (set_same w.threads i no_thread inside)) h
+-- it leaves the state as it is
+pub not_attempted : (terms : Conditions) (w : Whole) (s : State) (i : ℕ) → Shows terms w s → can_attempt (setup_under terms) s i ≡ false → Attempted terms s i false w
+unfolding attempt
+not_attempted terms w s i h off = let P : State → Type 0 = Shows terms w in (off, subst P (sym (cond-false _ _ _ off)) h)
 
-pub attempted_no : (terms : Conditions) (w : Whole) (s : State) (i : ℕ) → i < length w.threads → Shows terms w s → can_attempt (setup_under terms) s i ≡ false → Attempted terms s i false (record w { threads = set w.threads i (thread_at w i) })
-attempted_no terms w s i inside h off =
-    let P : State → Type 0 = Shows terms (record w { threads = set w.threads i (thread_at w i) }) in (off, subst P (sym (attempt_not (setup_under terms) i s off)) (whole_same terms w s h i inside))
+pub attempted_no : (terms : Conditions) (w : Whole) (s : State) (i : ℕ) → Shows terms w s → can_attempt (setup_under terms) s i ≡ false → Attempted terms s i false (record w { threads = set w.threads i (thread_at w i) })
+attempted_no terms w s i h off =
+    let P : List Thread → Type 0 = λ ts. Attempted terms s i false (record w { threads = ts }) in subst P (sym (set-get_or w.threads i no_thread)) (not_attempted terms w s i h off)
 
 -- the attempt leaves this state, in which the thread's clock is this
 pub attempted_yes : (terms : Conditions) (s z : State) (i : ℕ) (v : Whole) → wants (thread_of s i).phase ≡ true → has_turn (live_clocks s) i ≡ true → tried (setup_under terms) s i ≡ z → (thread_of z i).clock ≤ 2 ^ 62 → Shows terms v z
     → Attempted terms s i true v
+unfolding attempt can_attempt
 attempted_yes terms s z i v wanting turn is room shows =
     let setup = setup_under terms in
     let fits : nat_le (thread_of (tried setup s i) i).clock (2 ^ 62) ≡ true = ap (λ (x : State). nat_le (thread_of x i).clock (2 ^ 62)) is ∙ le-leb (thread_of z i).clock (2 ^ 62) room in
-    let can : can_attempt setup s i ≡ true = can_in setup s i (record { wanting = wanting; turn = turn; room = fits }) in
+    let can : can_attempt setup s i ≡ true = and_from _ _ wanting (and_from _ _ turn fits) in
     let P : State → Type 0 = Shows terms v in
-    (can, subst P (sym (attempt_can setup i s can ∙ is)) shows)
+    (can, subst P (sym (cond-true _ _ _ can ∙ is)) shows)
 
 -- the attempt would leave a clock past the limit
 pub attempted_full : (terms : Conditions) (s : State) (i n : ℕ) → (thread_of (tried (setup_under terms) s i) i).clock ≡ n → 2 ^ 62 < n → can_attempt (setup_under terms) s i ≡ false
+unfolding can_attempt
 attempted_full terms s i n clock past =
     let no_room : nat_le (thread_of (tried (setup_under terms) s i) i).clock (2 ^ 62) ≡ false = ap (λ (c : ℕ). nat_le c (2 ^ 62)) clock ∙ lt-leb n (2 ^ 62) past in
-    not_true (can_attempt (setup_under terms) s i) (λ can. false≢true (sym no_room ∙ (can_out (setup_under terms) s i can).room))
+    and_right _ _ (and_right _ _ no_room)
 
 -- ## Grants
 
 slice_get-more : {A : Type 0} (xs ys : List A) (n : ℕ) (x : A) → slice_get xs n ≡ Some x → slice_get (xs ++ ys) n ≡ Some x
-slice_get-more xs ys n x h = slice_get-prefix xs (xs ++ ys) n x (ys, refl) h
+slice_get-more xs ys n x h =
+    let inside : n < length xs = slice_get_within xs n x h in
+    let longer : n < length (xs ++ ys) = subst (λ (k : ℕ). n < k) (sym (length-append xs ys)) (omega arith) in
+    slice_get-get_or (xs ++ ys) n x longer ∙ ap Some (get_or_append_left xs ys x n inside ∙ get_or_from_slice_get xs n x x h)
 
 -- what a call takes its object's lock for
 abbrev pub way_here : State → Call → ℕ → Way
@@ -118,7 +117,11 @@ world_left settings s call turns true = s.world
 world_left settings s call turns false = world_with s.world (step settings s.world.object call None turns).after
 
 placed : (terms : Conditions) (w : Whole) (s : State) (job : Job) → Shows terms w s → slice_get (rows_with s job) (length w.rows) ≡ Some (row_of job)
-placed terms w s job h = ap (slice_get (rows_with s job)) (ap length (sym h.rows) ∙ length-map s.rows shown) ∙ slice_get-push s.rows (row_of job)
+placed terms w s job h =
+    let last : length s.rows ≡ length w.rows = sym (length-map s.rows shown) ∙ ap length h.rows in
+    let one_more : length (rows_with s job) ≡ length w.rows + 1 = length-append s.rows (row_of job ∷ []) ∙ ap (λ (n : ℕ). n + 1) last in
+    slice_get-get_or (rows_with s job) (length w.rows) (row_of job) (subst (λ (n : ℕ). length w.rows < n) (sym one_more) (omega arith))
+    ∙ ap Some (get_or_push s.rows (row_of job) (row_of job) (length w.rows) last)
 
 -- what a grant makes of the thread, of the world and of the rows
 pub record Granted_now (terms : Conditions) (w : Whole) (s : State) (turn : Turn) (call : Call) (turns : ℕ) (way : Way) (object : Option ℕ) (cost : ℕ) (new : Parts) : Type 0 where
@@ -301,31 +304,27 @@ attempt_fails terms w s i call turns a room shut =
     (fail_shows terms w s i a.inside a.shows room on)
 
 -- a call that takes no object asks nothing outside
-asks_none : (h : Stored) (w : World) (call : Call) (turns : ℕ) → Stands h w → number_locked h call ≡ None → asks w.object call turns ≡ None
-asks_none h w call turns stands none =
-    none_asked (asks w.object call turns) (not_true (is_some (asks w.object call turns)) (λ goes. false≢true (sym (none_locked (locked_object w.object call turns) (number_known h w call turns stands ∙ none)) ∙ locks_some w.object call turns goes)))
+asks_none : OutsideLocks → LocksAsStep → (h : Stored) (w : World) (call : Call) (turns : ℕ) → Stands h w → number_locked h call ≡ None → asks w.object call turns ≡ None
+asks_none outside numbers h w call turns stands none = none_asked (locked_object w.object call turns) (asks w.object call turns) (sym (numbers h w call turns stands) ∙ none) (outside w.object call turns)
   where
-    none_locked : (o : Option ℕ) → numbered w o ≡ None → is_some o ≡ false
-    none_locked None e = refl
-    none_locked (Some n) e = absurd (none-some _ (sym e))
-
-    none_asked : (o : Option Request) → is_some o ≡ false → o ≡ None
-    none_asked None e = refl
-    none_asked (Some r) e = absurd (false≢true (sym e))
+    none_asked : (o : Option ℕ) (r : Option Request) → numbered w o ≡ None → (is_some r ≡ true → locks_door w.object (keeps_table call) o ≡ true) → r ≡ None
+    none_asked o None e locks = refl
+    none_asked None (Some r) e locks = absurd (false≢true (locks refl))
+    none_asked (Some n) (Some r) e locks = absurd (none-some _ (sym e))
 
 -- the call is granted at once
-attempt_takes : (terms : Conditions) (w : Whole) (s : State) (i : ℕ) (call : Call) (turns : ℕ) (new : Parts) → Trying terms w s i call turns → (thread_at w i).clock + 1 ≤ 2 ^ 62 → takes s.table (thread_of s i).clock ≡ true → number_locked w.table call ≡ None
+attempt_takes : OutsideLocks → LocksAsStep → (terms : Conditions) (w : Whole) (s : State) (i : ℕ) (call : Call) (turns : ℕ) (new : Parts) → Trying terms w s i call turns → (thread_at w i).clock + 1 ≤ 2 ^ 62 → takes s.table (thread_of s i).clock ≡ true → number_locked w.table call ≡ None
     → Grants w.patience (turn_of s i) call turns None (record (later (table_parts w i) 1) { lock = held i w.lock }) new → Attempted terms s i true (table_tried w i new)
 unfolding job_of
-attempt_takes terms w s i call turns new a room free none g =
+attempt_takes outside numbers terms w s i call turns new a room free none g =
     let u = thread_of s i in
     let job = job_of s (turn_of s i) call turns Inside None in
     let y : lock.Thread = granted u (u.clock + 1) job false in
     let z : State = planned (real_calls terms.settings) s i u call turns (turn_of s i) No_object s.world in
-    let asks_no = asks_none w.table s.world call turns a.shows.world none in
+    let asks_no = asks_none outside numbers w.table s.world call turns a.shows.world none in
     let inside : Inside ≡ way_here s call turns = sym (ap (λ (o : Option Request). way_of (is_some o) (keeps_table call)) asks_no) in
     let now = grant_shows terms w s (turn_of s i) call turns Inside None 1 (held i w.lock) new a.shows tt room inside (λ e. asks_no) g in
-    attempted_yes terms s z i (table_tried w i new) (ap wants a.phase) a.turn (planned_by terms s i call turns None a.phase free (number_known w.table s.world call turns a.shows.world ∙ none))
+    attempted_yes terms s z i (table_tried w i new) (ap wants a.phase) a.turn (planned_by terms s i call turns None a.phase free (sym (numbers w.table s.world call turns a.shows.world) ∙ none))
     (subst (λ (c : ℕ). c ≤ 2 ^ 62) (sym (clock_set terms w s i y a.inside a.shows)) (clock_fits terms w s i 1 a.shows room))
     (record {
       patience = a.shows.patience;
@@ -340,10 +339,10 @@ attempt_takes terms w s i call turns new a room free none g =
     })
 
 -- the call wants an object
-attempt_plans : (terms : Conditions) (w : Whole) (s : State) (i n : ℕ) (call : Call) (turns : ℕ) → Trying terms w s i call turns → (thread_at w i).clock + 1 ≤ 2 ^ 62 → takes s.table (thread_of s i).clock ≡ true → number_locked w.table call ≡ Some n
+attempt_plans : LocksAsStep → (terms : Conditions) (w : Whole) (s : State) (i n : ℕ) (call : Call) (turns : ℕ) → Trying terms w s i call turns → (thread_at w i).clock + 1 ≤ 2 ^ 62 → takes s.table (thread_of s i).clock ≡ true → number_locked w.table call ≡ Some n
     → n < limit.OBJECTS
     → Attempted terms s i true (table_tried w i (parts (record (thread_at w i) { phase = phase.WantsObject call turns (thread_of s i).clock n; clock = (thread_at w i).clock + 1 }) (held i w.lock) w.table w.rows))
-attempt_plans terms w s i n call turns a room free is few =
+attempt_plans numbers terms w s i n call turns a room free is few =
     let t = thread_at w i in
     let u = thread_of s i in
     let h = a.shows in
@@ -354,7 +353,7 @@ attempt_plans terms w s i n call turns a room free is few =
     record { clock = ap (λ (c : ℕ). c + 1) (h.threads i).clock; in_time = room; asked = (h.threads i).asked; came = (h.threads i).came; phase = (way, (refl, few)) } in
     let z : State = planned (real_calls terms.settings) s i u call turns (turn_of s i) (Object n way) s.world in
     attempted_yes terms s z i (table_tried w i (parts x (held i w.lock) w.table w.rows)) (ap wants a.phase) a.turn
-    (planned_by terms s i call turns (Some n) a.phase free (number_known w.table s.world call turns h.world ∙ is))
+    (planned_by terms s i call turns (Some n) a.phase free (sym (numbers w.table s.world call turns h.world) ∙ is))
     (subst (λ (c : ℕ). c ≤ 2 ^ 62) (sym (clock_set terms w s i y a.inside h)) (clock_fits terms w s i 1 h room))
     (record {
       patience = h.patience;
@@ -389,52 +388,48 @@ attempt_full terms w s i call turns a full =
     (cases_Bool (takes s.table u.clock)))
     past
 
-plan_tried : (terms : Conditions) (w : Whole) (s : State) (i : ℕ) (call : Call) (turns : ℕ) (new : Parts) (o : Option ℕ) → Trying terms w s i call turns → (thread_at w i).clock + 1 ≤ 2 ^ 62 → takes s.table (thread_of s i).clock ≡ true → number_locked w.table call ≡ o
+plan_tried : OutsideLocks → LocksAsStep → (terms : Conditions) (w : Whole) (s : State) (i : ℕ) (call : Call) (turns : ℕ) (new : Parts) (o : Option ℕ) → Trying terms w s i call turns → (thread_at w i).clock + 1 ≤ 2 ^ 62 → takes s.table (thread_of s i).clock ≡ true → number_locked w.table call ≡ o
     → PlansTo w.patience o (turn_of s i) call turns (record (later (table_parts w i) 1) { lock = held i w.lock }) new → Attempted terms s i true (table_tried w i new)
-plan_tried terms w s i call turns new None a room free is g = attempt_takes terms w s i call turns new a room free is g
-plan_tried terms w s i call turns new (Some n) a room free is (few, e) =
-    let P : Parts → Type 0 = λ p. Attempted terms s i true (table_tried w i p) in subst P (sym e) (attempt_plans terms w s i n call turns a room free is few)
+plan_tried outside numbers terms w s i call turns new None a room free is g = attempt_takes outside numbers terms w s i call turns new a room free is g
+plan_tried outside numbers terms w s i call turns new (Some n) a room free is (few, e) =
+    let P : Parts → Type 0 = λ p. Attempted terms s i true (table_tried w i p) in subst P (sym e) (attempt_plans numbers terms w s i n call turns a room free is few)
 
-lock_tried : (terms : Conditions) (w : Whole) (s : State) (i : ℕ) (call : Call) (turns : ℕ) (new : Parts) (b : Bool) → Trying terms w s i call turns → (thread_at w i).clock + 1 ≤ 2 ^ 62 → takes w.lock (thread_at w i).clock ≡ b
+lock_tried : OutsideLocks → LocksAsStep → (terms : Conditions) (w : Whole) (s : State) (i : ℕ) (call : Call) (turns : ℕ) (new : Parts) (b : Bool) → Trying terms w s i call turns → (thread_at w i).clock + 1 ≤ 2 ^ 62 → takes w.lock (thread_at w i).clock ≡ b
     → TriesLock w.patience b i call turns (table_parts w i) new → Attempted terms s i true (table_tried w i new)
-lock_tried terms w s i call turns new true a room free g =
+lock_tried outside numbers terms w s i call turns new true a room free g =
     let P : ℕ → Type 0 = λ clock. PlansTo w.patience (number_locked w.table call) (record { clock = clock; thread = i }) call turns (record (later (table_parts w i) 1) { lock = held i w.lock }) new in
-    plan_tried terms w s i call turns new (number_locked w.table call) a room (ap₂ takes a.shows.table (a.shows.threads i).clock ∙ free) refl (subst P (sym (a.shows.threads i).clock) g)
-lock_tried terms w s i call turns new false a room shut g =
+    plan_tried outside numbers terms w s i call turns new (number_locked w.table call) a room (ap₂ takes a.shows.table (a.shows.threads i).clock ∙ free) refl (subst P (sym (a.shows.threads i).clock) g)
+lock_tried outside numbers terms w s i call turns new false a room shut g =
     let P : Parts → Type 0 = λ p. Attempted terms s i true (table_tried w i p) in
     subst P (sym g) (attempt_fails terms w s i call turns a room (ap₂ takes a.shows.table (a.shows.threads i).clock ∙ shut))
 
-not_made : (terms : Conditions) (w : Whole) (s : State) (i : ℕ) (made : Bool) (new : Parts) → i < length w.threads → Shows terms w s → can_attempt (setup_under terms) s i ≡ false
+not_made : (terms : Conditions) (w : Whole) (s : State) (i : ℕ) (made : Bool) (new : Parts) → Shows terms w s → can_attempt (setup_under terms) s i ≡ false
     → (made ≡ false) × (new ≡ table_parts w i) → Attempted terms s i made (table_tried w i new)
-not_made terms w s i made new inside h off g =
+not_made terms w s i made new h off g =
     let P : Bool → Type 0 = λ b. Attempted terms s i b (table_tried w i new) in
     let Q : Parts → Type 0 = λ p. Attempted terms s i false (table_tried w i p) in
-    subst P (sym g.0) (subst Q (sym g.1) (attempted_no terms w s i inside h off))
+    subst P (sym g.0) (subst Q (sym g.1) (attempted_no terms w s i h off))
 
-time_tried : (terms : Conditions) (w : Whole) (s : State) (i : ℕ) (call : Call) (turns : ℕ) (made : Bool) (new : Parts) (b : Bool) → Trying terms w s i call turns → in_time (table_parts w i) 1 ≡ b
+time_tried : OutsideLocks → LocksAsStep → (terms : Conditions) (w : Whole) (s : State) (i : ℕ) (call : Call) (turns : ℕ) (made : Bool) (new : Parts) (b : Bool) → Trying terms w s i call turns → in_time (table_parts w i) 1 ≡ b
     → TriesInTime w.patience b made i call turns (table_parts w i) new → Attempted terms s i made (table_tried w i new)
-time_tried terms w s i call turns made new true a room h =
+time_tried outside numbers terms w s i call turns made new true a room h =
     let P : Bool → Type 0 = λ b. Attempted terms s i b (table_tried w i new) in
-    subst P (sym h.0) (lock_tried terms w s i call turns new (takes w.lock (thread_at w i).clock) a (leb-true ((thread_at w i).clock + 1) (2 ^ 62) room) refl h.1)
-time_tried terms w s i call turns made new false a full h = not_made terms w s i made new a.inside a.shows (attempt_full terms w s i call turns a (leb-false ((thread_at w i).clock + 1) (2 ^ 62) full)) h
+    subst P (sym h.0) (lock_tried outside numbers terms w s i call turns new (takes w.lock (thread_at w i).clock) a (leb-true ((thread_at w i).clock + 1) (2 ^ 62) room) refl h.1)
+time_tried outside numbers terms w s i call turns made new false a full h = not_made terms w s i made new a.shows (attempt_full terms w s i call turns a (leb-false ((thread_at w i).clock + 1) (2 ^ 62) full)) h
 
 -- only a thread that wants the table makes this attempt
-pub attempt_whole : (terms : Conditions) (w : Whole) (s : State) (i : ℕ) (call : Call) (turns : ℕ) (made : Bool) (new : Parts) → i < length w.threads → Shows terms w s → has_turn (live_clocks s) i ≡ true → (thread_at w i).phase ≡ phase.WantsTable call turns
+pub attempt_whole : OutsideLocks → LocksAsStep → (terms : Conditions) (w : Whole) (s : State) (i : ℕ) (call : Call) (turns : ℕ) (made : Bool) (new : Parts) → i < length w.threads → Shows terms w s → has_turn (live_clocks s) i ≡ true → (thread_at w i).phase ≡ phase.WantsTable call turns
     → Tries w.patience made i (table_parts w i) new → Attempted terms s i made (table_tried w i new)
-attempt_whole terms w s i call turns made new inside h turn is tries =
+attempt_whole outside numbers terms w s i call turns made new inside h turn is tries =
     let P : Phase → Type 0 = λ p. PhaseShows terms i s.rows (thread_at w i) (thread_of s i) p in
     let Q : Phase → Type 0 = λ p. TriesIn w.patience p made i (table_parts w i) new in
     let g = subst P is (h.threads i).phase in
-    time_tried terms w s i call turns made new (in_time (table_parts w i) 1) (record { inside = inside; shows = h; turn = turn; wanting = is; phase = g }) refl (subst Q is tries)
+    time_tried outside numbers terms w s i call turns made new (in_time (table_parts w i) 1) (record { inside = inside; shows = h; turn = turn; wanting = is; phase = g }) refl (subst Q is tries)
 
 -- without the turn there is no attempt
 pub attempt_waits : (terms : Conditions) (w : Whole) (s : State) (i : ℕ) → Shows terms w s → has_turn (live_clocks s) i ≡ false → (can_attempt (setup_under terms) s i ≡ false) × Shows terms w (attempt (setup_under terms) i s)
-attempt_waits terms w s i h shut =
-    let off = turn_none terms s i shut in
-    let P : State → Type 0 = Shows terms w in (off, subst P (sym (attempt_not (setup_under terms) i s off)) h)
+attempt_waits terms w s i h shut = not_attempted terms w s i h (turn_none terms s i shut)
 
 -- nor in a phase that wants nothing
 pub attempt_idle : (terms : Conditions) (w : Whole) (s : State) (i : ℕ) → Shows terms w s → wants (thread_of s i).phase ≡ false → (can_attempt (setup_under terms) s i ≡ false) × Shows terms w (attempt (setup_under terms) i s)
-attempt_idle terms w s i h idle =
-    let off = wants_none terms s i idle in
-    let P : State → Type 0 = Shows terms w in (off, subst P (sym (attempt_not (setup_under terms) i s off)) h)
+attempt_idle terms w s i h idle = not_attempted terms w s i h (wants_none terms s i idle)

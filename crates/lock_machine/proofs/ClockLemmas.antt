@@ -1,11 +1,10 @@
 -- An event of a thread changes no clock but its own.
 use Rattle.std.proofs.Common.{◌≡◌, ℕ, ◌<◌, ◌≤◌, List, true, length, set, sym, ap, ◌∙◌, subst, arith}
-use Rattle.std.proofs.lemmas.List.{get_or-set_same}
+use Rattle.std.proofs.lemmas.List.{get_or-set_same, set-get_or}
 use Rattle.logical_clocks.specs.ThreadClocks.{clock_at, no_thread, thread_at, with_clock}
 use Rattle.logical_clocks.specs.declared.clocks.ThreadClock.{ThreadClock}
 use Rattle.lock_machine.specs.Lives.{is_live}
 use Rattle.lock_machine.specs.Threads.{KeepsOthers}
-use Rattle.object_store.proofs.Lists.{set_same}
 use Rattle.lock_machine.specs.declared.thread.Thread.{Thread}
 
 kept_by : (i : ℕ) (t u : Thread) (cs ds : List ThreadClock) (c : ThreadClock) → i < length cs → ds ≡ set cs i c → clock_at cs i ≤ c.clock
@@ -24,4 +23,4 @@ kept_clock i n t u cs ds inside is forward before after = kept_by i t u cs ds (r
 
 -- nothing has changed in its clock
 pub kept_still : (i : ℕ) (t u : Thread) (cs ds : List ThreadClock) → i < length cs → ds ≡ cs → is_live t.phase ≡ is_live u.phase → KeepsOthers i t cs u ds
-kept_still i t u cs ds inside is same = kept_by i t u cs ds (thread_at cs i) inside (is ∙ sym (set_same cs i no_thread inside)) (omega arith) (λ h. h ∙ same)
+kept_still i t u cs ds inside is same = kept_by i t u cs ds (thread_at cs i) inside (is ∙ sym (set-get_or cs i no_thread)) (omega arith) (λ h. h ∙ same)

@@ -15,11 +15,9 @@ use Rattle.det_mutex.specs.declared.lock.DetLock.{DetLock}
 use Rattle.logical_clocks.specs.ThreadClocks.{clock_at, live_clock, live_clocks}
 use Rattle.logical_clocks.specs.TurnOrder.{first_below, first_or, has_turn, turn_holder}
 use Rattle.logical_clocks.specs.declared.clocks.ThreadClock.{ThreadClock}
-use Rattle.lock_model.specs.Laws.{StepsOfArisen}
+use Rattle.lock_model.specs.Laws.{LocksOfArisen, PlansOfArisen, RowsOfArisen, StepsOfArisen}
 use Rattle.sequential_object.specs.Numbers.{first_world}
 use Rattle.lock_model.specs.State.{thread_of}
-use Rattle.lock_model.proofs.OwnPlans.{plans_arisen}
-use Rattle.lock_model.proofs.OwnRows.{held_arisen, rows_arisen}
 use Rattle.posix_terms.specs.declared.step.Step.{Step}
 use Rattle.posix_terms.specs.declared.step.Step.TheVariants as step
 use Rattle.lock_machine.specs.Asking.{Asks, GoesAgain, after_want}
@@ -34,7 +32,7 @@ use Rattle.object_store.specs.Store.{Stored}
 use Rattle.lock_machine.specs.Shows.{AdvancesQuietly, AsksFor, BlockedIn, GrantedIn, PhaseShows, RecordsGiven, Tells, WantsIn}
 use Rattle.lock_machine.specs.Whole.{Whole, thread_at}
 use Rattle.lock_machine.specs.Threads.{KeepsOthers, Thread, joined, timed}
-use Rattle.lock_machine.specs.Views.{clocks_of, item_at, no_item, no_thread}
+use Rattle.lock_machine.specs.Views.{clocks_of, item_at, no_thread}
 use Rattle.lock_machine.specs.declared.thread.Phase.{Phase}
 use Rattle.lock_machine.specs.declared.thread.Phase.TheVariants as phase
 use Rattle.lock_machine.specs.declared.thread.Thread as declared
@@ -42,8 +40,8 @@ use Rattle.lock_machine.proofs.AnswerShows.{answer_whole, lock_held, with_lock}
 use Rattle.lock_machine.proofs.AskShows.{again_moves, ask_moves}
 use Rattle.lock_machine.proofs.ClockLemmas.{kept_still}
 use Rattle.lock_machine.proofs.OutsideShows.{begin_moves, conclude_whole, concluded_whole, outside_at, record_whole, recorded_at, recorded_whole}
+use Rattle.lock_machine.proofs.Inside.{item_is}
 use Rattle.lock_machine.proofs.Joining.{agree-kept, agree_length, get-joined, joined-kept, length-joined, live-joined}
-use Rattle.object_store.proofs.Lists.{item_is}
 use Rattle.lock_machine.proofs.ShownThreads.{whole_quiet}
 
 pub ask_event : (w : Whole) (i : ℕ) (moved : Bool) (x : Step) (v : Thread) → StepsOfArisen → i < length w.threads → (thread_at w i).phase ≡ phase.Working → Asks moved x (thread_at w i) v → AsksFor moved i x w (record w { threads = set w.threads i v })
@@ -61,28 +59,28 @@ begin_event w i o moved v inside is begins terms s (arises, h) =
     let R : ℕ → Type 0 = λ cost. Begins cost o moved (thread_at w i) v in
     let a = whole_quiet terms w s i moved v inside h (begin_moves terms i s.rows moved (thread_at w i) v (thread_of s i) o is (h.threads i) (subst R (sym h.door_cost) begins)) in record { can = a.0; shows = a.1 }
 
-pub record_event : (w : Whole) (i : ℕ) (o : Outing) (g : Given) (made : Progress) (new : RecordedParts) → i < length w.threads → (thread_at w i).phase ≡ phase.Outside o → Records made o g (recorded_at w i) new → RecordsGiven made i g w (recorded_whole w i new)
-record_event w i o g made new inside is records terms s (arises, h) next =
+pub record_event : RowsOfArisen → PlansOfArisen → (w : Whole) (i : ℕ) (o : Outing) (g : Given) (made : Progress) (new : RecordedParts) → i < length w.threads → (thread_at w i).phase ≡ phase.Outside o → Records made o g (recorded_at w i) new → RecordsGiven made i g w (recorded_whole w i new)
+record_event own plans w i o g made new inside is records terms s (arises, h) next =
     record_whole terms w s i o g made new inside h
-    (rows_arisen (setup_under terms) terms.threads limit.OBJECTS first_world s arises)
-    (plans_arisen (setup_under terms) terms.threads limit.OBJECTS first_world s arises) is next records
+    (own (setup_under terms) terms.threads limit.OBJECTS first_world s arises)
+    (plans (setup_under terms) terms.threads limit.OBJECTS first_world s arises) is next records
 
-pub conclude_event : (w : Whole) (i n : ℕ) (o : Outing) (told : Option posix.Answer) (new : OutsideParts) → i < length w.threads → (thread_at w i).phase ≡ phase.Recorded o → o.object ≡ Some n → AnswersOutside w.patience told i o (outside_at w i n) new → Tells told i w (concluded_whole w i n new)
-conclude_event w i n o told new inside is object_is answers terms s (arises, h) =
+pub conclude_event : LocksOfArisen → RowsOfArisen → PlansOfArisen → (w : Whole) (i n : ℕ) (o : Outing) (told : Option posix.Answer) (new : OutsideParts) → i < length w.threads → (thread_at w i).phase ≡ phase.Recorded o → o.object ≡ Some n → AnswersOutside w.patience told i o (outside_at w i n) new → Tells told i w (concluded_whole w i n new)
+conclude_event held own plans w i n o told new inside is object_is answers terms s (arises, h) =
     let a =
     conclude_whole terms w s i n o told new inside h
-    (held_arisen (setup_under terms) terms.threads limit.OBJECTS first_world s arises)
-    (rows_arisen (setup_under terms) terms.threads limit.OBJECTS first_world s arises)
-    (plans_arisen (setup_under terms) terms.threads limit.OBJECTS first_world s arises) is object_is answers in
+    (held (setup_under terms) terms.threads limit.OBJECTS first_world s arises)
+    (own (setup_under terms) terms.threads limit.OBJECTS first_world s arises)
+    (plans (setup_under terms) terms.threads limit.OBJECTS first_world s arises) is object_is answers in
     (record { can = a.0; shows = a.1 }, a.2)
 
-pub answer_event : (w : Whole) (i place : ℕ) (object : Option ℕ) (e : TurnEnd) (told : Option posix.Answer) (v : Thread) (l : DetLock) (rows : List HistoryRow) → i < length w.threads → (thread_at w i).phase ≡ phase.Granted place object e
+pub answer_event : LocksOfArisen → RowsOfArisen → (w : Whole) (i place : ℕ) (object : Option ℕ) (e : TurnEnd) (told : Option posix.Answer) (v : Thread) (l : DetLock) (rows : List HistoryRow) → i < length w.threads → (thread_at w i).phase ≡ phase.Granted place object e
     → Answers told i place (parts (thread_at w i) (lock_held w object) w.table w.rows) (parts v l w.table rows) → Tells told i w (with_lock w object l (set w.threads i v) rows)
-answer_event w i place object e told v l rows inside is answers terms s (arises, h) =
+answer_event held own w i place object e told v l rows inside is answers terms s (arises, h) =
     let a =
     answer_whole terms w s i place object e told v l rows inside h
-    (held_arisen (setup_under terms) terms.threads limit.OBJECTS first_world s arises)
-    (rows_arisen (setup_under terms) terms.threads limit.OBJECTS first_world s arises) is answers in
+    (held (setup_under terms) terms.threads limit.OBJECTS first_world s arises)
+    (own (setup_under terms) terms.threads limit.OBJECTS first_world s arises) is answers in
     (record { can = a.0; shows = a.1 }, a.2)
 
 -- a call whose object is past the last number is in no run
@@ -119,7 +117,7 @@ run_at w ts cs = record w { threads = joined ts cs }
 
 pub item_of : (ts : List declared.Thread) (cs : List ThreadClock) (i : ℕ) (x v : declared.Thread) (ds : List ThreadClock) → Agree ts cs → i < length ts → x ≡ get_or ts i x → KeepsOthers i x cs v ds → Item ts cs i x v ds
 item_of ts cs i x v ds agree inside at kept =
-    record { inside = inside; clocked = subst (λ (n : ℕ). i < n) (sym (agree_length ts cs agree)) inside; item = item_is ts i x no_item inside at; kept = kept }
+    record { inside = inside; clocked = subst (λ (n : ℕ). i < n) (sym (agree_length ts cs agree)) inside; item = item_is ts i x inside at; kept = kept }
 
 pub item_agrees : (ts : List declared.Thread) (cs : List ThreadClock) (i : ℕ) (x v : declared.Thread) (ds : List ThreadClock) → Agree ts cs → Item ts cs i x v ds → Agree (set ts i v) ds
 item_agrees ts cs i x v ds agree h = agree-kept ts cs ds i x v agree h.inside h.item h.kept
@@ -158,18 +156,18 @@ granted_phase (phase.Recorded o) place object h = absurd h
 granted_phase (phase.Blocked turns) place object h = absurd h
 granted_phase phase.Ended place object h = absurd h
 
-pub answer_done : (w : Whole) (ts : List declared.Thread) (cs ds : List ThreadClock) (rows_now : List HistoryRow) (i place : ℕ) (object : Option ℕ) (x v : declared.Thread) (own l : DetLock) (told : Option posix.Answer)
+pub answer_done : LocksOfArisen → RowsOfArisen → (w : Whole) (ts : List declared.Thread) (cs ds : List ThreadClock) (rows_now : List HistoryRow) (i place : ℕ) (object : Option ℕ) (x v : declared.Thread) (own l : DetLock) (told : Option posix.Answer)
     → Item ts cs i x v ds → GrantedIn x.phase place object → own ≡ lock_held (run_at w ts cs) object
     → ((table : Stored) → Answers told i place (parts (timed x (clock_at cs i)) own table w.rows) (parts (timed v (clock_at ds i)) l table rows_now))
     → Tells told i (run_at w ts cs) (with_lock (run_at w ts cs) object l (joined (set ts i v) ds) rows_now)
-answer_done w ts cs ds rows_now i place object x v own l told h is own_is answered =
+answer_done held rows w ts cs ds rows_now i place object x v own l told h is own_is answered =
     let z = run_at w ts cs in
     let found = granted_phase x.phase place object is in
     let R : Thread → Type 0 = λ t. Answers told i place (parts t (lock_held z object) w.table w.rows) (parts (timed v (clock_at ds i)) l w.table rows_now) in
     let K : DetLock → Type 0 = λ k. Answers told i place (parts (timed x (clock_at cs i)) k w.table w.rows) (parts (timed v (clock_at ds i)) l w.table rows_now) in
     let T : List Thread → Type 0 = λ us. Tells told i z (with_lock z object l us rows_now) in
     subst T (sym (joined-kept ts cs ds i x v h.clocked h.kept))
-    (answer_event z i place object found.0 told (timed v (clock_at ds i)) l rows_now (joined_inside ts cs i h.inside) (item_phase ts cs i x (phase.Granted place object found.0) h.inside h.item found.1) (subst R (sym (item_thread ts cs i x h.inside h.item)) (subst K own_is (answered w.table))))
+    (answer_event held rows z i place object found.0 told (timed v (clock_at ds i)) l rows_now (joined_inside ts cs i h.inside) (item_phase ts cs i x (phase.Granted place object found.0) h.inside h.item found.1) (subst R (sym (item_thread ts cs i x h.inside h.item)) (subst K own_is (answered w.table))))
 
 -- an event that leaves the clocks as they are
 pub item_still : (ts : List declared.Thread) (cs : List ThreadClock) (i : ℕ) (x v : declared.Thread) → Agree ts cs → i < length ts → x ≡ get_or ts i x → is_live x.phase ≡ is_live v.phase → Item ts cs i x v cs
@@ -217,29 +215,29 @@ begin_done w ts cs ds i o x v moved h is begins =
 pub item_recorded : (ts : List declared.Thread) (cs : List ThreadClock) (i : ℕ) (o : Outing) (x v : declared.Thread) → Agree ts cs → i < length ts → x ≡ get_or ts i x → x.phase ≡ phase.Outside o → (is_live x.phase ≡ true → is_live v.phase ≡ true) → Item ts cs i x v cs
 item_recorded ts cs i o x v agree inside at is live = let lives : is_live x.phase ≡ true = ap is_live is in item_still ts cs i x v agree inside at (lives ∙ sym (live lives))
 
-pub record_done : (w : Whole) (ts : List declared.Thread) (cs : List ThreadClock) (i : ℕ) (o : Outing) (g : Given) (x v : declared.Thread) (rows : List HistoryRow) (made : Progress) → Item ts cs i x v cs → x.phase ≡ phase.Outside o
+pub record_done : RowsOfArisen → PlansOfArisen → (w : Whole) (ts : List declared.Thread) (cs : List ThreadClock) (i : ℕ) (o : Outing) (g : Given) (x v : declared.Thread) (rows : List HistoryRow) (made : Progress) → Item ts cs i x v cs → x.phase ≡ phase.Outside o
     → ((clock : ℕ) → Records made o g (recorded_parts (timed x clock) w.rows) (recorded_parts (timed v clock) rows))
     → RecordsGiven made i g (run_at w ts cs) (record w { threads = joined (set ts i v) cs; rows = rows })
-record_done w ts cs i o g x v rows made h is records =
+record_done own plans w ts cs i o g x v rows made h is records =
     let z = run_at w ts cs in
     let clock = clock_at cs i in
     let R : Thread → Type 0 = λ t. Records made o g (recorded_parts t w.rows) (recorded_parts (timed v clock) rows) in
     let T : List Thread → Type 0 = λ us. RecordsGiven made i g z (record w { threads = us; rows = rows }) in
     subst T (sym (joined-kept ts cs cs i x v h.clocked h.kept))
-    (record_event z i o g made (recorded_parts (timed v clock) rows) (joined_inside ts cs i h.inside) (item_phase ts cs i x (phase.Outside o) h.inside h.item is) (subst R (sym (item_thread ts cs i x h.inside h.item)) (records clock)))
+    (record_event own plans z i o g made (recorded_parts (timed v clock) rows) (joined_inside ts cs i h.inside) (item_phase ts cs i x (phase.Outside o) h.inside h.item is) (subst R (sym (item_thread ts cs i x h.inside h.item)) (records clock)))
 
-pub conclude_done : (w : Whole) (ts : List declared.Thread) (cs ds : List ThreadClock) (i n : ℕ) (o : Outing) (x v : declared.Thread) (before own l : DetLock) (later : Stored) (rows : List HistoryRow) (told : Option posix.Answer)
+pub conclude_done : LocksOfArisen → RowsOfArisen → PlansOfArisen → (w : Whole) (ts : List declared.Thread) (cs ds : List ThreadClock) (i n : ℕ) (o : Outing) (x v : declared.Thread) (before own l : DetLock) (later : Stored) (rows : List HistoryRow) (told : Option posix.Answer)
     → Item ts cs i x v ds → x.phase ≡ phase.Recorded o → o.object ≡ Some n → before ≡ get_or w.objects n new_lock
     → AnswersOutside w.patience told i o (outside_parts (timed x (clock_at cs i)) before w.lock w.table w.rows) (outside_parts (timed v (clock_at ds i)) own l later rows)
     → Tells told i (run_at w ts cs) (record w { threads = joined (set ts i v) ds; lock = l; objects = set w.objects n own; table = later; rows = rows })
-conclude_done w ts cs ds i n o x v before own l later rows told h is object_is before_is answered =
+conclude_done held open_rows plans w ts cs ds i n o x v before own l later rows told h is object_is before_is answered =
     let z = run_at w ts cs in
     let new = outside_parts (timed v (clock_at ds i)) own l later rows in
     let K : DetLock → Type 0 = λ k. AnswersOutside w.patience told i o (outside_parts (timed x (clock_at cs i)) k w.lock w.table w.rows) new in
     let R : Thread → Type 0 = λ t. AnswersOutside w.patience told i o (outside_parts t (get_or w.objects n new_lock) w.lock w.table w.rows) new in
     let T : List Thread → Type 0 = λ us. Tells told i z (record w { threads = us; lock = l; objects = set w.objects n own; table = later; rows = rows }) in
     subst T (sym (joined-kept ts cs ds i x v h.clocked h.kept))
-    (conclude_event z i n o told new (joined_inside ts cs i h.inside) (item_phase ts cs i x (phase.Recorded o) h.inside h.item is) object_is (subst R (sym (item_thread ts cs i x h.inside h.item)) (subst K before_is answered)))
+    (conclude_event held open_rows plans z i n o told new (joined_inside ts cs i h.inside) (item_phase ts cs i x (phase.Recorded o) h.inside h.item is) object_is (subst R (sym (item_thread ts cs i x h.inside h.item)) (subst K before_is answered)))
 
 pub turn_shown : (ts : List declared.Thread) (cs : List ThreadClock) (i : ℕ) (b : Bool) → Agree ts cs → has_turn (live_clocks cs) i ≡ b → has_turn (clocks_of (joined ts cs)) i ≡ b
 turn_shown ts cs i b agree h = ap (λ (l : List (Option ℕ)). has_turn l i) (sym (live-joined ts cs agree)) ∙ h
@@ -248,22 +246,22 @@ turn_shown ts cs i b agree h = ap (λ (l : List (Option ℕ)). has_turn l i) (sy
 
 -- the item that is changed is the one that was looked at
 pub same_phase : (ts : List declared.Thread) (i : ℕ) (x y : declared.Thread) (p : Phase) → i < length ts → x ≡ get_or ts i x → y ≡ get_or ts i y → y.phase ≡ p → x.phase ≡ p
-same_phase ts i x y p inside at_x at_y is = ap (λ (t : declared.Thread). t.phase) (sym (item_is ts i x no_item inside at_x) ∙ item_is ts i y no_item inside at_y) ∙ is
+same_phase ts i x y p inside at_x at_y is = ap (λ (t : declared.Thread). t.phase) (sym (item_is ts i x inside at_x) ∙ item_is ts i y inside at_y) ∙ is
 
 pub phase_at : (ts : List declared.Thread) (i : ℕ) (x : declared.Thread) (p : Phase) → i < length ts → x ≡ get_or ts i x → (let t : declared.Thread = item_at ts i in t.phase) ≡ p → x.phase ≡ p
-phase_at ts i x p inside at is = ap (λ (t : declared.Thread). t.phase) (sym (item_is ts i x no_item inside at)) ∙ is
+phase_at ts i x p inside at is = ap (λ (t : declared.Thread). t.phase) (sym (item_is ts i x inside at)) ∙ is
 
 pub at_phase : (ts : List declared.Thread) (i : ℕ) (x : declared.Thread) (p : Phase) → i < length ts → x ≡ get_or ts i x → x.phase ≡ p → (let t : declared.Thread = item_at ts i in t.phase) ≡ p
-at_phase ts i x p inside at is = ap (λ (t : declared.Thread). t.phase) (item_is ts i x no_item inside at) ∙ is
+at_phase ts i x p inside at is = ap (λ (t : declared.Thread). t.phase) (item_is ts i x inside at) ∙ is
 
 pub wants_at : (ts : List declared.Thread) (i n : ℕ) (x : declared.Thread) → i < length ts → x ≡ get_or ts i x → (let t : declared.Thread = item_at ts i in WantsIn t.phase n) → WantsIn x.phase n
-wants_at ts i n x inside at h = let P : declared.Thread → Type 0 = λ t. WantsIn t.phase n in subst P (item_is ts i x no_item inside at) h
+wants_at ts i n x inside at h = let P : declared.Thread → Type 0 = λ t. WantsIn t.phase n in subst P (item_is ts i x inside at) h
 
 pub granted_at : (ts : List declared.Thread) (i place : ℕ) (object : Option ℕ) (x : declared.Thread) → i < length ts → x ≡ get_or ts i x → GrantedIn (let t : declared.Thread = item_at ts i in t.phase) place object → GrantedIn x.phase place object
-granted_at ts i place object x inside at h = let P : declared.Thread → Type 0 = λ t. GrantedIn t.phase place object in subst P (item_is ts i x no_item inside at) h
+granted_at ts i place object x inside at h = let P : declared.Thread → Type 0 = λ t. GrantedIn t.phase place object in subst P (item_is ts i x inside at) h
 
 pub blocked_at : (ts : List declared.Thread) (i : ℕ) (x : declared.Thread) → i < length ts → x ≡ get_or ts i x → BlockedIn (let t : declared.Thread = item_at ts i in t.phase) → BlockedIn x.phase
-blocked_at ts i x inside at h = let P : declared.Thread → Type 0 = λ t. BlockedIn t.phase in subst P (item_is ts i x no_item inside at) h
+blocked_at ts i x inside at h = let P : declared.Thread → Type 0 = λ t. BlockedIn t.phase in subst P (item_is ts i x inside at) h
 
 -- a call past the last number of objects
 pub answer_none : (w : Whole) (ts : List declared.Thread) (cs : List ThreadClock) (i place n : ℕ) → i < length ts → GrantedIn (let t : declared.Thread = item_at ts i in t.phase) place (Some n) → length w.objects ≤ n → Tells None i (run_at w ts cs) (run_at w ts cs)

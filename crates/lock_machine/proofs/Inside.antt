@@ -1,12 +1,12 @@
 -- What contracts see of a lock machine, by its fields.
 use Rattle.std.proofs.Common.{◌≡◌, ℕ, ◌<◌, List, length, get_or, Option, true, sym, refl, ap, ◌∙◌, subst}
+use Rattle.std.proofs.lemmas.List.{get_or_default}
 use Rattle.det_mutex.specs.declared.lock.DetLock.{DetLock}
 use Rattle.logical_clocks.specs.ThreadClocks.{clock_at, live_clocks}
 use Rattle.logical_clocks.specs.TurnOrder.{has_turn}
 use Rattle.logical_clocks.specs.declared.clocks.ThreadClock.{ThreadClock}
 use Rattle.object_store.specs.Store.{Stored}
 use Rattle.posix_terms.specs.declared.transcript.HistoryRow.{HistoryRow}
-use Rattle.object_store.proofs.Lists.{item_is}
 use Rattle.lock_machine.specs.Lives.{Agree, is_live}
 use Rattle.lock_machine.specs.Threads.{Thread, joined, timed}
 use Rattle.lock_machine.specs.Views.{clocks_of, item_at, no_item}
@@ -36,13 +36,17 @@ turn_of ts cs v w i agree is view turn = ap (λ (l : List (Option ℕ)). has_tur
 pub clock_inside : (ts : List declared.Thread) (cs : List ThreadClock) (i : ℕ) → Agree ts cs → i < length ts → i < length cs
 clock_inside ts cs i agree inside = subst (λ (n : ℕ). i < n) (sym (agree_length ts cs agree)) inside
 
+-- an item that was looked at is the one in its place
+pub item_is : (ts : List declared.Thread) (i : ℕ) (x : declared.Thread) → i < length ts → x ≡ get_or ts i x → item_at ts i ≡ x
+item_is ts i x inside at = get_or_default ts i no_item x inside ∙ sym at
+
 -- an event leaves as many threads
 pub count_kept : (ts us : List declared.Thread) (cs ds : List ThreadClock) (v w : Whole) → v.threads ≡ joined ts cs → v ≡ w → length us ≡ length ts → length (joined us ds) ≡ length w.threads
 count_kept ts us cs ds v w is view same = length-joined us ds ∙ same ∙ sym (length-joined ts cs) ∙ ap length (sym is) ∙ ap (λ (x : Whole). length x.threads) view
 
 -- a thread in this phase is live
 pub lives_in : (ts : List declared.Thread) (i : ℕ) (x : declared.Thread) (p : Phase) → i < length ts → x ≡ get_or ts i x → (let t : declared.Thread = item_at ts i in t.phase) ≡ p → is_live p ≡ true → is_live x.phase ≡ true
-lives_in ts i x p inside at is live = ap (λ (t : declared.Thread). is_live t.phase) (sym (item_is ts i x no_item inside at)) ∙ ap is_live is ∙ live
+lives_in ts i x p inside at is live = ap (λ (t : declared.Thread). is_live t.phase) (sym (item_is ts i x inside at)) ∙ ap is_live is ∙ live
 
 pub granted_lives : (p : Phase) (place : ℕ) (object : Option ℕ) → GrantedIn p place object → is_live p ≡ true
 granted_lives phase.Working place object h = refl
@@ -57,7 +61,7 @@ granted_lives phase.Ended place object h = absurd h
 
 -- an item that was looked at, by what holds of the phase in its place
 pub phase_in : (P : Phase → Type 0) (ts : List declared.Thread) (i : ℕ) (x : declared.Thread) → i < length ts → x ≡ get_or ts i x → P (let t : declared.Thread = item_at ts i in t.phase) → P x.phase
-phase_in P ts i x inside at h = subst (λ (t : declared.Thread). P t.phase) (item_is ts i x no_item inside at) h
+phase_in P ts i x inside at h = subst (λ (t : declared.Thread). P t.phase) (item_is ts i x inside at) h
 
 -- and those of the clocks are what contracts see
 pub turn_seen : (ts : List declared.Thread) (cs : List ThreadClock) (v w : Whole) (i : ℕ) → Agree ts cs → v.threads ≡ joined ts cs → v ≡ w → has_turn (live_clocks cs) i ≡ true → has_turn (clocks_of w.threads) i ≡ true
@@ -66,14 +70,14 @@ turn_seen ts cs v w i agree is view turn = sym (ap (λ (l : List (Option ℕ)). 
 -- what holds of the phase of an item that was looked at does so of the one that contracts see
 pub phase_seen : (P : Phase → Type 0) (ts : List declared.Thread) (cs : List ThreadClock) (v w : Whole) (i : ℕ) (x : declared.Thread) → v.threads ≡ joined ts cs → v ≡ w → i < length ts → x ≡ get_or ts i x → P x.phase → P (thread_at w i).phase
 phase_seen P ts cs v w i x is view inside at h =
-    let item = ap (λ (t : declared.Thread). t.phase) (item_is ts i x no_item inside at) in
+    let item = ap (λ (t : declared.Thread). t.phase) (item_is ts i x inside at) in
     let seen = ap (λ (t : Whole). (thread_at t i).phase) (sym view) ∙ ap (λ (l : List Thread). (thread_at (record v { threads = l }) i).phase) is ∙ ap (λ (t : Thread). t.phase) (get-joined ts cs i inside) in
     subst P (sym (seen ∙ item)) h
 
 -- an item that was looked at is the thread that contracts see
 pub thread_seen : (ts : List declared.Thread) (cs : List ThreadClock) (v w : Whole) (i : ℕ) (x : declared.Thread) → v.threads ≡ joined ts cs → v ≡ w → i < length ts → x ≡ get_or ts i x → thread_at w i ≡ timed x (clock_at cs i)
 thread_seen ts cs v w i x is view inside at =
-    ap (λ (t : Whole). thread_at t i) (sym view) ∙ ap (λ (l : List Thread). thread_at (record v { threads = l }) i) is ∙ get-joined ts cs i inside ∙ ap (λ (t : declared.Thread). timed t (clock_at cs i)) (item_is ts i x no_item inside at)
+    ap (λ (t : Whole). thread_at t i) (sym view) ∙ ap (λ (l : List Thread). thread_at (record v { threads = l }) i) is ∙ get-joined ts cs i inside ∙ ap (λ (t : declared.Thread). timed t (clock_at cs i)) (item_is ts i x inside at)
 
 pub length_seen : (ts : List declared.Thread) (cs : List ThreadClock) (v w : Whole) → v.threads ≡ joined ts cs → v ≡ w → length ts ≡ length w.threads
 length_seen ts cs v w is view = sym (length-joined ts cs) ∙ ap length (sym is) ∙ ap (λ (x : Whole). length x.threads) view

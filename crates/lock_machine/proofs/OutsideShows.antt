@@ -2,7 +2,7 @@
 use Rattle.std.proofs.Common.{◌≡◌, ℕ, zero, suc, ◌+◌, ◌<◌, ◌≤◌, ◌^◌, List, [], ◌∷◌, length, map, get_or, set, slice_get, Option, Some, None, Bool, true, false, ◌==◌, ◌&&◌, ◌||◌, not, sym, refl, ap, ap₂, ◌∙◌, subst, arith}
 use Rattle.std.proofs.lemmas.Bool.{cond-true, cond-false, eq-eqb, leb-true, leb-false, le-leb, ne_eqb, and_parts}
 use Rattle.std.proofs.lemmas.Bool.Decides.{nat_tests}
-use Rattle.std.proofs.lemmas.List.{get_or-set_same, map-set, length-append}
+use Rattle.std.proofs.lemmas.List.{get_or-set_same, map-set, length-append, set-get_or}
 use Rattle.std.proofs.lemmas.Option.{same_Some, none-some, slice_get-map}
 use Rattle.std.specs.Prelude.{is_some, nat_le, nat_lt, option_map}
 use Rattle.det_mutex.specs.Attempt.{freed, new_lock}
@@ -20,7 +20,6 @@ use Rattle.lock_model.specs.State as lock
 use Rattle.lock_model.specs.State.{Job, Row, State, nobody, thread_of}
 use Rattle.lock_model.specs.State.Phase.{Outside, Recorded, ToOutside}
 use Rattle.sequential_object.specs.Worlds.{World}
-use Rattle.lock_model.proofs.Commute.{advance_move, lock_mine, lock_other, world_mine}
 use Rattle.object_store.specs.Patience.{as_answer}
 use Rattle.object_store.specs.Store.{Stands, Stored}
 use Rattle.sequential_object.specs.declared.turn_end.TurnEnd.{TurnEnd}
@@ -58,8 +57,7 @@ use Rattle.lock_machine.proofs.AnswerShows.{answer_by, answered_clock, fill_one,
 use Rattle.lock_machine.proofs.AskShows.{within_no, within_yes}
 use Rattle.lock_machine.proofs.Requests.{asked_little, within_a_record}
 use Rattle.lock_machine.specs.Requests.{Little}
-use Rattle.lock_machine.proofs.ShownThreads.{Moving, lock_quiet, locks_quiet, whole_changed, whole_moved, whole_still, world_keeps}
-use Rattle.object_store.proofs.Lists.{set_same}
+use Rattle.lock_machine.proofs.ShownThreads.{Moving, advance_by, lock_left, lock_quiet, locks_quiet, whole_changed, whole_moved, whole_still, world_by, world_keeps}
 
 -- ## `begin_outside`
 
@@ -188,14 +186,13 @@ recorded_no terms w s i o job g new a given_is misfit new_is =
     let calls = real_calls terms.settings in
     let none : record_outcome calls u job (Some g) ≡ None = cond-false (fits_job calls job g) _ None misfit in
     let is : moves (setup_under terms) i u ≡ None = moves_record terms i u job a.phase ∙ ap (within (2 ^ 62)) (ap (record_outcome calls u job) given_is ∙ none) in
-    let next : advance (setup_under terms) i s ≡ s = advance_move (setup_under terms) i s ∙ ap (λ (m : Option Moved). machine.move i m s) is in
     let P : RecordedParts → Type 0 = λ p. Recording terms w s i progress.Diverges g p in
     let held = whole_still terms w s i (thread_at w i) a.inside a.shows is (a.shows.threads i) in
     subst P (sym new_is) (record {
       can = held.0;
       diverges = divergence_is terms s i job a.phase ∙ ap (diverging_in (setup_under terms) (Outside job)) given_is ∙ ap not misfit;
       shows = held.1;
-      came = ap (λ (z : State). (thread_of z i).came) next;
+      came = ap (λ (z : State). (thread_of z i).came) (advance_by terms s i None is);
     })
 
 recorded_yes : (terms : Conditions) (w : Whole) (s : State) (i : ℕ) (o : Outing) (job : Job) (g : Given) → Waiting terms w s i o job → slice_get (terms.supply.outcomes i) (length (thread_of s i).came) ≡ Some g → fits_job (real_calls terms.settings) job g ≡ true
@@ -210,9 +207,8 @@ recorded_yes terms w s i o job g a given_is good =
     let fits_in : u.clock ≤ 2 ^ 62 = subst (λ (c : ℕ). c ≤ 2 ^ 62) (sym h.clock) h.in_time in
     let recorded : record_outcome calls u job (Some g) ≡ Some m = cond-true (fits_job calls job g) (Some m) None good in
     let is : moves (setup_under terms) i u ≡ Some m = moves_record terms i u job a.phase ∙ ap (within (2 ^ 62)) (ap (record_outcome calls u job) given_is ∙ recorded) ∙ within_yes (2 ^ 62) m fits_in in
-    let next : advance (setup_under terms) i s ≡ machine.move i (Some m) s = advance_move (setup_under terms) i s ∙ ap (λ (x : Option Moved). machine.move i x s) is in
     let within_s : i < length s.threads = subst (λ (n : ℕ). i < n) (sym a.shows.count) a.inside in
-    let mine : thread_of (advance (setup_under terms) i s) i ≡ m.thread = ap (λ (z : State). thread_of z i) next ∙ get_or-set_same s.threads i m.thread nobody within_s in
+    let mine : thread_of (advance (setup_under terms) i s) i ≡ m.thread = ap (λ (z : State). thread_of z i) (advance_by terms s i (Some m) is) ∙ get_or-set_same s.threads i m.thread nobody within_s in
     let moved = whole_moved terms w s i new.thread m w.lock w.objects new.rows a.inside a.shows is
     (record { clock = h.clock; in_time = h.in_time; asked = h.asked; came = length-append u.came (g ∷ []) ∙ ap (λ (n : ℕ). n + 1) h.came; phase = (record job { outcome = Some g }, (refl, out_recorded m)) })
     (lock_quiet i s.table ∙ a.shows.table) (locks_quiet i s.objects ∙ a.shows.objects) refl
@@ -390,7 +386,7 @@ module _ (terms : Conditions) (w : Whole) (s : State) (i : ℕ) (o : Outing) (jo
       let both : P job.carried = subst P (sym c.out.carried) made in
       record {
         answer_is = both.0;
-        world_is = subst (Stands table) (sym (ap (λ (v : Option World). world_after i s.table v s.world) after ∙ world_mine i s.table (Some (world_with job.found stepped.after)) s.world (keeps_held ∙ keeps))) both.1;
+        world_is = subst (Stands table) (sym (ap (λ (v : Option World). world_after i s.table v s.world) after ∙ world_by i s.table (Some (world_with job.found stepped.after)) s.world true (keeps_held ∙ keeps))) both.1;
       }
 
   cost_le : (k cost : ℕ) → k + cost ≤ 2 ^ 62 → k + cost ≤ 2 ^ 62
@@ -405,8 +401,8 @@ module _ (terms : Conditions) (w : Whole) (s : State) (i : ℕ) (o : Outing) (jo
       let h = c.shows.threads i in record { clock = ap (λ (k : ℕ). k + answer_cost o.keeps_table) h.clock; in_time = room; asked = h.asked; came = h.came; phase = (job.call, refl) }
 
   table_after : (keeps : Bool) → o.keeps_table ≡ keeps → lock_after i (Some (u.clock + 1)) s.table ≡ table_freed keeps (t.clock + 1) w.lock
-  table_after true keeps = lock_mine i (Some (u.clock + 1)) s.table (keeps_held ∙ keeps) ∙ ap (λ (k : ℕ). freed (k + 1)) (c.shows.threads i).clock
-  table_after false keeps = lock_other i (Some (u.clock + 1)) s.table (keeps_held ∙ keeps) ∙ c.shows.table
+  table_after true keeps = lock_left i (Some (u.clock + 1)) s.table true (keeps_held ∙ keeps) ∙ ap (λ (k : ℕ). freed (k + 1)) (c.shows.threads i).clock
+  table_after false keeps = lock_left i (Some (u.clock + 1)) s.table false (keeps_held ∙ keeps) ∙ c.shows.table
 
   -- it is told, where the clock has room
   abbrev Told : Option posix_answer.Answer → OutsideParts → Type 0
@@ -437,9 +433,8 @@ module _ (terms : Conditions) (w : Whole) (s : State) (i : ℕ) (o : Outing) (jo
       let past : 2 ^ 62 < u.clock + answer_cost o.keeps_table = subst (λ (k : ℕ). 2 ^ 62 < k + answer_cost o.keeps_table) (sym h.clock) full in
       let is : moves (setup_under terms) i u ≡ None = moves_recorded terms i u job n o.keeps_table x c.phase c.out.plan (gives_is x gives) ∙ within_no (2 ^ 62) m (subst (λ (k : ℕ). 2 ^ 62 < k) (sym (answered_clock u job.call (u.clock + answer_cost o.keeps_table) x)) past) in
       let still = whole_still terms w s i t c.inside c.shows is h in
-      let inside : n < length w.objects = subst (λ (k : ℕ). n < k) (sym c.shows.object_count) c.out.in_range in
       let P : List DetLock → Type 0 = λ ls. Shows terms (record w { threads = set w.threads i t; objects = ls }) (advance (setup_under terms) i s) in
-      ((still.0, subst P (sym (set_same w.objects n new_lock inside)) still.1), replies_still terms s i is)
+      ((still.0, subst P (sym (set-get_or w.objects n new_lock)) still.1), replies_still terms s i is)
 
   concluded_by : (told : Option posix_answer.Answer) (new : OutsideParts) (b : Bool) → nat_le (t.clock + answer_cost o.keeps_table) (2 ^ 62) ≡ b → ConcludesIf b terms.settings.patience told o (shown (row_of job)) g.outcome (outside_at w i n) new → Told told new
   concluded_by told new true room (x, (told_is, ends, new_is)) =

@@ -1,11 +1,10 @@
 -- An attempt at the lock of an object is that of the lock machine.
 use Rattle.std.proofs.Common.{◌≡◌, ℕ, ◌+◌, ◌<◌, ◌≤◌, ◌^◌, List, length, set, get_or, Option, Some, None, Bool, true, false, ◌&&◌, sym, refl, ap, ap₂, ◌∙◌, subst}
 use Rattle.std.proofs.lemmas.Bool.{cond-true, cond-false, false≢true, leb-true, leb-false}
-use Rattle.std.proofs.lemmas.List.{length-set}
+use Rattle.std.proofs.lemmas.List.{length-set, set-get_or}
 use Rattle.std.proofs.lemmas.Option.{none-some}
 use Rattle.std.specs.Prelude.{is_some}
-use Rattle.sequential_object.proofs.Outside.{keeps_outside}
-use Rattle.sequential_object.specs.Locked.{keeps_table, locked_object}
+use Rattle.sequential_object.specs.Locked.{KeepsOutside, keeps_table, locked_object}
 use Rattle.sequential_object.specs.Step.{asks}
 use Rattle.posix_terms.specs.declared.call.Call.{Call}
 use Rattle.posix_terms.specs.declared.limits.TheConstants.Limits as limit
@@ -32,7 +31,6 @@ use Rattle.lock_machine.specs.Threads.{Thread}
 use Rattle.lock_machine.specs.declared.thread.Phase.{Phase}
 use Rattle.lock_machine.specs.declared.thread.Phase.TheVariants as phase
 use Rattle.lock_machine.proofs.AttemptShows.{Attempted, attempted_full, attempted_no, attempted_yes, clock_fits, clock_set, fail_shows, grant_shows, job_of, others_granted, rows_with, table_parts, way_here, world_left}
-use Rattle.object_store.proofs.Lists.{set_same}
 
 -- as an attempt at this object leaves it
 abbrev pub object_tried : Whole → ℕ → ℕ → DetLock → Parts → Whole
@@ -74,9 +72,8 @@ tried_shut : (terms : Conditions) (s : State) (i n clock : ℕ) (call : Call) (t
 unfolding taken_in
 tried_shut terms s i n clock call turns way e h = ap (tries (real_calls terms.settings) s i (thread_of s i)) e ∙ cond-false _ _ _ h
 
-same_objects : (terms : Conditions) (w : Whole) (s : State) (n : ℕ) (ts : List Thread) → Shows terms w s → n < limit.OBJECTS → record w { threads = ts } ≡ record w { threads = ts; objects = set w.objects n (lock_at w n) }
-same_objects terms w s n ts h inside =
-    sym (ap (λ (ls : List DetLock). let z : Whole = record w { threads = ts; objects = ls } in z) (set_same w.objects n new_lock (subst (λ (k : ℕ). n < k) (sym h.object_count) inside)))
+same_objects : (w : Whole) (n : ℕ) (ts : List Thread) → record w { threads = ts } ≡ record w { threads = ts; objects = set w.objects n (lock_at w n) }
+same_objects w n ts = sym (ap (λ (ls : List DetLock). let z : Whole = record w { threads = ts; objects = ls } in z) (set-get_or w.objects n new_lock))
 
 reach_fails : (terms : Conditions) (w : Whole) (s : State) (i n clock : ℕ) (call : Call) (turns : ℕ) (way : Way) → Reaching terms w s i n clock call turns way → (thread_at w i).clock + 1 ≤ 2 ^ 62 → taken_in s i n ≡ false
     → Attempted terms s i true (object_tried w i n (lock_at w n) (later (table_parts w i) 1))
@@ -87,7 +84,7 @@ reach_fails terms w s i n clock call turns way a room shut =
     λ rows h. let P : Phase → Type 0 = λ p. PhaseShows terms i rows (record t { clock = t.clock + 1 }) (record u { clock = u.clock + 1 }) p in
     subst P (sym a.wanting) (way, (a.phase, a.in_range)) in
     let P : Whole → Type 0 = λ z. Attempted terms s i true z in
-    subst P (same_objects terms w s n (set w.threads i (record t { clock = t.clock + 1 })) a.shows a.in_range)
+    subst P (same_objects w n (set w.threads i (record t { clock = t.clock + 1 })))
     (attempted_yes terms s (failed s i u) i (record w { threads = set w.threads i (record t { clock = t.clock + 1 }) }) (ap wants a.phase) a.turn (tried_shut terms s i n clock call turns way a.phase shut)
     (subst (λ (c : ℕ). c ≤ 2 ^ 62) (sym (clock_set terms w s i (record u { clock = u.clock + 1 }) a.inside a.shows)) (clock_fits terms w s i 1 a.shows room))
     (fail_shows terms w s i a.inside a.shows room on))
@@ -198,7 +195,7 @@ object_in_time terms w s i n clock call turns way made now new taken false a is 
     let R : Parts → Type 0 = λ p. Attempted terms s i false (object_tried w i n (lock_at w n) p) in
     let S : Whole → Type 0 = λ z. Attempted terms s i false z in
     let off = reach_full terms w s i n clock call turns way taken a is (leb-false ((thread_at w i).clock + object_cost taken (keeps_table call)) (2 ^ 62) full) in
-    subst P (sym missed) (subst Q (sym still) (subst R (sym e) (subst S (same_objects terms w s n (set w.threads i (thread_at w i)) a.shows a.in_range) (attempted_no terms w s i a.inside a.shows off))))
+    subst P (sym missed) (subst Q (sym still) (subst R (sym e) (subst S (same_objects w n (set w.threads i (thread_at w i))) (attempted_no terms w s i a.shows off))))
 
 -- ## The way of a thread that wants an object
 
@@ -213,12 +210,12 @@ way_keeping false true h = absurd (false≢true (h refl))
 way_keeping false false h = refl
 
 -- it is that of the plan in the present world; and a call that keeps the table goes outside, where it locks an object
-reaching : (terms : Conditions) (w : Whole) (s : State) (i n clock : ℕ) (call : Call) (turns : ℕ) (way : Way) → i < length w.threads → Shows terms w s → HavePlans (real_calls terms.settings) s → has_turn (live_clocks s) i ≡ true
+reaching : KeepsOutside → (terms : Conditions) (w : Whole) (s : State) (i n clock : ℕ) (call : Call) (turns : ℕ) (way : Way) → i < length w.threads → Shows terms w s → HavePlans (real_calls terms.settings) s → has_turn (live_clocks s) i ≡ true
     → (thread_at w i).phase ≡ phase.WantsObject call turns clock n → (thread_of s i).phase ≡ WantsObject call turns clock n way → n < limit.OBJECTS → Reaching terms w s i n clock call turns way
-reaching terms w s i n clock call turns way inside h plans turn wanting is few =
+reaching law terms w s i n clock call turns way inside h plans turn wanting is few =
     let o = s.world.object in
     let found = planned_way s.world (locked_object o call turns) (way_here s call turns) way n (plans.wants i call turns clock n way is) in
-    let goes : keeps_table call ≡ true → is_some (asks o call turns) ≡ true = λ keeps. sym (keeps_outside o call turns keeps) ∙ found.1 in
+    let goes : keeps_table call ≡ true → is_some (asks o call turns) ≡ true = λ keeps. sym (law o call turns keeps) ∙ found.1 in
     record {
       inside = inside;
       shows = h;
@@ -231,13 +228,13 @@ reaching terms w s i n clock call turns way inside h plans turn wanting is few =
     }
 
 -- only a thread that wants this object makes this attempt
-pub reach_whole : (terms : Conditions) (w : Whole) (s : State) (i n clock : ℕ) (call : Call) (turns : ℕ) (made : Bool) (now : DetLock) (new : Parts) → i < length w.threads → Shows terms w s → HavePlans (real_calls terms.settings) s → has_turn (live_clocks s) i ≡ true
+pub reach_whole : KeepsOutside → (terms : Conditions) (w : Whole) (s : State) (i n clock : ℕ) (call : Call) (turns : ℕ) (made : Bool) (now : DetLock) (new : Parts) → i < length w.threads → Shows terms w s → HavePlans (real_calls terms.settings) s → has_turn (live_clocks s) i ≡ true
     → (thread_at w i).phase ≡ phase.WantsObject call turns clock n
     → Reaches w.patience made i (lock_at w n) now (table_parts w i) new → Attempted terms s i made (object_tried w i n now new)
-reach_whole terms w s i n clock call turns made now new inside h plans turn is tries =
+reach_whole law terms w s i n clock call turns made now new inside h plans turn is tries =
     let P : Phase → Type 0 = λ p. PhaseShows terms i s.rows (thread_at w i) (thread_of s i) p in
     let Q : Phase → Type 0 = λ p. ReachesIn w.patience p made i (lock_at w n) now (table_parts w i) new in
     let g = subst P is (h.threads i).phase in
     let taken = takes_object i (lock_at w n) (table_parts w i) in
     object_in_time terms w s i n clock call turns g.0 made now new taken (in_time (table_parts w i) (object_cost taken (keeps_table call)))
-    (reaching terms w s i n clock call turns g.0 inside h plans turn is g.1.0 g.1.1) (taken_same terms w s i n h) refl (subst Q is tries)
+    (reaching law terms w s i n clock call turns g.0 inside h plans turn is g.1.0 g.1.1) (taken_same terms w s i n h) refl (subst Q is tries)

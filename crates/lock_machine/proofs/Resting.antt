@@ -34,6 +34,7 @@ use Rattle.lock_machine.specs.declared.thread.Outing.{Outing}
 use Rattle.lock_machine.specs.declared.thread.Phase.{Phase}
 use Rattle.lock_machine.specs.declared.thread.Phase.TheVariants as phase
 use Rattle.lock_machine.specs.declared.thread.Thread as declared
+use Rattle.lock_model.specs.Laws.{PlansOfArisen, RowsOfArisen}
 use Rattle.lock_machine.proofs.AnswerShows.{lock_held, with_lock}
 use Rattle.lock_machine.proofs.EventShows.{Item, item_thread, record_event, run_at}
 use Rattle.lock_machine.proofs.OutsideShows.{recorded_at}
@@ -161,12 +162,12 @@ stays_recorded true (Some q) false o g p row count stays =
     let R : Option HistoryRow → Bool → Type 0 = λ x b. RecordsRow x b progress.Stays o g p p in subst (λ (x : Option HistoryRow). R x (can_count p.thread)) (sym row) (subst (R (Some q)) (sym count) (refl, refl))
 stays_recorded true None room o g p row count stays = let R : Option HistoryRow → Type 0 = λ x. RecordsRow x (can_count p.thread) progress.Stays o g p p in subst R (sym row) (refl, refl)
 
-pub outlook_event : (w : Whole) (i : ℕ) (o : Outing) (g : Given) → i < length w.threads → (thread_at w i).phase ≡ phase.Outside o → has_moved (outlook w i g) ≡ false → RecordsGiven (outlook w i g) i g w w
-outlook_event w i o g inside is stays =
+pub outlook_event : RowsOfArisen → PlansOfArisen → (w : Whole) (i : ℕ) (o : Outing) (g : Given) → i < length w.threads → (thread_at w i).phase ≡ phase.Outside o → has_moved (outlook w i g) ≡ false → RecordsGiven (outlook w i g) i g w w
+outlook_event own plans w i o g inside is stays =
     let seen = outlook_at w i o g is in
     let made = progress_by (answers_errand o.errand g) (slice_get w.rows o.row) (can_count (thread_at w i)) in
     let records : Records made o g (recorded_at w i) (recorded_at w i) = stays_recorded (answers_errand o.errand g) (slice_get w.rows o.row) (can_count (thread_at w i)) o g (recorded_at w i) refl refl (ap has_moved (sym seen) ∙ stays) in
-    let event = record_event w i o g made (recorded_at w i) inside is records in
+    let event = record_event own plans w i o g made (recorded_at w i) inside is records in
     let T : List Thread → Type 0 = λ l. RecordsGiven made i g w (record w { threads = l }) in
     let P : Progress → Type 0 = λ p. RecordsGiven p i g w w in
     subst P (sym seen) (subst T (set-get_or w.threads i no_thread) event)

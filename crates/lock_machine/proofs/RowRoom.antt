@@ -68,11 +68,11 @@ room_less ts i x v rows inside at less room = room_kept ts i x v rows rows insid
     same due left len cap h = omega arith
 
 -- the step that thread i asks is a call, for which room was taken, or wants no row
-pub room_asked : (call : Bool) (ts : List Thread) (i : ℕ) (x v : Thread) (rows later : Vec HistoryRow) → i < length ts → x ≡ get_or ts i x → (call ≡ true → HasRoom (length ts) later) → (call ≡ false → rows_due v.phase ≤ rows_due x.phase)
-    → KeepsRoom 0 rows 0 later → HasRoom (waiting ts) rows → HasRoom (waiting (set ts i v)) later
-room_asked true ts i x v rows later inside at calls rests keeps room = room_for_all (set ts i v) (length ts) later (length-set ts i v) (calls refl)
-room_asked false ts i x v rows later inside at calls rests keeps room =
-    room_kept ts i x v rows later inside at (less (rows_due x.phase) (rows_due v.phase) (vec_len rows) (vec_len later) (vec_capacity rows) (vec_capacity later) (rests refl) keeps) room
+pub room_asked : (call : Bool) (ts : List Thread) (i : ℕ) (x v : Thread) (before later : Vec HistoryRow) → i < length ts → x ≡ get_or ts i x → (call ≡ true → HasRoom (length ts) later) → (call ≡ false → rows_due v.phase ≤ rows_due x.phase)
+    → KeepsRoom 0 before 0 later → HasRoom (waiting ts) before → HasRoom (waiting (set ts i v)) later
+room_asked true ts i x v before later inside at calls rests keeps room = room_for_all (set ts i v) (length ts) later (length-set ts i v) (calls refl)
+room_asked false ts i x v before later inside at calls rests keeps room =
+    room_kept ts i x v before later inside at (less (rows_due x.phase) (rows_due v.phase) (vec_len before) (vec_len later) (vec_capacity before) (vec_capacity later) (rests refl) keeps) room
   where
     less : (due left len new cap top : ℕ) → left ≤ due → 0 + new + cap ≤ 0 + len + top → left + new + cap ≤ due + len + top
     less due left len new cap top h keeps = omega arith

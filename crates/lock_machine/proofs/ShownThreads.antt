@@ -1,18 +1,17 @@
 -- A thread of a run stands for one of the lock machine: how that lasts.
 use Rattle.std.proofs.Common.{◌≡◌, ℕ, ◌<◌, List, length, map, get_or, set, slice_get, Option, Some, None, Bool, true, false, is_some, is_none, ◌==◌, sym, refl, ap, ap₂, ◌∙◌, [], ◌∷◌, subst, ⊎_elim}
-use Rattle.std.proofs.lemmas.Bool.{cases_eq, cases_Bool, and_parts}
-use Rattle.std.proofs.lemmas.List.{get_or-set_same, get_or-set_other, length-map, length-set}
+use Rattle.std.proofs.lemmas.Bool.{and_left, and_parts, cases_eq, cond_both, ne_eqb}
+use Rattle.std.proofs.lemmas.List.{get_or-set_same, get_or-set_other, length-map, length-set, set-get_or}
 use Rattle.std.proofs.lemmas.Option.{slice_get-map}
-use Rattle.std.specs.Prelude.{option_map}
+use Rattle.std.specs.Prelude.{if◌then◌else◌, option_map}
 use Rattle.posix_terms.specs.declared.outcome.Given.{Given}
 use Rattle.posix_terms.specs.declared.transcript.HistoryRow.{HistoryRow}
 use Rattle.det_mutex.specs.declared.lock.DetLock.{DetLock}
 use Rattle.lock_model.specs.Held.{row_of}
-use Rattle.lock_model.specs.Machine.{Effect, Moved, advance, can_advance, is_number, is_open, lock_after, filled_by, move, moves, quiet, row_after, world_after, first_of}
+use Rattle.lock_model.specs.Machine.{Effect, Moved, advance, can_advance, is_number, is_open, lock_after, filled_by, freed_by, move, moves, or_else, quiet, row_after, world_after, first_of}
 use Rattle.lock_model.specs.State as lock
 use Rattle.lock_model.specs.State.{Job, Row, State, nobody, thread_of}
 use Rattle.sequential_object.specs.Worlds.{World}
-use Rattle.lock_model.proofs.Commute.{advance_move, lock_mine, lock_other, row_closed, row_open, row_other, world_mine, world_other}
 use Rattle.lock_machine.specs.Conditions.{Conditions, setup_under}
 use Rattle.lock_model.specs.Rows.{shown}
 use Rattle.object_store.specs.Store.{Stands, Stored}
@@ -23,7 +22,6 @@ use Rattle.lock_machine.specs.Threads.{Thread}
 use Rattle.lock_machine.specs.declared.thread.Outing.{Outing}
 use Rattle.lock_machine.specs.declared.thread.Phase.{Phase}
 use Rattle.lock_machine.specs.declared.thread.Phase.TheVariants as phase
-use Rattle.object_store.proofs.Lists.{set_same}
 
 -- ## Other rows
 
@@ -76,12 +74,34 @@ threads_set terms rows ts us i t u inside same here others k =
 
 -- ## Events that need no turn
 
+-- thread i makes this one, or none
+pub advance_by : (terms : Conditions) (s : State) (i : ℕ) (o : Option Moved) → moves (setup_under terms) i (thread_of s i) ≡ o → advance (setup_under terms) i s ≡ move i o s
+unfolding advance
+advance_by terms s i o is = ap (λ (m : Option Moved). move i m s) is
+
+-- a row after it, by whether it is the one that is open
+pub row_left : (i : ℕ) (e : Effect) (r : Row) (b : Bool) → is_open i r ≡ b → row_after i e r ≡ (if b then filled_by e r else r)
+unfolding row_after
+row_left i e r b is = ap (λ (own : Bool). if own then filled_by e r else r) is
+
+-- a lock, by whether the thread holds it
+pub lock_left : (i : ℕ) (o : Option ℕ) (l : DetLock) (b : Bool) → is_number l.holder i ≡ b → lock_after i o l ≡ (if b then freed_by o l else l)
+unfolding lock_after
+lock_left i o l b is = ap (λ (own : Bool). if own then freed_by o l else l) is
+
+-- and the world, by whether it holds the table
+pub world_by : (i : ℕ) (l : DetLock) (o : Option World) (w : World) (b : Bool) → is_number l.holder i ≡ b → world_after i l o w ≡ (if b then or_else o w else w)
+unfolding world_after
+world_by i l o w b is = ap (λ (own : Bool). if own then or_else o w else w) is
+
 keeps_other : (i k : ℕ) (e : Effect) (rows : List Row) → (k ≡ i → ⊥) → KeepsRows k rows (map (row_after i e) rows)
 keeps_other i k e rows apart place job mine there =
-    slice_get-map (row_after i e) rows place ∙ ap (option_map (row_after i e)) there ∙ ap Some (row_other i e (row_of job) (λ q. apart (sym mine ∙ q)))
+    slice_get-map (row_after i e) rows place ∙ ap (option_map (row_after i e)) there
+    ∙ ap Some (row_left i e (row_of job) false (and_left (job.turn.thread == i) true (ne_eqb job.turn.thread i (λ q. apart (sym mine ∙ q)))))
 
 pub world_keeps : (i : ℕ) (l : DetLock) (w : World) → world_after i l None w ≡ w
-world_keeps i l w = ⊎_elim (λ (h : is_number l.holder i ≡ true). world_mine i l None w h) (λ (h : is_number l.holder i ≡ false). world_other i l None w h) (cases_Bool (is_number l.holder i))
+unfolding world_after
+world_keeps i l w = cond_both (is_number l.holder i) w w (λ (v : World). v ≡ w) (λ mine. refl) (λ other. refl)
 
 -- thread i makes its event, with the world that it leaves: this is what the others and the shared parts see of it
 pub whole_changed : (terms : Conditions) (w : Whole) (s : State) (i : ℕ) (t : Thread) (m : Moved) (l : DetLock) (ls : List DetLock) (table : Stored) (rows : List HistoryRow)
@@ -90,10 +110,9 @@ pub whole_changed : (terms : Conditions) (w : Whole) (s : State) (i : ℕ) (t : 
     → lock_after i m.effect.table_freed s.table ≡ l → map (lock_after i m.effect.object_freed) s.objects ≡ ls → Stands table (world_after i s.table m.effect.world s.world) → map shown (map (row_after i m.effect) s.rows) ≡ rows
     → (can_advance (setup_under terms) s i ≡ true) × Shows terms (record w { threads = set w.threads i t; lock = l; objects = ls; table = table; rows = rows }) (advance (setup_under terms) i s)
 whole_changed terms w s i t m l ls table rows inside h is shows lock_is objects_is stands rows_is =
-    let next : advance (setup_under terms) i s ≡ move i (Some m) s = advance_move (setup_under terms) i s ∙ ap (λ (o : Option Moved). move i o s) is in
     let P : State → Type 0 = Shows terms (record w { threads = set w.threads i t; lock = l; objects = ls; table = table; rows = rows }) in (
       ap is_some is,
-      subst P (sym next)
+      subst P (sym (advance_by terms s i (Some m) is))
           (record {
             patience = h.patience;
             door_cost = h.door_cost;
@@ -131,18 +150,16 @@ filled_quiet : (r : Row) → is_none r.answer ≡ true → filled_by quiet r ≡
 filled_quiet r h k = record { turn = r.turn; call = r.call; outcome = first_kept r.outcome k; answer = first_none r.answer h k }
 
 row_quiet : (i : ℕ) (r : Row) → row_after i quiet r ≡ r
-row_quiet i r =
-    ⊎_elim
-    (λ (o : is_open i r ≡ true). row_open i quiet r o ∙ filled_quiet r (and_parts (r.turn.thread == i) (is_none r.answer) o).1)
-    (λ (o : is_open i r ≡ false). row_closed i quiet r o)
-    (cases_Bool (is_open i r))
+unfolding row_after
+row_quiet i r = cond_both (is_open i r) (filled_by quiet r) r (λ (q : Row). q ≡ r) (λ own. filled_quiet r (and_parts (r.turn.thread == i) (is_none r.answer) own).1) (λ other. refl)
 
 rows_quiet : (i : ℕ) (rows : List Row) → map (row_after i quiet) rows ≡ rows
 rows_quiet i [] = refl
 rows_quiet i (r ∷ rows) = ap₂ ◌∷◌ (row_quiet i r) (rows_quiet i rows)
 
 pub lock_quiet : (i : ℕ) (l : DetLock) → lock_after i None l ≡ l
-lock_quiet i l = ⊎_elim (λ (h : is_number l.holder i ≡ true). lock_mine i None l h) (λ (h : is_number l.holder i ≡ false). lock_other i None l h) (cases_Bool (is_number l.holder i))
+unfolding lock_after
+lock_quiet i l = cond_both (is_number l.holder i) l l (λ (k : DetLock). k ≡ l) (λ mine. refl) (λ other. refl)
 
 pub locks_quiet : (i : ℕ) (ls : List DetLock) → map (lock_after i None) ls ≡ ls
 locks_quiet i [] = refl
@@ -158,17 +175,15 @@ pub whole_still : (terms : Conditions) (w : Whole) (s : State) (i : ℕ) (t : Th
     → ThreadShows terms i s.rows t (thread_of s i)
     → (can_advance (setup_under terms) s i ≡ false) × Shows terms (record w { threads = set w.threads i t }) (advance (setup_under terms) i s)
 whole_still terms w s i t inside h is shows =
-    let next : advance (setup_under terms) i s ≡ s = advance_move (setup_under terms) i s ∙ ap (λ (o : Option Moved). move i o s) is in
     let P : State → Type 0 = Shows terms (record w { threads = set w.threads i t }) in
-    let within : i < length s.threads = subst (λ (n : ℕ). i < n) (sym h.count) inside in
     let R : List lock.Thread → Type 0 = λ us. (k : ℕ) → ThreadShows terms k s.rows (get_or (set w.threads i t) k no_thread) (get_or us k nobody) in (
       ap is_some is,
-      subst P (sym next)
+      subst P (sym (advance_by terms s i None is))
           (record {
             patience = h.patience;
             door_cost = h.door_cost;
             count = h.count ∙ sym (length-set w.threads i t);
-            threads = subst R (set_same s.threads i nobody within) (threads_set terms s.rows w.threads s.threads i t (thread_of s i) inside h.count shows (λ k apart. h.threads k));
+            threads = subst R (set-get_or s.threads i nobody) (threads_set terms s.rows w.threads s.threads i t (thread_of s i) inside h.count shows (λ k apart. h.threads k));
             table = h.table;
             objects = h.objects;
             object_count = h.object_count;

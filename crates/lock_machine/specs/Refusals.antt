@@ -1,6 +1,6 @@
 -- Believed: a contract of the headline stands on it.
 -- When the machine refuses an event.
-use Rattle.std.specs.Prelude.{◌≡◌, ℕ, Bool, true, false, List, Option, Some, None, Result, Ok, Err, slice_get}
+use Rattle.std.specs.Prelude.{◌≡◌, ◌||◌, if◌then◌else◌, ℕ, Bool, true, false, List, Option, Some, None, Result, Ok, Err, slice_get}
 use Rattle.posix_terms.specs.declared.outcome.Given.{Given}
 use Rattle.posix_terms.specs.declared.transcript.HistoryRow.{HistoryRow}
 use Rattle.posix_terms.specs.declared.step.Step.{Step}
@@ -36,6 +36,10 @@ wants_table p = false
 abbrev pub wants_object : Phase → Bool
 wants_object (phase.WantsObject call turns clock object) = true
 wants_object p = false
+
+-- `attempt`
+abbrev pub wants_lock : Phase → Bool
+wants_lock p = wants_table p || wants_object p
 
 -- `begin_outside`
 abbrev pub goes_outside : Phase → Bool
@@ -119,3 +123,7 @@ Tried (Err refused.Memory) made = Unit {0}
 abbrev pub attempted : Bool → Attempt
 attempted true = attempt.Failed
 attempted false = attempt.Got
+
+-- whether the lock that was wanted before is wanted behind the attempt
+abbrev pub still_wants : Phase → Phase → Bool
+still_wants before after = if wants_table before then wants_table after else wants_object after

@@ -2,8 +2,8 @@ ghost use Rattle.std.specs.Prelude.{◌≡◌, ◌+◌, ◌<◌, ◌≤◌, OnOk
 
 use std::alloc::AllocError;
 
-// Takes room for so many items more, where it is missing: then for three times as many as there are, so that a list that
-// grows is seldom moved.
+// Takes room for so many items more, where it is missing: then for three times as many more as there are, but for 64 at
+// least and 4,096 at most, so that a list that grows is seldom moved.
 #[inline(always)]
 pub fn make_room<T>(list: &mut Vec<T>, more: usize) -> Result<(), AllocError>
     ensures items { list.new.items ≡ list.old.items }

@@ -3,6 +3,8 @@ ghost use Rattle.lock_machine.specs.Requests.{AskLittle, AskTheirKind};
 ghost use Rattle.lock_machine.specs.Shows.{ClocksShown};
 ghost use Rattle.lock_machine.specs.Starting.{ShowsAtStart};
 
+use object_store::first_store;
+
 /// What calls ask outside. None asks for more than a record of its outcome can hold: at most 32,767 bytes to read or write, and else a number of
 /// at most 65,535 (`little`). The kind of the request is known of the call alone (`kinds`). The body is empty: the contract is the law.
 pub fn requests_asked()
@@ -12,9 +14,11 @@ pub fn requests_asked()
 
 /// What a machine shows of a state of the lock machine. At its start it shows the start, whatever will be asked and come (`start`). The clocks by
 /// which it tells whose turn it is are those of the state (`clocks`), and each thread is in the phase that it has there, by name, with the call
-/// and the object (`phases`). The body is empty: the contract is the law.
+/// and the object (`phases`). It does nothing: the contract is the law.
 pub fn machines_show()
     ensures start { ShowsAtStart }
     ensures clocks { ClocksShown }
     ensures phases { PhasesShown }
-{}
+{
+    first_store();
+}

@@ -13,7 +13,9 @@ use crate::machine::LockMachine;
 use crate::outside::{Progress, answer_outside, begin_outside, record};
 use crate::thread::Outing;
 use lock_model::arising_states;
+use object_store::locks_and_doors;
 use posix_terms::{Answer, Given, Step};
+use sequential_object::calls_outside;
 use std::alloc::AllocError;
 
 // Where a row, the lock of an object or an outcome is not there, an event answers that it was not made. No run comes
@@ -92,6 +94,7 @@ impl LockMachine {
         ensures count { length self.new.threads ≡ length self.old.threads }
         ensures settings { settings_in self.new ≡ settings_in self.old }
     {
+        arising_states();
         record(outing, given, &mut self.threads[i], &mut self.shared.rows)
     }
 
@@ -104,6 +107,7 @@ impl LockMachine {
         ensures count { length self.new.threads ≡ length self.old.threads }
         ensures settings { settings_in self.new ≡ settings_in self.old }
     {
+        arising_states();
         let Some(object) = outing.object else {
             return None;
         };
@@ -136,6 +140,7 @@ impl LockMachine {
         ensures count { length self.new.threads ≡ length self.old.threads }
         ensures settings { settings_in self.new ≡ settings_in self.old }
     {
+        arising_states();
         match object {
             None => answer(
                 i,
@@ -171,6 +176,8 @@ impl LockMachine {
         ensures count { length self.new.threads ≡ length self.old.threads }
         ensures settings { settings_in self.new ≡ settings_in self.old }
     {
+        calls_outside();
+        locks_and_doors();
         try_table(
             self.patience,
             i,
@@ -190,6 +197,8 @@ impl LockMachine {
         ensures count { length self.new.threads ≡ length self.old.threads }
         ensures settings { settings_in self.new ≡ settings_in self.old }
     {
+        arising_states();
+        calls_outside();
         let Some(lock) = self.objects.get_mut(object) else {
             return false;
         };

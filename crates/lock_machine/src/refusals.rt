@@ -1,6 +1,6 @@
 ghost use Rattle.std.specs.Prelude.{◌≡◌, ◌<◌, ◌&&◌, not, Bool, true, false, Ok, Err, IfErr, IfOk, OnErr, is_ok, is_some, length, unwrap_or};
 ghost use Rattle.logical_clocks.specs.TurnOrder.{has_turn};
-ghost use Rattle.lock_machine.specs.Refusals.{Comes, OnMemory, Tried, WantsNone, attempted, goes_outside, has_answer, is_blocked, is_end, is_outside, outlook, phase_at, recorded_as, wants_object, wants_table, works};
+ghost use Rattle.lock_machine.specs.Refusals.{Comes, OnMemory, Tried, WantsNone, attempted, goes_outside, has_answer, is_blocked, is_end, is_outside, outlook, phase_at, recorded_as, still_wants, wants_lock, wants_object, wants_table, works};
 ghost use Rattle.lock_machine.specs.Shows.{AdvancesQuietly, AsksFor, Attempts, MayAdvance, MayAsk, RecordsGiven, Tells, has_moved};
 ghost use Rattle.lock_machine.specs.Views.{clocks_of};
 ghost use Rattle.lock_machine.specs.Whole.{settings_in};
@@ -12,6 +12,7 @@ use crate::machine::LockMachine;
 use crate::outside::{Progress, outlook};
 use crate::refused::{Attempt, Refused};
 use crate::thread::Phase;
+use lock_model::arising_states;
 use posix_terms::{Answer, Given, Step};
 
 // The events as a driver makes them: each looks at the phase of its thread first, and is refused where that is not its own.
@@ -87,10 +88,13 @@ impl LockMachine {
         Ok(attempted(self.phase(i).wants_object()))
     }
 
-    /// Thread i attempts the lock that it wants, that of the table or that of an object.
+    /// Thread i attempts the lock that it wants, that of the table or that of an object. It is refused where it wants none or
+    /// lacks the turn; the machine's own attempt then changes nothing either (`event`).
     pub fn attempt(&mut self, i: usize) -> Result<Attempt, Refused>
         requires { i < length self.old.threads }
         ensures event { Tried result (λ made. Attempts made i self.old self.new) }
+        ensures refused { Comes (wants_lock (phase_at self.old i) && has_turn (clocks_of self.old.threads) i) result self.old self.new (λ o. Attempts (is_some o) i self.old self.new) }
+        ensures got { IfOk result (λ a. a ≡ attempted (still_wants (phase_at self.old i) (phase_at self.new i))) }
         ensures memory { WantsNone result }
         ensures count { length self.new.threads ≡ length self.old.threads }
         ensures settings { settings_in self.new ≡ settings_in self.old }
@@ -123,6 +127,7 @@ impl LockMachine {
         ensures value { result ≡ outlook self.now i given.now }
         ensures event { is_outside (phase_at self.now i) ≡ true → has_moved result ≡ false → RecordsGiven result i given.now self.now self.now }
     {
+        arising_states();
         let Phase::Outside(outing) = *self.phase(i) else {
             return Progress::Stays;
         };

@@ -30,8 +30,8 @@ inside_where_live clocks i clock live =
     ]
 
 -- a thread of the row has the clock that it has there
-pub live_in_row : (clocks : List ThreadClock) (row : List LiveThread) (k : ℕ) (d : LiveThread) → IsTurnRow clocks row → k < length row → live_clock (thread_at clocks (get_or row k d).thread) ≡ Some (get_or row k d).clock
-live_in_row clocks row k d r inside = (r.live (get_or row k d)).0 (Contains-get_or row k d inside)
+pub live_in_row : (clocks : List ThreadClock) (queue : List LiveThread) (k : ℕ) (d : LiveThread) → IsTurnRow clocks queue → k < length queue → live_clock (thread_at clocks (get_or queue k d).thread) ≡ Some (get_or queue k d).clock
+live_in_row clocks queue k d r inside = (r.live (get_or queue k d)).0 (Contains-get_or queue k d inside)
 
 abbrev pub live_thread : ℕ → ℕ → LiveThread
 live_thread clock thread = record { clock = clock; thread = thread }
@@ -39,18 +39,18 @@ live_thread clock thread = record { clock = clock; thread = thread }
 pub same_fields : (c d i j : ℕ) → c ≡ d → i ≡ j → live_thread c i ≡ live_thread d j
 same_fields c d i j p q = cc
 
-same_thread : (clocks : List ThreadClock) (row : List LiveThread) (a b : LiveThread) → IsTurnRow clocks row → Contains row a → Contains row b → a.thread ≡ b.thread → a ≡ b
-same_thread clocks row a b r has_a has_b same =
+same_thread : (clocks : List ThreadClock) (queue : List LiveThread) (a b : LiveThread) → IsTurnRow clocks queue → Contains queue a → Contains queue b → a.thread ≡ b.thread → a ≡ b
+same_thread clocks queue a b r has_a has_b same =
     let clock_a : live_clock (thread_at clocks a.thread) ≡ Some a.clock = (r.live a).0 has_a in
     let clock_b : live_clock (thread_at clocks a.thread) ≡ Some b.clock = rw same ((r.live b).0 has_b) in
     same_fields a.clock b.clock a.thread b.thread (some_same (live_clock (thread_at clocks a.thread)) a.clock b.clock clock_a clock_b) same
 
 -- no thread stands there twice
-pub apart_in_row : (clocks : List ThreadClock) (row : List LiveThread) → IsTurnRow clocks row → AllPairs (λ a b. a.thread ≢ b.thread) row
-apart_in_row clocks row r i j d lt le same =
-    let one : get_or row i d ≡ get_or row j d = same_thread clocks row (get_or row i d) (get_or row j d) r (Contains-get_or row i d (omega arith)) (Contains-get_or row j d le) same in
-    let before : comes_before (get_or row i d) (get_or row j d) ≡ true = r.in_order i j d lt le in
-    not_before_itself (get_or row j d) (subst (λ (t : LiveThread). comes_before t (get_or row j d) ≡ true) one before)
+pub apart_in_row : (clocks : List ThreadClock) (queue : List LiveThread) → IsTurnRow clocks queue → AllPairs (λ a b. a.thread ≢ b.thread) queue
+apart_in_row clocks queue r i j d lt le same =
+    let one : get_or queue i d ≡ get_or queue j d = same_thread clocks queue (get_or queue i d) (get_or queue j d) r (Contains-get_or queue i d (omega arith)) (Contains-get_or queue j d le) same in
+    let before : comes_before (get_or queue i d) (get_or queue j d) ≡ true = r.in_order i j d lt le in
+    not_before_itself (get_or queue j d) (subst (λ (t : LiveThread). comes_before t (get_or queue j d) ≡ true) one before)
 
 -- ## Whose turn it is
 
@@ -68,71 +68,71 @@ cases_live None = inl refl
 cases_live (Some clock) = inr (clock, refl)
 
 -- the first of the row, or one that stands behind it
-cases_first : (row : List LiveThread) (t d : LiveThread) → Contains row t → (t ≡ get_or row 0 d) ⊎ ((k : ℕ) × (0 < k) × (k < length row) × (get_or row k d ≡ t))
-cases_first row t d has =
-    let at : get_or row has.0 d ≡ t = get_or_default row has.0 d t has.1 ∙ has.2 in
+cases_first : (queue : List LiveThread) (t d : LiveThread) → Contains queue t → (t ≡ get_or queue 0 d) ⊎ ((k : ℕ) × (0 < k) × (k < length queue) × (get_or queue k d ≡ t))
+cases_first queue t d has =
+    let at : get_or queue has.0 d ≡ t = get_or_default queue has.0 d t has.1 ∙ has.2 in
     elim (cases_eq has.0 0) [
-      | inl e ↦ inl (sym at ∙ ap (λ (n : ℕ). get_or row n d) e)
+      | inl e ↦ inl (sym at ∙ ap (λ (n : ℕ). get_or queue n d) e)
       | inr e ↦ inr (has.0, omega arith, has.1, at)
     ]
 
-yields_to_first : (clocks : List ThreadClock) (row : List LiveThread) → IsTurnRow clocks row → 0 < length row → (j : ℕ) → yields (live_clocks clocks) (turn_of (get_or row 0 no_live_thread)) j ≡ true
+yields_to_first : (clocks : List ThreadClock) (queue : List LiveThread) → IsTurnRow clocks queue → 0 < length queue → (j : ℕ) → yields (live_clocks clocks) (turn_of (get_or queue 0 no_live_thread)) j ≡ true
 unfolding yields
-yields_to_first clocks row r some j =
+yields_to_first clocks queue r some j =
     elim (cases_live (live_clock (thread_at clocks j))) [
       | inl none ↦ rw (live_at clocks j, none) refl
       | inr is ↦
           let t : LiveThread = record { clock = is.0; thread = j } in
-          let first = get_or row 0 no_live_thread in
-          rw (live_at clocks j, is.1) (elim (cases_first row t no_live_thread ((r.live t).1 is.1)) [
+          let first = get_or queue 0 no_live_thread in
+          rw (live_at clocks j, is.1) (elim (cases_first queue t no_live_thread ((r.live t).1 is.1)) [
             | inl e ↦ or_left (eqb j first.thread) (comes_before first t) (eq-eqb j first.thread (ap (λ (u : LiveThread). u.thread) e))
             | inr w ↦
-                let before : comes_before first (get_or row w.0 no_live_thread) ≡ true = r.in_order 0 w.0 no_live_thread w.1 w.2 in
+                let before : comes_before first (get_or queue w.0 no_live_thread) ≡ true = r.in_order 0 w.0 no_live_thread w.1 w.2 in
                 or_right (eqb j first.thread) (comes_before first t) (subst (λ (u : LiveThread). comes_before first u ≡ true) w.3 before)
           ])
     ]
 
-first_has_turn : (clocks : List ThreadClock) (row : List LiveThread) → IsTurnRow clocks row → 0 < length row → has_turn (live_clocks clocks) (get_or row 0 no_live_thread).thread ≡ true
+first_has_turn : (clocks : List ThreadClock) (queue : List LiveThread) → IsTurnRow clocks queue → 0 < length queue → has_turn (live_clocks clocks) (get_or queue 0 no_live_thread).thread ≡ true
 unfolding has_turn
-first_has_turn clocks row r some =
-    let first = get_or row 0 no_live_thread in
-    rw (live_at clocks first.thread, live_in_row clocks row 0 no_live_thread r some) (all_below_all (length (live_clocks clocks)) (yields (live_clocks clocks) (turn_of first)) (yields_to_first clocks row r some))
+first_has_turn clocks queue r some =
+    let first = get_or queue 0 no_live_thread in
+    rw (live_at clocks first.thread, live_in_row clocks queue 0 no_live_thread r some) (all_below_all (length (live_clocks clocks)) (yields (live_clocks clocks) (turn_of first)) (yields_to_first clocks queue r some))
 
 -- a thread does not yield to one that comes after it
 not_yields : (a b : LiveThread) → a.thread ≢ b.thread → comes_before a b ≡ true → yields_at (turn_of b) a.thread (Some a.clock) ≡ false
 not_yields a b other before = grind arith
 
-first_before : (clocks : List ThreadClock) (row : List LiveThread) (t : LiveThread) → IsTurnRow clocks row → 0 < length row → Contains row t → t.thread ≢ (get_or row 0 no_live_thread).thread → comes_before (get_or row 0 no_live_thread) t ≡ true
-first_before clocks row t r some has other =
-    let first = get_or row 0 no_live_thread in
-    elim (cases_first row t no_live_thread has) [
+first_before : (clocks : List ThreadClock) (queue : List LiveThread) (t : LiveThread) → IsTurnRow clocks queue → 0 < length queue → Contains queue t → t.thread ≢ (get_or queue 0 no_live_thread).thread → comes_before (get_or queue 0 no_live_thread) t ≡ true
+first_before clocks queue t r some has other =
+    let first = get_or queue 0 no_live_thread in
+    elim (cases_first queue t no_live_thread has) [
       | inl e ↦ absurd (other (ap (λ (u : LiveThread). u.thread) e))
       | inr w ↦
-          let before : comes_before first (get_or row w.0 no_live_thread) ≡ true = r.in_order 0 w.0 no_live_thread w.1 w.2 in
+          let before : comes_before first (get_or queue w.0 no_live_thread) ≡ true = r.in_order 0 w.0 no_live_thread w.1 w.2 in
           subst (λ (u : LiveThread). comes_before first u ≡ true) w.3 before
     ]
 
-others_have_no_turn : (clocks : List ThreadClock) (row : List LiveThread) (i : ℕ) → IsTurnRow clocks row → 0 < length row → i ≢ (get_or row 0 no_live_thread).thread → has_turn (live_clocks clocks) i ≡ false
+others_have_no_turn : (clocks : List ThreadClock) (queue : List LiveThread) (i : ℕ) → IsTurnRow clocks queue → 0 < length queue → i ≢ (get_or queue 0 no_live_thread).thread → has_turn (live_clocks clocks) i ≡ false
 unfolding has_turn yields
-others_have_no_turn clocks row i r some other =
+others_have_no_turn clocks queue i r some other =
     elim (cases_live (live_clock (thread_at clocks i))) [
       | inl none ↦ rw (live_at clocks i, none) refl
       | inr is ↦
           let t : LiveThread = record { clock = is.0; thread = i } in
-          let first = get_or row 0 no_live_thread in
-          let clock : live_clock (thread_at clocks first.thread) ≡ Some first.clock = live_in_row clocks row 0 no_live_thread r some in
+          let first = get_or queue 0 no_live_thread in
+          let clock : live_clock (thread_at clocks first.thread) ≡ Some first.clock = live_in_row clocks queue 0 no_live_thread r some in
           let inside : first.thread < length (live_clocks clocks) = rw length-map (inside_where_live clocks first.thread first.clock clock) in
-          let not : yields (live_clocks clocks) (turn_of t) first.thread ≡ false = rw (live_at clocks first.thread, clock) (not_yields first t (λ e. other (sym e)) (first_before clocks row t r some ((r.live t).1 is.1) other)) in
+          let not : yields (live_clocks clocks) (turn_of t) first.thread ≡ false = rw (live_at clocks first.thread, clock) (not_yields first t (λ e. other (sym e)) (first_before clocks queue t r some ((r.live t).1 is.1) other)) in
           rw (live_at clocks i, is.1) (all_below_not (length (live_clocks clocks)) first.thread (yields (live_clocks clocks) (turn_of t)) inside not)
     ]
 
-none_has_turn : (clocks : List ThreadClock) (row : List LiveThread) (i : ℕ) → IsTurnRow clocks row → length row ≡ 0 → has_turn (live_clocks clocks) i ≡ false
+none_has_turn : (clocks : List ThreadClock) (queue : List LiveThread) (i : ℕ) → IsTurnRow clocks queue → length queue ≡ 0 → has_turn (live_clocks clocks) i ≡ false
 unfolding has_turn
-none_has_turn clocks row i r none =
+none_has_turn clocks queue i r none =
     elim (cases_live (live_clock (thread_at clocks i))) [
       | inl e ↦ rw (live_at clocks i, e) refl
       | inr is ↦
-          let has : Contains row (record { clock = is.0; thread = i }) = (r.live (record { clock = is.0; thread = i })).1 is.1 in
+          let has : Contains queue (record { clock = is.0; thread = i }) = (r.live (record { clock = is.0; thread = i })).1 is.1 in
           absurd (omega (arith, has.1, none))
     ]
 
@@ -142,9 +142,9 @@ thread_of (Some t) = Some t.thread
 
 -- the first of the row has the turn, if there is one
 abbrev pub first_thread : List LiveThread → Option ℕ
-first_thread row = thread_of (slice_get row 0)
+first_thread queue = thread_of (slice_get queue 0)
 
-pub holder_in_row : (clocks : List ThreadClock) (row : List LiveThread) → IsTurnRow clocks row → turn_holder (live_clocks clocks) ≡ first_thread row
+pub holder_in_row : (clocks : List ThreadClock) (queue : List LiveThread) → IsTurnRow clocks queue → turn_holder (live_clocks clocks) ≡ first_thread queue
 unfolding turn_holder
 holder_in_row clocks [] r = first_below_none (length (live_clocks clocks)) (has_turn (live_clocks clocks)) (λ k l. none_has_turn clocks [] k r refl)
 holder_in_row clocks (t ∷ ts) r =
@@ -159,7 +159,7 @@ abbrev pub is_holder : Option ℕ → ℕ → Bool
 is_holder None i = false
 is_holder (Some j) i = eqb j i
 
-pub has_turn_in_row : (clocks : List ThreadClock) (row : List LiveThread) (i : ℕ) → IsTurnRow clocks row → has_turn (live_clocks clocks) i ≡ is_holder (first_thread row) i
+pub has_turn_in_row : (clocks : List ThreadClock) (queue : List LiveThread) (i : ℕ) → IsTurnRow clocks queue → has_turn (live_clocks clocks) i ≡ is_holder (first_thread queue) i
 has_turn_in_row clocks [] i r = none_has_turn clocks [] i r refl
 has_turn_in_row clocks (t ∷ ts) i r =
     elim (cases_eq t.thread i) [

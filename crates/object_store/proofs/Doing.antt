@@ -1,5 +1,5 @@
 -- What the store does for a call is what the sequential object does.
-use Rattle.std.proofs.Common.{◌≡◌, ◌≢◌, ℕ, ◌+◌, ◌<◌, List, [], length, Option, Some, None, Result, Ok, Err, Bool, true, false, if◌then◌else◌, ◌&&◌, nat_lt, ap₂, refl, sym, ap, ◌∙◌, subst, ⊎_elim}
+use Rattle.std.proofs.Common.{◌≡◌, ◌≢◌, ℕ, ◌+◌, ◌<◌, List, [], length, Option, Some, None, Result, Ok, Err, Bool, true, false, if◌then◌else◌, ◌&&◌, nat_lt, ap₂, refl, sym, ap, ◌∙◌, subst, inl, arith, ⊎_elim}
 use Rattle.std.proofs.lemmas.Bool.{false≢true}
 use Rattle.std.proofs.lemmas.List.{get_or-set_same, get_or-set_other}
 use Rattle.std.specs.FinMap as fin
@@ -24,10 +24,10 @@ use Rattle.posix_terms.specs.declared.reply.Reply.{Reply}
 use Rattle.posix_terms.specs.declared.reply.Reply.TheVariants as reply
 use Rattle.posix_terms.specs.declared.transcript.Settings.{Settings}
 use Rattle.file_descriptions.specs.Descriptions.{ContainsKey, description_at, with_offset}
-use Rattle.descriptor_table.specs.Acts as acts
 use Rattle.descriptor_table.specs.Acts.{Acted, ActsAsStep, IsActed, IsStill, StandsAt, acted, ended, offset_at}
 use Rattle.descriptor_table.specs.Agreement.{AgreesOn, TellsAsStep, numbers_told}
 use Rattle.descriptor_table.specs.Changes.{Changes}
+use Rattle.descriptor_table.specs.Laws.{TableFollows}
 use Rattle.descriptor_table.specs.Plans.{LocksKnown, MovesKnown, planned, read_count}
 use Rattle.descriptor_table.specs.Shows.{birth_at, birth_of, is_of}
 use Rattle.descriptor_table.specs.Table.{TableState, free_object, is_used}
@@ -37,46 +37,37 @@ use Rattle.descriptor_table.specs.declared.plan.Op.TheVariants as op
 use Rattle.descriptor_table.specs.declared.plan.Opened.{Opened}
 use Rattle.descriptor_table.specs.declared.plan.Plan.{Plan}
 use Rattle.descriptor_table.specs.declared.plan.Plan.TheVariants as plan
-use Rattle.descriptor_table.proofs.ActLemmas.{acts-as_step}
-use Rattle.descriptor_table.proofs.EndLemmas.{one_door}
-use Rattle.descriptor_table.proofs.FollowLemmas.{changes-as_step}
-use Rattle.descriptor_table.proofs.KnownLemmas.{known-planned}
-use Rattle.descriptor_table.proofs.NumberLemmas.{numbers-unchanged}
-use Rattle.descriptor_table.proofs.OffsetLemmas.{offsets-unchanged}
-use Rattle.descriptor_table.proofs.OtherLemmas.{stays-as_step}
-use Rattle.descriptor_table.proofs.PathLemmas.{birth_is}
-use Rattle.descriptor_table.proofs.PlanLemmas.{plans-as_step}
-use Rattle.descriptor_table.proofs.SoundLemmas.{known_at}
 use Rattle.sequential_object.specs.Worlds.{World}
 use Rattle.object_store.specs.Acting.{held_by, offset_of_key}
 use Rattle.object_store.specs.Bodies.{Kept, first_kept, kept_as, keeping}
 use Rattle.object_store.specs.Store.{EndsTurn, IsPlanned, Replies, Stands, Stored, TableMade, kept_at}
+use Rattle.object_store.proofs.Found.{birth_is, known_at}
 use Rattle.object_store.proofs.Numbering.{lowest_is_free}
-use Rattle.object_store.proofs.Shapes.{IsMaking, planned_fits, suits}
+use Rattle.object_store.proofs.Shapes.{Finds, IsMaking, finds, planned_fits, suits}
 use Rattle.object_store.proofs.Stepping.{Leaves, Rewrites, moved_stands, reply_stands, rested_stands, still_stands}
 
 -- what the table promises of a call that it made
-pub made_leaves : (h : Stored) (w : World) (c : Call) (o : Option Outcome) (u : TableState) (settings : Settings) (carried : Carried) → Stands h w → TableMade h c o u → Leaves h.table u (planned h.table c) w.object (step settings w.object c o carried).after
-made_leaves h w c o u settings carried st made =
+pub made_leaves : (law : TableFollows) (h : Stored) (w : World) (c : Call) (o : Option Outcome) (u : TableState) (settings : Settings) (carried : Carried) → Stands h w → TableMade h c o u → Leaves h.table u (planned h.table c) w.object (step settings w.object c o carried).after
+made_leaves law h w c o u settings carried st made =
     record {
       sound = made.sound;
       described = made.described;
       shows = made.follows settings w.object o carried (λ keeps. refl) st.shows;
-      others = stays-as_step h.table c st.sound st.described settings w.object o carried st.shows;
+      others = (law.calls h.table c st.sound st.described).stays settings w.object o carried st.shows;
       numbers = made.numbers;
       offsets = made.offsets;
     }
 
 -- the table stays as it was
-stays_leaves : (h : Stored) (w : World) (c : Call) (settings : Settings) (carried : Carried) → Stands h w → Changes h.table c None h.table → Leaves h.table h.table (planned h.table c) w.object (step settings w.object c None carried).after
-stays_leaves h w c settings carried st same =
+stays_leaves : (law : TableFollows) (h : Stored) (w : World) (c : Call) (settings : Settings) (carried : Carried) → Stands h w → Changes h.table c None h.table → Leaves h.table h.table (planned h.table c) w.object (step settings w.object c None carried).after
+stays_leaves law h w c settings carried st same =
     record {
       sound = st.sound;
       described = st.described;
-      shows = changes-as_step h.table c None h.table st.sound st.described (λ refused. refl) (λ made. same) settings w.object None carried (λ keeps. refl) st.shows;
-      others = stays-as_step h.table c st.sound st.described settings w.object None carried st.shows;
-      numbers = numbers-unchanged h.table;
-      offsets = offsets-unchanged h.table;
+      shows = (law.calls h.table c st.sound st.described).unchanged same settings w.object None carried (λ keeps. refl) st.shows;
+      others = (law.calls h.table c st.sound st.described).stays settings w.object None carried st.shows;
+      numbers = record { numbers = λ node birth is. inl is; objects = omega arith; born = inl refl; descriptions = omega arith };
+      offsets = λ key e is. inl (e, is, refl, refl);
     }
 
 -- the offset of the description that an act reads or moves
@@ -119,43 +110,43 @@ IsKind op.Release = ⊥
 IsKind (op.Ask errand) = ⊥
 IsKind act = Unit {0}
 
-held_is : (e : End) (content : Content) (k : Kept) → is_of e content ≡ true → content ≡ kept_as content k → content ≡ held_by e k
-held_is part.Only (File file) k has is = is
-held_is part.Read (Pipe bytes) k has is = is
-held_is part.Write (Pipe bytes) k has is = is
-held_is (part.Socket side) (Pair p) k has is = is
-held_is (part.Door one) (DoorTo other) k has is = ap (λ (d : Door). DoorTo d) (one_door one other has)
-held_is part.Only (Pipe bytes) k has is = absurd (false≢true has)
-held_is part.Only (Pair p) k has is = absurd (false≢true has)
-held_is part.Read (File file) k has is = absurd (false≢true has)
-held_is part.Read (Pair p) k has is = absurd (false≢true has)
-held_is part.Write (File file) k has is = absurd (false≢true has)
-held_is part.Write (Pair p) k has is = absurd (false≢true has)
-held_is (part.Socket side) (File file) k has is = absurd (false≢true has)
-held_is (part.Socket side) (Pipe bytes) k has is = absurd (false≢true has)
-held_is part.Only (DoorTo door) k has is = absurd (false≢true has)
-held_is part.Read (DoorTo door) k has is = absurd (false≢true has)
-held_is part.Write (DoorTo door) k has is = absurd (false≢true has)
-held_is (part.Socket side) (DoorTo door) k has is = absurd (false≢true has)
-held_is (part.Door door) (File file) k has is = absurd (false≢true has)
-held_is (part.Door door) (Pipe bytes) k has is = absurd (false≢true has)
-held_is (part.Door door) (Pair p) k has is = absurd (false≢true has)
+held_is : TableFollows → (e : End) (content : Content) (k : Kept) → is_of e content ≡ true → content ≡ kept_as content k → content ≡ held_by e k
+held_is law part.Only (File file) k has is = is
+held_is law part.Read (Pipe bytes) k has is = is
+held_is law part.Write (Pipe bytes) k has is = is
+held_is law (part.Socket side) (Pair p) k has is = is
+held_is law (part.Door one) (DoorTo other) k has is = ap (λ (d : Door). DoorTo d) (law.doors one other has)
+held_is law part.Only (Pipe bytes) k has is = absurd (false≢true has)
+held_is law part.Only (Pair p) k has is = absurd (false≢true has)
+held_is law part.Read (File file) k has is = absurd (false≢true has)
+held_is law part.Read (Pair p) k has is = absurd (false≢true has)
+held_is law part.Write (File file) k has is = absurd (false≢true has)
+held_is law part.Write (Pair p) k has is = absurd (false≢true has)
+held_is law (part.Socket side) (File file) k has is = absurd (false≢true has)
+held_is law (part.Socket side) (Pipe bytes) k has is = absurd (false≢true has)
+held_is law part.Only (DoorTo door) k has is = absurd (false≢true has)
+held_is law part.Read (DoorTo door) k has is = absurd (false≢true has)
+held_is law part.Write (DoorTo door) k has is = absurd (false≢true has)
+held_is law (part.Socket side) (DoorTo door) k has is = absurd (false≢true has)
+held_is law (part.Door door) (File file) k has is = absurd (false≢true has)
+held_is law (part.Door door) (Pipe bytes) k has is = absurd (false≢true has)
+held_is law (part.Door door) (Pair p) k has is = absurd (false≢true has)
 
 -- so it does what it does with what it finds there
-same_done : (t : TableState) (node : ℕ) (act : Op) (c : Call) (given : NewNumbers) (content : Content) (k : Kept) (offset : ℕ) → IsKind act → suits act content ≡ true → content ≡ kept_as content k → acted t node act c None given content offset ≡ acted t node act c None given (held_for act k) offset
-same_done t node (op.Open cut) c given content k offset kind has is = ap (λ (x : Content). acted t node (op.Open cut) c None given x offset) (held_is part.Only content k has is)
-same_done t node op.Release c given content k offset kind has is = absurd kind
-same_done t node (op.Read from n) c given content k offset kind has is = ap (λ (x : Content). acted t node (op.Read from n) c None given x offset) (held_is from.«end» content k has is)
-same_done t node (op.Write to) c given content k offset kind has is = ap (λ (x : Content). acted t node (op.Write to) c None given x offset) (held_is to.«end» content k has is)
-same_done t node (op.Pread n start) c given content k offset kind has is = ap (λ (x : Content). acted t node (op.Pread n start) c None given x offset) (held_is part.Only content k has is)
-same_done t node (op.Pwrite start) c given content k offset kind has is = ap (λ (x : Content). acted t node (op.Pwrite start) c None given x offset) (held_is part.Only content k has is)
-same_done t node (op.Lseek at) c given content k offset kind has is = ap (λ (x : Content). acted t node (op.Lseek at) c None given x offset) (held_is part.Only content k has is)
-same_done t node (op.Ftruncate size) c given content k offset kind has is = ap (λ (x : Content). acted t node (op.Ftruncate size) c None given x offset) (held_is part.Only content k has is)
-same_done t node (op.Fstat links) c given content k offset kind has is = ap (λ (x : Content). acted t node (op.Fstat links) c None given x offset) (held_is part.Only content k has is)
-same_done t node op.Pipe c given content k offset kind has is = refl
-same_done t node op.Socketpair c given content k offset kind has is = refl
-same_done t node (op.Ask errand) c given content k offset kind has is = absurd kind
-same_done t node (op.Shutdown side how) c given content k offset kind has is = ap (λ (x : Content). acted t node (op.Shutdown side how) c None given x offset) (held_is (part.Socket side) content k has is)
+same_done : TableFollows → (t : TableState) (node : ℕ) (act : Op) (c : Call) (given : NewNumbers) (content : Content) (k : Kept) (offset : ℕ) → IsKind act → suits act content ≡ true → content ≡ kept_as content k → acted t node act c None given content offset ≡ acted t node act c None given (held_for act k) offset
+same_done law t node (op.Open cut) c given content k offset kind has is = ap (λ (x : Content). acted t node (op.Open cut) c None given x offset) (held_is law part.Only content k has is)
+same_done law t node op.Release c given content k offset kind has is = absurd kind
+same_done law t node (op.Read from n) c given content k offset kind has is = ap (λ (x : Content). acted t node (op.Read from n) c None given x offset) (held_is law from.«end» content k has is)
+same_done law t node (op.Write to) c given content k offset kind has is = ap (λ (x : Content). acted t node (op.Write to) c None given x offset) (held_is law to.«end» content k has is)
+same_done law t node (op.Pread n start) c given content k offset kind has is = ap (λ (x : Content). acted t node (op.Pread n start) c None given x offset) (held_is law part.Only content k has is)
+same_done law t node (op.Pwrite start) c given content k offset kind has is = ap (λ (x : Content). acted t node (op.Pwrite start) c None given x offset) (held_is law part.Only content k has is)
+same_done law t node (op.Lseek at) c given content k offset kind has is = ap (λ (x : Content). acted t node (op.Lseek at) c None given x offset) (held_is law part.Only content k has is)
+same_done law t node (op.Ftruncate size) c given content k offset kind has is = ap (λ (x : Content). acted t node (op.Ftruncate size) c None given x offset) (held_is law part.Only content k has is)
+same_done law t node (op.Fstat links) c given content k offset kind has is = ap (λ (x : Content). acted t node (op.Fstat links) c None given x offset) (held_is law part.Only content k has is)
+same_done law t node op.Pipe c given content k offset kind has is = refl
+same_done law t node op.Socketpair c given content k offset kind has is = refl
+same_done law t node (op.Ask errand) c given content k offset kind has is = absurd kind
+same_done law t node (op.Shutdown side how) c given content k offset kind has is = ap (λ (x : Content). acted t node (op.Shutdown side how) c None given x offset) (held_is law (part.Socket side) content k has is)
 
 -- an act that makes its object finds nothing
 making_done : (t : TableState) (node : ℕ) (act : Op) (keep : Bool) (c : Call) (given : NewNumbers) (x y : Content) (offset : ℕ) → IsKind act → IsMaking keep act → acted t node act c None given x offset ≡ acted t node act c None given y offset
@@ -175,15 +166,18 @@ making_done t node (op.Ask errand) keep c given x y offset kind making = absurd 
 
 -- ## What the act leaves
 
-module _ (h : Stored) (w : World) (c : Call) (node : ℕ) (act : Op) (settings : Settings) (carried : Carried) (st : Stands h w) (planned_is : IsPlanned h c node act) where
+module _ (law : TableFollows) (h : Stored) (w : World) (c : Call) (node : ℕ) (act : Op) (settings : Settings) (carried : Carried) (st : Stands h w) (planned_is : IsPlanned h c node act) where
   abbrev stepped : Stepped
   stepped = step settings w.object c None carried
 
   known : LocksKnown h.table (read_count c) (plan.Node node act planned_is.0)
-  known = subst (LocksKnown h.table (read_count c)) planned_is.1 (known-planned h.table c st.sound)
+  known = subst (LocksKnown h.table (read_count c)) planned_is.1 (law.calls h.table c st.sound st.described).known
 
   act_does : ActsAsStep h.table c (plan.Node node act planned_is.0)
-  act_does = subst (ActsAsStep h.table c) planned_is.1 (acts-as_step h.table c st.sound st.described)
+  act_does = subst (ActsAsStep h.table c) planned_is.1 (law.calls h.table c st.sound st.described).acts
+
+  all_found : Finds h.table
+  all_found = finds law h.table w.object st.sound st.shows
 
   abbrev done_with : Content → Acted
   done_with content = acted h.table node act c None (numbers_told c stepped.answer) content (offset_in h act)
@@ -214,27 +208,27 @@ module _ (h : Stored) (w : World) (c : Call) (node : ℕ) (act : Op) (settings :
       on_old : is_used h.table node ≡ true → IsDone (done_with (held_for act (kept_at h node)))
       on_old used =
           let content = content_of w.object (birth_at h.table node) in
-          let has : suits act content ≡ true = (planned_fits h.table c node act planned_is.0 planned_is.1).2 st.sound used w.object st.shows in
-          subst IsDone (same_done h.table node act c (numbers_told c stepped.answer) content (kept_at h node) (offset_in h act) kind has (there_is used)) (on content refl)
+          let has : suits act content ≡ true = (planned_fits h.table c node act planned_is.0 planned_is.1).2 all_found used w.object st.shows in
+          subst IsDone (same_done law h.table node act c (numbers_told c stepped.answer) content (kept_at h node) (offset_in h act) kind has (there_is used)) (on content refl)
 
       on_new : free_object h.table ≡ Some node → IsDone (done_with (held_for act (kept_at h node)))
       on_new free =
           let slot = lowest_is_free h.table.objects 48 0 node free in
-          let making : IsMaking planned_is.0 act = (planned_fits h.table c node act planned_is.0 planned_is.1).1 st.sound (ap (λ (o : Option ℕ). is_some o) slot) in
+          let making : IsMaking planned_is.0 act = (planned_fits h.table c node act planned_is.0 planned_is.1).1 all_found (ap (λ (o : Option ℕ). is_some o) slot) in
           let content = content_of w.object (birth_at h.table node) in
           subst IsDone (making_done h.table node act planned_is.0 c (numbers_told c stepped.answer) content (held_for act (kept_at h node)) (offset_in h act) kind making) (on content refl)
 
 -- a release leaves what is there
-released_is : (h : Stored) (w : World) (c : Call) (node : ℕ) (settings : Settings) (carried : Carried) (st : Stands h w) (planned_is : IsPlanned h c node op.Release)
+released_is : (law : TableFollows) (h : Stored) (w : World) (c : Call) (node : ℕ) (settings : Settings) (carried : Carried) (st : Stands h w) (planned_is : IsPlanned h c node op.Release)
     → let content = content_of w.object (birth_at h.table node) in
     let stepped = step settings w.object c None carried in
     let done = acted h.table node op.Release c None (numbers_told c stepped.answer) content 0 in
     (content ≡ kept_as content (kept_at h node)) × IsActed h.table node op.Release done (ended settings w.object carried done.ending) stepped
-released_is h w c node settings carried st planned_is =
-    let known = known h w c node op.Release settings carried st planned_is in (
-      there_is h w c node op.Release settings carried st planned_is
-          (⊎_elim (λ used. used) (λ free. absurd ((planned_fits h.table c node op.Release planned_is.0 planned_is.1).1 st.sound (ap (λ (o : Option ℕ). is_some o) (lowest_is_free h.table.objects 48 0 node free)))) known.0.1),
-      on h w c node op.Release settings carried st planned_is (content_of w.object (birth_at h.table node)) refl,
+released_is law h w c node settings carried st planned_is =
+    let known = known law h w c node op.Release settings carried st planned_is in (
+      there_is law h w c node op.Release settings carried st planned_is
+          (⊎_elim (λ used. used) (λ free. absurd ((planned_fits h.table c node op.Release planned_is.0 planned_is.1).1 (finds law h.table w.object st.sound st.shows) (ap (λ (o : Option ℕ). is_some o) (lowest_is_free h.table.objects 48 0 node free)))) known.0.1),
+      on law h w c node op.Release settings carried st planned_is (content_of w.object (birth_at h.table node)) refl,
     )
 
 -- ## How turns end
@@ -277,12 +271,12 @@ ends_reply old c r new ends settings w carried st = let now = ends settings w ca
 
 -- ## Calls that the table answers
 
-pub reply_makes : (h : Stored) (c : Call) (r : Reply) (u : TableState) → planned h.table c ≡ plan.Reply r → TableMade h c None u → Replies h c r (record h { table = u })
-reply_makes h c r u is made settings w carried st =
+pub reply_makes : (law : TableFollows) (h : Stored) (c : Call) (r : Reply) (u : TableState) → planned h.table c ≡ plan.Reply r → TableMade h c None u → Replies h c r (record h { table = u })
+reply_makes law h c r u is made settings w carried st =
     let after = (step settings w.object c None carried).after in
     let agrees : AgreesOn h.table c (plan.Reply r) (locked_object w.object c carried) (asks w.object c carried) (step settings w.object c None carried).answer =
-    subst (λ (p : Plan). AgreesOn h.table c p (locked_object w.object c carried) (asks w.object c carried) (step settings w.object c None carried).answer) is (plans-as_step h.table c st.sound st.described settings w.object None carried st.shows) in
-    (agrees.1.1, reply_stands h w u r after st (subst (λ (p : Plan). Leaves h.table u p w.object after) is (made_leaves h w c None u settings carried st made)))
+    subst (λ (p : Plan). AgreesOn h.table c p (locked_object w.object c carried) (asks w.object c carried) (step settings w.object c None carried).answer) is ((law.calls h.table c st.sound st.described).plans settings w.object None carried st.shows) in
+    (agrees.1.1, reply_stands h w u r after st (subst (λ (p : Plan). Leaves h.table u p w.object after) is (made_leaves law h w c None u settings carried st made)))
 
 -- ## Calls that act on an object
 
@@ -308,31 +302,31 @@ rests_still t node op.Socketpair keep rests birth = tt
 rests_still t node (op.Shutdown side how) keep rests birth = tt
 rests_still t node (op.Ask errand) keep rests birth = tt
 
-pub known_of : (h : Stored) (w : World) (c : Call) (node : ℕ) (act : Op) (keep : Bool) → Stands h w → planned h.table c ≡ plan.Node node act keep → LocksKnown h.table (read_count c) (plan.Node node act keep)
-known_of h w c node act keep st is = subst (LocksKnown h.table (read_count c)) is (known-planned h.table c st.sound)
+pub known_of : (law : TableFollows) (h : Stored) (w : World) (c : Call) (node : ℕ) (act : Op) (keep : Bool) → Stands h w → planned h.table c ≡ plan.Node node act keep → LocksKnown h.table (read_count c) (plan.Node node act keep)
+known_of law h w c node act keep st is = subst (LocksKnown h.table (read_count c)) is (law.calls h.table c st.sound st.described).known
 
 -- the table was changed, and the object
-pub made_ends : (h : Stored) (c : Call) (node : ℕ) (act : Op) (u : TableState) (given : NewNumbers) (bodies : List Kept) (e : Option Reply) → Rests act → IsKind act → IsPlanned h c node act → TableMade h c None u → TellsAsStep h.table c None given
+pub made_ends : (law : TableFollows) (h : Stored) (c : Call) (node : ℕ) (act : Op) (u : TableState) (given : NewNumbers) (bodies : List Kept) (e : Option Reply) → Rests act → IsKind act → IsPlanned h c node act → TableMade h c None u → TellsAsStep h.table c None given
     → let done = acted h.table node act c None given (held_for act (kept_at h node)) (offset_in h act) in
     e ≡ done.ending → Rewrites h node done.content bodies → EndsTurn h c e (record { table = u; bodies = bodies })
-made_ends h c node act u given bodies e rests kind (keep, is) made tells same rewrites settings w carried st =
+made_ends law h c node act u given bodies e rests kind (keep, is) made tells same rewrites settings w carried st =
     let stepped = step settings w.object c None carried in
     let told : numbers_told c stepped.answer ≡ given = sym (tells settings w.object None carried (λ keeps. refl) st.shows) in
     let P : NewNumbers → Type 0 = λ n. let done = acted h.table node act c None n (held_for act (kept_at h node)) (offset_in h act) in IsActed h.table node act done (ended settings w.object carried done.ending) stepped in
-    let now : P given = subst P told (acted_kind h w c node act settings carried st (keep, is) kind) in
+    let now : P given = subst P told (acted_kind law h w c node act settings carried st (keep, is) kind) in
     let done = acted h.table node act c None given (held_for act (kept_at h node)) (offset_in h act) in
-    let leaves = subst (λ (p : Plan). Leaves h.table u p w.object stepped.after) is (made_leaves h w c None u settings carried st made) in
-    (turn_ends h w node act settings carried done stepped e now same, still_stands h w st u node act keep stepped.after leaves (known_of h w c node act keep st is).0 done.content now.content_is bodies rewrites (rests_still h.table node act keep rests))
+    let leaves = subst (λ (p : Plan). Leaves h.table u p w.object stepped.after) is (made_leaves law h w c None u settings carried st made) in
+    (turn_ends h w node act settings carried done stepped e now same, still_stands h w st u node act keep stepped.after leaves (known_of law h w c node act keep st is).0 done.content now.content_is bodies rewrites (rests_still h.table node act keep rests))
 
 -- the object alone was changed
-pub stays_ends : (h : Stored) (c : Call) (node : ℕ) (act : Op) (bodies : List Kept) (done : Acted) (e : Option Reply) → Rests act → IsKind act → IsPlanned h c node act → Changes h.table c None h.table → ((given : NewNumbers) → acted h.table node act c None given (held_for act (kept_at h node)) (offset_in h act) ≡ done)
+pub stays_ends : (law : TableFollows) (h : Stored) (c : Call) (node : ℕ) (act : Op) (bodies : List Kept) (done : Acted) (e : Option Reply) → Rests act → IsKind act → IsPlanned h c node act → Changes h.table c None h.table → ((given : NewNumbers) → acted h.table node act c None given (held_for act (kept_at h node)) (offset_in h act) ≡ done)
     → e ≡ done.ending → Rewrites h node done.content bodies → EndsTurn h c e (record h { bodies = bodies })
-stays_ends h c node act bodies done e rests kind (keep, is) same done_is ends rewrites settings w carried st =
+stays_ends law h c node act bodies done e rests kind (keep, is) same done_is ends rewrites settings w carried st =
     let stepped = step settings w.object c None carried in
     let P : Acted → Type 0 = λ d. IsActed h.table node act d (ended settings w.object carried d.ending) stepped in
-    let now : P done = subst P (done_is (numbers_told c stepped.answer)) (acted_kind h w c node act settings carried st (keep, is) kind) in
-    let leaves = subst (λ (p : Plan). Leaves h.table h.table p w.object stepped.after) is (stays_leaves h w c settings carried st same) in
-    (turn_ends h w node act settings carried done stepped e now ends, still_stands h w st h.table node act keep stepped.after leaves (known_of h w c node act keep st is).0 done.content now.content_is bodies rewrites (rests_still h.table node act keep rests))
+    let now : P done = subst P (done_is (numbers_told c stepped.answer)) (acted_kind law h w c node act settings carried st (keep, is) kind) in
+    let leaves = subst (λ (p : Plan). Leaves h.table h.table p w.object stepped.after) is (stays_leaves law h w c settings carried st same) in
+    (turn_ends h w node act settings carried done stepped e now ends, still_stands h w st h.table node act keep stepped.after leaves (known_of law h w c node act keep st is).0 done.content now.content_is bodies rewrites (rests_still h.table node act keep rests))
 
 -- the key whose offset an act moves
 pub data Moves : Op → ℕ → Type 0 where
@@ -356,44 +350,44 @@ moves_still t node _ keep _ (ByWrite to) birth apart = apart
 moves_still t node _ keep _ (BySeek from) birth apart = apart
 
 -- the offset is moved
-pub moved_ends : (h : Stored) (c : Call) (node : ℕ) (act : Op) (key : ℕ) (bodies : List Kept) (done : Acted) (e : Option Reply) → Moves act key → IsKind act → IsPlanned h c node act → Changes h.table c None h.table → ((given : NewNumbers) → acted h.table node act c None given (held_for act (kept_at h node)) (offset_in h act) ≡ done)
+pub moved_ends : (law : TableFollows) (h : Stored) (c : Call) (node : ℕ) (act : Op) (key : ℕ) (bodies : List Kept) (done : Acted) (e : Option Reply) → Moves act key → IsKind act → IsPlanned h c node act → Changes h.table c None h.table → ((given : NewNumbers) → acted h.table node act c None given (held_for act (kept_at h node)) (offset_in h act) ≡ done)
     → e ≡ done.ending → Rewrites h node done.content bodies → EndsTurn h c e (record { table = record h.table { descriptions = with_offset h.table.descriptions key done.offset }; bodies = bodies })
-moved_ends h c node act key bodies done e moves kind (keep, is) same done_is ends rewrites settings w carried st =
+moved_ends law h c node act key bodies done e moves kind (keep, is) same done_is ends rewrites settings w carried st =
     let stepped = step settings w.object c None carried in
     let P : Acted → Type 0 = λ d. IsActed h.table node act d (ended settings w.object carried d.ending) stepped in
-    let now : P done = subst P (done_is (numbers_told c stepped.answer)) (acted_kind h w c node act settings carried st (keep, is) kind) in
-    let leaves = subst (λ (p : Plan). Leaves h.table h.table p w.object stepped.after) is (stays_leaves h w c settings carried st same) in
-    let known = known_of h w c node act keep st is in (
+    let now : P done = subst P (done_is (numbers_told c stepped.answer)) (acted_kind law h w c node act settings carried st (keep, is) kind) in
+    let leaves = subst (λ (p : Plan). Leaves h.table h.table p w.object stepped.after) is (stays_leaves law h w c settings carried st same) in
+    let known = known_of law h w c node act keep st is in (
       turn_ends h w node act settings carried done stepped e now ends,
-      moved_stands h w st h.table node act keep stepped.after leaves known.0 done.content now.content_is bodies rewrites refl key done.offset (moves_known h.table (read_count c) act key moves known.1) (moves_at h.table stepped.after act key done.offset moves now.offset_is) (moves_still h.table node act keep key moves),
+      moved_stands h w st h.table node act keep stepped.after leaves known.0 done.content now.content_is bodies rewrites refl key done.offset (moves_known h.table (read_count c) act key moves known.1) (law.offsets h.table key done.offset st.sound st.described (moves_known h.table (read_count c) act key moves known.1)) (moves_at h.table stepped.after act key done.offset moves now.offset_is) (moves_still h.table node act keep key moves),
     )
 
 -- the offset is left where it was
-pub rested_ends : (h : Stored) (c : Call) (node : ℕ) (act : Op) (key : ℕ) (bodies : List Kept) (done : Acted) (e : Option Reply) → Moves act key → IsKind act → IsPlanned h c node act → Changes h.table c None h.table → ((given : NewNumbers) → acted h.table node act c None given (held_for act (kept_at h node)) (offset_in h act) ≡ done)
+pub rested_ends : (law : TableFollows) (h : Stored) (c : Call) (node : ℕ) (act : Op) (key : ℕ) (bodies : List Kept) (done : Acted) (e : Option Reply) → Moves act key → IsKind act → IsPlanned h c node act → Changes h.table c None h.table → ((given : NewNumbers) → acted h.table node act c None given (held_for act (kept_at h node)) (offset_in h act) ≡ done)
     → done.offset ≡ offset_of_key h key → e ≡ done.ending → Rewrites h node done.content bodies → EndsTurn h c e (record h { bodies = bodies })
-rested_ends h c node act key bodies done e moves kind (keep, is) same done_is rests ends rewrites settings w carried st =
+rested_ends law h c node act key bodies done e moves kind (keep, is) same done_is rests ends rewrites settings w carried st =
     let stepped = step settings w.object c None carried in
     let P : Acted → Type 0 = λ d. IsActed h.table node act d (ended settings w.object carried d.ending) stepped in
-    let now : P done = subst P (done_is (numbers_told c stepped.answer)) (acted_kind h w c node act settings carried st (keep, is) kind) in
-    let leaves = subst (λ (p : Plan). Leaves h.table h.table p w.object stepped.after) is (stays_leaves h w c settings carried st same) in
-    let known = known_of h w c node act keep st is in (
+    let now : P done = subst P (done_is (numbers_told c stepped.answer)) (acted_kind law h w c node act settings carried st (keep, is) kind) in
+    let leaves = subst (λ (p : Plan). Leaves h.table h.table p w.object stepped.after) is (stays_leaves law h w c settings carried st same) in
+    let known = known_of law h w c node act keep st is in (
       turn_ends h w node act settings carried done stepped e now ends,
       rested_stands h w st h.table node act keep stepped.after leaves known.0 done.content now.content_is bodies rewrites refl key (moves_known h.table (read_count c) act key moves known.1) (moves_at h.table stepped.after act key done.offset moves now.offset_is ∙ ap (λ (n : ℕ). Some n) rests) (moves_still h.table node act keep key moves),
     )
 
 -- what referred to an object does so no more, and the object holds what it held
-pub released_ends : (h : Stored) (c : Call) (node : ℕ) (u : TableState) (r : Reply) → IsPlanned h c node op.Release → TableMade h c None u
+pub released_ends : (law : TableFollows) (h : Stored) (c : Call) (node : ℕ) (u : TableState) (r : Reply) → IsPlanned h c node op.Release → TableMade h c None u
     → ((given : NewNumbers) (content : Content) → let done = acted h.table node op.Release c None given content 0 in (done.ending ≡ Some r) × (done.content ≡ content)) → Replies h c r (record h { table = u })
-released_ends h c node u r (keep, is) made done_is settings w carried st =
+released_ends law h c node u r (keep, is) made done_is settings w carried st =
     let stepped = step settings w.object c None carried in
     let content = content_of w.object (birth_at h.table node) in
-    let found = released_is h w c node settings carried st (keep, is) in
+    let found = released_is law h w c node settings carried st (keep, is) in
     let done = acted h.table node op.Release c None (numbers_told c stepped.answer) content 0 in
     let both = done_is (numbers_told c stepped.answer) content in
-    let leaves = subst (λ (p : Plan). Leaves h.table u p w.object stepped.after) is (made_leaves h w c None u settings carried st made) in
+    let leaves = subst (λ (p : Plan). Leaves h.table u p w.object stepped.after) is (made_leaves law h w c None u settings carried st made) in
     let rewrites : Rewrites h node done.content h.bodies = record { here = subst (λ (x : Content). x ≡ kept_as x (kept_at h node)) (sym both.1) found.0; others = λ k apart. refl } in (
       ap (λ (p : Answer × Carried). p.0) (turn_ends h w node op.Release settings carried done stepped (Some r) found.1 (sym both.0)),
-      still_stands h w st u node op.Release keep stepped.after leaves (known_of h w c node op.Release keep st is).0 done.content found.1.content_is h.bodies rewrites (rests_still h.table node op.Release keep tt),
+      still_stands h w st u node op.Release keep stepped.after leaves (known_of law h w c node op.Release keep st is).0 done.content found.1.content_is h.bodies rewrites (rests_still h.table node op.Release keep tt),
     )
 
 -- ## Bodies

@@ -6,7 +6,7 @@ use Rattle.posix_terms.specs.Calls.{can_read, can_write}
 use Rattle.sequential_object.specs.Descriptors as posix
 use Rattle.sequential_object.specs.Doors.{host_path, port_of}
 use Rattle.posix_terms.specs.Ends.{is_end}
-use Rattle.sequential_object.specs.Locked.{locked_object, locks_door}
+use Rattle.sequential_object.specs.Locked.{OutsideLocks, locked_object, locks_door}
 use Rattle.sequential_object.specs.Refusals.{◌>>=◌, count_of, refuse_if, some_or}
 use Rattle.sequential_object.specs.Step.{Carried}
 use Rattle.posix_terms.specs.declared.call.Call.{Call}
@@ -21,9 +21,10 @@ use Rattle.posix_terms.specs.declared.object.End.TheVariants as part
 use Rattle.posix_terms.specs.declared.outcome.OutKind.{OutKind}
 use Rattle.posix_terms.specs.declared.outcome.OutKind.TheVariants as out
 use Rattle.posix_terms.specs.declared.reply.Reply.TheVariants as reply
-use Rattle.sequential_object.proofs.Outside as posix_outside
 use Rattle.file_descriptions.specs.declared.description.Description.{Description}
 use Rattle.descriptor_table.specs.Agreement.{object_of}
+use Rattle.descriptor_table.specs.Laws.{FoundBoth, TableFollows}
+use Rattle.descriptor_table.specs.Laws.FoundBoth.{Open, Shut}
 use Rattle.descriptor_table.specs.Plans.{act_or_ask, answered, close_plan, errand, host_open_plan, leads_outside, locks, lseek_plan, not_listener, of_listener, opens_plan, plan_of, planned, read_plan, seekable, seen, shut_act, shutdown_plan, tcp_accept_plan, tcp_connect_plan, tcp_listen_plan, write_plan}
 use Rattle.descriptor_table.specs.Table.{TableState, described, free_object, lowest_free}
 use Rattle.descriptor_table.specs.declared.plan.Errand.{Errand}
@@ -31,9 +32,6 @@ use Rattle.descriptor_table.specs.declared.plan.Op.{Op}
 use Rattle.descriptor_table.specs.declared.plan.Op.TheVariants as op
 use Rattle.descriptor_table.specs.declared.plan.Plan.{Plan}
 use Rattle.descriptor_table.specs.declared.plan.Plan.TheVariants as plan
-use Rattle.descriptor_table.proofs.KnownLemmas.{found_used}
-use Rattle.descriptor_table.proofs.ShownLemmas.{FoundBoth, found_both}
-use Rattle.descriptor_table.proofs.ShownLemmas.FoundBoth.{Open, Shut}
 use Rattle.sequential_object.specs.Answers.{numbered}
 use Rattle.sequential_object.specs.Worlds.{World}
 use Rattle.object_store.specs.Errands.{LocksNext, TakesLocked, door_taken, object_found}
@@ -146,24 +144,24 @@ door_is_planned t c node errand keep is = subst (TakesDoor t c) is (takes_answer
 number_found : (h : Stored) (w : World) (descriptor : ℤ) → Stands h w → FoundBoth h.table w.object descriptor → node_found (described h.table descriptor) ≡ numbered w (object_found (posix.described w.object descriptor))
 number_found h w descriptor st (Shut table state) = rw (table, state) refl
 number_found h w descriptor st (Open key d offset at got there table state) =
-    rw (table, state) (sym (ap (λ (n : ℕ). Some n) (used_number h w d.node st (found_used h.table descriptor (key, d) st.sound table))))
+    rw (table, state) (sym (ap (λ (n : ℕ). Some n) (used_number h w d.node st (st.sound.described_objects key d got))))
 
-by_call : (h : Stored) (w : World) (c : Call) (node : ℕ) (turns : Carried) (errand : Errand) → Stands h w → HasAct c (op.Ask errand) → Some node ≡ numbered w (locked_object w.object c turns) → door_planned h.table c node ≡ numbered w (door_taken w.object c turns)
-by_call h w _ node turns _ st (ClosesOut descriptor asked waits taken) locked = locked
-by_call h w _ node turns _ st (ReadsOut descriptor count asked waits taken) locked = locked
-by_call h w _ node turns _ st (WritesOut descriptor bytes asked waits taken) locked = locked
-by_call h w _ node turns _ st (SeeksOut descriptor offset whence asked waits taken) locked = locked
-by_call h w _ node turns _ st (ShutsOut descriptor how asked waits taken) locked = locked
-by_call h w _ node turns _ st (OpensOut path access flags asked waits taken) locked = refl
-by_call h w _ node turns _ st (Listens port asked waits taken) locked = refl
-by_call h w _ node turns _ st (Connects port asked waits taken) locked = refl
-by_call h w _ node turns _ st (Accepts descriptor asked waits taken) locked = number_found h w descriptor st (found_both h.table w.object descriptor st.sound st.shows)
+by_call : (law : TableFollows) (h : Stored) (w : World) (c : Call) (node : ℕ) (turns : Carried) (errand : Errand) → Stands h w → HasAct c (op.Ask errand) → Some node ≡ numbered w (locked_object w.object c turns) → door_planned h.table c node ≡ numbered w (door_taken w.object c turns)
+by_call law h w _ node turns _ st (ClosesOut descriptor asked waits taken) locked = locked
+by_call law h w _ node turns _ st (ReadsOut descriptor count asked waits taken) locked = locked
+by_call law h w _ node turns _ st (WritesOut descriptor bytes asked waits taken) locked = locked
+by_call law h w _ node turns _ st (SeeksOut descriptor offset whence asked waits taken) locked = locked
+by_call law h w _ node turns _ st (ShutsOut descriptor how asked waits taken) locked = locked
+by_call law h w _ node turns _ st (OpensOut path access flags asked waits taken) locked = refl
+by_call law h w _ node turns _ st (Listens port asked waits taken) locked = refl
+by_call law h w _ node turns _ st (Connects port asked waits taken) locked = refl
+by_call law h w _ node turns _ st (Accepts descriptor asked waits taken) locked = number_found h w descriptor st (law.found h.table w.object descriptor st.sound st.shows)
 
 -- an errand takes along the door that its call does
-pub door_known : (h : Stored) (w : World) (c : Call) (node : ℕ) (errand : Errand) (keep : Bool) (turns : Carried) → Stands h w → planned h.table c ≡ plan.Node node (op.Ask errand) keep → errand.door ≡ numbered w (door_taken w.object c turns)
-door_known h w c node errand keep turns st is =
-    let locked : Some node ≡ numbered w (locked_object w.object c turns) = sym (number_known h w c turns st ∙ ap object_of is) in
-    door_is_planned h.table c node errand keep is ∙ by_call h w c node turns errand st (planned_fits h.table c node (op.Ask errand) keep is).0 locked
+pub door_known : (law : TableFollows) (h : Stored) (w : World) (c : Call) (node : ℕ) (errand : Errand) (keep : Bool) (turns : Carried) → Stands h w → planned h.table c ≡ plan.Node node (op.Ask errand) keep → errand.door ≡ numbered w (door_taken w.object c turns)
+door_known law h w c node errand keep turns st is =
+    let locked : Some node ≡ numbered w (locked_object w.object c turns) = sym (number_known law h w c turns st ∙ ap object_of is) in
+    door_is_planned h.table c node errand keep is ∙ by_call law h w c node turns errand st (planned_fits h.table c node (op.Ask errand) keep is).0 locked
 
 -- ## By the definition
 
@@ -194,8 +192,8 @@ takes_locked s (call.TcpListen port) carried frees = absurd (true≢false frees)
 takes_locked s (call.TcpConnect port) carried frees = absurd (true≢false frees)
 takes_locked s (call.TcpAccept descriptor) carried frees = absurd (true≢false frees)
 
-pub locks_next : LocksNext
-locks_next s c carried keeps asked = by_object (locked_object s c carried) (subst (λ (b : Bool). locks_door s b (locked_object s c carried) ≡ true) keeps (posix_outside.locks s c carried asked))
+pub locks_next : OutsideLocks → LocksNext
+locks_next outside s c carried keeps asked = by_object (locked_object s c carried) (subst (λ (b : Bool). locks_door s b (locked_object s c carried) ≡ true) keeps (outside s c carried asked))
   where
     by_object : (o : Option ℕ) → locks_door s true o ≡ true → o ≡ Some s.next_object
     by_object None is = absurd (true≢false (sym is))

@@ -24,10 +24,10 @@ use Rattle.sequential_object.specs.Step.{Carried, asks, step}
 use Rattle.posix_terms.specs.declared.reply.Answer.{Answer}
 use Rattle.posix_terms.specs.declared.reply.Reply.{Reply}
 use Rattle.posix_terms.specs.declared.reply.Reply.TheVariants as reply
-use Rattle.descriptor_table.specs.Acts as acts
 use Rattle.descriptor_table.specs.Acts.{Acted, acted, has_read, has_written, is_open, numbers_reply, read_acted, replied, write_acted}
 use Rattle.descriptor_table.specs.Agreement.{AgreesOn, TellsAsStep, request_of}
 use Rattle.descriptor_table.specs.Changes.{Changes}
+use Rattle.descriptor_table.specs.Laws.{TableFollows}
 use Rattle.descriptor_table.specs.Plans.{planned}
 use Rattle.descriptor_table.specs.Table.{TableState}
 use Rattle.descriptor_table.specs.declared.plan.NewNumbers.{NewNumbers}
@@ -37,7 +37,6 @@ use Rattle.descriptor_table.specs.declared.plan.Op.TheVariants as op
 use Rattle.descriptor_table.specs.declared.plan.Opened.{Opened}
 use Rattle.descriptor_table.specs.declared.plan.Plan.{Plan}
 use Rattle.descriptor_table.specs.declared.plan.Plan.TheVariants as plan
-use Rattle.descriptor_table.proofs.PlanLemmas.{plans-as_step}
 use Rattle.sequential_object.specs.Answers.{answered_with}
 use Rattle.sequential_object.specs.Worlds.{World}
 use Rattle.posix_terms.specs.declared.transcript.Settings.{Settings}
@@ -121,57 +120,57 @@ stream_offset t node n from (part.Socket side) k offset its =
     let own = side_of from.«end» in read_offset from (λ left. Pair (with_waiting k.pair own left)) (Pair k.pair) offset (pair_read k.pair own n (is_open t node (part.Socket (peer_of own))))
 stream_offset t node n from (part.Door door) k offset its = refl
 
-read_stream_ends : (h new : Stored) (c : Call) (node n : ℕ) (from : Opened) (which : End) (e : Option Reply) → IsPlanned h c node (op.Read from n) → node < length h.bodies → from.«end» ≡ which → is_end which part.Only ≡ false
+read_stream_ends : (law : TableFollows) (h new : Stored) (c : Call) (node n : ℕ) (from : Opened) (which : End) (e : Option Reply) → IsPlanned h c node (op.Read from n) → node < length h.bodies → from.«end» ≡ which → is_end which part.Only ≡ false
     → ActsOn (read_acted h.table node from n (held_by which (kept_at h node)) (offset_of_key h from.key)) h node e new → EndsTurn h c e new
-read_stream_ends h new c node n from which e planned inside through its (answers, leaves) =
+read_stream_ends law h new c node n from which e planned inside through its (answers, leaves) =
     let done = read_acted h.table node from n (held_by which (kept_at h node)) (offset_of_key h from.key) in
     as_is h new c e e _ refl leaves
-    (rested_ends h c node (op.Read from n) from.key (slice_set h.bodies node (keeping done.content (kept_at h node))) done e (ByRead from n) tt planned (still h c node (op.Read from n) planned tt)
+    (rested_ends law h c node (op.Read from n) from.key (slice_set h.bodies node (keeping done.content (kept_at h node))) done e (ByRead from n) tt planned (still h c node (op.Read from n) planned tt)
     (λ given. ap (λ (x : End). read_acted h.table node from n (held_by x (kept_at h node)) (offset_of_key h from.key)) through)
     (stream_offset h.table node n from which (kept_at h node) (offset_of_key h from.key) its) answers (bodies_set h node done.content inside))
 
-read_by : (h new : Stored) (c : Call) (node n : ℕ) (from : Opened) (which : End) (e : Option Reply) → IsPlanned h c node (op.Read from n) → node < length h.bodies → from.«end» ≡ which → HasRead which h node from n e new → EndsTurn h c e new
-read_by h new c node n from part.Only e planned inside through (answers, leaves) =
+read_by : (law : TableFollows) (h new : Stored) (c : Call) (node n : ℕ) (from : Opened) (which : End) (e : Option Reply) → IsPlanned h c node (op.Read from n) → node < length h.bodies → from.«end» ≡ which → HasRead which h node from n e new → EndsTurn h c e new
+read_by law h new c node n from part.Only e planned inside through (answers, leaves) =
     let done = read_acted h.table node from n (File (body_at h node)) (offset_of_key h from.key) in
     as_is h new c _ e _ answers leaves
-    (moved_ends h c node (op.Read from n) from.key h.bodies done (Some (reply.Data (bytes_at (body_at h node) (offset_of_key h from.key) n))) (ByRead from n) tt planned (still h c node (op.Read from n) planned tt)
+    (moved_ends law h c node (op.Read from n) from.key h.bodies done (Some (reply.Data (bytes_at (body_at h node) (offset_of_key h from.key) n))) (ByRead from n) tt planned (still h c node (op.Read from n) planned tt)
     (λ given. ap (λ (x : End). read_acted h.table node from n (held_by x (kept_at h node)) (offset_of_key h from.key)) through) refl (bodies_same h node done.content refl))
-read_by h new c node n from part.Read e planned inside through acts_on = read_stream_ends h new c node n from part.Read e planned inside through refl acts_on
-read_by h new c node n from part.Write e planned inside through acts_on = read_stream_ends h new c node n from part.Write e planned inside through refl acts_on
-read_by h new c node n from (part.Socket Side0) e planned inside through acts_on = read_stream_ends h new c node n from (part.Socket Side0) e planned inside through refl acts_on
-read_by h new c node n from (part.Socket Side1) e planned inside through acts_on = read_stream_ends h new c node n from (part.Socket Side1) e planned inside through refl acts_on
-read_by h new c node n from (part.Door door) e planned inside through (answers, leaves) =
+read_by law h new c node n from part.Read e planned inside through acts_on = read_stream_ends law h new c node n from part.Read e planned inside through refl acts_on
+read_by law h new c node n from part.Write e planned inside through acts_on = read_stream_ends law h new c node n from part.Write e planned inside through refl acts_on
+read_by law h new c node n from (part.Socket Side0) e planned inside through acts_on = read_stream_ends law h new c node n from (part.Socket Side0) e planned inside through refl acts_on
+read_by law h new c node n from (part.Socket Side1) e planned inside through acts_on = read_stream_ends law h new c node n from (part.Socket Side1) e planned inside through refl acts_on
+read_by law h new c node n from (part.Door door) e planned inside through (answers, leaves) =
     let done = read_acted h.table node from n (DoorTo door) (offset_of_key h from.key) in
     as_is h new c _ e _ answers leaves
-    (rested_ends h c node (op.Read from n) from.key h.bodies done (Some reply.Done) (ByRead from n) tt planned (still h c node (op.Read from n) planned tt)
+    (rested_ends law h c node (op.Read from n) from.key h.bodies done (Some reply.Done) (ByRead from n) tt planned (still h c node (op.Read from n) planned tt)
     (λ given. ap (λ (x : End). read_acted h.table node from n (held_by x (kept_at h node)) (offset_of_key h from.key)) through) refl refl (bodies_same h node done.content refl))
 
-pub read_ends : (h new : Stored) (c : Call) (node n : ℕ) (from : Opened) (e : Option Reply) → IsPlanned h c node (op.Read from n) → node < length h.bodies → HasRead from.«end» h node from n e new → EndsTurn h c e new
-read_ends h new c node n from e planned inside has = read_by h new c node n from from.«end» e planned inside refl has
+pub read_ends : (law : TableFollows) (h new : Stored) (c : Call) (node n : ℕ) (from : Opened) (e : Option Reply) → IsPlanned h c node (op.Read from n) → node < length h.bodies → HasRead from.«end» h node from n e new → EndsTurn h c e new
+read_ends law h new c node n from e planned inside has = read_by law h new c node n from from.«end» e planned inside refl has
 
-pub pread_ends : (h : Stored) (c : Call) (node n start : ℕ) (r : Reply) → IsPlanned h c node (op.Pread n start) → r ≡ reply.Data (bytes_at (body_at h node) start n) → EndsTurn h c (Some r) h
-pread_ends h c node n start r planned answers =
+pub pread_ends : (law : TableFollows) (h : Stored) (c : Call) (node n start : ℕ) (r : Reply) → IsPlanned h c node (op.Pread n start) → r ≡ reply.Data (bytes_at (body_at h node) start n) → EndsTurn h c (Some r) h
+pread_ends law h c node n start r planned answers =
     let done = acted h.table node (op.Pread n start) c None numbers.None (File (body_at h node)) 0 in
     let x = reply.Data (bytes_at (body_at h node) start n) in
-    as_is h h c (Some x) (Some r) h (ap Some answers) refl (stays_ends h c node (op.Pread n start) h.bodies done (Some x) tt tt planned (still h c node (op.Pread n start) planned tt) (λ given. refl) refl (bodies_same h node done.content refl))
+    as_is h h c (Some x) (Some r) h (ap Some answers) refl (stays_ends law h c node (op.Pread n start) h.bodies done (Some x) tt tt planned (still h c node (op.Pread n start) planned tt) (λ given. refl) refl (bodies_same h node done.content refl))
 
-pub fstat_makes : (h : Stored) (c : Call) (node links : ℕ) (r : Reply) → IsPlanned h c node (op.Fstat links) → r ≡ reply.Stat kind.File (length (body_at h node)) links → Replies h c r h
-fstat_makes h c node links r planned answers =
+pub fstat_makes : (law : TableFollows) (h : Stored) (c : Call) (node links : ℕ) (r : Reply) → IsPlanned h c node (op.Fstat links) → r ≡ reply.Stat kind.File (length (body_at h node)) links → Replies h c r h
+fstat_makes law h c node links r planned answers =
     let done = acted h.table node (op.Fstat links) c None numbers.None (File (body_at h node)) 0 in
     let x = reply.Stat kind.File (length (body_at h node)) links in
-    replied_as h h c x r h answers refl (stays_ends h c node (op.Fstat links) h.bodies done (Some x) tt tt planned (still h c node (op.Fstat links) planned tt) (λ given. refl) refl (bodies_same h node done.content refl))
+    replied_as h h c x r h answers refl (stays_ends law h c node (op.Fstat links) h.bodies done (Some x) tt tt planned (still h c node (op.Fstat links) planned tt) (λ given. refl) refl (bodies_same h node done.content refl))
 
-pub ftruncate_makes : (h new : Stored) (c : Call) (node size : ℕ) (r : Reply) → IsPlanned h c node (op.Ftruncate size) → node < length h.bodies → r ≡ reply.Done → new ≡ rewritten h node (resized (body_at h node) size) → Replies h c r new
-ftruncate_makes h new c node size r planned inside answers leaves =
+pub ftruncate_makes : (law : TableFollows) (h new : Stored) (c : Call) (node size : ℕ) (r : Reply) → IsPlanned h c node (op.Ftruncate size) → node < length h.bodies → r ≡ reply.Done → new ≡ rewritten h node (resized (body_at h node) size) → Replies h c r new
+ftruncate_makes law h new c node size r planned inside answers leaves =
     let done = acted h.table node (op.Ftruncate size) c None numbers.None (File (body_at h node)) 0 in
     replied_as h new c reply.Done r _ answers leaves
-    (stays_ends h c node (op.Ftruncate size) (slice_set h.bodies node (keeping done.content (kept_at h node))) done (Some reply.Done) tt tt planned (still h c node (op.Ftruncate size) planned tt) (λ given. refl) refl (bodies_set h node done.content inside))
+    (stays_ends law h c node (op.Ftruncate size) (slice_set h.bodies node (keeping done.content (kept_at h node))) done (Some reply.Done) tt tt planned (still h c node (op.Ftruncate size) planned tt) (λ given. refl) refl (bodies_set h node done.content inside))
 
-pub shutdown_makes : (h new : Stored) (c : Call) (node : ℕ) (side : Side) (how : ShutdownHow) (r : Reply) → IsPlanned h c node (op.Shutdown side how) → node < length h.bodies → r ≡ reply.Done → new ≡ holding h node (Pair (shut (kept_at h node).pair side how)) → Replies h c r new
-shutdown_makes h new c node side how r planned inside answers leaves =
+pub shutdown_makes : (law : TableFollows) (h new : Stored) (c : Call) (node : ℕ) (side : Side) (how : ShutdownHow) (r : Reply) → IsPlanned h c node (op.Shutdown side how) → node < length h.bodies → r ≡ reply.Done → new ≡ holding h node (Pair (shut (kept_at h node).pair side how)) → Replies h c r new
+shutdown_makes law h new c node side how r planned inside answers leaves =
     let done = acted h.table node (op.Shutdown side how) c None numbers.None (Pair (kept_at h node).pair) 0 in
     replied_as h new c reply.Done r _ answers leaves
-    (stays_ends h c node (op.Shutdown side how) (slice_set h.bodies node (keeping done.content (kept_at h node))) done (Some reply.Done) tt tt planned (still h c node (op.Shutdown side how) planned tt) (λ given. refl) refl (bodies_set h node done.content inside))
+    (stays_ends law h c node (op.Shutdown side how) (slice_set h.bodies node (keeping done.content (kept_at h node))) done (Some reply.Done) tt tt planned (still h c node (op.Shutdown side how) planned tt) (λ given. refl) refl (bodies_set h node done.content inside))
 
 -- ## Writing
 
@@ -194,88 +193,88 @@ write_acts h c descriptor bytes node to which given call_is through =
     ap (λ (x : Call). acted h.table node (op.Write to) x None given (held_by to.«end» (kept_at h node)) (offset_of_key h to.key)) call_is
     ∙ ap (λ (x : End). write_acted h.table node to bytes (held_by x (kept_at h node)) (offset_of_key h to.key)) through
 
-write_stream_ends : (h new : Stored) (c : Call) (descriptor : ℤ) (bytes : List ℕ) (node : ℕ) (to : Opened) (which : End) (e : Option Reply) → IsPlanned h c node (op.Write to) → c ≡ call.Write descriptor bytes → node < length h.bodies → to.«end» ≡ which → is_end which part.Only ≡ false
+write_stream_ends : (law : TableFollows) (h new : Stored) (c : Call) (descriptor : ℤ) (bytes : List ℕ) (node : ℕ) (to : Opened) (which : End) (e : Option Reply) → IsPlanned h c node (op.Write to) → c ≡ call.Write descriptor bytes → node < length h.bodies → to.«end» ≡ which → is_end which part.Only ≡ false
     → ActsOn (write_acted h.table node to bytes (held_by which (kept_at h node)) (offset_of_key h to.key)) h node e new → EndsTurn h c e new
-write_stream_ends h new c descriptor bytes node to which e planned call_is inside through its (answers, leaves) =
+write_stream_ends law h new c descriptor bytes node to which e planned call_is inside through its (answers, leaves) =
     let done = write_acted h.table node to bytes (held_by which (kept_at h node)) (offset_of_key h to.key) in
     as_is h new c e e _ refl leaves
-    (rested_ends h c node (op.Write to) to.key (slice_set h.bodies node (keeping done.content (kept_at h node))) done e (ByWrite to) tt planned (still h c node (op.Write to) planned tt) (λ given. write_acts h c descriptor bytes node to which given call_is through)
+    (rested_ends law h c node (op.Write to) to.key (slice_set h.bodies node (keeping done.content (kept_at h node))) done e (ByWrite to) tt planned (still h c node (op.Write to) planned tt) (λ given. write_acts h c descriptor bytes node to which given call_is through)
     (stream_written_offset h.table node to bytes which (kept_at h node) (offset_of_key h to.key) its) answers (bodies_set h node done.content inside))
 
 -- to a file
-write_none_ends : (h : Stored) (c : Call) (descriptor : ℤ) (bytes : List ℕ) (node : ℕ) (to : Opened) → IsPlanned h c node (op.Write to) → c ≡ call.Write descriptor bytes → to.«end» ≡ part.Only → (length bytes == 0) ≡ true → EndsTurn h c (Some (reply.Count 0)) h
-write_none_ends h c descriptor bytes node to planned call_is through none =
+write_none_ends : (law : TableFollows) (h : Stored) (c : Call) (descriptor : ℤ) (bytes : List ℕ) (node : ℕ) (to : Opened) → IsPlanned h c node (op.Write to) → c ≡ call.Write descriptor bytes → to.«end» ≡ part.Only → (length bytes == 0) ≡ true → EndsTurn h c (Some (reply.Count 0)) h
+write_none_ends law h c descriptor bytes node to planned call_is through none =
     let done : Acted = replied (reply.Count 0) (File (body_at h node)) (offset_of_key h to.key) in
-    rested_ends h c node (op.Write to) to.key h.bodies done (Some (reply.Count 0)) (ByWrite to) tt planned (still h c node (op.Write to) planned tt) (λ given. write_acts h c descriptor bytes node to part.Only given call_is through ∙ rw none refl) refl refl (bodies_same h node done.content refl)
+    rested_ends law h c node (op.Write to) to.key h.bodies done (Some (reply.Count 0)) (ByWrite to) tt planned (still h c node (op.Write to) planned tt) (λ given. write_acts h c descriptor bytes node to part.Only given call_is through ∙ rw none refl) refl refl (bodies_same h node done.content refl)
 
-write_some_ends : (h new : Stored) (c : Call) (descriptor : ℤ) (bytes : List ℕ) (node : ℕ) (to : Opened) (r : Reply) (w : Result (List ℕ × ℕ) Errno) → IsPlanned h c node (op.Write to) → c ≡ call.Write descriptor bytes → to.«end» ≡ part.Only → (length bytes == 0) ≡ false → node < length h.bodies
+write_some_ends : (law : TableFollows) (h new : Stored) (c : Call) (descriptor : ℤ) (bytes : List ℕ) (node : ℕ) (to : Opened) (r : Reply) (w : Result (List ℕ × ℕ) Errno) → IsPlanned h c node (op.Write to) → c ≡ call.Write descriptor bytes → to.«end» ≡ part.Only → (length bytes == 0) ≡ false → node < length h.bodies
     → written (body_at h node) (start_at h to node) bytes ≡ w → Writes w h (λ count. moved h to.key (start_at h to node + count)) node r new → EndsTurn h c (Some r) new
-write_some_ends h new c descriptor bytes node to r (Ok (file, count)) planned call_is through some inside is (answers, leaves) =
+write_some_ends law h new c descriptor bytes node to r (Ok (file, count)) planned call_is through some inside is (answers, leaves) =
     let done : Acted = replied (reply.Count count) (File file) (start_at h to node + count) in
     as_is h new c (Some (reply.Count count)) (Some r) _ (ap Some answers) leaves
-    (moved_ends h c node (op.Write to) to.key (slice_set h.bodies node (keeping done.content (kept_at h node))) done (Some (reply.Count count)) (ByWrite to) tt planned (still h c node (op.Write to) planned tt)
+    (moved_ends law h c node (op.Write to) to.key (slice_set h.bodies node (keeping done.content (kept_at h node))) done (Some (reply.Count count)) (ByWrite to) tt planned (still h c node (op.Write to) planned tt)
     (λ given. write_acts h c descriptor bytes node to part.Only given call_is through ∙ rw (is, some) refl) refl (bodies_set h node done.content inside))
-write_some_ends h new c descriptor bytes node to r (Err e) planned call_is through some inside is (answers, leaves) =
+write_some_ends law h new c descriptor bytes node to r (Err e) planned call_is through some inside is (answers, leaves) =
     let done : Acted = replied (reply.Fail e) (File (body_at h node)) (offset_of_key h to.key) in
     as_is h new c (Some (reply.Fail e)) (Some r) h (ap Some answers) leaves
-    (rested_ends h c node (op.Write to) to.key h.bodies done (Some (reply.Fail e)) (ByWrite to) tt planned (still h c node (op.Write to) planned tt)
+    (rested_ends law h c node (op.Write to) to.key h.bodies done (Some (reply.Fail e)) (ByWrite to) tt planned (still h c node (op.Write to) planned tt)
     (λ given. write_acts h c descriptor bytes node to part.Only given call_is through ∙ rw (is, some) refl) refl refl (bodies_same h node done.content refl))
 
-write_file_ends : (h new : Stored) (c : Call) (descriptor : ℤ) (bytes : List ℕ) (node : ℕ) (to : Opened) (r : Reply) (b : Bool) → IsPlanned h c node (op.Write to) → c ≡ call.Write descriptor bytes → to.«end» ≡ part.Only → (length bytes == 0) ≡ b → node < length h.bodies → WritesFile b h node to bytes r new → EndsTurn h c (Some r) new
-write_file_ends h new c descriptor bytes node to r true planned call_is through none inside (answers, leaves) = as_is h new c (Some (reply.Count 0)) (Some r) h (ap Some answers) leaves (write_none_ends h c descriptor bytes node to planned call_is through none)
-write_file_ends h new c descriptor bytes node to r false planned call_is through some inside writes = write_some_ends h new c descriptor bytes node to r (written (body_at h node) (start_at h to node) bytes) planned call_is through some inside refl writes
+write_file_ends : (law : TableFollows) (h new : Stored) (c : Call) (descriptor : ℤ) (bytes : List ℕ) (node : ℕ) (to : Opened) (r : Reply) (b : Bool) → IsPlanned h c node (op.Write to) → c ≡ call.Write descriptor bytes → to.«end» ≡ part.Only → (length bytes == 0) ≡ b → node < length h.bodies → WritesFile b h node to bytes r new → EndsTurn h c (Some r) new
+write_file_ends law h new c descriptor bytes node to r true planned call_is through none inside (answers, leaves) = as_is h new c (Some (reply.Count 0)) (Some r) h (ap Some answers) leaves (write_none_ends law h c descriptor bytes node to planned call_is through none)
+write_file_ends law h new c descriptor bytes node to r false planned call_is through some inside writes = write_some_ends law h new c descriptor bytes node to r (written (body_at h node) (start_at h to node) bytes) planned call_is through some inside refl writes
 
-write_by : (h new : Stored) (c : Call) (descriptor : ℤ) (bytes : List ℕ) (node : ℕ) (to : Opened) (which : End) (e : Option Reply) → IsPlanned h c node (op.Write to) → c ≡ call.Write descriptor bytes → node < length h.bodies → to.«end» ≡ which → HasWritten which h node to bytes e new → EndsTurn h c e new
-write_by h new c descriptor bytes node to part.Only e planned call_is inside through (r, is, writes) = as_is h new c (Some r) e new is refl (write_file_ends h new c descriptor bytes node to r (length bytes == 0) planned call_is through refl inside writes)
-write_by h new c descriptor bytes node to part.Read e planned call_is inside through acts_on = write_stream_ends h new c descriptor bytes node to part.Read e planned call_is inside through refl acts_on
-write_by h new c descriptor bytes node to part.Write e planned call_is inside through acts_on = write_stream_ends h new c descriptor bytes node to part.Write e planned call_is inside through refl acts_on
-write_by h new c descriptor bytes node to (part.Socket Side0) e planned call_is inside through acts_on = write_stream_ends h new c descriptor bytes node to (part.Socket Side0) e planned call_is inside through refl acts_on
-write_by h new c descriptor bytes node to (part.Socket Side1) e planned call_is inside through acts_on = write_stream_ends h new c descriptor bytes node to (part.Socket Side1) e planned call_is inside through refl acts_on
-write_by h new c descriptor bytes node to (part.Door door) e planned call_is inside through (answers, leaves) =
+write_by : (law : TableFollows) (h new : Stored) (c : Call) (descriptor : ℤ) (bytes : List ℕ) (node : ℕ) (to : Opened) (which : End) (e : Option Reply) → IsPlanned h c node (op.Write to) → c ≡ call.Write descriptor bytes → node < length h.bodies → to.«end» ≡ which → HasWritten which h node to bytes e new → EndsTurn h c e new
+write_by law h new c descriptor bytes node to part.Only e planned call_is inside through (r, is, writes) = as_is h new c (Some r) e new is refl (write_file_ends law h new c descriptor bytes node to r (length bytes == 0) planned call_is through refl inside writes)
+write_by law h new c descriptor bytes node to part.Read e planned call_is inside through acts_on = write_stream_ends law h new c descriptor bytes node to part.Read e planned call_is inside through refl acts_on
+write_by law h new c descriptor bytes node to part.Write e planned call_is inside through acts_on = write_stream_ends law h new c descriptor bytes node to part.Write e planned call_is inside through refl acts_on
+write_by law h new c descriptor bytes node to (part.Socket Side0) e planned call_is inside through acts_on = write_stream_ends law h new c descriptor bytes node to (part.Socket Side0) e planned call_is inside through refl acts_on
+write_by law h new c descriptor bytes node to (part.Socket Side1) e planned call_is inside through acts_on = write_stream_ends law h new c descriptor bytes node to (part.Socket Side1) e planned call_is inside through refl acts_on
+write_by law h new c descriptor bytes node to (part.Door door) e planned call_is inside through (answers, leaves) =
     let done = write_acted h.table node to bytes (DoorTo door) (offset_of_key h to.key) in
     as_is h new c _ e _ answers leaves
-    (rested_ends h c node (op.Write to) to.key h.bodies done (Some reply.Done) (ByWrite to) tt planned (still h c node (op.Write to) planned tt) (λ given. write_acts h c descriptor bytes node to (part.Door door) given call_is through) refl refl (bodies_same h node done.content refl))
+    (rested_ends law h c node (op.Write to) to.key h.bodies done (Some reply.Done) (ByWrite to) tt planned (still h c node (op.Write to) planned tt) (λ given. write_acts h c descriptor bytes node to (part.Door door) given call_is through) refl refl (bodies_same h node done.content refl))
 
-pub write_ends : (h new : Stored) (c : Call) (descriptor : ℤ) (bytes : List ℕ) (node : ℕ) (to : Opened) (e : Option Reply) → IsPlanned h c node (op.Write to) → c ≡ call.Write descriptor bytes → node < length h.bodies → HasWritten to.«end» h node to bytes e new → EndsTurn h c e new
-write_ends h new c descriptor bytes node to e planned call_is inside has = write_by h new c descriptor bytes node to to.«end» e planned call_is inside refl has
+pub write_ends : (law : TableFollows) (h new : Stored) (c : Call) (descriptor : ℤ) (bytes : List ℕ) (node : ℕ) (to : Opened) (e : Option Reply) → IsPlanned h c node (op.Write to) → c ≡ call.Write descriptor bytes → node < length h.bodies → HasWritten to.«end» h node to bytes e new → EndsTurn h c e new
+write_ends law h new c descriptor bytes node to e planned call_is inside has = write_by law h new c descriptor bytes node to to.«end» e planned call_is inside refl has
 
-pub pwrite_none_makes : (h : Stored) (c : Call) (descriptor : ℤ) (bytes : List ℕ) (position : ℤ) (node start : ℕ) → IsPlanned h c node (op.Pwrite start) → c ≡ call.Pwrite descriptor bytes position → (length bytes == 0) ≡ true → Replies h c (reply.Count 0) h
-pwrite_none_makes h c descriptor bytes position node start planned call_is none =
+pub pwrite_none_makes : (law : TableFollows) (h : Stored) (c : Call) (descriptor : ℤ) (bytes : List ℕ) (position : ℤ) (node start : ℕ) → IsPlanned h c node (op.Pwrite start) → c ≡ call.Pwrite descriptor bytes position → (length bytes == 0) ≡ true → Replies h c (reply.Count 0) h
+pwrite_none_makes law h c descriptor bytes position node start planned call_is none =
     let done : Acted = replied (reply.Count 0) (File (body_at h node)) 0 in
-    ends_reply h c (reply.Count 0) h (stays_ends h c node (op.Pwrite start) h.bodies done (Some (reply.Count 0)) tt tt planned (still h c node (op.Pwrite start) planned tt) (λ given. rw (call_is, none) refl) refl (bodies_same h node done.content refl))
+    ends_reply h c (reply.Count 0) h (stays_ends law h c node (op.Pwrite start) h.bodies done (Some (reply.Count 0)) tt tt planned (still h c node (op.Pwrite start) planned tt) (λ given. rw (call_is, none) refl) refl (bodies_same h node done.content refl))
 
-pwrite_by : (h new : Stored) (c : Call) (descriptor : ℤ) (bytes : List ℕ) (position : ℤ) (node start : ℕ) (r : Reply) (w : Result (List ℕ × ℕ) Errno) → IsPlanned h c node (op.Pwrite start) → c ≡ call.Pwrite descriptor bytes position → (length bytes == 0) ≡ false → node < length h.bodies
+pwrite_by : (law : TableFollows) (h new : Stored) (c : Call) (descriptor : ℤ) (bytes : List ℕ) (position : ℤ) (node start : ℕ) (r : Reply) (w : Result (List ℕ × ℕ) Errno) → IsPlanned h c node (op.Pwrite start) → c ≡ call.Pwrite descriptor bytes position → (length bytes == 0) ≡ false → node < length h.bodies
     → written (body_at h node) start bytes ≡ w → Writes w h (λ count. h) node r new → Replies h c r new
-pwrite_by h new c descriptor bytes position node start r (Ok (file, count)) planned call_is some inside is (answers, leaves) =
+pwrite_by law h new c descriptor bytes position node start r (Ok (file, count)) planned call_is some inside is (answers, leaves) =
     let done : Acted = replied (reply.Count count) (File file) 0 in
     replied_as h new c (reply.Count count) r _ answers leaves
-    (stays_ends h c node (op.Pwrite start) (slice_set h.bodies node (keeping done.content (kept_at h node))) done (Some (reply.Count count)) tt tt planned (still h c node (op.Pwrite start) planned tt) (λ given. rw (call_is, is, some) refl) refl (bodies_set h node done.content inside))
-pwrite_by h new c descriptor bytes position node start r (Err e) planned call_is some inside is (answers, leaves) =
+    (stays_ends law h c node (op.Pwrite start) (slice_set h.bodies node (keeping done.content (kept_at h node))) done (Some (reply.Count count)) tt tt planned (still h c node (op.Pwrite start) planned tt) (λ given. rw (call_is, is, some) refl) refl (bodies_set h node done.content inside))
+pwrite_by law h new c descriptor bytes position node start r (Err e) planned call_is some inside is (answers, leaves) =
     let done : Acted = replied (reply.Fail e) (File (body_at h node)) 0 in
     replied_as h new c (reply.Fail e) r h answers leaves
-    (stays_ends h c node (op.Pwrite start) h.bodies done (Some (reply.Fail e)) tt tt planned (still h c node (op.Pwrite start) planned tt) (λ given. rw (call_is, is, some) refl) refl (bodies_same h node done.content refl))
+    (stays_ends law h c node (op.Pwrite start) h.bodies done (Some (reply.Fail e)) tt tt planned (still h c node (op.Pwrite start) planned tt) (λ given. rw (call_is, is, some) refl) refl (bodies_same h node done.content refl))
 
-pub pwrite_makes : (h new : Stored) (c : Call) (descriptor : ℤ) (bytes : List ℕ) (position : ℤ) (node start : ℕ) (r : Reply) → IsPlanned h c node (op.Pwrite start) → c ≡ call.Pwrite descriptor bytes position → (length bytes == 0) ≡ false → node < length h.bodies
+pub pwrite_makes : (law : TableFollows) (h new : Stored) (c : Call) (descriptor : ℤ) (bytes : List ℕ) (position : ℤ) (node start : ℕ) (r : Reply) → IsPlanned h c node (op.Pwrite start) → c ≡ call.Pwrite descriptor bytes position → (length bytes == 0) ≡ false → node < length h.bodies
     → Writes (written (body_at h node) start bytes) h (λ count. h) node r new → Replies h c r new
-pwrite_makes h new c descriptor bytes position node start r planned call_is some inside writes = pwrite_by h new c descriptor bytes position node start r (written (body_at h node) start bytes) planned call_is some inside refl writes
+pwrite_makes law h new c descriptor bytes position node start r planned call_is some inside writes = pwrite_by law h new c descriptor bytes position node start r (written (body_at h node) start bytes) planned call_is some inside refl writes
 
 -- ## Seeking
 
-seek_by : (h new : Stored) (c : Call) (descriptor offset : ℤ) (whence : Whence) (node : ℕ) (from : Opened) (r : Reply) (to : Result ℕ Errno) → IsPlanned h c node (op.Lseek from) → c ≡ call.Lseek descriptor offset whence
+seek_by : (law : TableFollows) (h new : Stored) (c : Call) (descriptor offset : ℤ) (whence : Whence) (node : ℕ) (from : Opened) (r : Reply) (to : Result ℕ Errno) → IsPlanned h c node (op.Lseek from) → c ≡ call.Lseek descriptor offset whence
     → offset_of (pos (base_of whence (offset_of_key h from.key) (length (body_at h node))) +ℤ offset) ≡ to → Seeks to h from.key r new → Replies h c r new
-seek_by h new c descriptor offset whence node from r (Ok to) planned call_is is (answers, leaves) =
+seek_by law h new c descriptor offset whence node from r (Ok to) planned call_is is (answers, leaves) =
     let done : Acted = replied (reply.Number (pos to)) (File (body_at h node)) to in
     replied_as h new c (reply.Number (pos to)) r _ answers leaves
-    (moved_ends h c node (op.Lseek from) from.key h.bodies done (Some (reply.Number (pos to))) (BySeek from) tt planned (still h c node (op.Lseek from) planned tt) (λ given. rw (call_is, is) refl) refl (bodies_same h node done.content refl))
-seek_by h new c descriptor offset whence node from r (Err e) planned call_is is (answers, leaves) =
+    (moved_ends law h c node (op.Lseek from) from.key h.bodies done (Some (reply.Number (pos to))) (BySeek from) tt planned (still h c node (op.Lseek from) planned tt) (λ given. rw (call_is, is) refl) refl (bodies_same h node done.content refl))
+seek_by law h new c descriptor offset whence node from r (Err e) planned call_is is (answers, leaves) =
     let done : Acted = replied (reply.Fail e) (File (body_at h node)) (offset_of_key h from.key) in
     replied_as h new c (reply.Fail e) r h answers leaves
-    (rested_ends h c node (op.Lseek from) from.key h.bodies done (Some (reply.Fail e)) (BySeek from) tt planned (still h c node (op.Lseek from) planned tt) (λ given. rw (call_is, is) refl) refl refl (bodies_same h node done.content refl))
+    (rested_ends law h c node (op.Lseek from) from.key h.bodies done (Some (reply.Fail e)) (BySeek from) tt planned (still h c node (op.Lseek from) planned tt) (λ given. rw (call_is, is) refl) refl refl (bodies_same h node done.content refl))
 
-pub lseek_makes : (h new : Stored) (c : Call) (descriptor offset : ℤ) (whence : Whence) (node : ℕ) (from : Opened) (r : Reply) → IsPlanned h c node (op.Lseek from) → c ≡ call.Lseek descriptor offset whence
+pub lseek_makes : (law : TableFollows) (h new : Stored) (c : Call) (descriptor offset : ℤ) (whence : Whence) (node : ℕ) (from : Opened) (r : Reply) → IsPlanned h c node (op.Lseek from) → c ≡ call.Lseek descriptor offset whence
     → Seeks (offset_of (pos (base_of whence (offset_of_key h from.key) (length (body_at h node))) +ℤ offset)) h from.key r new → Replies h c r new
-lseek_makes h new c descriptor offset whence node from r planned call_is seeks =
-    seek_by h new c descriptor offset whence node from r (offset_of (pos (base_of whence (offset_of_key h from.key) (length (body_at h node))) +ℤ offset)) planned call_is refl seeks
+lseek_makes law h new c descriptor offset whence node from r planned call_is seeks =
+    seek_by law h new c descriptor offset whence node from r (offset_of (pos (base_of whence (offset_of_key h from.key) (length (body_at h node))) +ℤ offset)) planned call_is refl seeks
 
 -- ## Opening and releasing
 
@@ -284,27 +283,27 @@ released_done t node _ given content (Closes descriptor) = (refl, refl)
 released_done t node _ given content (Replaces descriptor target) = (refl, refl)
 released_done t node _ given content (Unnames path) = (refl, refl)
 
-pub release_makes : (h : Stored) (c : Call) (node : ℕ) (u : TableState) → IsPlanned h c node op.Release → TableMade h c None u → Replies h c (release_reply c) (record h { table = u })
-release_makes h c node u planned made = released_ends h c node u (release_reply c) planned made (λ given content. released_done h.table node c given content (act_of h c node op.Release planned))
+pub release_makes : (law : TableFollows) (h : Stored) (c : Call) (node : ℕ) (u : TableState) → IsPlanned h c node op.Release → TableMade h c None u → Replies h c (release_reply c) (record h { table = u })
+release_makes law h c node u planned made = released_ends law h c node u (release_reply c) planned made (λ given content. released_done h.table node c given content (act_of h c node op.Release planned))
 
 cut_rewrites : (h : Stored) (node : ℕ) (cut : Bool) → node < length h.bodies → Rewrites h node (if cut then File [] else File (body_at h node)) (cut_bodies h node cut)
 cut_rewrites h node true inside = bodies_set h node (File []) inside
 cut_rewrites h node false inside = bodies_same h node (File (body_at h node)) refl
 
-pub open_makes : (h : Stored) (c : Call) (node : ℕ) (cut : Bool) (u : TableState) (given : NewNumbers) → IsPlanned h c node (op.Open cut) → TableMade h c None u → TellsAsStep h.table c None given → node < length h.bodies
+pub open_makes : (law : TableFollows) (h : Stored) (c : Call) (node : ℕ) (cut : Bool) (u : TableState) (given : NewNumbers) → IsPlanned h c node (op.Open cut) → TableMade h c None u → TellsAsStep h.table c None given → node < length h.bodies
     → Replies h c (numbers_reply given) (record { table = u; bodies = cut_bodies h node cut })
-open_makes h c node cut u given planned made tells inside =
-    ends_reply h c (numbers_reply given) _ (made_ends h c node (op.Open cut) u given (cut_bodies h node cut) (Some (numbers_reply given)) tt tt planned made tells refl (cut_rewrites h node cut inside))
+open_makes law h c node cut u given planned made tells inside =
+    ends_reply h c (numbers_reply given) _ (made_ends law h c node (op.Open cut) u given (cut_bodies h node cut) (Some (numbers_reply given)) tt tt planned made tells refl (cut_rewrites h node cut inside))
 
-pub pipe_makes : (h : Stored) (c : Call) (node : ℕ) (u : TableState) (given : NewNumbers) → IsPlanned h c node op.Pipe → TableMade h c None u → TellsAsStep h.table c None given → node < length h.bodies
+pub pipe_makes : (law : TableFollows) (h : Stored) (c : Call) (node : ℕ) (u : TableState) (given : NewNumbers) → IsPlanned h c node op.Pipe → TableMade h c None u → TellsAsStep h.table c None given → node < length h.bodies
     → Replies h c (numbers_reply given) (record { table = u; bodies = slice_set h.bodies node (keeping (Pipe []) (kept_at h node)) })
-pipe_makes h c node u given planned made tells inside =
-    ends_reply h c (numbers_reply given) _ (made_ends h c node op.Pipe u given (slice_set h.bodies node (keeping (Pipe []) (kept_at h node))) (Some (numbers_reply given)) tt tt planned made tells refl (bodies_set h node (Pipe []) inside))
+pipe_makes law h c node u given planned made tells inside =
+    ends_reply h c (numbers_reply given) _ (made_ends law h c node op.Pipe u given (slice_set h.bodies node (keeping (Pipe []) (kept_at h node))) (Some (numbers_reply given)) tt tt planned made tells refl (bodies_set h node (Pipe []) inside))
 
-pub pair_makes : (h : Stored) (c : Call) (node : ℕ) (u : TableState) (given : NewNumbers) → IsPlanned h c node op.Socketpair → TableMade h c None u → TellsAsStep h.table c None given → node < length h.bodies
+pub pair_makes : (law : TableFollows) (h : Stored) (c : Call) (node : ℕ) (u : TableState) (given : NewNumbers) → IsPlanned h c node op.Socketpair → TableMade h c None u → TellsAsStep h.table c None given → node < length h.bodies
     → Replies h c (numbers_reply given) (record { table = u; bodies = slice_set h.bodies node (keeping (Pair new_pair) (kept_at h node)) })
-pair_makes h c node u given planned made tells inside =
-    ends_reply h c (numbers_reply given) _ (made_ends h c node op.Socketpair u given (slice_set h.bodies node (keeping (Pair new_pair) (kept_at h node))) (Some (numbers_reply given)) tt tt planned made tells refl (bodies_set h node (Pair new_pair) inside))
+pair_makes law h c node u given planned made tells inside =
+    ends_reply h c (numbers_reply given) _ (made_ends law h c node op.Socketpair u given (slice_set h.bodies node (keeping (Pair new_pair) (kept_at h node))) (Some (numbers_reply given)) tt tt planned made tells refl (bodies_set h node (Pair new_pair) inside))
 
 -- ## The store after a change of its table
 
@@ -341,26 +340,26 @@ only_lseek h c node from planned other = by_act c (act_of h c node (op.Lseek fro
 -- ## A turn of a call that asks nothing outside
 
 -- what the plan says that the step asks
-pub plan_asks : (h : Stored) (c : Call) (node : ℕ) (act : Op) (keep : Bool) (w : World) (carried : Carried) → planned h.table c ≡ plan.Node node act keep → Stands h w → asks w.object c carried ≡ request_of c act
-plan_asks h c node act keep w carried is st =
+pub plan_asks : (law : TableFollows) (h : Stored) (c : Call) (node : ℕ) (act : Op) (keep : Bool) (w : World) (carried : Carried) → planned h.table c ≡ plan.Node node act keep → Stands h w → asks w.object c carried ≡ request_of c act
+plan_asks law h c node act keep w carried is st =
     let settings : Settings = record { patience = 1; door_cost = 1 } in
     let agrees : AgreesOn h.table c (plan.Node node act keep) (locked_object w.object c carried) (asks w.object c carried) (step settings w.object c None carried).answer =
-    subst (λ (p : Plan). AgreesOn h.table c p (locked_object w.object c carried) (asks w.object c carried) (step settings w.object c None carried).answer) is (plans-as_step h.table c st.sound st.described settings w.object None carried st.shows) in
+    subst (λ (p : Plan). AgreesOn h.table c p (locked_object w.object c carried) (asks w.object c carried) (step settings w.object c None carried).answer) is ((law.calls h.table c st.sound st.described).plans settings w.object None carried st.shows) in
     agrees.1.0
 
 -- and whether the call keeps the table
-pub plan_keeps : (h : Stored) (c : Call) (node : ℕ) (act : Op) (keep : Bool) (w : World) → planned h.table c ≡ plan.Node node act keep → Stands h w → keep ≡ keeps_table c
-plan_keeps h c node act keep w is st =
+pub plan_keeps : (law : TableFollows) (h : Stored) (c : Call) (node : ℕ) (act : Op) (keep : Bool) (w : World) → planned h.table c ≡ plan.Node node act keep → Stands h w → keep ≡ keeps_table c
+plan_keeps law h c node act keep w is st =
     let settings : Settings = record { patience = 1; door_cost = 1 } in
     let agrees : AgreesOn h.table c (plan.Node node act keep) (locked_object w.object c 0) (asks w.object c 0) (step settings w.object c None 0).answer =
-    subst (λ (p : Plan). AgreesOn h.table c p (locked_object w.object c 0) (asks w.object c 0) (step settings w.object c None 0).answer) is (plans-as_step h.table c st.sound st.described settings w.object None 0 st.shows) in
+    subst (λ (p : Plan). AgreesOn h.table c p (locked_object w.object c 0) (asks w.object c 0) (step settings w.object c None 0).answer) is ((law.calls h.table c st.sound st.described).plans settings w.object None 0 st.shows) in
     agrees.1.1
 
-pub reply_asks : (h : Stored) (c : Call) (r : Reply) (w : World) (carried : Carried) → planned h.table c ≡ plan.Reply r → Stands h w → asks w.object c carried ≡ None
-reply_asks h c r w carried is st =
+pub reply_asks : (law : TableFollows) (h : Stored) (c : Call) (r : Reply) (w : World) (carried : Carried) → planned h.table c ≡ plan.Reply r → Stands h w → asks w.object c carried ≡ None
+reply_asks law h c r w carried is st =
     let settings : Settings = record { patience = 1; door_cost = 1 } in
     let agrees : AgreesOn h.table c (plan.Reply r) (locked_object w.object c carried) (asks w.object c carried) (step settings w.object c None carried).answer =
-    subst (λ (p : Plan). AgreesOn h.table c p (locked_object w.object c carried) (asks w.object c carried) (step settings w.object c None carried).answer) is (plans-as_step h.table c st.sound st.described settings w.object None carried st.shows) in
+    subst (λ (p : Plan). AgreesOn h.table c p (locked_object w.object c carried) (asks w.object c carried) (step settings w.object c None carried).answer) is ((law.calls h.table c st.sound st.described).plans settings w.object None carried st.shows) in
     agrees.1.0
 
 pub inside_asks : (c : Call) (act : Op) → acts_inside act ≡ true → request_of c act ≡ None
@@ -382,11 +381,11 @@ inside_asks c (op.Shutdown side how) inside = refl
 abbrev pub AsksNothing : Stored → Call → Type 0
 AsksNothing h c = (w : World) (carried : Carried) → Stands h w → asks w.object c carried ≡ None
 
-pub reply_alone : (h : Stored) (c : Call) (r : Reply) → planned h.table c ≡ plan.Reply r → AsksNothing h c
-reply_alone h c r is w carried st = reply_asks h c r w carried is st
+pub reply_alone : (law : TableFollows) (h : Stored) (c : Call) (r : Reply) → planned h.table c ≡ plan.Reply r → AsksNothing h c
+reply_alone law h c r is w carried st = reply_asks law h c r w carried is st
 
-pub act_alone : (h : Stored) (c : Call) (node : ℕ) (act : Op) → IsPlanned h c node act → acts_inside act ≡ true → AsksNothing h c
-act_alone h c node act (keep, is) inside w carried st = plan_asks h c node act keep w carried is st ∙ inside_asks c act inside
+pub act_alone : (law : TableFollows) (h : Stored) (c : Call) (node : ℕ) (act : Op) → IsPlanned h c node act → acts_inside act ≡ true → AsksNothing h c
+act_alone law h c node act (keep, is) inside w carried st = plan_asks law h c node act keep w carried is st ∙ inside_asks c act inside
 
 -- it ends with a reply, whatever the call carries
 pub turn_replied : (h new : Stored) (c : Call) (r : Reply) (patience turns : ℕ) → AsksNothing h c → Replies h c r new → Makes patience turns h c (start.Ended (end.Reply r)) new

@@ -10,7 +10,7 @@ use Rattle.sequential_object.specs.Object.{State, Content, File, content_of}
 use Rattle.posix_terms.specs.Outcomes.{bytes_fit, fits, value_fits}
 use Rattle.sequential_object.specs.Effects.{Effect, Asks, Blocks, Completes}
 use Rattle.sequential_object.specs.Step as posix
-use Rattle.sequential_object.specs.Step.{Carried, Stepped, closes_door, concluded, effect_of, failed, is_again, nothing_carried, step, waited}
+use Rattle.sequential_object.specs.Step.{AgainChangesNothing, Carried, FailChangesNothing, Stepped, closes_door, concluded, effect_of, failed, is_again, nothing_carried, step, waited}
 use Rattle.posix_terms.specs.declared.call.Call.{Call}
 use Rattle.posix_terms.specs.declared.errno.Errno.{Errno}
 use Rattle.posix_terms.specs.declared.errno.Errno.TheVariants.{EAGAIN, EINTR}
@@ -24,10 +24,10 @@ use Rattle.posix_terms.specs.declared.reply.Reply.{Reply}
 use Rattle.posix_terms.specs.declared.reply.Reply.TheVariants as reply
 use Rattle.posix_terms.specs.declared.request.Request.{Request}
 use Rattle.posix_terms.specs.declared.transcript.Settings.{Settings}
-use Rattle.sequential_object.proofs.Refused.{again_leaves_state, fail_leaves_state}
 use Rattle.descriptor_table.specs.Acts as acts
-use Rattle.descriptor_table.specs.Acts.{Acted, ActsAsStep, Holds, IsActed, acted, ended, held_after, outside_content, outside_ending, told_outside}
+use Rattle.descriptor_table.specs.Acts.{ActsAsStep, Holds, IsActed, acted, ended, held_after, outside_ending, told_outside}
 use Rattle.descriptor_table.specs.Agreement.{TellsAsStep, numbers_told}
+use Rattle.descriptor_table.specs.Laws.{TableFollows}
 use Rattle.descriptor_table.specs.Plans.{planned}
 use Rattle.descriptor_table.specs.Shows.{birth_at}
 use Rattle.descriptor_table.specs.Table.{TableState, free_object, is_used}
@@ -37,7 +37,6 @@ use Rattle.descriptor_table.specs.declared.plan.NewNumbers.TheVariants as number
 use Rattle.descriptor_table.specs.declared.plan.Op.TheVariants as op
 use Rattle.descriptor_table.specs.declared.plan.Plan.{Plan}
 use Rattle.descriptor_table.specs.declared.plan.Plan.TheVariants as plan
-use Rattle.descriptor_table.proofs.ActLemmas.{acts-as_step}
 use Rattle.sequential_object.specs.Numbers.{world_with}
 use Rattle.sequential_object.specs.Worlds.{World}
 use Rattle.object_store.specs.Bodies.{Kept, kept_as}
@@ -51,7 +50,7 @@ use Rattle.object_store.proofs.Errands.{door_known}
 use Rattle.object_store.proofs.Doing.{bodies_same, known_of, made_leaves, there_is}
 use Rattle.object_store.proofs.Making.{AsksNothing, changed_is, plan_asks, plan_keeps}
 use Rattle.object_store.proofs.Numbering.{lowest_is_free, next_is_new}
-use Rattle.object_store.proofs.Shapes.{HasAct, planned_fits}
+use Rattle.object_store.proofs.Shapes.{HasAct, finds, planned_fits}
 use Rattle.object_store.proofs.Shapes.HasAct.{Accepts, ClosesOut, Connects, Listens, OpensOut, ReadsOut, SeeksOut, ShutsOut, WritesOut}
 use Rattle.object_store.proofs.Stepping.{Leaves, still_stands}
 
@@ -120,21 +119,21 @@ port_fits _ _ o (Accepts descriptor asked waits d) fit = refl
 -- ## The act of the plan
 
 -- the step does what the errand says
-asked_does : (h : Stored) (w : World) (c : Call) (node : ℕ) (errand : Errand) (keep : Bool) (o : Option Outcome) (settings : Settings) (carried : Carried) → Stands h w → planned h.table c ≡ plan.Node node (op.Ask errand) keep
+asked_does : (law : TableFollows) (h : Stored) (w : World) (c : Call) (node : ℕ) (errand : Errand) (keep : Bool) (o : Option Outcome) (settings : Settings) (carried : Carried) → Stands h w → planned h.table c ≡ plan.Node node (op.Ask errand) keep
     → let stepped = step settings w.object c o carried in
     let done = acted h.table node (op.Ask errand) c o (numbers_told c stepped.answer) (content_of w.object (birth_at h.table node)) 0 in
     IsActed h.table node (op.Ask errand) done (ended settings w.object carried done.ending) stepped
-asked_does h w c node errand keep o settings carried st is =
-    let does : ActsAsStep h.table c (plan.Node node (op.Ask errand) keep) = subst (ActsAsStep h.table c) is (acts-as_step h.table c st.sound st.described) in
+asked_does law h w c node errand keep o settings carried st is =
+    let does : ActsAsStep h.table c (plan.Node node (op.Ask errand) keep) = subst (ActsAsStep h.table c) is (law.calls h.table c st.sound st.described).acts in
     does settings w.object o carried (content_of w.object (birth_at h.table node)) 0 st.shows refl tt
 
 -- the store stands for the world behind it, whose object holds what is kept
-asked_stands : (h : Stored) (w : World) (c : Call) (node : ℕ) (errand : Errand) (keep : Bool) (o : Option Outcome) (u : TableState) (settings : Settings) (carried : Carried) (content : Content) → Stands h w → planned h.table c ≡ plan.Node node (op.Ask errand) keep → TableMade h c o u
+asked_stands : (law : TableFollows) (h : Stored) (w : World) (c : Call) (node : ℕ) (errand : Errand) (keep : Bool) (o : Option Outcome) (u : TableState) (settings : Settings) (carried : Carried) (content : Content) → Stands h w → planned h.table c ≡ plan.Node node (op.Ask errand) keep → TableMade h c o u
     → content ≡ kept_as content (kept_at h node) → Holds (step settings w.object c o carried).after (birth_at h.table node) content → Stands (record { table = u; bodies = h.bodies }) (world_with w (step settings w.object c o carried).after)
-asked_stands h w c node errand keep o u settings carried content st is made kept holds =
+asked_stands law h w c node errand keep o u settings carried content st is made kept holds =
     let after = (step settings w.object c o carried).after in
-    let leaves : Leaves h.table u (plan.Node node (op.Ask errand) keep) w.object after = subst (λ (p : Plan). Leaves h.table u p w.object after) is (made_leaves h w c o u settings carried st made) in
-    still_stands h w st u node (op.Ask errand) keep after leaves (known_of h w c node (op.Ask errand) keep st is).0 content holds h.bodies (bodies_same h node content kept) (λ birth. tt)
+    let leaves : Leaves h.table u (plan.Node node (op.Ask errand) keep) w.object after = subst (λ (p : Plan). Leaves h.table u p w.object after) is (made_leaves law h w c o u settings carried st made) in
+    still_stands h w st u node (op.Ask errand) keep after leaves (known_of law h w c node (op.Ask errand) keep st is).0 content holds h.bodies (bodies_same h node content kept) (λ birth. tt)
 
 -- ## Waiting
 
@@ -162,36 +161,36 @@ effect_waits settings s c carried r b (Ok (Completes after reply)) asked same = 
 effect_waits settings s c carried r b (Err e) asked same = absurd (none-some r asked)
 
 -- an errand waits just where its call does
-waits_known : (h : Stored) (w : World) (c : Call) (node : ℕ) (errand : Errand) (keep : Bool) (turns : Carried) → Stands h w → planned h.table c ≡ plan.Node node (op.Ask errand) keep → errand.waits ≡ waits_outside w.object c turns
-waits_known h w c node errand keep turns st is =
+waits_known : (law : TableFollows) (h : Stored) (w : World) (c : Call) (node : ℕ) (errand : Errand) (keep : Bool) (turns : Carried) → Stands h w → planned h.table c ≡ plan.Node node (op.Ask errand) keep → errand.waits ≡ waits_outside w.object c turns
+waits_known law h w c node errand keep turns st is =
     let settings : Settings = record { patience = 1; door_cost = 1 } in
-    let now = asked_does h w c node errand keep (Some (outcome.Fail EAGAIN)) settings turns st is in
-    effect_waits settings w.object c turns (record { kind = errand.kind; asked = errand.asked; call = c }) errand.waits (effect_of w.object c turns) (plan_asks h c node (op.Ask errand) keep w turns is st) now.answer_is
+    let now = asked_does law h w c node errand keep (Some (outcome.Fail EAGAIN)) settings turns st is in
+    effect_waits settings w.object c turns (record { kind = errand.kind; asked = errand.asked; call = c }) errand.waits (effect_of w.object c turns) (plan_asks law h c node (op.Ask errand) keep w turns is st) now.answer_is
 
 -- ## Going outside
 
 -- an errand that does not keep the table is of an object that is there
-asked_used : (h : Stored) (w : World) (c : Call) (node : ℕ) (errand : Errand) (keep : Bool) → Stands h w → planned h.table c ≡ plan.Node node (op.Ask errand) keep → keep ≡ false → is_used h.table node ≡ true
-asked_used h w c node errand keep st is frees =
+asked_used : (law : TableFollows) (h : Stored) (w : World) (c : Call) (node : ℕ) (errand : Errand) (keep : Bool) → Stands h w → planned h.table c ≡ plan.Node node (op.Ask errand) keep → keep ≡ false → is_used h.table node ≡ true
+asked_used law h w c node errand keep st is frees =
     ⊎_elim (λ (used : is_used h.table node ≡ true). used)
     (λ (free : free_object h.table ≡ Some node).
-    let making : keep ≡ true = (planned_fits h.table c node (op.Ask errand) keep is).1 st.sound (ap (λ (o : Option ℕ). is_some o) (lowest_is_free h.table.objects 48 0 node free)) in
+    let making : keep ≡ true = (planned_fits h.table c node (op.Ask errand) keep is).1 (finds law h.table w.object st.sound st.shows) (ap (λ (o : Option ℕ). is_some o) (lowest_is_free h.table.objects 48 0 node free)) in
     absurd (false≢true (sym frees ∙ making)))
-    (known_of h w c node (op.Ask errand) keep st is).0.1
+    (known_of law h w c node (op.Ask errand) keep st is).0.1
 
-pub goes_out : (h new : Stored) (c : Call) (node : ℕ) (errand : Errand) (keep : Bool) (patience turns : ℕ) → planned h.table c ≡ plan.Node node (op.Ask errand) keep → LeavesTable keep h c new → Makes patience turns h c (start.GoesOut errand) new
-goes_out h new c node errand keep patience turns is leaves settings w same st =
+pub goes_out : (law : TableFollows) (h new : Stored) (c : Call) (node : ℕ) (errand : Errand) (keep : Bool) (patience turns : ℕ) → planned h.table c ≡ plan.Node node (op.Ask errand) keep → LeavesTable keep h c new → Makes patience turns h c (start.GoesOut errand) new
+goes_out law h new c node errand keep patience turns is leaves settings w same st =
     record {
-      request = plan_asks h c node (op.Ask errand) keep w turns is st;
-      door = door_known h w c node errand keep turns st is;
-      waits = waits_known h w c node errand keep turns st is;
+      request = plan_asks law h c node (op.Ask errand) keep w turns is st;
+      door = door_known law h w c node errand keep turns st is;
+      waits = waits_known law h w c node errand keep turns st is;
       change = change;
       ends = ends;
       kept = λ keeps. subst (λ (b : Bool). LeavesTable b h c new) (by_call ∙ keeps) leaves;
     }
   where
     by_call : keep ≡ keeps_table c
-    by_call = plan_keeps h c node (op.Ask errand) keep w is st
+    by_call = plan_keeps law h c node (op.Ask errand) keep w is st
 
     has : HasAct c (op.Ask errand)
     has = (planned_fits h.table c node (op.Ask errand) keep is).0
@@ -199,15 +198,15 @@ goes_out h new c node errand keep patience turns is leaves settings w same st =
     change : keeps_table c ≡ false → Stands new (world_with w (step settings w.object c None turns).after)
     change frees =
         let left : LeavesTable false h c new = subst (λ (b : Bool). LeavesTable b h c new) (by_call ∙ frees) leaves in
-        let used = asked_used h w c node errand keep st is (by_call ∙ frees) in
+        let used = asked_used law h w c node errand keep st is (by_call ∙ frees) in
         let content = content_of w.object (birth_at h.table node) in
         subst (λ (x : Stored). Stands x (world_with w (step settings w.object c None turns).after)) (sym left.1)
-        (asked_stands h w c node errand keep None new.table settings turns content st is left.0 (there_is h w c node (op.Ask errand) settings turns st (keep, is) used) (asked_does h w c node errand keep None settings turns st is).content_is)
+        (asked_stands law h w c node errand keep None new.table settings turns content st is left.0 (there_is law h w c node (op.Ask errand) settings turns st (keep, is) used) (asked_does law h w c node errand keep None settings turns st is).content_is)
 
     ends : keeps_table c ≡ false → (o : Outcome) → let stepped = step settings w.object c (Some o) turns in (stepped.answer, stepped.carried) ≡ ended settings w.object turns (outside_ending errand numbers.None (Some o))
     ends frees o =
         let stepped = step settings w.object c (Some o) turns in
-        let now = asked_does h w c node errand keep (Some o) settings turns st is in
+        let now = asked_does law h w c node errand keep (Some o) settings turns st is in
         ap₂ (λ (a : Answer) (b : Carried). (a, b)) now.answer_is now.carried_is
         ∙ ap (λ (n : NewNumbers). ended settings w.object turns (outside_ending errand n (Some o))) (frees_tells c errand has frees stepped.answer)
 
@@ -267,10 +266,10 @@ pub opens_none : (h new : Stored) (c : Call) (o : Outcome) (e : TurnEnd) (patien
 opens_none h new c o e patience turns alone settings w r same st keeps asked fit = absurd (none-some r (sym (alone w turns st) ∙ asked))
 
 -- nor does an outcome that does not fit
-pub off_port : (h new : Stored) (c : Call) (node : ℕ) (errand : Errand) (keep : Bool) (o : Outcome) (e : TurnEnd) (patience turns : ℕ) → planned h.table c ≡ plan.Node node (op.Ask errand) keep → at_port c o ≡ false → Opens patience turns h c o e new
-off_port h new c node errand keep o e patience turns is off settings w r same st keeps asked fit =
+pub off_port : (law : TableFollows) (h new : Stored) (c : Call) (node : ℕ) (errand : Errand) (keep : Bool) (o : Outcome) (e : TurnEnd) (patience turns : ℕ) → planned h.table c ≡ plan.Node node (op.Ask errand) keep → at_port c o ≡ false → Opens patience turns h c o e new
+off_port law h new c node errand keep o e patience turns is off settings w r same st keeps asked fit =
     let own : Request = record { kind = errand.kind; asked = errand.asked; call = c } in
-    let its : own ≡ r = same_Some own r (sym (plan_asks h c node (op.Ask errand) keep w turns is st) ∙ asked) in
+    let its : own ≡ r = same_Some own r (sym (plan_asks law h c node (op.Ask errand) keep w turns is st) ∙ asked) in
     let fit_own : fits errand.kind errand.asked o ≡ true = subst (λ (q : Request). fits q.kind q.asked o ≡ true) (sym its) fit in
     absurd (false≢true (sym off ∙ port_fits c errand o (planned_fits h.table c node (op.Ask errand) keep is).0 fit_own))
 
@@ -296,52 +295,52 @@ failing settings s carried e true = by_test (nat_lt (carried + 1) settings.patie
 failing settings s carried e false = inr (e, refl)
 
 -- so it leaves all as it was
-fail_leaves : (h : Stored) (w : World) (c : Call) (node : ℕ) (errand : Errand) (keep : Bool) (e : Errno) (settings : Settings) (carried : Carried) → Stands h w → planned h.table c ≡ plan.Node node (op.Ask errand) keep → keeps_table c ≡ true → (step settings w.object c (Some (outcome.Fail e)) carried).after ≡ w.object
-fail_leaves h w c node errand keep e settings carried st is keeps =
+fail_leaves : TableFollows → FailChangesNothing → AgainChangesNothing → (h : Stored) (w : World) (c : Call) (node : ℕ) (errand : Errand) (keep : Bool) (e : Errno) (settings : Settings) (carried : Carried) → Stands h w → planned h.table c ≡ plan.Node node (op.Ask errand) keep → keeps_table c ≡ true → (step settings w.object c (Some (outcome.Fail e)) carried).after ≡ w.object
+fail_leaves law fails waits h w c node errand keep e settings carried st is keeps =
     let o = Some (outcome.Fail e) in
-    let now = asked_does h w c node errand keep o settings carried st is in
+    let now = asked_does law h w c node errand keep o settings carried st is in
     let has = (planned_fits h.table c node (op.Ask errand) keep is).0 in
     elim (failing settings w.object carried e (errand.waits && is_again e)) [
-      | inl again ↦ again_leaves_state settings w.object c o carried (now.answer_is ∙ again)
-      | inr failed ↦ fail_leaves_state settings w.object c o carried failed.0 (keeps_no_close w.object c carried errand has keeps) (now.answer_is ∙ failed.1)
+      | inl again ↦ waits settings w.object c o carried (now.answer_is ∙ again)
+      | inr failed ↦ fails settings w.object c o carried failed.0 (keeps_no_close w.object c carried errand has keeps) (now.answer_is ∙ failed.1)
     ]
 
 -- the birth of an object that is not there yet
 free_birth : (h : Stored) (node : ℕ) → free_object h.table ≡ Some node → birth_at h.table node ≡ h.table.made_objects
 free_birth h node free = ap (λ (o : Option ℕ). unwrap_or o h.table.made_objects) (lowest_is_free h.table.objects 48 0 node free)
 
-door_stands : (h : Stored) (w : World) (c : Call) (node : ℕ) (errand : Errand) (keep : Bool) (o : Outcome) (u : TableState) (settings : Settings) (carried : Carried) → Stands h w → planned h.table c ≡ plan.Node node (op.Ask errand) keep → TableMade h c (Some o) u → keeps_table c ≡ true
+door_stands : TableFollows → FailChangesNothing → AgainChangesNothing → (h : Stored) (w : World) (c : Call) (node : ℕ) (errand : Errand) (keep : Bool) (o : Outcome) (u : TableState) (settings : Settings) (carried : Carried) → Stands h w → planned h.table c ≡ plan.Node node (op.Ask errand) keep → TableMade h c (Some o) u → keeps_table c ≡ true
     → Stands (record { table = u; bodies = h.bodies }) (world_with w (step settings w.object c (Some o) carried).after)
-door_stands h w c node errand keep (outcome.Ok value bytes) u settings carried st is made keeps =
+door_stands law fails waits h w c node errand keep (outcome.Ok value bytes) u settings carried st is made keeps =
     let content = content_of w.object (birth_at h.table node) in
     let opens = keeps_opens c errand (planned_fits h.table c node (op.Ask errand) keep is).0 keeps in
-    let now = asked_does h w c node errand keep (Some (outcome.Ok value bytes)) settings carried st is in
-    asked_stands h w c node errand keep (Some (outcome.Ok value bytes)) u settings carried (held_after errand.kind value content) st is made (door_kept errand.kind value content (kept_at h node) opens) now.content_is
-door_stands h w c node errand keep (outcome.Fail e) u settings carried st is made keeps = ⊎_elim on_old on_new (known_of h w c node (op.Ask errand) keep st is).0.1
+    let now = asked_does law h w c node errand keep (Some (outcome.Ok value bytes)) settings carried st is in
+    asked_stands law h w c node errand keep (Some (outcome.Ok value bytes)) u settings carried (held_after errand.kind value content) st is made (door_kept errand.kind value content (kept_at h node) opens) now.content_is
+door_stands law fails waits h w c node errand keep (outcome.Fail e) u settings carried st is made keeps = ⊎_elim on_old on_new (known_of law h w c node (op.Ask errand) keep st is).0.1
   where
     on_old : is_used h.table node ≡ true → Stands (record { table = u; bodies = h.bodies }) (world_with w (step settings w.object c (Some (outcome.Fail e)) carried).after)
     on_old used =
-        asked_stands h w c node errand keep (Some (outcome.Fail e)) u settings carried (content_of w.object (birth_at h.table node)) st is made (there_is h w c node (op.Ask errand) settings carried st (keep, is) used)
-        (asked_does h w c node errand keep (Some (outcome.Fail e)) settings carried st is).content_is
+        asked_stands law h w c node errand keep (Some (outcome.Fail e)) u settings carried (content_of w.object (birth_at h.table node)) st is made (there_is law h w c node (op.Ask errand) settings carried st (keep, is) used)
+        (asked_does law h w c node errand keep (Some (outcome.Fail e)) settings carried st is).content_is
 
     -- what is not there holds whatever is kept
     on_new : free_object h.table ≡ Some node → Stands (record { table = u; bodies = h.bodies }) (world_with w (step settings w.object c (Some (outcome.Fail e)) carried).after)
     on_new free =
         let after = (step settings w.object c (Some (outcome.Fail e)) carried).after in
         let birth : birth_at h.table node ≡ h.table.made_objects = free_birth h node free in
-        let left : after ≡ w.object = fail_leaves h w c node errand keep e settings carried st is keeps in
+        let left : after ≡ w.object = fail_leaves law fails waits h w c node errand keep e settings carried st is keeps in
         let holds : Holds after (birth_at h.table node) (File (kept_at h node).file) =
         λ other got. absurd (false≢true (sym (next_is_new h w st) ∙ ap (λ (x : Option Content). is_some x) (sym (ap₂ (λ (x : State) (b : ℕ). fin.get x.objects b) left birth) ∙ got))) in
-        asked_stands h w c node errand keep (Some (outcome.Fail e)) u settings carried (File (kept_at h node).file) st is made refl holds
+        asked_stands law h w c node errand keep (Some (outcome.Fail e)) u settings carried (File (kept_at h node).file) st is made refl holds
 
-pub door_opens : (h new : Stored) (c : Call) (node : ℕ) (errand : Errand) (keep : Bool) (o : Outcome) (given : NewNumbers) (e : TurnEnd) (patience turns : ℕ) → planned h.table c ≡ plan.Node node (op.Ask errand) keep → TableMade h c (Some o) new.table → TellsAsStep h.table c (Some o) given
+pub door_opens : TableFollows → FailChangesNothing → AgainChangesNothing → (h new : Stored) (c : Call) (node : ℕ) (errand : Errand) (keep : Bool) (o : Outcome) (given : NewNumbers) (e : TurnEnd) (patience turns : ℕ) → planned h.table c ≡ plan.Node node (op.Ask errand) keep → TableMade h c (Some o) new.table → TellsAsStep h.table c (Some o) given
     → new.bodies ≡ h.bodies → (opens_door errand.kind ≡ true → EndsOutside patience turns errand given o e) → Opens patience turns h c o e new
-door_opens h new c node errand keep o given e patience turns is made tells bodies ends settings w r same st keeps asked fit =
+door_opens law fails waits h new c node errand keep o given e patience turns is made tells bodies ends settings w r same st keeps asked fit =
     let stepped = step settings w.object c (Some o) turns in
-    let now = asked_does h w c node errand keep (Some o) settings turns st is in
+    let now = asked_does law h w c node errand keep (Some o) settings turns st is in
     let told : numbers_told c stepped.answer ≡ given = sym (tells settings w.object (Some o) turns (λ x. refl) st.shows) in
     let opens = keeps_opens c errand (planned_fits h.table c node (op.Ask errand) keep is).0 keeps in
     let ending = ap₂ (λ (a : Answer) (b : Carried). (a, b)) now.answer_is now.carried_is ∙ ap (λ (n : NewNumbers). ended settings w.object turns (outside_ending errand n (Some o))) told in (
       ap as_answer ending ∙ ends opens settings w.object same,
-      subst (λ (x : Stored). Stands x (world_with w stepped.after)) (changed_is h new bodies) (door_stands h w c node errand keep o new.table settings turns st is made keeps),
+      subst (λ (x : Stored). Stands x (world_with w stepped.after)) (changed_is h new bodies) (door_stands law fails waits h w c node errand keep o new.table settings turns st is made keeps),
     )

@@ -35,11 +35,10 @@ use Rattle.posix_terms.specs.declared.reply.Reply.{Reply}
 use Rattle.posix_terms.specs.declared.reply.Reply.TheVariants as reply
 use Rattle.file_descriptions.specs.declared.description.Description.{Description}
 use Rattle.descriptor_table.specs.Plans.{act_or_ask, addable, answered, close_plan, dup2_plan, dup_from_plan, dup_plan, ends_a_door, errand, fstat_plan, ftruncate_plan, getfl_plan, host_open_plan, leads_outside, link_plan, lseek_plan, mkdir_plan, not_listener, of_listener, open_node, open_plan, open_there, opens_plan, plan_of, planned, pread_plan, pwrite_plan, read_plan, release, replaced, rmdir_plan, seekable, setfl_plan, shut_act, unlink_plan, write_plan, locks, of_file, seen, shutdown_plan, stat_by, stat_plan, tcp_accept_plan, tcp_connect_plan, tcp_listen_plan, two_ends_plan}
-use Rattle.file_descriptions.specs.Descriptions.{description_at}
 use Rattle.descriptor_table.specs.Shows.{Shows, birth_at, is_of}
-use Rattle.descriptor_table.specs.Table.{IsSound, TableState, described, free_object, is_last_name, is_used, key_at, lowest_free, two_numbers}
-use Rattle.descriptor_table.proofs.KnownLemmas.{found_key, found_used, was_some}
-use Rattle.descriptor_table.proofs.SoundLemmas.{known_at, named_at, used-named}
+use Rattle.descriptor_table.specs.Table.{IsSound, TableState, described, free_object, is_last_name, is_used, lowest_free, two_numbers}
+use Rattle.descriptor_table.specs.Laws.{FoundBoth, TableFollows}
+use Rattle.descriptor_table.specs.Laws.FoundBoth.{Open, Shut}
 use Rattle.object_store.proofs.Numbering.{lowest_is_free}
 use Rattle.descriptor_table.specs.declared.plan.Op.{Op}
 use Rattle.descriptor_table.specs.declared.plan.Op.TheVariants as op
@@ -85,6 +84,35 @@ IsMaking keep op.Socketpair = Unit {0}
 IsMaking keep (op.Ask errand) = keep ≡ true
 IsMaking keep act = ⊥
 
+-- what a sound table finds: the description of a descriptor that is open, and the file of a path
+pub record Finds (t : TableState) : Type 0 where
+  pub sound : IsSound t
+  pub got : (descriptor : ℤ) (found : ℕ × Description) → described t descriptor ≡ Ok found → fin.get t.descriptions.by_key found.0 ≡ Some found.1
+  pub named : (path : List ℕ) (node : ℕ) → file_named t.paths path ≡ Ok node → is_used t node ≡ true
+
+pub finds : TableFollows → (t : TableState) (s : State) → IsSound t → Shows t s → Finds t
+finds law t s sound shows =
+    record {
+      sound = sound;
+      got = λ descriptor found is. by_both descriptor found (law.found t s descriptor sound shows) is;
+      named = λ path node is. law.named t path node sound is;
+    }
+  where
+    by_both : (descriptor : ℤ) (found : ℕ × Description) → FoundBoth t s descriptor → described t descriptor ≡ Ok found → fin.get t.descriptions.by_key found.0 ≡ Some found.1
+    by_both descriptor found (Shut table state) is = cc
+    by_both descriptor found (Open key d offset at got there table state) is =
+        let same : (key, d) ≡ found = cc in
+        subst (λ (p : ℕ × Description). fin.get t.descriptions.by_key p.0 ≡ Some p.1) same got
+
+-- the file of a name
+named_at : (t : TableState) (components : List (List ℕ)) (node : ℕ) → IsSound t → node_at t.paths components ≡ Some (FileNode node) → is_used t node ≡ true
+named_at t [] node sound is = cc
+named_at t (name ∷ names) node sound is = sound.named_objects (name ∷ names) node is
+
+was_some : (o : Option ℕ) (e : Errno) (n : ℕ) → some_or o e ≡ Ok n → o ≡ Some n
+was_some None e n is = cc
+was_some (Some m) e n is = cc
+
 -- an object that an act can find
 abbrev pub suits : Op → Content → Bool
 suits (op.Open cut) content = is_of part.Only content
@@ -103,7 +131,7 @@ Suits t node act = (s : State) → Shows t s → suits act (content_of s (birth_
 
 -- the act is the call's; an object that is not there yet is made by it; and what is there suits it
 abbrev pub FitsPlan : TableState → Call → Plan → Type 0
-FitsPlan t c (plan.Node node act keep) = HasAct c act × (IsSound t → is_used t node ≡ false → IsMaking keep act) × (IsSound t → is_used t node ≡ true → Suits t node act)
+FitsPlan t c (plan.Node node act keep) = HasAct c act × (Finds t → is_used t node ≡ false → IsMaking keep act) × (Finds t → is_used t node ≡ true → Suits t node act)
 FitsPlan t c (plan.Reply r) = Unit {0}
 
 along : {A : Type 0} (t : TableState) (c : Call) (r : Result A Errno) (f : A → Result Plan Errno) → ((x : A) → r ≡ Ok x → IfOk (f x) (FitsPlan t c)) → IfOk (r >>= f) (FitsPlan t c)
@@ -149,24 +177,15 @@ seeks_file (part.Door d) offset whence x is inside = absurd (false≢true (sym i
 
 module _ (t : TableState) where
   -- the object of a description is there
-  old : {X : Type 0} (descriptor : ℤ) (found : ℕ × Description) → described t descriptor ≡ Ok found → IsSound t → is_used t found.1.node ≡ false → X
-  old descriptor found is sound new = absurd (false≢true (sym new ∙ found_used t descriptor found sound is))
-
-  found_got : (descriptor : ℤ) (found : ℕ × Description) → described t descriptor ≡ Ok found → IsSound t → fin.get t.descriptions.by_key found.0 ≡ Some found.1
-  found_got descriptor found is sound = known_at t.descriptions found.0 (found_key t descriptor found sound is) ∙ ap (λ (d : Description). Some d) (by_key (key_at t descriptor) is)
-    where
-      by_key : (o : Option ℕ) → (some_or o EBADF >>= (λ key. Ok (key, description_at t.descriptions key))) ≡ Ok found → description_at t.descriptions found.0 ≡ found.1
-      by_key None is = cc
-      by_key (Some key) is =
-          let same : (key, description_at t.descriptions key) ≡ found = cc in
-          subst (λ (p : ℕ × Description). description_at t.descriptions p.0 ≡ p.1) same refl
+  old : {X : Type 0} (descriptor : ℤ) (found : ℕ × Description) → described t descriptor ≡ Ok found → Finds t → is_used t found.1.node ≡ false → X
+  old descriptor found is all new = absurd (false≢true (sym new ∙ all.sound.described_objects found.0 found.1 (all.got descriptor found is)))
 
   -- what is there has the end that the act goes through
-  by_end : (descriptor : ℤ) (found : ℕ × Description) (act : Op) → described t descriptor ≡ Ok found → ((content : Content) → is_of found.1.«end» content ≡ true → suits act content ≡ true) → IsSound t → is_used t found.1.node ≡ true → Suits t found.1.node act
-  by_end descriptor found act is each sound used s shows = each (content_of s (birth_at t found.1.node)) (shows.ends found.0 found.1 (found_got descriptor found is sound))
+  by_end : (descriptor : ℤ) (found : ℕ × Description) (act : Op) → described t descriptor ≡ Ok found → ((content : Content) → is_of found.1.«end» content ≡ true → suits act content ≡ true) → Finds t → is_used t found.1.node ≡ true → Suits t found.1.node act
+  by_end descriptor found act is each all used s shows = each (content_of s (birth_at t found.1.node)) (shows.ends found.0 found.1 (all.got descriptor found is))
 
   -- a file
-  by_file : (descriptor : ℤ) (found : ℕ × Description) (act : Op) → described t descriptor ≡ Ok found → found.1.«end» ≡ part.Only → ((content : Content) → is_of part.Only content ≡ true → suits act content ≡ true) → IsSound t → is_used t found.1.node ≡ true → Suits t found.1.node act
+  by_file : (descriptor : ℤ) (found : ℕ × Description) (act : Op) → described t descriptor ≡ Ok found → found.1.«end» ≡ part.Only → ((content : Content) → is_of part.Only content ≡ true → suits act content ≡ true) → Finds t → is_used t found.1.node ≡ true → Suits t found.1.node act
   by_file descriptor found act is its each = by_end descriptor found act is (λ content has. each content (ap (λ (e : End). is_of e content) (sym its) ∙ has))
 
   fits_file : (c : Call) (descriptor : ℤ) (found : ℕ × Description) (act : Op) → described t descriptor ≡ Ok found → found.1.«end» ≡ part.Only → HasAct c act → ((content : Content) → is_of part.Only content ≡ true → suits act content ≡ true) → FitsPlan t c (locks found.1.node act)
@@ -203,14 +222,14 @@ module _ (t : TableState) where
       by_last true last = by_outside (leads_outside found.1.«end») refl last
       by_last false last = tt
 
-  there_fits : (path : List ℕ) (access : Access) (flags : OpenFlags) (node : Node) → ((n : ℕ) → node ≡ FileNode n → IsSound t → is_used t n ≡ true) → ((n : ℕ) → node ≡ FileNode n → Suits t n (op.Open flags.truncate)) → IfOk (open_there t node flags) (FitsPlan t (call.Open path access flags))
+  there_fits : (path : List ℕ) (access : Access) (flags : OpenFlags) (node : Node) → ((n : ℕ) → node ≡ FileNode n → Finds t → is_used t n ≡ true) → ((n : ℕ) → node ≡ FileNode n → Suits t n (op.Open flags.truncate)) → IfOk (open_there t node flags) (FitsPlan t (call.Open path access flags))
   there_fits path access flags Directory used is_file = tt
   there_fits path access flags (FileNode node) used is_file =
-      along t _ (some_or (lowest_free t 0) EMFILE) _ (λ n x. (Opens path access flags flags.truncate, λ sound new. absurd (false≢true (sym new ∙ used node refl sound)), λ sound there. is_file node refl))
+      along t _ (some_or (lowest_free t 0) EMFILE) _ (λ n x. (Opens path access flags flags.truncate, λ all new. absurd (false≢true (sym new ∙ used node refl all)), λ all there. is_file node refl))
 
-  node_fits : (path : List ℕ) (access : Access) (flags : OpenFlags) (node : Option Node) → ((n : ℕ) → node ≡ Some (FileNode n) → IsSound t → is_used t n ≡ true) → ((n : ℕ) → node ≡ Some (FileNode n) → Suits t n (op.Open flags.truncate)) → IfOk (open_node t node flags) (FitsPlan t (call.Open path access flags))
+  node_fits : (path : List ℕ) (access : Access) (flags : OpenFlags) (node : Option Node) → ((n : ℕ) → node ≡ Some (FileNode n) → Finds t → is_used t n ≡ true) → ((n : ℕ) → node ≡ Some (FileNode n) → Suits t n (op.Open flags.truncate)) → IfOk (open_node t node flags) (FitsPlan t (call.Open path access flags))
   node_fits path access flags None used is_file =
-      along t _ (refuse_if (not flags.create) ENOENT) _ (λ a x. along t _ (refuse_if (nat_le limit.NAMES (fin.len t.paths)) ENOSPC) _ (λ b y. along t _ (some_or (free_object t) ENOSPC) _ (λ node z. along t _ (some_or (lowest_free t 0) EMFILE) _ (λ n u. (Opens path access flags true, λ sound new. refl, λ sound used. not_free node (was_some (free_object t) ENOSPC node z) used)))))
+      along t _ (refuse_if (not flags.create) ENOENT) _ (λ a x. along t _ (refuse_if (nat_le limit.NAMES (fin.len t.paths)) ENOSPC) _ (λ b y. along t _ (some_or (free_object t) ENOSPC) _ (λ node z. along t _ (some_or (lowest_free t 0) EMFILE) _ (λ n u. (Opens path access flags true, λ all new. refl, λ all used. not_free node (was_some (free_object t) ENOSPC node z) used)))))
     where
       not_free : (node : ℕ) → free_object t ≡ Some node → is_used t node ≡ true → Suits t node (op.Open true)
       not_free node free used = absurd (false≢true (sym (ap (λ (o : Option ℕ). is_some o) (lowest_is_free t.objects limit.OBJECTS 0 node free)) ∙ used))
@@ -225,11 +244,11 @@ module _ (t : TableState) where
 
   -- the ends of a new object
   makes_fits : (c : Call) (act : Op) → HasAct c act → IsMaking false act → ((content : Content) → suits act content ≡ true) → IfOk (two_ends_plan t act) (FitsPlan t c)
-  makes_fits c act has making each = along t c (two_numbers t) _ (λ two x. along t c (some_or (free_object t) ENFILE) _ (λ node y. (has, λ sound new. making, λ sound used s shows. each (content_of s (birth_at t node)))))
+  makes_fits c act has making each = along t c (two_numbers t) _ (λ two x. along t c (some_or (free_object t) ENFILE) _ (λ node y. (has, λ all new. making, λ all used s shows. each (content_of s (birth_at t node)))))
 
   -- a new door
   opens_fits : (c : Call) (k : OutKind) (asked : ℕ) (waits : Bool) (d : Option ℕ) → HasAct c (asking k asked waits d) → IfOk (opens_plan t k asked waits d) (FitsPlan t c)
-  opens_fits c k asked waits d has = along t c (some_or (lowest_free t 0) EMFILE) _ (λ n x. along t c (some_or (free_object t) ENFILE) _ (λ node y. (has, λ sound new. refl, λ sound used s shows. refl)))
+  opens_fits c k asked waits d has = along t c (some_or (lowest_free t 0) EMFILE) _ (λ n x. along t c (some_or (free_object t) ENFILE) _ (λ node y. (has, λ all new. refl, λ all used s shows. refl)))
 
   -- what shuts an object
   shut_fits : (descriptor : ℤ) (how : ShutdownHow) (found : ℕ × Description) (which : End) (act : Op) → described t descriptor ≡ Ok found → found.1.«end» ≡ which → shut_act found.1 how which ≡ Ok act → FitsPlan t (call.Shutdown descriptor how) (locks found.1.node act)
@@ -258,7 +277,7 @@ module _ (t : TableState) where
   plan_fits : (c : Call) → IfOk (plan_of t c) (FitsPlan t c)
   unfolding open_plan close_plan read_plan write_plan pread_plan pwrite_plan lseek_plan ftruncate_plan fstat_plan dup_plan dup_from_plan dup2_plan getfl_plan setfl_plan link_plan unlink_plan mkdir_plan rmdir_plan shutdown_plan host_open_plan tcp_listen_plan tcp_connect_plan tcp_accept_plan
   plan_fits (call.Open path access flags) =
-      along t _ (refuse_if (flags.truncate && not (can_write access)) EINVAL) _ (λ a x. along t _ (resolved t.paths path) _ (λ components y. node_fits path access flags (node_at t.paths components) (λ n is sound. named_at t components n sound is) (λ n is. named_suits components flags.truncate n is)))
+      along t _ (refuse_if (flags.truncate && not (can_write access)) EINVAL) _ (λ a x. along t _ (resolved t.paths path) _ (λ components y. node_fits path access flags (node_at t.paths components) (λ n is all. named_at t components n all.sound is) (λ n is. named_suits components flags.truncate n is)))
   plan_fits (call.Close descriptor) = along t _ (described t descriptor) _ (λ found is. released _ descriptor found reply.Done is (Closes descriptor) (λ last outside. ClosesOut descriptor 0 false (Some found.1.node)))
   plan_fits (call.Read descriptor count) =
       along t _ (described t descriptor) _ (λ found is. along t _ (not_listener found.1.«end») _ (λ l u. along t _ (refuse_if (not (can_read found.1.access)) EBADF) _ (λ a x. along t _ (count_of count) _ (λ n y.
@@ -313,7 +332,7 @@ module _ (t : TableState) where
   plan_fits (call.Unlink path) = along t _ (file_named t.paths path) _ (λ node is. by_last node is (is_last_name t node))
     where
       by_last : (node : ℕ) → file_named t.paths path ≡ Ok node → (b : Bool) → FitsPlan t (call.Unlink path) (if b then plan.Node node op.Release false else plan.Reply reply.Done)
-      by_last node is true = (Unnames path, λ sound new. absurd (false≢true (sym new ∙ used-named t path node is sound)), λ sound used s shows. refl)
+      by_last node is true = (Unnames path, λ all new. absurd (false≢true (sym new ∙ all.named path node is)), λ all used s shows. refl)
       by_last node is false = tt
   plan_fits (call.Mkdir path) = along t _ (addable t.paths path) _ (λ a x. tt)
   plan_fits (call.Rmdir path) = along t _ (removed_dir t.paths path) _ (λ a x. tt)
@@ -333,5 +352,5 @@ fits_answered : (t : TableState) (c : Call) (r : Result Plan Errno) → IfOk r (
 fits_answered t c (Ok p) fits = fits
 fits_answered t c (Err e) fits = tt
 
-pub planned_fits : (t : TableState) (c : Call) (node : ℕ) (act : Op) (keep : Bool) → planned t c ≡ plan.Node node act keep → HasAct c act × (IsSound t → is_used t node ≡ false → IsMaking keep act) × (IsSound t → is_used t node ≡ true → Suits t node act)
+pub planned_fits : (t : TableState) (c : Call) (node : ℕ) (act : Op) (keep : Bool) → planned t c ≡ plan.Node node act keep → HasAct c act × (Finds t → is_used t node ≡ false → IsMaking keep act) × (Finds t → is_used t node ≡ true → Suits t node act)
 planned_fits t c node act keep is = subst (FitsPlan t c) is (fits_answered t c (plan_of t c) (plan_fits t c))

@@ -1,5 +1,5 @@
 -- The table with the bodies, and the world that they stand for.
-use Rattle.std.proofs.Common.{◌≡◌, ℕ, zero, suc, List, Option, Some, None, true, get_or, replicate, refl, sym, ap, ◌∙◌, ⊎_elim}
+use Rattle.std.proofs.Common.{◌≡◌, ℕ, zero, suc, List, Option, Some, None, true, get_or, replicate, refl, sym, ap, ◌∙◌, arith, ⊎_elim}
 use Rattle.std.proofs.lemmas.Bool.{cond-true, cond-false, false≢true}
 use Rattle.std.proofs.lemmas.Option.{none-some}
 use Rattle.std.specs.FinMap as fin
@@ -14,20 +14,19 @@ use Rattle.posix_terms.specs.declared.limits.TheConstants.Limits as limit
 use Rattle.posix_terms.specs.declared.reply.Answer.{Answer}
 use Rattle.posix_terms.specs.declared.request.Request.{Request}
 use Rattle.posix_terms.specs.declared.transcript.Settings.{Settings}
+use Rattle.file_descriptions.specs.Descriptions.{no_description}
+use Rattle.file_descriptions.specs.declared.description.Description.{Description}
 use Rattle.descriptor_table.specs.Agreement.{AgreesOn, object_of}
+use Rattle.descriptor_table.specs.Laws.{FollowsStep, TableFollows}
 use Rattle.descriptor_table.specs.Plans.{IsKnownNumber, LocksKnown, planned, read_count}
 use Rattle.descriptor_table.specs.Shows.{birth_at, birth_of, shown_node}
 use Rattle.descriptor_table.specs.Table.{free_object, empty_table, is_used}
 use Rattle.descriptor_table.specs.declared.plan.Plan.{Plan}
 use Rattle.descriptor_table.specs.declared.plan.Plan.TheVariants as plan
-use Rattle.descriptor_table.proofs.KnownLemmas.{known-planned}
-use Rattle.descriptor_table.proofs.PathLemmas.{birth_is}
-use Rattle.descriptor_table.proofs.PlanLemmas.{plans-as_step}
-use Rattle.descriptor_table.proofs.SoundLemmas.{sound-empty}
-use Rattle.file_descriptions.proofs.SoundLemmas.{AreSound-none}
 use Rattle.sequential_object.specs.Numbers.{first_free, first_world, number_in, number_of}
 use Rattle.sequential_object.specs.Answers.{numbered}
 use Rattle.sequential_object.specs.Worlds.{World}
+use Rattle.object_store.proofs.Found.{birth_is}
 use Rattle.object_store.proofs.Numbering.{first_free_is, lowest_is_free, next_is_new, number_in_is}
 use Rattle.object_store.specs.Store.{Stands, Stored, first_stored, number_locked}
 
@@ -57,11 +56,12 @@ planned_number h w c (plan.Reply r) most o q a stands known agrees = ap (numbere
 planned_number h w c (plan.Node node act keep_table) most o q a stands known agrees = ap (numbered w) agrees.0 ∙ ap (λ n. Some n) (stands_number h w node stands known.0)
 
 -- the number of the object that a call locks is that of the lock machine
-pub number_known : (h : Stored) (w : World) (call : Call) (carried : Carried) → Stands h w → numbered w (locked_object w.object call carried) ≡ number_locked h call
-number_known h w call carried stands =
+pub number_known : (law : TableFollows) (h : Stored) (w : World) (call : Call) (carried : Carried) → Stands h w → numbered w (locked_object w.object call carried) ≡ number_locked h call
+number_known law h w call carried stands =
     let settings : Settings = record { patience = 1; door_cost = 1 } in
-    planned_number h w call (planned h.table call) (read_count call) (locked_object w.object call carried) (asks w.object call carried) (step settings w.object call None carried).answer stands (known-planned h.table call stands.sound)
-    (plans-as_step h.table call stands.sound stands.described settings w.object None carried stands.shows)
+    let follows : FollowsStep h.table call = law.calls h.table call stands.sound stands.described in
+    planned_number h w call (planned h.table call) (read_count call) (locked_object w.object call carried) (asks w.object call carried) (step settings w.object call None carried).answer stands follows.known
+    (follows.plans settings w.object None carried stands.shows)
 
 -- ## At the start
 
@@ -80,11 +80,29 @@ nothing o x none some = absurd (none-some x (sym none ∙ some))
 not_there : {X Y : Type 0} (o : Option X) → o ≡ None → is_some o ≡ true → Y
 not_there o none there = absurd (false≢true (sym (ap is_some none) ∙ there))
 
+abbrev holders_in : Option Description → ℕ
+holders_in o = (unwrap_or o no_description).holders
+
 pub stands_first : Stands first_stored first_world
 stands_first =
     record {
-      sound = sound-empty;
-      described = AreSound-none;
+      sound =
+          record {
+            numbers = refl;
+            object_numbers = refl;
+            held = λ key. ap (λ (o : Option Description). holders_in o) (fin.get-empty nat_cmp key);
+            described_objects = λ key d is. nothing _ d (fin.get-empty nat_cmp key) is;
+            named_objects = λ path node is. nothing _ (FileNode node) (fin.get-empty path_cmp path) is;
+            born = λ node birth is. nothing _ birth (slot_none limit.OBJECTS node) is;
+            distinct = λ node other birth is its. nothing _ birth (slot_none limit.OBJECTS node) is;
+          };
+      described =
+          record {
+            few = rw (fin.len-empty nat_cmp Description) (omega arith);
+            held = λ key d is. nothing _ d (fin.get-empty nat_cmp key) is;
+            born = λ key d is. nothing _ d (fin.get-empty nat_cmp key) is;
+            distinct = λ key other d e is its same. nothing _ d (fin.get-empty nat_cmp key) is;
+          };
       shows =
           record {
             descriptors = λ n. fin.get-empty nat_cmp n ∙ sym (ap (option_map (birth_of empty_table)) (slot_none limit.DESCRIPTORS n));

@@ -7,14 +7,14 @@ use Rattle.std.specs.FinMap as fin
 use Rattle.std.specs.Option.{option_map}
 use Rattle.std.specs.Prelude.{is_some, slice_index_or, unwrap_or}
 use Rattle.sequential_object.specs.Object as posix
-use Rattle.sequential_object.specs.Object.{State, Content, File}
+use Rattle.sequential_object.specs.Object.{State, Content}
 use Rattle.file_descriptions.specs.Descriptions as held
 use Rattle.file_descriptions.specs.Descriptions.{AreSound, ContainsKey, description_at}
 use Rattle.file_descriptions.specs.declared.description.Description.{Description}
-use Rattle.file_descriptions.proofs.SoundLemmas.{AreSound-changed}
 use Rattle.object_store.specs.Bodies.{Kept, first_kept, kept_as}
 use Rattle.descriptor_table.specs.Acts.{Holds, IsOther, IsStill, OthersStay, offset_at}
 use Rattle.descriptor_table.specs.Agreement.{IsBorn, NumbersStay, OffsetsStay}
+use Rattle.descriptor_table.specs.Laws.{OffsetIsFree}
 use Rattle.descriptor_table.specs.Plans.{IsKnownNumber}
 use Rattle.descriptor_table.specs.Shows.{Shows, birth_at, birth_of, shown}
 use Rattle.descriptor_table.specs.Table.{IsSound, TableState, free_object, is_used}
@@ -22,13 +22,10 @@ use Rattle.posix_terms.specs.declared.reply.Reply.{Reply}
 use Rattle.descriptor_table.specs.declared.plan.Op.{Op}
 use Rattle.descriptor_table.specs.declared.plan.Plan.{Plan}
 use Rattle.descriptor_table.specs.declared.plan.Plan.TheVariants as plan
-use Rattle.descriptor_table.proofs.ChangeLemmas.{shows-set_offset}
-use Rattle.descriptor_table.proofs.KnownLemmas.{lowest_below}
-use Rattle.descriptor_table.proofs.PathLemmas.{birth_is}
-use Rattle.descriptor_table.proofs.SoundLemmas.{get-insert_other, get-insert_same, known_at, sound-kept}
 use Rattle.sequential_object.specs.Numbers.{first_free, if_there, with_births, world_with}
 use Rattle.sequential_object.specs.Worlds.{World}
 use Rattle.object_store.specs.Store.{Stands, Stored, kept_at}
+use Rattle.object_store.proofs.Found.{birth_is, get-insert_other, get-insert_same, known_at, place_within}
 use Rattle.object_store.proofs.Lists.{maps_agree}
 use Rattle.object_store.proofs.Numbering.{first_free_is, lowest_is_free, next_is_new}
 
@@ -170,7 +167,7 @@ module _ (h : Stored) (w : World) (st : Stands h w) (u : TableState) (p : Plan) 
       mapped_is = numbers_by h.table.objects h.table.objects refl (λ k. each_kept b k (slice_index_or h.table.objects k None) refl)
 
       wide : b.node < length h.table.objects
-      wide = subst (λ (n : ℕ). b.node < n) (sym st.sound.object_numbers) (lowest_below h.table.objects 48 0 b.node b.free)
+      wide = subst (λ (n : ℕ). b.node < n) (m.sound.object_numbers ∙ sym st.sound.object_numbers) (place_within u.objects b.node h.table.made_objects b.here)
 
       taken : List (Option ℕ)
       taken = set h.table.objects b.node (Some h.table.made_objects)
@@ -272,19 +269,22 @@ module _ (h : Stored) (w : World) (st : Stands h w) (u : TableState) (node : ℕ
       }
 
   -- the act moves the offset of this description, and the table is as it was
-  pub moved_stands : u ≡ h.table → (key offset : ℕ) → ContainsKey h.table.descriptions key → offset_at after (birth_of h.table key) ≡ Some offset → ((birth : ℕ) → birth ≢ birth_of h.table key → IsStill h.table (plan.Node node act keep) birth)
+  pub moved_stands : u ≡ h.table → (key offset : ℕ) → ContainsKey h.table.descriptions key → OffsetIsFree h.table key offset → offset_at after (birth_of h.table key) ≡ Some offset → ((birth : ℕ) → birth ≢ birth_of h.table key → IsStill h.table (plan.Node node act keep) birth)
       → Stands (record { table = record u { descriptions = held.with_offset u.descriptions key offset }; bodies = bodies }) (world_with w after)
   unfolding world_with Numbers
-  moved_stands same key offset contained moved still =
+  moved_stands same key offset contained free moved still =
       record {
-        sound = sound-kept u key new m.sound there refl refl;
-        described = AreSound-changed u.descriptions key was new m.described at (m.described.held key was at) refl;
-        shows = shows-set_offset u after key offset m.described there m.shows;
+        sound = left.sound;
+        described = left.described;
+        shows = left.shows after m.shows;
         offsets = offsets;
         contents = content_at;
         numbers = numbers_follow h w st u (plan.Node node act keep) after m;
       }
     where
+      left : OffsetIsFree u key offset
+      left = subst (λ (t : TableState). OffsetIsFree t key offset) (sym same) free
+
       there : ContainsKey u.descriptions key
       there = subst (λ (t : TableState). ContainsKey t.descriptions key) (sym same) contained
 

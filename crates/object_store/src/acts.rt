@@ -14,7 +14,7 @@ ghost use Rattle.object_store.specs.Patience.{act_bytes};
 ghost use Rattle.object_store.specs.Store.{EndsTurn, IsPlanned, Replies, body_at};
 
 use crate::store::Store;
-use descriptor_table::{NewNumbers, Op, Opened, Plan};
+use descriptor_table::{NewNumbers, Op, Opened, Plan, table_follows_step};
 use memory_files::FileBody;
 use posix_terms::{Bytes, Call, Errno, ObjectKind, Reply, Whence};
 
@@ -135,6 +135,7 @@ impl Store {
     {
         // What holds of every store holds of this one: each number has its body.
         let _ = &self.bodies;
+        table_follows_step();
         match call {
             Call::Write { bytes, .. } => self.write(node, to, bytes.as_slice()),
             _ => unreachable!(),
@@ -150,6 +151,7 @@ impl Store {
     {
         // What holds of every store holds of this one: each number has its body.
         let _ = &self.bodies;
+        table_follows_step();
         match call {
             Call::Pwrite { bytes, .. } => {
                 let bytes = bytes.as_slice();
@@ -170,6 +172,7 @@ impl Store {
         ensures few { reply_bytes result ≡ 0 }
         ensures births { (self.new.table.descriptions.made ≡ self.old.table.descriptions.made) × (self.new.table.made_objects ≡ self.old.table.made_objects) }
     {
+        table_follows_step();
         match call {
             Call::Lseek { offset, whence, .. } => self.lseek(node, from, *offset, *whence),
             _ => unreachable!(),

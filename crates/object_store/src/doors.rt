@@ -11,9 +11,9 @@ ghost use Rattle.object_store.specs.Store.{LeavesTable, Opens, at_port, opens_do
 use crate::acts::numbers_reply;
 use crate::patience::fail_outside;
 use crate::store::Store;
-use descriptor_table::{Errand, NewNumbers, Op, Plan};
+use descriptor_table::{Errand, NewNumbers, Op, Plan, table_follows_step};
 use posix_terms::{Call, Errno, Outcome, Reply};
-use sequential_object::TurnEnd;
+use sequential_object::{TurnEnd, blocked_calls_change_nothing, failed_calls_change_nothing};
 
 // Calls that go outside.
 impl Store {
@@ -48,6 +48,9 @@ impl Store {
         ensures few { turn_bytes result ≡ 0 }
         ensures births { (self.new.table.descriptions.made ≤ self.old.table.descriptions.made + 2) × (self.new.table.made_objects ≤ self.old.table.made_objects + 1) }
     {
+        table_follows_step();
+        failed_calls_change_nothing();
+        blocked_calls_change_nothing();
         let plan = self.table.plan(call);
         let Plan::Node {
             op: Op::Ask(errand),

@@ -38,7 +38,7 @@ mod room;
 mod store;
 mod streams;
 
-pub use laws::locks_and_doors;
+pub use laws::{first_store, locks_and_doors};
 pub use patience::{AtTable, TurnStart, copied, end_outside};
 pub use room::Room;
 pub use sequential_object::TurnEnd;

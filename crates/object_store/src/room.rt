@@ -1,4 +1,4 @@
-ghost use Rattle.std.specs.Prelude.{◌≡◌, ◌+◌, ◌≤◌, ◌<◌, ◌^◌, IfOk, true, unwrap_or};
+ghost use Rattle.std.specs.Prelude.{◌≡◌, ◌+◌, ◌≤◌, ◌<◌, ◌^◌, Ok, None, IfOk, true, unwrap_or};
 ghost use Rattle.descriptor_table.specs.Plans.{bytes_asked, reply_bytes};
 ghost use Rattle.descriptor_table.specs.declared.plan.NewNumbers.TheVariants as numbers;
 ghost use Rattle.posix_terms.specs.Outcomes.{fits};
@@ -44,7 +44,8 @@ impl Room {
 
     /// Another, for as many bytes as a call may read; none where there is room for them here.
     pub fn for_call(&self, call: &Call) -> Result<Option<Room>, AllocError>
-        ensures { IfOk result (λ other. HasSpaceFor call.now (unwrap_or other self.now)) }
+        ensures room { IfOk result (λ other. HasSpaceFor call.now (unwrap_or other self.now)) }
+        ensures none { HasSpaceFor call.now self.now → result ≡ Ok None }
     {
         let count = read_count(call);
         if count <= self.told.len() && self.told.len() <= self.row.len() {

@@ -3,6 +3,7 @@ ghost use Rattle.posix_terms.specs.declared.limits.TheConstants.Limits as limit;
 ghost use Rattle.descriptor_table.specs.Plans.{MovesKnown, planned, read_count};
 ghost use Rattle.descriptor_table.specs.declared.plan.Plan.TheVariants as plan;
 ghost use Rattle.descriptor_table.specs.Agreement.{TellsAsStep};
+ghost use Rattle.descriptor_table.specs.Laws.{TableFollows};
 ghost use Rattle.descriptor_table.specs.Changes.{IsAtPort};
 ghost use Rattle.object_store.specs.Acting.{acts_inside};
 ghost use Rattle.object_store.specs.Patience.{act_bytes};
@@ -10,7 +11,7 @@ ghost use Rattle.object_store.specs.Store.{ComesTo, EndsTurn, IsPlanned, UsesRoo
 
 use crate::body::Body;
 use crate::patience::{AtTable, TurnStart, blocked};
-use descriptor_table::{NewNumbers, Op, Plan, Table};
+use descriptor_table::{NewNumbers, Op, Plan, Table, table_follows_step};
 use posix_terms::{Call, Limits, Outcome, Reply};
 use sequential_object::TurnEnd;
 use std::alloc::{AllocError, Global};
@@ -76,6 +77,7 @@ impl Store {
         ensures comes { ComesTo self.old call.now result self.new }
         ensures births { (self.new.table.descriptions.made ≤ self.old.table.descriptions.made + 2) × (self.new.table.made_objects ≤ self.old.table.made_objects + 1) }
     {
+        table_follows_step();
         match self.table.plan(call) {
             Plan::Reply(reply) => AtTable::Answers(self.settle(call, reply)),
             Plan::Node { node, .. } => AtTable::Locks(node),
@@ -99,6 +101,7 @@ impl Store {
         ensures room { UsesRoom (read_count call.now) room.old.items room.new.items result }
         ensures births { (self.new.table.descriptions.made ≤ self.old.table.descriptions.made + 2) × (self.new.table.made_objects ≤ self.old.table.made_objects + 1) }
     {
+        table_follows_step();
         match self.table.plan(call) {
             Plan::Reply(reply) => TurnStart::Ended(TurnEnd::Reply(self.settle(call, reply))),
             Plan::Node {
@@ -140,7 +143,7 @@ impl Store {
     }
 
     // Makes the table's change of a call that it planned so. It gives the number of a new descriptor where the
-    // plan has not told it.
+    // plan has not told it. With it comes what holds of every table (`follows`).
     pub(crate) fn change(
         &mut self,
         call: &Call,
@@ -154,8 +157,10 @@ impl Store {
         ensures made { TableMade self.old call.now (option_copied outcome.entry) self.new.table }
         ensures bodies { self.new.bodies ≡ self.old.bodies }
         ensures tells { TellsAsStep self.old.table call.now (option_copied outcome.entry) result }
+        ensures follows { TableFollows }
         ensures births { (self.new.table.descriptions.made ≤ self.old.table.descriptions.made + 2) × (self.new.table.made_objects ≤ self.old.table.made_objects + 1) }
     {
+        table_follows_step();
         let given = self.table.apply(call, plan, outcome);
         // What holds of every table holds of this one.
         let _ = self.table.made();
@@ -185,6 +190,7 @@ impl Store {
     {
         // What holds of every store holds of this one: each number has its body.
         let _ = &self.bodies;
+        table_follows_step();
         match op {
             Op::Read { from, count } => self.read(node, from, taken(room, count)),
             Op::Write { to } => self.write_call(call, node, to),

@@ -1,6 +1,9 @@
 use crate::listed::LOG;
 use crate::recording::{Text, replayed_by_threads};
+use std::alloc::Global;
+use std::sync::Wait;
 use std::test::Fail;
+use std::thread::Threads;
 
 // A log, scripts, and what a replay by threads prints on standard output and on standard error, with its exit status.
 #[derive(Drop)]
@@ -95,13 +98,17 @@ stop end of log 0
     },
 ];
 
+// Whether a replay by threads tells this.
+fn tells<R: Threads + Wait + Sync>(rt: &R, alloc: Global, replay: &Replay) -> Result<bool, Fail> {
+    let told = replayed_by_threads(rt, alloc, Text::Script(replay.log), replay.scripts)?;
+    Ok(told.is(replay.status, replay.printed, replay.errors))
+}
+
 #[test]
 fn replays_by_threads(rt: HostRuntime) -> Result<(), Fail> {
     for replay in REPLAYS {
-        let log = Text::Script(replay.log);
-        let told = replayed_by_threads(&rt, rt.alloc(), log, replay.scripts)?;
         assert!(rt;
-            told.is(replay.status, replay.printed, replay.errors),
+            tells(&rt, rt.alloc(), replay)?,
             "{}{}",
             replay.printed,
             replay.errors

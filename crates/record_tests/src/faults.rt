@@ -1,9 +1,5 @@
-ghost use Rattle.std.specs.Prelude.{◌≡◌, All, length};
-ghost use Rattle.recorder.specs.Each.{IsUnused};
-
-use crate::recording::{LogFile, SETTINGS, Told, recorded};
+use crate::recording::{HostOutsides, NewOutsides, SETTINGS, log_is, recorded_by_host};
 use host_doors::Outside;
-use recorder::hosts;
 use std::fs::{self, remove_file};
 use std::sync::Wait;
 use std::test::Fail;
@@ -20,22 +16,19 @@ const REFUSED: &[(&[&str], u8, &str)] = &[
     (&["close 0\n", "close\n"], 3, "script 1: bad line 1\n"),
 ];
 
-fn refused<R: Threads + Wait + Sync, O: Outside + Send + Drop>(
-    rt: &R,
+// Whether `record` tells this of scripts whose log goes to this path.
+fn tells<T: Threads + Wait + Sync, O: Outside + Send + Drop, N: NewOutsides<O>>(
+    rt: &T,
     host: &HostRuntime,
+    outsides: &N,
     path: &str,
-    outsides: Vec<O>,
-    scripts: &[&'static str],
-) -> Result<Told, Fail>
-    requires one_each { length outsides.items ≡ length scripts.now }
-    requires unused { All (IsUnused O.given O.failures) outsides.items }
-{
-    let log = LogFile {
-        rt: host,
-        path,
-        room: 4096,
-    };
-    recorded(rt, SETTINGS, log, outsides, scripts)
+    scripts: &[&str],
+    status: u8,
+    printed: &str,
+    errors: &str,
+) -> Result<bool, Fail> {
+    let told = recorded_by_host(rt, host, outsides, SETTINGS, path, 4096, scripts)?;
+    Ok(told.is(status, printed, errors))
 }
 
 // No fault of the scripts makes a log, or empties one that is there.
@@ -44,43 +37,58 @@ fn faults_leave_the_log_as_it_was(rt: HostRuntime) -> Result<(), Fail> {
     let path = "/tmp/detio_record_faults";
     fs::write(&rt, path, b"as it was")?;
     for (scripts, status, line) in REFUSED {
-        let told = refused(
-            &rt,
-            &rt,
-            path,
-            hosts(rt, rt.alloc(), scripts.len())?,
-            scripts,
-        )?;
-        assert!(rt; told.is(*status, "", line));
+        assert!(rt;
+            tells(
+                &rt,
+                &rt,
+                &HostOutsides { rt },
+                path,
+                scripts,
+                *status,
+                "",
+                line
+            )?
+        );
     }
-    assert!(rt; fs::read(&rt, path)?.as_slice() == b"as it was".as_slice());
+    assert!(rt; log_is(&rt, path, b"as it was")?);
     remove_file(&rt, path)?;
     Ok(())
 }
 
 #[test]
 fn a_log_that_cannot_be_made(rt: HostRuntime) -> Result<(), Fail> {
-    let told = refused(
-        &rt,
-        &rt,
-        "/nowhere/a.log",
-        hosts(rt, rt.alloc(), 1)?,
-        &["close 0\n"],
-    )?;
-    assert!(rt; told.is(4, "", "cannot write a.log\n"));
+    let scripts: &[&str] = &["close 0\n"];
+    let line = "cannot write a.log\n";
+    assert!(rt;
+        tells(
+            &rt,
+            &rt,
+            &HostOutsides { rt },
+            "/nowhere/a.log",
+            scripts,
+            4,
+            "",
+            line
+        )?
+    );
     Ok(())
 }
 
 // A device that takes nothing: no thread is started.
 #[test]
 fn a_log_on_a_full_device(rt: HostRuntime) -> Result<(), Fail> {
-    let told = refused(
-        &rt,
-        &rt,
-        "/dev/full",
-        hosts(rt, rt.alloc(), 1)?,
-        &["open /a rw create\n"],
-    )?;
-    assert!(rt; told.is(4, "stop sink\n", ""));
+    let scripts: &[&str] = &["open /a rw create\n"];
+    assert!(rt;
+        tells(
+            &rt,
+            &rt,
+            &HostOutsides { rt },
+            "/dev/full",
+            scripts,
+            4,
+            "stop sink\n",
+            ""
+        )?
+    );
     Ok(())
 }

@@ -1,14 +1,13 @@
-ghost use Rattle.std.specs.Prelude.{◌≡◌, All, length};
-ghost use Rattle.recorder.specs.Each.{IsUnused};
-
 use crate::host::free_path;
-use crate::recording::{LogFile, Text, recorded, replayed, replayed_by_threads};
+use crate::recording::{
+    HostOutsides, NewOutsides, Text, is_replayed, recorded_by_host, replayed_by_threads,
+};
 use host_doors::Outside;
 use posix_terms::Settings;
-use recorder::hosts;
 use std::alloc::{AllocError, Global};
 use std::fs::{self, remove_file};
 use std::io;
+use std::ops::Range;
 use std::sync::Wait;
 use std::test::Fail;
 use std::thread::Threads;
@@ -74,44 +73,15 @@ fn scripts(alloc: Global, seed: u64) -> io::Result<Vec<String>> {
     Ok(scripts)
 }
 
-// Whether the run of these scripts comes to its end, and the replay of its log prints the same.
-fn is_replayed<R: Threads + Wait + Sync, O: Outside + Send + Drop>(
-    rt: &R,
+// Whether the run of these scripts comes to its end, and the replay of its log by threads prints the same.
+fn is_replayed_by_threads<T: Threads + Wait + Sync, O: Outside + Send + Drop, N: NewOutsides<O>>(
+    rt: &T,
     host: &HostRuntime,
+    outsides: &N,
     path: &str,
-    outsides: Vec<O>,
     scripts: &[&str],
-) -> Result<bool, Fail>
-    requires one_each { length outsides.items ≡ length scripts.now }
-    requires unused { All (IsUnused O.given O.failures) outsides.items }
-{
-    let log = LogFile {
-        rt: host,
-        path,
-        room: 4096,
-    };
-    let told = recorded(rt, SHORT_PATIENCE, log, outsides, scripts)?;
-    let again = replayed(host, path, scripts)?;
-    Ok(told.status == 0 && again.is_as(&told))
-}
-
-// The same of a replay by threads.
-fn is_replayed_by_threads<R: Threads + Wait + Sync, O: Outside + Send + Drop>(
-    rt: &R,
-    host: &HostRuntime,
-    path: &str,
-    outsides: Vec<O>,
-    scripts: &[&str],
-) -> Result<bool, Fail>
-    requires one_each { length outsides.items ≡ length scripts.now }
-    requires unused { All (IsUnused O.given O.failures) outsides.items }
-{
-    let log = LogFile {
-        rt: host,
-        path,
-        room: 4096,
-    };
-    let told = recorded(rt, SHORT_PATIENCE, log, outsides, scripts)?;
+) -> Result<bool, Fail> {
+    let told = recorded_by_host(rt, host, outsides, SHORT_PATIENCE, path, 4096, scripts)?;
     let log = Text::File(fs::open(host, path)?);
     let again = replayed_by_threads(rt, host.alloc(), log, scripts)?;
     Ok(told.status == 0 && again.is_as(&told))
@@ -126,56 +96,95 @@ fn texts(alloc: Global, scripts: &[String]) -> Result<Vec<&str>, AllocError> {
     Ok(texts)
 }
 
+// Whether the run of this seed is replayed, by threads or on one.
+fn is_seed_replayed<T: Threads + Wait + Sync, O: Outside + Send + Drop, N: NewOutsides<O>>(
+    rt: &T,
+    host: &HostRuntime,
+    outsides: &N,
+    path: &str,
+    seed: u64,
+    by_threads: bool,
+) -> Result<bool, Fail> {
+    let scripts = scripts(host.alloc(), seed)?;
+    let texts = texts(host.alloc(), &scripts)?;
+    if by_threads {
+        is_replayed_by_threads(rt, host, outsides, path, &texts)
+    } else {
+        is_replayed(rt, host, outsides, SHORT_PATIENCE, path, 4096, &texts)
+    }
+}
+
+// Whether the runs of these seeds are replayed, through a log at this path.
+fn are_replayed<T: Threads + Wait + Sync, O: Outside + Send + Drop, N: NewOutsides<O>>(
+    rt: &T,
+    host: &HostRuntime,
+    outsides: &N,
+    path: &str,
+    seeds: Range<u64>,
+    by_threads: bool,
+) -> Result<bool, Fail> {
+    for seed in seeds {
+        if !is_seed_replayed(rt, host, outsides, path, seed, by_threads)? {
+            return Ok(false);
+        }
+    }
+    remove_file(host, path)?;
+    Ok(true)
+}
+
 // A thousand runs, in four tests.
 #[test]
 fn recorded_runs_are_replayed(rt: HostRuntime) -> Result<(), Fail> {
     let path = free_path(rt, "generated")?;
-    for seed in 0..250 {
-        let scripts = scripts(rt.alloc(), seed)?;
-        let texts = texts(rt.alloc(), &scripts)?;
-        let outsides = hosts(rt, rt.alloc(), texts.len())?;
-        assert!(rt; is_replayed(&rt, &rt, path.as_str(), outsides, &texts)?);
-    }
-    remove_file(&rt, path.as_str())?;
+    assert!(rt; are_replayed(&rt, &rt, &HostOutsides { rt }, path.as_str(), 0..250, false)?);
     Ok(())
 }
 
 #[test]
 fn more_recorded_runs_are_replayed(rt: HostRuntime) -> Result<(), Fail> {
     let path = free_path(rt, "generated_more")?;
-    for seed in 250..500 {
-        let scripts = scripts(rt.alloc(), seed)?;
-        let texts = texts(rt.alloc(), &scripts)?;
-        let outsides = hosts(rt, rt.alloc(), texts.len())?;
-        assert!(rt; is_replayed(&rt, &rt, path.as_str(), outsides, &texts)?);
-    }
-    remove_file(&rt, path.as_str())?;
+    assert!(rt;
+        are_replayed(
+            &rt,
+            &rt,
+            &HostOutsides { rt },
+            path.as_str(),
+            250..500,
+            false
+        )?
+    );
     Ok(())
 }
 
 #[test]
 fn yet_more_recorded_runs_are_replayed(rt: HostRuntime) -> Result<(), Fail> {
     let path = free_path(rt, "generated_yet_more")?;
-    for seed in 500..750 {
-        let scripts = scripts(rt.alloc(), seed)?;
-        let texts = texts(rt.alloc(), &scripts)?;
-        let outsides = hosts(rt, rt.alloc(), texts.len())?;
-        assert!(rt; is_replayed(&rt, &rt, path.as_str(), outsides, &texts)?);
-    }
-    remove_file(&rt, path.as_str())?;
+    assert!(rt;
+        are_replayed(
+            &rt,
+            &rt,
+            &HostOutsides { rt },
+            path.as_str(),
+            500..750,
+            false
+        )?
+    );
     Ok(())
 }
 
 #[test]
 fn the_last_recorded_runs_are_replayed(rt: HostRuntime) -> Result<(), Fail> {
     let path = free_path(rt, "generated_last")?;
-    for seed in 750..1000 {
-        let scripts = scripts(rt.alloc(), seed)?;
-        let texts = texts(rt.alloc(), &scripts)?;
-        let outsides = hosts(rt, rt.alloc(), texts.len())?;
-        assert!(rt; is_replayed(&rt, &rt, path.as_str(), outsides, &texts)?);
-    }
-    remove_file(&rt, path.as_str())?;
+    assert!(rt;
+        are_replayed(
+            &rt,
+            &rt,
+            &HostOutsides { rt },
+            path.as_str(),
+            750..1000,
+            false
+        )?
+    );
     Ok(())
 }
 
@@ -183,12 +192,15 @@ fn the_last_recorded_runs_are_replayed(rt: HostRuntime) -> Result<(), Fail> {
 #[test]
 fn recorded_runs_are_replayed_by_threads(rt: HostRuntime) -> Result<(), Fail> {
     let path = free_path(rt, "generated_by_threads")?;
-    for seed in 1000..1100 {
-        let scripts = scripts(rt.alloc(), seed)?;
-        let texts = texts(rt.alloc(), &scripts)?;
-        let outsides = hosts(rt, rt.alloc(), texts.len())?;
-        assert!(rt; is_replayed_by_threads(&rt, &rt, path.as_str(), outsides, &texts)?);
-    }
-    remove_file(&rt, path.as_str())?;
+    assert!(rt;
+        are_replayed(
+            &rt,
+            &rt,
+            &HostOutsides { rt },
+            path.as_str(),
+            1000..1100,
+            true
+        )?
+    );
     Ok(())
 }

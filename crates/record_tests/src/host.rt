@@ -1,8 +1,10 @@
-use crate::recording::{LogFile, SETTINGS, recorded, replayed};
-use recorder::hosts;
+use crate::recording::{HostOutsides, NewOutsides, SETTINGS, recorded_by_host, replayed};
+use host_doors::Outside;
 use std::fs::{self, remove_file};
 use std::process;
+use std::sync::Wait;
 use std::test::Fail;
+use std::thread::Threads;
 
 // A path that no other process takes. What an earlier one of its number left there is removed.
 pub(crate) fn free_path(rt: HostRuntime, name: &str) -> Result<String, Fail> {
@@ -37,22 +39,30 @@ const FILES_PRINTED: &str = "0 0 1 host_open number 0
 end
 ";
 
+// Whether `record` tells this of them, and the replay of its log the same once the written file is gone.
+fn files_are_replayed<T: Threads + Wait + Sync, O: Outside + Send + Drop, N: NewOutsides<O>>(
+    rt: &T,
+    host: &HostRuntime,
+    outsides: &N,
+    path: &str,
+) -> Result<bool, Fail> {
+    let told = recorded_by_host(rt, host, outsides, SETTINGS, path, 4096, FILES)?;
+    remove_file(host, "/tmp/detio_record_a")?;
+    let again = replayed(host, path, FILES)?;
+    Ok(told.is(0, FILES_PRINTED, "") && again.is_as(&told))
+}
+
+// Whether there is no file at this path.
+fn is_none(host: &HostRuntime, path: &str) -> bool {
+    fs::metadata(host, path).is_err()
+}
+
 #[test]
 fn host_files_are_recorded_and_replayed_without_them(rt: HostRuntime) -> Result<(), Fail> {
     let path = free_path(rt, "files")?;
     let _ = remove_file(&rt, "/tmp/detio_record_none");
-    let outsides = hosts(rt, rt.alloc(), FILES.len())?;
-    let log = LogFile {
-        rt: &rt,
-        path: path.as_str(),
-        room: 4096,
-    };
-    let told = recorded(&rt, SETTINGS, log, outsides, FILES)?;
-    assert!(rt; told.is(0, FILES_PRINTED, ""));
-    remove_file(&rt, "/tmp/detio_record_a")?;
-    let again = replayed(&rt, path.as_str(), FILES)?;
-    assert!(rt; again.is_as(&told));
-    assert!(rt; fs::metadata(&rt, "/tmp/detio_record_a").is_err());
+    assert!(rt; files_are_replayed(&rt, &rt, &HostOutsides { rt }, path.as_str())?);
+    assert!(rt; is_none(&rt, "/tmp/detio_record_a"));
     remove_file(&rt, path.as_str())?;
     Ok(())
 }
@@ -70,23 +80,34 @@ read 2 5
 ",
 ];
 
+// Whether this is what they print, at whatever port.
+fn is_loopback(output: &[u8]) -> bool {
+    match str::from_utf8(output) {
+        Ok(text) => {
+            text.starts_with("0 0 1 tcp_listen number 0\n0 1 105 fstat stat 5 ")
+                && text.contains("read data 6869\n")
+                && text.ends_with("shutdown done\n0 7 627 read data -\nend\n")
+        }
+        Err(_) => false,
+    }
+}
+
+// Whether they are recorded to their end and print that, and are replayed to the same.
+fn loopback_is_replayed<T: Threads + Wait + Sync, O: Outside + Send + Drop, N: NewOutsides<O>>(
+    rt: &T,
+    host: &HostRuntime,
+    outsides: &N,
+    path: &str,
+) -> Result<bool, Fail> {
+    let told = recorded_by_host(rt, host, outsides, SETTINGS, path, 4096, LOOPBACK)?;
+    let again = replayed(host, path, LOOPBACK)?;
+    Ok(told.status == 0 && is_loopback(told.output.as_slice()) && again.is_as(&told))
+}
+
 #[test]
 fn loopback_is_recorded_and_replayed_without_a_network(rt: HostRuntime) -> Result<(), Fail> {
     let path = free_path(rt, "loopback")?;
-    let outsides = hosts(rt, rt.alloc(), LOOPBACK.len())?;
-    let log = LogFile {
-        rt: &rt,
-        path: path.as_str(),
-        room: 4096,
-    };
-    let told = recorded(&rt, SETTINGS, log, outsides, LOOPBACK)?;
-    assert_eq!(rt; told.status, 0);
-    let text = str::from_utf8(told.output.as_slice())?;
-    assert!(rt; text.starts_with("0 0 1 tcp_listen number 0\n0 1 105 fstat stat 5 "));
-    assert!(rt; text.contains("read data 6869\n"));
-    assert!(rt; text.ends_with("shutdown done\n0 7 627 read data -\nend\n"));
-    let again = replayed(&rt, path.as_str(), LOOPBACK)?;
-    assert!(rt; again.is_as(&told));
+    assert!(rt; loopback_is_replayed(&rt, &rt, &HostOutsides { rt }, path.as_str())?);
     remove_file(&rt, path.as_str())?;
     Ok(())
 }
@@ -97,25 +118,49 @@ const READERS: &[&str] = &[
     "host_open /tmp/detio_record_right r\nread 1 9\nread 1 9\n",
 ];
 
+// Whether this says that each got its own.
+fn have_their_own(output: &[u8]) -> bool {
+    match str::from_utf8(output) {
+        Ok(text) => {
+            text.contains("read data 6c656674\n")
+                && text.contains("read data 726967687421\n")
+                && text.starts_with("0 0 1 host_open number 0\n0 1 105 read data 6c656674\n")
+        }
+        Err(_) => false,
+    }
+}
+
+// Makes both files, or takes them away.
+fn make_files(host: &HostRuntime) -> Result<(), Fail> {
+    fs::write(host, "/tmp/detio_record_left", b"left")?;
+    fs::write(host, "/tmp/detio_record_right", b"right!")?;
+    Ok(())
+}
+
+fn remove_files(host: &HostRuntime) -> Result<(), Fail> {
+    remove_file(host, "/tmp/detio_record_left")?;
+    remove_file(host, "/tmp/detio_record_right")?;
+    Ok(())
+}
+
+// Whether each gets its own, and gets it again from the log once both files are gone.
+fn readers_are_replayed<T: Threads + Wait + Sync, O: Outside + Send + Drop, N: NewOutsides<O>>(
+    rt: &T,
+    host: &HostRuntime,
+    outsides: &N,
+    path: &str,
+) -> Result<bool, Fail> {
+    let told = recorded_by_host(rt, host, outsides, SETTINGS, path, 4096, READERS)?;
+    remove_files(host)?;
+    let again = replayed(host, path, READERS)?;
+    Ok(have_their_own(told.output.as_slice()) && again.is_as(&told))
+}
+
 #[test]
 fn each_thread_reads_the_file_that_it_opened(rt: HostRuntime) -> Result<(), Fail> {
     let path = free_path(rt, "two_files")?;
-    fs::write(&rt, "/tmp/detio_record_left", b"left")?;
-    fs::write(&rt, "/tmp/detio_record_right", b"right!")?;
-    let outsides = hosts(rt, rt.alloc(), READERS.len())?;
-    let log = LogFile {
-        rt: &rt,
-        path: path.as_str(),
-        room: 4096,
-    };
-    let told = recorded(&rt, SETTINGS, log, outsides, READERS)?;
-    let text = str::from_utf8(told.output.as_slice())?;
-    assert!(rt; text.contains("read data 6c656674\n") && text.contains("read data 726967687421\n"));
-    assert!(rt; text.starts_with("0 0 1 host_open number 0\n0 1 105 read data 6c656674\n"));
-    remove_file(&rt, "/tmp/detio_record_left")?;
-    remove_file(&rt, "/tmp/detio_record_right")?;
-    let again = replayed(&rt, path.as_str(), READERS)?;
-    assert!(rt; again.is_as(&told));
+    make_files(&rt)?;
+    assert!(rt; readers_are_replayed(&rt, &rt, &HostOutsides { rt }, path.as_str())?);
     remove_file(&rt, path.as_str())?;
     Ok(())
 }

@@ -1,12 +1,14 @@
 use crate::host::free_path;
-use crate::recording::{LogFile, SETTINGS, Told, recorded, replayed};
+use crate::recording::{HostOutsides, NewOutsides, SETTINGS, Told, is_replayed, recorded_by_host};
 use commands::{Source, plain_over, show_over};
-use recorder::hosts;
+use host_doors::Outside;
 use std::alloc::Global;
 use std::fs::{self, remove_file};
 use std::io;
 use std::io::Read;
+use std::sync::Wait;
 use std::test::Fail;
+use std::thread::Threads;
 
 // How many lines a text has.
 fn count_lines(text: &[u8]) -> usize {
@@ -24,19 +26,36 @@ jump more
 label done
 ";
 
+// Room for the logs of these runs.
+const ROOM: usize = 1_000_000;
+
+// Whether a recorded run of these scripts comes to its end and prints so many lines.
+fn prints_lines<T: Threads + Wait + Sync, O: Outside + Send + Drop, N: NewOutsides<O>>(
+    rt: &T,
+    host: &HostRuntime,
+    outsides: &N,
+    path: &str,
+    scripts: &[&str],
+    count: usize,
+) -> Result<bool, Fail> {
+    let told = recorded_by_host(rt, host, outsides, SETTINGS, path, ROOM, scripts)?;
+    Ok(told.status == 0 && count_lines(told.output.as_slice()) == count)
+}
+
 #[test]
 fn six_thousand_descriptions_are_made(rt: HostRuntime) -> Result<(), Fail> {
     let path = free_path(rt, "openers")?;
     let scripts: &[&str] = &[OPENER, OPENER, OPENER, OPENER];
-    let outsides = hosts(rt, rt.alloc(), scripts.len())?;
-    let log = LogFile {
-        rt: &rt,
-        path: path.as_str(),
-        room: 1_000_000,
-    };
-    let told = recorded(&rt, SETTINGS, log, outsides, scripts)?;
-    assert_eq!(rt; told.status, 0);
-    assert_eq!(rt; count_lines(told.output.as_slice()), 4 * 3200 + 1);
+    assert!(rt;
+        prints_lines(
+            &rt,
+            &rt,
+            &HostOutsides { rt },
+            path.as_str(),
+            scripts,
+            4 * 3200 + 1
+        )?
+    );
     remove_file(&rt, path.as_str())?;
     Ok(())
 }
@@ -58,16 +77,17 @@ close r3
 fn a_log_has_more_than_four_thousand_records(rt: HostRuntime) -> Result<(), Fail> {
     let path = free_path(rt, "writers")?;
     let scripts: &[&str] = &[WRITER, WRITER, WRITER];
-    let outsides = hosts(rt, rt.alloc(), scripts.len())?;
-    let log = LogFile {
-        rt: &rt,
-        path: path.as_str(),
-        room: 1_000_000,
-    };
-    let told = recorded(&rt, SETTINGS, log, outsides, scripts)?;
-    assert_eq!(rt; told.status, 0);
-    let again = replayed(&rt, path.as_str(), scripts)?;
-    assert!(rt; again.is_as(&told));
+    assert!(rt;
+        is_replayed(
+            &rt,
+            &rt,
+            &HostOutsides { rt },
+            SETTINGS,
+            path.as_str(),
+            ROOM,
+            scripts
+        )?
+    );
     assert!(rt; shows_lines(&rt, path.as_str(), 1 + 3 * 1502 + 1)?);
     remove_file(&rt, path.as_str())?;
     Ok(())
@@ -120,11 +140,14 @@ fn told_of_lines(alloc: Global, count: usize) -> Result<Told, Fail> {
     })
 }
 
+// Whether it prints nothing but this line on standard error.
+fn refuses_lines(alloc: Global, count: usize, status: u8, line: &str) -> Result<bool, Fail> {
+    Ok(told_of_lines(alloc, count)?.is(status, "", line))
+}
+
 #[test]
 fn a_file_is_read_up_to_its_greatest_size(rt: HostRuntime) -> Result<(), Fail> {
-    let at_limit = told_of_lines(rt.alloc(), 16_777_216)?;
-    assert!(rt; at_limit.is(3, "", "script 0: too long\n"));
-    let above = told_of_lines(rt.alloc(), 16_777_217)?;
-    assert!(rt; above.is(4, "", "cannot read a.script\n"));
+    assert!(rt; refuses_lines(rt.alloc(), 16_777_216, 3, "script 0: too long\n")?);
+    assert!(rt; refuses_lines(rt.alloc(), 16_777_217, 4, "cannot read a.script\n")?);
     Ok(())
 }

@@ -1,11 +1,11 @@
 ghost use Rattle.std.specs.Prelude.{◌≡◌, All, IfOk, length};
 ghost use Rattle.recorder.specs.Each.{IsUnused};
 
-use crate::recording::{LogFile, SETTINGS, Told, recorded, replayed};
+use crate::recording::{LogFile, SETTINGS, log_is, recorded, replayed};
 use host_doors::{NoGate, ScriptDoors};
 use posix_terms::{Bytes, Errno, Given, OutKind, Outcome, Outcomes};
 use std::alloc::{AllocError, Global};
-use std::fs::{self, remove_file};
+use std::fs::remove_file;
 use std::sync::Wait;
 use std::test::Fail;
 use std::thread::Threads;
@@ -54,29 +54,40 @@ fn outside(alloc: Global, list: Outcomes) -> Result<Vec<ScriptDoors<NoGate>>, Al
     Ok(outsides)
 }
 
-// What `record` tells of the short write, into a log with so much room.
-fn recorded_short_write<R: Threads + Wait + Sync>(
+// Whether `record` tells this of the short write, into a log with so much room.
+fn records_short_write<R: Threads + Wait + Sync>(
     rt: &R,
     host: &HostRuntime,
     path: &str,
     room: usize,
-) -> Result<Told, Fail> {
+    status: u8,
+    printed: &str,
+) -> Result<bool, Fail> {
     let outsides = outside(host.alloc(), short_write(host.alloc())?)?;
     let log = LogFile {
         rt: host,
         path,
         room,
     };
-    recorded(rt, SETTINGS, log, outsides, SHORT_WRITE)
+    Ok(recorded(rt, SETTINGS, log, outsides, SHORT_WRITE)?.is(status, printed, ""))
+}
+
+// Whether `replay` tells this of the short write, by the log at this path.
+fn replays_short_write(
+    rt: &HostRuntime,
+    path: &str,
+    status: u8,
+    printed: &str,
+) -> Result<bool, Fail> {
+    Ok(replayed(rt, path, SHORT_WRITE)?.is(status, printed, ""))
 }
 
 #[test]
 fn short_write_is_recorded(rt: HostRuntime) -> Result<(), Fail> {
     let path = "/tmp/detio_record_short_write";
-    let told = recorded_short_write(&rt, &rt, path, 4096)?;
     let printed = "0 0 1 host_open number 0\n0 1 105 write count 3\n0 2 209 write fail EIO\nend\n";
-    assert!(rt; told.is(0, printed, ""));
-    assert!(rt; fs::read(&rt, path)?.as_slice() == LOG);
+    assert!(rt; records_short_write(&rt, &rt, path, 4096, 0, printed)?);
+    assert!(rt; log_is(&rt, path, LOG)?);
     remove_file(&rt, path)?;
     Ok(())
 }
@@ -85,11 +96,11 @@ fn short_write_is_recorded(rt: HostRuntime) -> Result<(), Fail> {
 #[test]
 fn room_of_the_log_runs_out(rt: HostRuntime) -> Result<(), Fail> {
     let path = "/tmp/detio_record_full_log";
-    let told = recorded_short_write(&rt, &rt, path, 42)?;
-    assert!(rt; told.is(4, "0 0 1 host_open number 0\nstop sink\n", ""));
-    assert!(rt; fs::read(&rt, path)?.as_slice() == LOG.split_at(42).0);
-    let again = replayed(&rt, path, SHORT_WRITE)?;
-    assert!(rt; again.is(1, "0 0 1 host_open number 0\nstop end of log 0\n", ""));
+    let printed = "0 0 1 host_open number 0\nstop sink\n";
+    assert!(rt; records_short_write(&rt, &rt, path, 42, 4, printed)?);
+    assert!(rt; log_is(&rt, path, LOG.split_at(42).0)?);
+    let printed = "0 0 1 host_open number 0\nstop end of log 0\n";
+    assert!(rt; replays_short_write(&rt, path, 1, printed)?);
     remove_file(&rt, path)?;
     Ok(())
 }

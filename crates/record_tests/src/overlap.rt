@@ -4,11 +4,13 @@ ghost use Rattle.recorder.specs.Each.{IsUnused};
 use crate::host::free_path;
 use crate::listed::success;
 use crate::recording::{LogFile, SETTINGS, recorded};
-use host_doors::{PairGate, Place, ScriptDoors};
+use host_doors::{Outside, PairGate, Place, ScriptDoors};
 use posix_terms::{Bytes, Given, OutKind, Outcome, Outcomes};
 use std::alloc::{AllocError, Global};
 use std::fs::remove_file;
+use std::sync::Wait;
 use std::test::Fail;
+use std::thread::Threads;
 use std::time::Clock;
 
 // Each thread reads a host file, and both reads are outside at the same time.
@@ -34,6 +36,21 @@ fn one_byte(alloc: Global, byte: u8) -> Result<Given, AllocError> {
     })
 }
 
+// What comes for the first thread, and for the second.
+fn first_outcomes(alloc: Global) -> Result<Outcomes, AllocError> {
+    let mut outcomes = Vec::new(alloc);
+    outcomes.push(success(alloc, OutKind::Open, 0))?;
+    outcomes.push(success(alloc, OutKind::Open, 0))?;
+    outcomes.push(one_byte(alloc, b'A')?)?;
+    Ok(Outcomes::from_vec(outcomes))
+}
+
+fn other_outcomes(alloc: Global) -> Result<Outcomes, AllocError> {
+    let mut outcomes = Vec::new(alloc);
+    outcomes.push(one_byte(alloc, b'B')?)?;
+    Ok(Outcomes::from_vec(outcomes))
+}
+
 // The outsides of both threads. A gate holds the read of each until the other has come, and else answers ETIMEDOUT: so it does where one
 // thread makes all calls, or a lock is held round them.
 fn readers<C: Clock + Clone + Drop>(
@@ -51,30 +68,39 @@ fn readers<C: Clock + Clone + Drop>(
         thread: 1,
         number: 0,
     };
+    let outcomes = first_outcomes(alloc)?;
+    let others = other_outcomes(alloc)?;
     let (near, far) = PairGate::new(alloc, clock, first, second)?;
-    let mut outcomes = Vec::new(alloc);
-    outcomes.push(success(alloc, OutKind::Open, 0))?;
-    outcomes.push(success(alloc, OutKind::Open, 0))?;
-    outcomes.push(one_byte(alloc, b'A')?)?;
-    let mut others = Vec::new(alloc);
-    others.push(one_byte(alloc, b'B')?)?;
     let mut readers = Vec::new(alloc);
-    readers.push(ScriptDoors::new(Outcomes::from_vec(outcomes), near))?;
-    readers.push(ScriptDoors::new(Outcomes::from_vec(others), far))?;
+    readers.push(ScriptDoors::new(outcomes, near))?;
+    readers.push(ScriptDoors::new(others, far))?;
     Ok(readers)
+}
+
+// Whether `record` tells that both were read, with these outsides.
+fn are_both_read<R: Threads + Wait + Sync, O: Outside + Send + Drop>(
+    rt: &R,
+    host: &HostRuntime,
+    path: &str,
+    outsides: Vec<O>,
+    scripts: &[&str],
+) -> Result<bool, Fail>
+    requires one_each { length outsides.items ≡ length scripts.now }
+    requires unused { All (IsUnused O.given O.failures) outsides.items }
+{
+    let log = LogFile {
+        rt: host,
+        path,
+        room: 4096,
+    };
+    Ok(recorded(rt, SETTINGS, log, outsides, scripts)?.is(0, PRINTED, ""))
 }
 
 #[test]
 fn overlapping_reads(rt: HostRuntime) -> Result<(), Fail> {
     let path = free_path(rt, "overlap")?;
-    let log = LogFile {
-        rt: &rt,
-        path: path.as_str(),
-        room: 4096,
-    };
     let outsides = readers(rt.alloc(), rt)?;
-    let told = recorded(&rt, SETTINGS, log, outsides, READERS)?;
-    assert!(rt; told.is(0, PRINTED, ""));
+    assert!(rt; are_both_read(&rt, &rt, path.as_str(), outsides, READERS)?);
     remove_file(&rt, path.as_str())?;
     Ok(())
 }

@@ -4,12 +4,14 @@ ghost use Rattle.recorder.specs.Each.{IsUnused};
 use commands::{
     DEFAULTS, LogTo, NewLog, NotCreated, Source, record_over, replay_over, replay_threads_over,
 };
-use host_doors::Outside;
+use host_doors::{HostDoors, Outside};
 use input_log::FileSink;
 use posix_terms::Settings;
+use recorder::hosts;
 use std::alloc::{AllocError, Global};
-use std::fs::File;
+use std::fs::{File, Files};
 use std::io::Read;
+use std::net::{Net, TcpListener, TcpStream};
 use std::sync::Wait;
 use std::test::Fail;
 use std::thread::Threads;
@@ -61,6 +63,28 @@ impl NewLog<FileSink> for LogFile<'_> {
     }
 }
 
+// What makes the outsides of a run. Only a test has a runtime that a thread may make calls outside with, so it hands this in.
+pub(crate) trait NewOutsides<O: Outside> {
+    // One for each of so many threads, none of which gave anything.
+    fn make(&self, alloc: Global, threads: usize) -> Result<Vec<O>, AllocError>
+        ensures one_each { IfOk result (λ outsides. length outsides.items ≡ threads) }
+        ensures unused { IfOk result (λ outsides. All (IsUnused O.given O.failures) outsides.items) };
+}
+
+// The host's files, and TCP on its loopback address.
+#[derive(Drop)]
+pub(crate) struct HostOutsides<R> {
+    pub rt: R,
+}
+
+impl<
+    R: Copy + Drop + Files<File = File> + Net<Listener = TcpListener, Stream = TcpStream>,
+> NewOutsides<HostDoors<R>> for HostOutsides<R> {
+    fn make(&self, alloc: Global, threads: usize) -> Result<Vec<HostDoors<R>>, AllocError> {
+        hosts(self.rt, alloc, threads)
+    }
+}
+
 // Where a text comes from: a log that was recorded from its file.
 #[derive(Drop)]
 pub(crate) enum Text<'a> {
@@ -75,6 +99,11 @@ impl Read for Text<'_> {
             Text::File(file) => file.read(buf),
         }
     }
+}
+
+// Whether these bytes are what the file at this path holds.
+pub(crate) fn log_is(rt: &HostRuntime, path: &str, bytes: &[u8]) -> Result<bool, Fail> {
+    Ok(fs::read(rt, path)?.as_slice() == bytes)
 }
 
 // These scripts as sources.
@@ -126,6 +155,49 @@ pub(crate) fn recorded<R: Threads + Wait + Sync, O: Outside + Send + Drop>(
         output,
         errors,
     })
+}
+
+// The same over the host's own files and network, into a log at this path that has so much room.
+pub(crate) fn recorded_by_host<
+    T: Threads + Wait + Sync,
+    O: Outside + Send + Drop,
+    N: NewOutsides<O>,
+>(
+    rt: &T,
+    host: &HostRuntime,
+    outsides: &N,
+    settings: Settings,
+    path: &str,
+    room: usize,
+    scripts: &[&str],
+) -> Result<Told, Fail> {
+    let log = LogFile {
+        rt: host,
+        path,
+        room,
+    };
+    recorded(
+        rt,
+        settings,
+        log,
+        outsides.make(host.alloc(), scripts.len())?,
+        scripts,
+    )
+}
+
+// Whether that run comes to its end, and the replay of its log prints the same.
+pub(crate) fn is_replayed<T: Threads + Wait + Sync, O: Outside + Send + Drop, N: NewOutsides<O>>(
+    rt: &T,
+    host: &HostRuntime,
+    outsides: &N,
+    settings: Settings,
+    path: &str,
+    room: usize,
+    scripts: &[&str],
+) -> Result<bool, Fail> {
+    let told = recorded_by_host(rt, host, outsides, settings, path, room, scripts)?;
+    let again = replayed(host, path, scripts)?;
+    Ok(told.status == 0 && again.is_as(&told))
 }
 
 // What `replay` tells of the log at this path, with these scripts.

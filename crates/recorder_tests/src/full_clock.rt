@@ -1,12 +1,12 @@
-use crate::record::{SETTINGS, doors};
+use crate::record::{SETTINGS, doors, push_actor};
 use input_log::MemorySink;
 use logged_machine::Stop;
 use recorder::{BoxedActor, run_recorded};
-use std::alloc::Global;
+use std::alloc::{AllocError, Global};
 use std::sync::Wait;
 use std::test::Fail;
 use std::thread::Threads;
-use thread_scripts::{CallLine, Line, Number, Script, ScriptActor, StreamLine, TransferLine};
+use thread_scripts::{CallLine, Line, Number, Script, StreamLine, TransferLine};
 
 // Longer than a script's text can spell: a clock has room for one less.
 const TOO_LONG: u64 = 4_611_686_018_427_387_904;
@@ -20,57 +20,97 @@ fn fills_its_clock<R: Threads + Wait + Sync>(
     if !Script::accepts(&lines) {
         return Ok(false);
     }
-    let mut actors: Vec<BoxedActor> = Vec::new(alloc);
-    actors.push(Box::new(alloc, ScriptActor::new(Script::of(lines)))?)?;
+    let actors = one_actor(alloc, Script::of(lines))?;
+    let doors = doors(alloc, 1, &[])?;
     let sink = MemorySink::new(alloc, 100)?;
-    match run_recorded(rt, alloc, actors, doors(alloc, 1, &[])?, sink, SETTINGS) {
+    match run_recorded(rt, alloc, actors, doors, sink, SETTINGS) {
         Ok(ended) => Ok(ended.stop == Some(Stop::ClockFull) && ended.history.rows().is_empty()),
         Err(_) => Ok(false),
     }
 }
 
+// One actor, which has this script.
+fn one_actor(alloc: Global, script: Script) -> Result<Vec<BoxedActor>, AllocError> {
+    let mut actors: Vec<BoxedActor> = Vec::new(alloc);
+    push_actor(&mut actors, alloc, script)?;
+    Ok(actors)
+}
+
+// The line that works so long, and then those that make a pipe and read from one.
+fn work(alloc: Global, time: u64) -> Result<Vec<Line>, AllocError> {
+    let mut lines = Vec::new(alloc);
+    lines.push(Line::Work(time))?;
+    Ok(lines)
+}
+
+fn push_pipe(lines: &mut Vec<Line>) -> Result<(), AllocError> {
+    lines.push(Line::Call(CallLine::Stream(StreamLine::Pipe)))?;
+    Ok(())
+}
+
+fn push_read(lines: &mut Vec<Line>) -> Result<(), AllocError> {
+    lines.push(Line::Call(CallLine::Transfer(TransferLine::Read {
+        descriptor: Number::Value(0),
+        count: Number::Value(1),
+    })))?;
+    Ok(())
+}
+
 #[test]
 fn too_much_work(rt: HostRuntime) -> Result<(), Fail> {
-    let mut lines = Vec::new(rt.alloc());
-    lines.push(Line::Work(TOO_LONG))?;
+    let lines = work(rt.alloc(), TOO_LONG)?;
     assert!(rt; fills_its_clock(&rt, rt.alloc(), lines)?);
     Ok(())
 }
 
 #[test]
 fn no_room_for_an_attempt(rt: HostRuntime) -> Result<(), Fail> {
-    let mut lines = Vec::new(rt.alloc());
-    lines.push(Line::Work(TOO_LONG - 1))?;
-    lines.push(Line::Call(CallLine::Stream(StreamLine::Pipe)))?;
+    let mut lines = work(rt.alloc(), TOO_LONG - 1)?;
+    push_pipe(&mut lines)?;
     assert!(rt; fills_its_clock(&rt, rt.alloc(), lines)?);
     Ok(())
 }
 
-// Eight actors, each of which works so long, makes a pipe and reads from one that nobody writes to. None where the lines are no script.
-fn eight_readers(alloc: Global, work: u64) -> Result<Vec<BoxedActor>, Fail> {
+// The lines that work so long, make a pipe and read from one that nobody writes to.
+fn reader(alloc: Global, time: u64) -> Result<Vec<Line>, AllocError> {
+    let mut lines = work(alloc, time)?;
+    push_pipe(&mut lines)?;
+    push_read(&mut lines)?;
+    Ok(lines)
+}
+
+// Eight actors with these lines. None where the lines are no script.
+fn eight_readers(alloc: Global, time: u64) -> Result<Vec<BoxedActor>, AllocError> {
     let mut actors: Vec<BoxedActor> = Vec::new(alloc);
     for _ in 0..8 {
-        let mut lines = Vec::new(alloc);
-        lines.push(Line::Work(work))?;
-        lines.push(Line::Call(CallLine::Stream(StreamLine::Pipe)))?;
-        lines.push(Line::Call(CallLine::Transfer(TransferLine::Read {
-            descriptor: Number::Value(0),
-            count: Number::Value(1),
-        })))?;
-        if Script::accepts(&lines) {
-            actors.push(Box::new(alloc, ScriptActor::new(Script::of(lines)))?)?;
-        }
+        push_lines(&mut actors, alloc, reader(alloc, time)?)?;
     }
     Ok(actors)
 }
 
-// Whether a recorded run of these actors stops for a full clock.
+// Adds an actor with these lines, if they are a script.
+fn push_lines(
+    actors: &mut Vec<BoxedActor>,
+    alloc: Global,
+    lines: Vec<Line>,
+) -> Result<(), AllocError> {
+    if Script::accepts(&lines) {
+        push_actor(actors, alloc, Script::of(lines))?;
+    }
+    Ok(())
+}
+
+// Whether a recorded run of eight such actors stops for a full clock.
 fn stops_at_a_full_clock<R: Threads + Wait + Sync>(
     rt: &R,
     alloc: Global,
-    actors: Vec<BoxedActor>,
+    time: u64,
 ) -> Result<bool, Fail> {
-    let doors = doors(alloc, actors.len(), &[])?;
+    let actors = eight_readers(alloc, time)?;
+    if actors.len() != 8 {
+        return Ok(false);
+    }
+    let doors = doors(alloc, 8, &[])?;
     let sink = MemorySink::new(alloc, 100)?;
     match run_recorded(rt, alloc, actors, doors, sink, SETTINGS) {
         Ok(ended) => Ok(ended.stop == Some(Stop::ClockFull)),
@@ -82,10 +122,8 @@ fn stops_at_a_full_clock<R: Threads + Wait + Sync>(
 // turns meanwhile, and leave.
 #[test]
 fn seven_wait_for_one_whose_clock_is_full(rt: HostRuntime) -> Result<(), Fail> {
-    for work in [TOO_LONG, TOO_LONG - 1, TOO_LONG - 20] {
-        let actors = eight_readers(rt.alloc(), work)?;
-        assert_eq!(rt; actors.len(), 8);
-        assert!(rt; stops_at_a_full_clock(&rt, rt.alloc(), actors)?);
-    }
+    assert!(rt; stops_at_a_full_clock(&rt, rt.alloc(), TOO_LONG)?);
+    assert!(rt; stops_at_a_full_clock(&rt, rt.alloc(), TOO_LONG - 1)?);
+    assert!(rt; stops_at_a_full_clock(&rt, rt.alloc(), TOO_LONG - 20)?);
     Ok(())
 }

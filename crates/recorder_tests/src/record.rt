@@ -8,7 +8,7 @@ use posix_terms::{
     Bytes, Errno, Given, OutKind, Outcome, Outcomes, Settings, Transcript, Transcripts,
 };
 use recorder::{BoxedActor, Ended, History, NotStarted, StartFault, run_recorded};
-use std::alloc::Global;
+use std::alloc::{AllocError, Global};
 use std::sync::Wait;
 use std::test::Fail;
 use std::thread::Threads;
@@ -108,6 +108,24 @@ fn parsed(alloc: Global, scripts: &[&[u8]]) -> Result<Vec<Script>, Fail> {
     Ok(parsed)
 }
 
+// Adds an actor with this script.
+pub(crate) fn push_actor(
+    actors: &mut Vec<BoxedActor>,
+    alloc: Global,
+    script: Script,
+) -> Result<(), AllocError> {
+    actors.push(Box::new(alloc, ScriptActor::new(script))?)?;
+    Ok(())
+}
+
+fn actors(alloc: Global, scripts: &[&[u8]]) -> Result<Vec<BoxedActor>, Fail> {
+    let mut actors: Vec<BoxedActor> = Vec::new(alloc);
+    for text in scripts {
+        push_actor(&mut actors, alloc, parse(alloc, text)?)?;
+    }
+    Ok(actors)
+}
+
 // Records these scripts, with so many outsides to which this comes, into a log that has so much room.
 pub(crate) fn record<R: Threads + Wait + Sync>(
     rt: &R,
@@ -118,10 +136,7 @@ pub(crate) fn record<R: Threads + Wait + Sync>(
     room: usize,
     settings: Settings,
 ) -> Result<Result<Told, Refused>, Fail> {
-    let mut actors: Vec<BoxedActor> = Vec::new(alloc);
-    for script in parsed(alloc, scripts)? {
-        actors.push(Box::new(alloc, ScriptActor::new(script))?)?;
-    }
+    let actors = actors(alloc, scripts)?;
     let doors = doors(alloc, outsides, came)?;
     let sink = MemorySink::new(alloc, room)?;
     match run_recorded(rt, alloc, actors, doors, sink, settings) {
@@ -176,17 +191,29 @@ pub(crate) fn are_as_plain<R: Threads + Wait + Sync>(
     settings: Settings,
     times: usize,
 ) -> Result<bool, Fail> {
-    let lists = lists(alloc, scripts.len(), came)?;
-    let plain = plain_run(alloc, parsed(alloc, scripts)?, lists, settings)?;
+    let parsed = parsed(alloc, scripts)?;
+    let plain = plain_run(alloc, parsed, lists(alloc, scripts.len(), came)?, settings)?;
     for _ in 0..times {
-        let Ok(told) = record(rt, alloc, scripts, scripts.len(), came, 1000, settings)? else {
-            return Ok(false);
-        };
-        if !is_as_plain(&plain, &told) {
+        if !is_recorded_as(rt, alloc, &plain, scripts, came, settings)? {
             return Ok(false);
         }
     }
     Ok(true)
+}
+
+// Whether a recorded run of these scripts tells the same as this plain run.
+fn is_recorded_as<R: Threads + Wait + Sync>(
+    rt: &R,
+    alloc: Global,
+    plain: &Plain,
+    scripts: &[&[u8]],
+    came: &[&[Came]],
+    settings: Settings,
+) -> Result<bool, Fail> {
+    match record(rt, alloc, scripts, scripts.len(), came, 1000, settings)? {
+        Ok(told) => Ok(is_as_plain(plain, &told)),
+        Err(_) => Ok(false),
+    }
 }
 
 fn is_as_plain(plain: &Plain, told: &Told) -> bool {

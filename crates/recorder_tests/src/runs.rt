@@ -1,6 +1,9 @@
 use crate::record::{Came, SETTINGS, are_as_plain};
 use posix_terms::{Errno, OutKind, Settings};
+use std::alloc::Global;
+use std::sync::Wait;
 use std::test::Fail;
+use std::thread::Threads;
 
 // Scripts for one thread, which need nothing from outside.
 const ALONE: &[&[u8]] = &[
@@ -37,11 +40,19 @@ fn with_patience(patience: u32) -> Settings {
     }
 }
 
+// Whether a recorded run of one script, which needs nothing from outside, tells the same as the plain run.
+fn is_script_as_plain<R: Threads + Wait + Sync>(
+    rt: &R,
+    alloc: Global,
+    script: &[u8],
+) -> Result<bool, Fail> {
+    are_as_plain(rt, alloc, &[script], &[], SETTINGS, 1)
+}
+
 #[test]
 fn one_thread(rt: HostRuntime) -> Result<(), Fail> {
     for script in ALONE {
-        let scripts: &[&[u8]] = &[script];
-        assert!(rt; are_as_plain(&rt, rt.alloc(), scripts, &[], SETTINGS, 1)?);
+        assert!(rt; is_script_as_plain(&rt, rt.alloc(), script)?);
     }
     Ok(())
 }
@@ -105,20 +116,18 @@ fn close_and_reopen(rt: HostRuntime) -> Result<(), Fail> {
 #[test]
 fn reader_waits_for_writer(rt: HostRuntime) -> Result<(), Fail> {
     let scripts: &[&[u8]] = &[b"pipe\nwork 20\nwrite 1 x7a\n", b"work 5\nread 0 1\n"];
-    for patience in [1000, 5, 6] {
-        assert!(rt; are_as_plain(&rt, rt.alloc(), scripts, &[], with_patience(patience), 20)?);
+    for patience in &[1000, 5, 6] {
+        assert!(rt; are_as_plain(&rt, rt.alloc(), scripts, &[], with_patience(*patience), 20)?);
     }
     Ok(())
 }
 
+const APPENDER: &[u8] =
+    b"open /a rw create append\nset r0 10\nlabel more\nwrite 0 x61\nadd r0 -1\njzero r0 done\njump more\nlabel done\npread 0 99 0\nclose 0\n";
+
 // Each thread appends to one file, again and again, so that all contend at each turn.
 #[test]
 fn eight_that_contend(rt: HostRuntime) -> Result<(), Fail> {
-    let script: &[u8] =
-        b"open /a rw create append\nset r0 10\nlabel more\nwrite 0 x61\nadd r0 -1\njzero r0 done\njump more\nlabel done\npread 0 99 0\nclose 0\n";
-    let scripts: &[&[u8]] = &[
-        script, script, script, script, script, script, script, script,
-    ];
-    assert!(rt; are_as_plain(&rt, rt.alloc(), scripts, &[], SETTINGS, 1000)?);
+    assert!(rt; are_as_plain(&rt, rt.alloc(), &[APPENDER; 8], &[], SETTINGS, 1000)?);
     Ok(())
 }

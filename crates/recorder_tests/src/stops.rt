@@ -1,8 +1,11 @@
-use crate::record::{Came, SETTINGS, record, stop_of};
+use crate::record::{Came, Refused, SETTINGS, Told, record, stop_of};
 use logged_machine::Stop;
 use posix_terms::{Errno, OutKind, Reply, Settings, Transcripts};
 use recorder::StartFault;
+use std::alloc::Global;
+use std::sync::Wait;
 use std::test::Fail;
+use std::thread::Threads;
 
 const SHORT_WRITE: &[u8] = b"host_open out w create\nwrite 0 x0001020304050607\nwrite 0 x0304\n";
 
@@ -19,6 +22,17 @@ const CAME: &[Came] = &[
 // Reads a pipe that nobody writes to.
 const WAITER: &[u8] = b"pipe\nread r0 1\n";
 
+// Whether a recorded run of these scripts, the first of which gets these outcomes, stops so.
+fn stops<R: Threads + Wait + Sync>(
+    rt: &R,
+    alloc: Global,
+    scripts: &[&[u8]],
+    came: &[Came],
+    wanted: Stop,
+) -> Result<bool, Fail> {
+    Ok(stop_of(rt, alloc, scripts, &[came])? == Some(wanted))
+}
+
 // A thread whose outside has no more outcomes stops the run, at whichever call that is, and the threads that wait at their pipes leave too.
 #[test]
 fn outcomes_end(rt: HostRuntime) -> Result<(), Fail> {
@@ -26,8 +40,8 @@ fn outcomes_end(rt: HostRuntime) -> Result<(), Fail> {
         READER, WAITER, WAITER, WAITER, WAITER, WAITER, WAITER, WAITER,
     ];
     for count in 0..CAME.len() {
-        let came: &[&[Came]] = &[&CAME[..count]];
-        assert!(rt; stop_of(&rt, rt.alloc(), scripts, came)? == Some(Stop::EndOfLog(0)));
+        let wanted = Stop::EndOfLog(0);
+        assert!(rt; stops(&rt, rt.alloc(), scripts, &CAME[..count], wanted)?);
     }
     Ok(())
 }
@@ -36,32 +50,28 @@ fn outcomes_end(rt: HostRuntime) -> Result<(), Fail> {
 #[test]
 fn outcomes_diverge(rt: HostRuntime) -> Result<(), Fail> {
     let scripts: &[&[u8]] = &[READER, WAITER];
-    for second in [
-        Came::Ok(OutKind::Seek, 0, b""),
-        Came::Ok(OutKind::Read, 2, b"xx"),
-    ] {
-        let list: &[Came] = &[CAME[0], second];
-        let came: &[&[Came]] = &[list];
-        assert!(rt; stop_of(&rt, rt.alloc(), scripts, came)? == Some(Stop::Diverged(0, 1)));
-    }
+    let opened = Came::Ok(OutKind::Open, 0, b"");
+    let other_kind: &[Came] = &[opened, Came::Ok(OutKind::Seek, 0, b"")];
+    assert!(rt; stops(&rt, rt.alloc(), scripts, other_kind, Stop::Diverged(0, 1))?);
+    let too_many: &[Came] = &[opened, Came::Ok(OutKind::Read, 2, b"xx")];
+    assert!(rt; stops(&rt, rt.alloc(), scripts, too_many, Stop::Diverged(0, 1))?);
     Ok(())
 }
+
+// What comes for a short write, and for one that fails.
+const WRITTEN: &[Came] = &[
+    Came::Ok(OutKind::Open, 0, b""),
+    Came::Ok(OutKind::Write, 3, b""),
+    Came::Fail(OutKind::Write, Errno::EIO),
+];
 
 // The outcomes are those of a script with another second line.
 #[test]
 fn changed_script(rt: HostRuntime) -> Result<(), Fail> {
-    let came: &[&[Came]] = &[&[
-        Came::Ok(OutKind::Open, 0, b""),
-        Came::Ok(OutKind::Write, 3, b""),
-        Came::Fail(OutKind::Write, Errno::EIO),
-    ]];
-    for script in [
-        b"host_open out w create\nlseek 0 0 set\nwrite 0 x0304\n".as_slice(),
-        b"host_open out w create\nwrite 0 x0001\nwrite 0 x0304\n".as_slice(),
-    ] {
-        let scripts: &[&[u8]] = &[script];
-        assert!(rt; stop_of(&rt, rt.alloc(), scripts, came)? == Some(Stop::Diverged(0, 1)));
-    }
+    let other_kind: &[&[u8]] = &[b"host_open out w create\nlseek 0 0 set\nwrite 0 x0304\n"];
+    assert!(rt; stops(&rt, rt.alloc(), other_kind, WRITTEN, Stop::Diverged(0, 1))?);
+    let shorter: &[&[u8]] = &[b"host_open out w create\nwrite 0 x0001\nwrite 0 x0304\n"];
+    assert!(rt; stops(&rt, rt.alloc(), shorter, WRITTEN, Stop::Diverged(0, 1))?);
     Ok(())
 }
 
@@ -74,38 +84,78 @@ fn saw_one(transcripts: &Transcripts, reply: Reply) -> bool {
     rows.len() == 1 && rows[0].reply == reply
 }
 
+// Whether a run stopped at its sink, which had taken so many bytes.
+fn filled_its_sink(told: &Told, room: usize) -> bool {
+    told.stop == Some(Stop::Sink) && told.log.as_slice().len() == room
+}
+
+// Whether the run of the short write stops where its log has so much room, and shows the first reply.
+fn stops_in_the_log<R: Threads + Wait + Sync>(
+    rt: &R,
+    alloc: Global,
+    room: usize,
+) -> Result<bool, Fail> {
+    match record(rt, alloc, &[SHORT_WRITE], 1, &[WRITTEN], room, SETTINGS)? {
+        Ok(told) => {
+            Ok(filled_its_sink(&told, room) && saw_one(&told.transcripts, Reply::Number(0)))
+        }
+        Err(_) => Ok(false),
+    }
+}
+
 // The log has room for the first record and 7 bytes of the second.
 #[test]
 fn log_room_runs_out(rt: HostRuntime) -> Result<(), Fail> {
-    let scripts: &[&[u8]] = &[SHORT_WRITE];
-    let came: &[&[Came]] = &[&[
-        Came::Ok(OutKind::Open, 0, b""),
-        Came::Ok(OutKind::Write, 3, b""),
-        Came::Fail(OutKind::Write, Errno::EIO),
-    ]];
-    let Ok(told) = record(&rt, rt.alloc(), scripts, 1, came, 42, SETTINGS)? else {
-        return Ok(assert!(rt; false));
-    };
-    assert!(rt; told.stop == Some(Stop::Sink));
-    assert_eq!(rt; told.log.as_slice().len(), 42);
-    assert!(rt; saw_one(&told.transcripts, Reply::Number(0)));
+    assert!(rt; stops_in_the_log(&rt, rt.alloc(), 42)?);
     Ok(())
+}
+
+// Whether the run of a reader and a waiter stops where its log has so much room, and nobody was started if that is less than the header.
+fn stops_at_the_first<R: Threads + Wait + Sync>(
+    rt: &R,
+    alloc: Global,
+    room: usize,
+) -> Result<bool, Fail> {
+    match record(rt, alloc, &[READER, WAITER], 2, &[CAME], room, SETTINGS)? {
+        Ok(told) => Ok(
+            filled_its_sink(&told, room)
+                && told.history.len() == 2
+                && told.history.steps(0).is_empty() == (room < 16),
+        ),
+        Err(_) => Ok(false),
+    }
 }
 
 // The log's room runs out at the header, and nobody is started; and inside the first record, and the thread that waits leaves too.
 #[test]
 fn sink_fails(rt: HostRuntime) -> Result<(), Fail> {
-    let scripts: &[&[u8]] = &[READER, WAITER];
-    for room in [0, 15, 16, 34] {
-        let Ok(told) = record(&rt, rt.alloc(), scripts, 2, &[CAME], room, SETTINGS)? else {
-            return Ok(assert!(rt; false));
-        };
-        assert!(rt; told.stop == Some(Stop::Sink));
-        assert_eq!(rt; told.log.as_slice().len(), room);
-        assert_eq!(rt; told.history.len(), 2);
-        assert_eq!(rt; told.history.steps(0).is_empty(), room < 16);
+    for room in &[0, 15, 16, 34] {
+        assert!(rt; stops_at_the_first(&rt, rt.alloc(), *room)?, "{room}");
     }
     Ok(())
+}
+
+// Whether a run of these scripts with so many outsides is refused so, and all come back.
+fn is_refused<R: Threads + Wait + Sync>(
+    rt: &R,
+    alloc: Global,
+    scripts: &[&[u8]],
+    outsides: usize,
+    settings: Settings,
+    wanted: StartFault,
+) -> Result<bool, Fail> {
+    match record(rt, alloc, scripts, outsides, &[], 1000, settings)? {
+        Ok(_) => Ok(false),
+        Err(refused) => Ok(hands_back(&refused, wanted, scripts.len(), outsides)),
+    }
+}
+
+// Whether it was refused so, and so many actors and outsides came back, with a sink that took nothing.
+fn hands_back(refused: &Refused, wanted: StartFault, actors: usize, outsides: usize) -> bool {
+    refused.fault == wanted
+        && refused.actors == actors
+        && refused.outsides == outsides
+        && refused.taken == 0
 }
 
 #[test]
@@ -117,21 +167,9 @@ fn refused_starts(rt: HostRuntime) -> Result<(), Fail> {
         patience: 0,
         door_cost: 100,
     };
-    for (scripts, outsides, settings, wanted) in [
-        (none, 1, bad, StartFault::NoThreads),
-        (nine, 0, bad, StartFault::TooManyThreads),
-        (one, 1, bad, StartFault::Settings),
-        (one, 2, SETTINGS, StartFault::Settings),
-    ] {
-        match record(&rt, rt.alloc(), scripts, outsides, &[], 1000, settings)? {
-            Ok(_) => assert!(rt; false),
-            Err(refused) => {
-                assert!(rt; refused.fault == wanted);
-                assert_eq!(rt; refused.actors, scripts.len());
-                assert_eq!(rt; refused.outsides, outsides);
-                assert_eq!(rt; refused.taken, 0);
-            }
-        }
-    }
+    assert!(rt; is_refused(&rt, rt.alloc(), none, 1, bad, StartFault::NoThreads)?);
+    assert!(rt; is_refused(&rt, rt.alloc(), nine, 0, bad, StartFault::TooManyThreads)?);
+    assert!(rt; is_refused(&rt, rt.alloc(), one, 1, bad, StartFault::Settings)?);
+    assert!(rt; is_refused(&rt, rt.alloc(), one, 2, SETTINGS, StartFault::Settings)?);
     Ok(())
 }

@@ -123,17 +123,22 @@ fn scripts(alloc: Global, seed: u64) -> io::Result<Vec<String>> {
     Ok(scripts)
 }
 
+// What comes for this thread.
+fn outcomes_of(alloc: Global, seed: u64, thread: u64) -> Result<Outcomes, AllocError> {
+    let mut list = Vec::new(alloc);
+    for place in 0..LENGTH {
+        if let Some(piece) = piece(seed, thread, place) {
+            add(&mut list, alloc, piece.came)?;
+        }
+    }
+    Ok(Outcomes::from_vec(list))
+}
+
 // What comes for each thread.
 fn outcomes(alloc: Global, seed: u64) -> Result<Vec<Outcomes>, AllocError> {
     let mut outcomes = Vec::new(alloc);
     for thread in 0..threads(seed) {
-        let mut list = Vec::new(alloc);
-        for place in 0..LENGTH {
-            if let Some(piece) = piece(seed, thread, place) {
-                add(&mut list, alloc, piece.came)?;
-            }
-        }
-        outcomes.push(Outcomes::from_vec(list))?;
+        outcomes.push(outcomes_of(alloc, seed, thread)?)?;
     }
     Ok(outcomes)
 }
@@ -147,6 +152,17 @@ fn texts(alloc: Global, scripts: &[String]) -> Result<Vec<&[u8]>, AllocError> {
     Ok(texts)
 }
 
+// Whether the run of this seed is replayed.
+fn is_seed_replayed<R: Threads + Wait + Sync>(
+    rt: &R,
+    alloc: Global,
+    seed: u64,
+) -> Result<bool, Fail> {
+    let scripts = scripts(alloc, seed)?;
+    let texts = texts(alloc, &scripts)?;
+    is_replayed(rt, alloc, &texts, outcomes(alloc, seed)?, SHORT_WAITS)
+}
+
 // Whether the runs of these seeds are replayed.
 fn are_replayed<R: Threads + Wait + Sync>(
     rt: &R,
@@ -154,10 +170,7 @@ fn are_replayed<R: Threads + Wait + Sync>(
     seeds: Range<u64>,
 ) -> Result<bool, Fail> {
     for seed in seeds {
-        let scripts = scripts(alloc, seed)?;
-        let texts = texts(alloc, &scripts)?;
-        let outcomes = outcomes(alloc, seed)?;
-        if !is_replayed(rt, alloc, &texts, outcomes, SHORT_WAITS)? {
+        if !is_seed_replayed(rt, alloc, seed)? {
             return Ok(false);
         }
     }

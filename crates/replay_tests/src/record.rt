@@ -53,6 +53,14 @@ pub(crate) fn add(list: &mut Vec<Given>, alloc: Global, came: &[Came]) -> Result
     Ok(())
 }
 
+fn outcomes_of(alloc: Global, came: Option<&&[Came]>) -> Result<Outcomes, AllocError> {
+    let mut list = Vec::new(alloc);
+    if let Some(came) = came {
+        add(&mut list, alloc, came)?;
+    }
+    Ok(Outcomes::from_vec(list))
+}
+
 // The outcomes of each thread: none where there is no list for it.
 pub(crate) fn outcomes(
     alloc: Global,
@@ -61,11 +69,7 @@ pub(crate) fn outcomes(
 ) -> Result<Vec<Outcomes>, AllocError> {
     let mut outcomes = Vec::new(alloc);
     for thread in 0..threads {
-        let mut list = Vec::new(alloc);
-        if let Some(came) = came.get(thread) {
-            add(&mut list, alloc, came)?;
-        }
-        outcomes.push(Outcomes::from_vec(list))?;
+        outcomes.push(outcomes_of(alloc, came.get(thread))?)?;
     }
     Ok(outcomes)
 }

@@ -67,19 +67,38 @@ fn are_replayed<R: Threads + Wait + Sync>(
         door_cost: 100,
     };
     for _ in 0..times {
-        let outcomes = outcomes(alloc, scripts.len(), came)?;
-        if !is_replayed(rt, alloc, scripts, outcomes, settings)? {
+        if !is_run_replayed(rt, alloc, scripts, came, settings)? {
             return Ok(false);
         }
     }
     Ok(true)
 }
 
+// Whether a recorded run of these scripts is replayed.
+fn is_run_replayed<R: Threads + Wait + Sync>(
+    rt: &R,
+    alloc: Global,
+    scripts: &[&[u8]],
+    came: &[&[Came]],
+    settings: Settings,
+) -> Result<bool, Fail> {
+    let outcomes = outcomes(alloc, scripts.len(), came)?;
+    is_replayed(rt, alloc, scripts, outcomes, settings)
+}
+
+// Whether a recorded run of one script, which needs nothing from outside, is replayed.
+fn is_script_replayed<R: Threads + Wait + Sync>(
+    rt: &R,
+    alloc: Global,
+    script: &[u8],
+) -> Result<bool, Fail> {
+    are_replayed(rt, alloc, &[script], &[], 1000, 1)
+}
+
 #[test]
 fn one_thread(rt: HostRuntime) -> Result<(), Fail> {
     for script in ALONE {
-        let scripts: &[&[u8]] = &[script];
-        assert!(rt; are_replayed(&rt, rt.alloc(), scripts, &[], 1000, 1)?);
+        assert!(rt; is_script_replayed(&rt, rt.alloc(), script)?);
     }
     Ok(())
 }
@@ -118,7 +137,7 @@ fn two_threads(rt: HostRuntime) -> Result<(), Fail> {
     for scripts in TOGETHER {
         assert!(rt; are_replayed(&rt, rt.alloc(), scripts, &[], 1000, 20)?);
     }
-    for patience in [5, 6] {
+    for patience in 5..7 {
         assert!(rt; are_replayed(&rt, rt.alloc(), READER_WAITS, &[], patience, 20)?);
     }
     Ok(())

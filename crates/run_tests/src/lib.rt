@@ -2,11 +2,15 @@
 #![tactic(auto)]
 
 #[cfg(test)]
+mod driven;
+#[cfg(test)]
 mod lock_machines;
 #[cfg(test)]
 mod machine_runs;
 #[cfg(test)]
 mod machines;
+#[cfg(test)]
+mod plain_runs;
 #[cfg(test)]
 mod random_drivers;
 #[cfg(test)]
@@ -15,3 +19,5 @@ mod random_scripts;
 mod refused_memory;
 #[cfg(test)]
 mod replays;
+#[cfg(test)]
+mod seen;

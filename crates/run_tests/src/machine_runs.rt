@@ -1,8 +1,9 @@
-use call_machine::{Plain, PlainFault, Stop, plain_run};
-use posix_terms::{Answer, Bytes, Errno, Given, OutKind, Outcome, Outcomes, Reply, Settings, Turn};
-use std::alloc::{AllocError, Global};
+use crate::plain_runs::{Came, plain};
+use crate::seen::{Seen, replied, was_blocked};
+use call_machine::{History, Plain, PlainFault, Stop};
+use posix_terms::{Errno, HistoryRow, OutKind, Outcome, Settings, Step, Transcripts};
+use std::alloc::Global;
 use std::test::Fail;
-use thread_scripts::{ScriptFault, Step, parse};
 
 const DEFAULTS: Settings = Settings {
     patience: 1000,
@@ -17,199 +18,214 @@ fn patience(patience: u32) -> Settings {
     }
 }
 
-// The run of these scripts, with so many empty lists of outcomes.
-fn run(
+// Whether there is no run, with this fault. Where memory is wanted, any fault is as good.
+fn faults(
     alloc: Global,
     texts: &[&str],
-    lists: usize,
+    came: &[&[Came]],
     settings: Settings,
-) -> Result<Plain, PlainFault> {
-    let mut outcomes = Vec::new(alloc);
-    for _ in 0..lists {
-        outcomes.push(Outcomes::from_vec(Vec::new(alloc)))?;
-    }
-    run_with(alloc, texts, outcomes, settings)
-}
-
-// The run of these scripts with these outcomes.
-fn run_with(
-    alloc: Global,
-    texts: &[&str],
-    outcomes: Vec<Outcomes>,
-    settings: Settings,
-) -> Result<Plain, PlainFault> {
-    let mut scripts = Vec::new(alloc);
-    for text in texts {
-        match parse(alloc, text.as_bytes()) {
-            Ok(script) => scripts.push(script)?,
-            Err(ScriptFault::Memory) => return Err(PlainFault::Memory),
-            Err(_) => return Err(PlainFault::Threads),
-        }
-    }
-    plain_run(alloc, scripts, outcomes, settings)
-}
-
-// The fault of a run, if it has one; where memory is wanted, any fault is as good.
-fn faults(run: Result<Plain, PlainFault>, wanted: PlainFault) -> bool {
-    match run {
+    wanted: PlainFault,
+) -> bool {
+    match plain(alloc, texts, came, settings) {
         Ok(_) => false,
         Err(fault) => fault == wanted || fault == PlainFault::Memory,
     }
 }
 
+const NOTHING: &[Came] = &[];
+
+// Scripts, and what comes for each.
+const WRONG_NUMBERS: &[(&[&str], &[&[Came]])] = &[
+    (&[], &[]),
+    (&[""; 9], &[NOTHING; 9]),
+    (&[""], &[]),
+    (&["", ""], &[&[]]),
+];
+
 #[test]
 fn refuses_wrong_numbers(rt: HostRuntime) {
-    let alloc = rt.alloc();
-    assert!(rt; faults(run(alloc, &[], 0, DEFAULTS), PlainFault::Threads));
-    assert!(rt; faults(run(alloc, &[""; 9], 9, DEFAULTS), PlainFault::Threads));
-    assert!(rt; faults(run(alloc, &[""], 0, DEFAULTS), PlainFault::Threads));
-    assert!(rt; faults(run(alloc, &["", ""], 1, DEFAULTS), PlainFault::Threads));
+    for (texts, came) in WRONG_NUMBERS {
+        assert!(rt; faults(rt.alloc(), texts, came, DEFAULTS, PlainFault::Threads));
+    }
 }
 
 #[test]
 fn refuses_wrong_settings(rt: HostRuntime) {
-    let alloc = rt.alloc();
-    for (patience, door_cost) in [(0, 1), (1, 0), (1_000_001, 1), (1, 1_000_001)].iter() {
+    let rows: &[(u32, u32)] = &[(0, 1), (1, 0), (1_000_001, 1), (1, 1_000_001)];
+    for (patience, door_cost) in rows {
         let settings = Settings {
             patience: *patience,
             door_cost: *door_cost,
         };
-        assert!(rt; faults(run(alloc, &[""], 1, settings), PlainFault::Settings));
-        assert!(rt; faults(run(alloc, &[], 0, settings), PlainFault::Threads));
+        assert!(rt; faults(rt.alloc(), &[""], &[&[]], settings, PlainFault::Settings));
+        assert!(rt; faults(rt.alloc(), &[], &[], settings, PlainFault::Threads));
     }
 }
 
-// Whether the rows of a run have these clocks and threads.
-fn has_turns(plain: &Plain, wanted: &[(u64, usize)]) -> bool {
-    let rows = plain.history.rows();
-    if rows.len() != wanted.len() {
-        return false;
-    }
-    for (row, (clock, thread)) in rows.iter().zip(wanted.iter()) {
-        let turn = Turn {
-            clock: *clock,
-            thread: *thread,
-        };
-        if row.turn != turn {
-            return false;
-        }
-    }
-    true
+// ## What is wanted of a run
+
+// A row: its clock, its thread and its reply, or none where the call was blocked.
+type WantedRow = (u64, usize, Option<Seen>);
+
+#[derive(Clone, Copy)]
+struct Wanted {
+    stop: Option<Stop>,
+    rows: &'static [WantedRow],
 }
 
-// Whether the row of this number is answered so.
-fn is_answered(plain: &Plain, number: usize, answer: Answer) -> bool {
-    match plain.history.rows().get(number) {
-        Some(row) => row.answer == Some(answer),
-        None => false,
+fn is_row(row: &HistoryRow, wanted: WantedRow) -> bool {
+    match wanted {
+        (clock, thread, Some(seen)) => replied(row, thread, clock, seen),
+        (clock, thread, None) => was_blocked(row, thread, clock),
     }
 }
 
-// Whether it is answered with this reply.
-fn is_replied(plain: &Plain, number: usize, reply: Reply) -> bool {
-    is_answered(plain, number, Answer::Reply(reply))
+fn are_rows(rows: &[HistoryRow], wanted: &[WantedRow]) -> bool {
+    rows.len() == wanted.len()
+        && rows
+            .iter()
+            .zip(wanted)
+            .all(|(row, wanted)| is_row(row, *wanted))
 }
 
-// Whether nothing came from outside for the rows of a run.
-fn stayed_inside(plain: &Plain) -> bool {
-    for row in plain.history.rows() {
-        if row.outcome.is_some() {
-            return false;
-        }
-    }
-    true
+fn is_met(plain: &Plain, wanted: Wanted) -> bool {
+    plain.stop == wanted.stop && are_rows(plain.history.rows(), wanted.rows)
 }
 
-// Whether the run of one thread has asked so many steps, of which the last is its end.
-fn has_steps(plain: &Plain, steps: usize) -> bool {
-    let asked = plain.history.asked();
-    if asked.len() != 1 {
-        return false;
+// Whether a run gives what is wanted.
+fn gives(run: Result<Plain, PlainFault>, wanted: Wanted) -> Result<bool, PlainFault> {
+    match run {
+        Ok(plain) => Ok(is_met(&plain, wanted)),
+        Err(fault) => Err(fault),
     }
-    asked.steps(0).len() == steps && asked.steps(0).last() == Some(&Step::End)
 }
+
+// Whether it writes this log.
+fn writes(run: Result<Plain, PlainFault>, log: &[u8]) -> Result<bool, PlainFault> {
+    match run {
+        Ok(plain) => Ok(plain.log.as_slice() == log),
+        Err(fault) => Err(fault),
+    }
+}
+
+// Whether it stops so, with so many rows, and its threads saw so many each.
+fn stops(
+    run: Result<Plain, PlainFault>,
+    stop: Option<Stop>,
+    rows: usize,
+    seen: &[usize],
+) -> Result<bool, PlainFault> {
+    match run {
+        Ok(plain) => Ok(is_stopped(&plain, stop, rows, seen)),
+        Err(fault) => Err(fault),
+    }
+}
+
+fn is_stopped(plain: &Plain, stop: Option<Stop>, rows: usize, seen: &[usize]) -> bool {
+    plain.stop == stop && plain.history.rows().len() == rows && saw(&plain.transcripts, seen)
+}
+
+// Whether each thread saw so many rows.
+fn saw(transcripts: &Transcripts, seen: &[usize]) -> bool {
+    let threads = transcripts.threads();
+    threads.len() == seen.len()
+        && threads
+            .iter()
+            .zip(seen)
+            .all(|(transcript, rows)| transcript.rows().len() == *rows)
+}
+
+// ## Runs that stay in memory
+
+// Whether nothing came from outside for these rows.
+fn stayed_inside(rows: &[HistoryRow]) -> bool {
+    rows.iter().all(|row| row.outcome.is_none())
+}
+
+// Whether a thread has asked so many steps, of which the last is its end.
+fn has_steps(asked: &[Step], steps: usize) -> bool {
+    asked.len() == steps && asked.last() == Some(&Step::End)
+}
+
+// Whether the history of one thread stayed in memory, and it has asked so many steps.
+fn is_inside(history: &History, steps: usize) -> bool {
+    let asked = history.asked();
+    stayed_inside(history.rows()) && asked.len() == 1 && has_steps(asked.steps(0), steps)
+}
+
+fn has_asked(run: Result<Plain, PlainFault>, steps: usize) -> Result<bool, PlainFault> {
+    match run {
+        Ok(plain) => Ok(is_inside(&plain.history, steps)),
+        Err(fault) => Err(fault),
+    }
+}
+
+const KEPT: Wanted = Wanted {
+    stop: None,
+    rows: &[
+        (1, 0, Some(Seen::Number(0))),
+        (5, 0, Some(Seen::Count(5))),
+        (9, 0, Some(Seen::Fail(Errno::EBADF))),
+    ],
+};
 
 #[test]
 fn keeps_the_history(rt: HostRuntime) -> Result<(), Fail> {
-    let text = "open /a rw create\nwrite 0 x68656c6c6f\nclose 7";
-    let plain = run(rt.alloc(), &[text], 1, DEFAULTS)?;
-    assert!(rt; has_turns(&plain, &[(1, 0), (5, 0), (9, 0)]));
-    assert!(rt; stayed_inside(&plain));
-    assert!(rt; has_steps(&plain, 4));
-    assert_eq!(rt; plain.transcripts.threads().len(), 1);
-    assert_eq!(rt; plain.stop, None);
+    let texts: &[&str] = &["open /a rw create\nwrite 0 x68656c6c6f\nclose 7"];
+    assert!(rt; gives(plain(rt.alloc(), texts, &[&[]], DEFAULTS), KEPT)?);
+    assert!(rt; has_asked(plain(rt.alloc(), texts, &[&[]], DEFAULTS), 4)?);
+    assert!(rt; stops(plain(rt.alloc(), texts, &[&[]], DEFAULTS), None, 3, &[3])?);
     Ok(())
-}
-
-// Whether the log of a run, for which nothing comes from outside, is this.
-fn writes(
-    alloc: Global,
-    texts: &[&str],
-    settings: Settings,
-    log: &[u8],
-) -> Result<bool, PlainFault> {
-    let plain = run(alloc, texts, texts.len(), settings)?;
-    Ok(plain.log.as_slice() == log)
 }
 
 // A header with the number of threads and the settings, and an end without records.
 #[test]
 fn writes_the_log(rt: HostRuntime) -> Result<(), Fail> {
     let alone = b"DIOL\0\x01\0\x01\0\0\x03\xe8\0\0\0\x64E\0\0\0\0";
-    assert!(rt; writes(rt.alloc(), &[""], DEFAULTS, alone)?);
+    assert!(rt; writes(plain(rt.alloc(), &[""], &[&[]], DEFAULTS), alone)?);
     let three = b"DIOL\0\x01\0\x03\0\0\0\x07\0\x0f\x42\x40E\0\0\0\0";
     let settings = Settings {
         patience: 7,
         door_cost: 1_000_000,
     };
-    let texts = ["open /a rw create", "", "close 0"];
-    assert!(rt; writes(rt.alloc(), &texts, settings, three)?);
+    let texts: &[&str] = &["open /a rw create", "", "close 0"];
+    assert!(rt; writes(plain(rt.alloc(), texts, &[&[], &[], &[]], settings), three)?);
     Ok(())
 }
+
+const IN_ORDER: Wanted = Wanted {
+    stop: None,
+    rows: &[(1, 1, Some(Seen::Number(0))), (4, 0, Some(Seen::Number(1)))],
+};
 
 #[test]
 fn rows_stand_in_the_order_of_their_turns(rt: HostRuntime) -> Result<(), Fail> {
     let late = "work 3\nopen /a rw create";
     let early = "open /b rw create\nwork 1000000";
-    let plain = run(rt.alloc(), &[late, early], 2, DEFAULTS)?;
-    assert!(rt; has_turns(&plain, &[(1, 1), (4, 0)]));
+    let run = plain(rt.alloc(), &[late, early], &[&[], &[]], DEFAULTS);
+    assert!(rt; gives(run, IN_ORDER)?);
     Ok(())
 }
+
+const BLOCKED: Wanted = Wanted {
+    stop: None,
+    rows: &[
+        (1, 0, Some(Seen::Pair(0, 1))),
+        (5, 0, None),
+        (9, 0, None),
+        (13, 0, Some(Seen::Fail(Errno::EINTR))),
+    ],
+};
 
 // A call has a row for each turn at which it is blocked, and one for its last.
 #[test]
 fn blocked_turns_have_rows(rt: HostRuntime) -> Result<(), Fail> {
-    let plain = run(rt.alloc(), &["pipe\nread 0 4"], 1, patience(3))?;
-    assert!(rt; has_turns(&plain, &[(1, 0), (5, 0), (9, 0), (13, 0)]));
-    assert!(rt; is_replied(&plain, 0, Reply::Pair(0, 1)));
-    assert!(rt; is_answered(&plain, 1, Answer::Again));
-    assert!(rt; is_answered(&plain, 2, Answer::Again));
-    assert!(rt; is_replied(&plain, 3, Reply::Fail(Errno::EINTR)));
+    let run = plain(rt.alloc(), &["pipe\nread 0 4"], &[&[]], patience(3));
+    assert!(rt; gives(run, BLOCKED)?);
     Ok(())
 }
 
-// What comes from outside: a kind, with a value or a failure.
-type Came = (OutKind, Result<u64, Errno>);
-
-fn given(alloc: Global, kind: OutKind, came: Result<u64, Errno>) -> Given {
-    let outcome = match came {
-        Ok(value) => Outcome::Ok {
-            value,
-            bytes: Bytes::from_vec(Vec::new(alloc)),
-        },
-        Err(error) => Outcome::Fail(error),
-    };
-    Given { kind, outcome }
-}
-
-// What comes for a thread.
-fn list(alloc: Global, all: &[Came]) -> Result<Outcomes, AllocError> {
-    let mut outcomes = Vec::new(alloc);
-    for (kind, came) in all {
-        outcomes.push(given(alloc, *kind, *came))?;
-    }
-    Ok(Outcomes::from_vec(outcomes))
-}
+// ## Runs that go outside
 
 // The run of one script with one list.
 fn run_one(
@@ -218,12 +234,25 @@ fn run_one(
     all: &[Came],
     settings: Settings,
 ) -> Result<Plain, PlainFault> {
-    let mut outcomes = Vec::new(alloc);
-    outcomes.push(list(alloc, all)?)?;
-    run_with(alloc, &[text], outcomes, settings)
+    plain(alloc, &[text], &[all], settings)
 }
 
 const SHORT_WRITE: &str = "host_open out w create\nwrite 0 x0001020304050607\nwrite 0 x0304";
+
+const SHORT_WRITE_CAME: &[Came] = &[
+    (OutKind::Open, Ok(0)),
+    (OutKind::Write, Ok(3)),
+    (OutKind::Write, Err(Errno::EIO)),
+];
+
+const SHORT_WRITE_SEEN: Wanted = Wanted {
+    stop: None,
+    rows: &[
+        (1, 0, Some(Seen::Number(0))),
+        (105, 0, Some(Seen::Count(3))),
+        (209, 0, Some(Seen::Fail(Errno::EIO))),
+    ],
+};
 
 // A header, three records and the end.
 const SHORT_WRITE_LOG: &[u8] = b"DIOL\0\x01\0\x01\0\0\x03\xe8\0\0\0\x64\
@@ -232,49 +261,44 @@ const SHORT_WRITE_LOG: &[u8] = b"DIOL\0\x01\0\x01\0\0\x03\xe8\0\0\0\x64\
     R\0\0\0\0\0\x02\x03\x09\0\0\0\0\0\0\0\0\0\0\
     E\0\0\0\x03";
 
+// The run of the short write, for which this comes.
+fn short_write(alloc: Global, came: &[Came]) -> Result<Plain, PlainFault> {
+    run_one(alloc, SHORT_WRITE, came, DEFAULTS)
+}
+
 #[test]
 fn a_short_host_write(rt: HostRuntime) -> Result<(), Fail> {
-    let came = [
-        (OutKind::Open, Ok(0)),
-        (OutKind::Write, Ok(3)),
-        (OutKind::Write, Err(Errno::EIO)),
-    ];
-    let plain = run_one(rt.alloc(), SHORT_WRITE, &came, DEFAULTS)?;
-    assert!(rt; plain.log.as_slice() == SHORT_WRITE_LOG);
-    assert_eq!(rt; plain.stop, None);
-    assert!(rt; has_turns(&plain, &[(1, 0), (105, 0), (209, 0)]));
-    assert!(rt; is_replied(&plain, 0, Reply::Number(0)));
-    assert!(rt; is_replied(&plain, 1, Reply::Count(3)));
-    assert!(rt; is_replied(&plain, 2, Reply::Fail(Errno::EIO)));
+    assert!(rt; gives(short_write(rt.alloc(), SHORT_WRITE_CAME), SHORT_WRITE_SEEN)?);
+    assert!(rt; writes(short_write(rt.alloc(), SHORT_WRITE_CAME), SHORT_WRITE_LOG)?);
     Ok(())
 }
 
-// Whether the run of the short write stops so, with so many rows.
-fn stops(alloc: Global, came: &[Came], stop: Stop, rows: usize) -> Result<bool, PlainFault> {
-    let plain = run_one(alloc, SHORT_WRITE, came, DEFAULTS)?;
-    Ok(plain.stop == Some(stop) && plain.history.rows().len() == rows)
-}
+// An outcome that does not answer: what came, how the run stops, and how many rows and replies there are.
+const UNANSWERED: &[(&[Came], Stop, usize, usize)] = &[
+    (&[], Stop::EndOfLog(0), 1, 0),
+    (&[(OutKind::Open, Ok(0))], Stop::EndOfLog(0), 2, 1),
+    (
+        &[(OutKind::Open, Ok(0)), (OutKind::Seek, Ok(0))],
+        Stop::Diverged(0, 1),
+        2,
+        1,
+    ),
+    (
+        &[(OutKind::Open, Ok(0)), (OutKind::Write, Ok(9))],
+        Stop::Diverged(0, 1),
+        2,
+        1,
+    ),
+];
 
 // Where an outcome is missing, is of another kind, or does not fit.
 #[test]
 fn stops_where_an_outcome_does_not_answer(rt: HostRuntime) -> Result<(), Fail> {
-    let alloc = rt.alloc();
-    let opened = (OutKind::Open, Ok(0));
-    let sought = (OutKind::Seek, Ok(0));
-    let written = (OutKind::Write, Ok(9));
-    assert!(rt; stops(alloc, &[], Stop::EndOfLog(0), 1)?);
-    assert!(rt; stops(alloc, &[opened], Stop::EndOfLog(0), 2)?);
-    assert!(rt; stops(alloc, &[opened, sought], Stop::Diverged(0, 1), 2)?);
-    assert!(rt; stops(alloc, &[opened, written], Stop::Diverged(0, 1), 2)?);
+    for (came, stop, rows, replies) in UNANSWERED {
+        let run = short_write(rt.alloc(), came);
+        assert!(rt; stops(run, Some(*stop), *rows, &[*replies])?);
+    }
     Ok(())
-}
-
-// An open that succeeds for the first of two threads, and nothing for the second.
-fn one_open(alloc: Global) -> Result<Vec<Outcomes>, AllocError> {
-    let mut outcomes = Vec::with_capacity(alloc, 2)?;
-    outcomes.push(list(alloc, &[(OutKind::Open, Ok(0))])?)?;
-    outcomes.push(Outcomes::from_vec(Vec::new(alloc)))?;
-    Ok(outcomes)
 }
 
 // A thread that lacks its outcome holds up nobody who does not want what it holds.
@@ -282,15 +306,13 @@ fn one_open(alloc: Global) -> Result<Vec<Outcomes>, AllocError> {
 fn one_thread_without_an_outcome(rt: HostRuntime) -> Result<(), Fail> {
     let lacking = "host_open a r\nread 0 1";
     let other = "work 300\nopen /a rw create\nwrite 1 x61";
-    let outcomes = one_open(rt.alloc())?;
-    let plain = run_with(rt.alloc(), &[lacking, other], outcomes, DEFAULTS)?;
-    assert_eq!(rt; plain.stop, Some(Stop::EndOfLog(0)));
-    assert_eq!(rt; plain.history.rows().len(), 2);
-    let threads = plain.transcripts.threads();
-    assert_eq!(rt; threads.len(), 2);
-    assert_eq!(rt; threads[1].rows().len(), 0);
+    let came: &[&[Came]] = &[&[(OutKind::Open, Ok(0))], &[]];
+    let run = plain(rt.alloc(), &[lacking, other], came, DEFAULTS);
+    assert!(rt; stops(run, Some(Stop::EndOfLog(0)), 2, &[1, 0])?);
     Ok(())
 }
+
+const WRITE_A: &str = "host_open out w\nwrite 0 x61";
 
 // An open that succeeds, and two writes to which the door is not ready.
 const NOT_READY: &[Came] = &[
@@ -299,33 +321,50 @@ const NOT_READY: &[Came] = &[
     (OutKind::Write, Err(Errno::EAGAIN)),
 ];
 
+const NOT_READY_SEEN: Wanted = Wanted {
+    stop: None,
+    rows: &[
+        (1, 0, Some(Seen::Number(0))),
+        (105, 0, None),
+        (209, 0, Some(Seen::Fail(Errno::EINTR))),
+    ],
+};
+
 // EAGAIN makes a door call wait, up to its patience.
 #[test]
 fn a_door_that_is_not_ready(rt: HostRuntime) -> Result<(), Fail> {
-    let text = "host_open out w\nwrite 0 x61";
-    let plain = run_one(rt.alloc(), text, NOT_READY, patience(2))?;
-    assert!(rt; has_turns(&plain, &[(1, 0), (105, 0), (209, 0)]));
-    assert!(rt; is_replied(&plain, 0, Reply::Number(0)));
-    assert!(rt; is_answered(&plain, 1, Answer::Again));
-    assert!(rt; is_replied(&plain, 2, Reply::Fail(Errno::EINTR)));
+    let run = run_one(rt.alloc(), WRITE_A, NOT_READY, patience(2));
+    assert!(rt; gives(run, NOT_READY_SEEN)?);
     Ok(())
 }
 
-// Whether the last row of a run with patience 1 fails so, where the door is not ready.
-fn fails_at_last(alloc: Global, text: &str, error: Errno) -> Result<bool, PlainFault> {
-    let came = [(OutKind::Open, Ok(0)), (OutKind::Write, Err(Errno::EAGAIN))];
-    let plain = run_one(alloc, text, &came, patience(1))?;
-    let last = plain.history.rows().len().saturating_sub(1);
-    Ok(is_replied(&plain, last, Reply::Fail(error)))
-}
+const NEVER_READY: &[Came] = &[(OutKind::Open, Ok(0)), (OutKind::Write, Err(Errno::EAGAIN))];
+
+const INTERRUPTED: Wanted = Wanted {
+    stop: None,
+    rows: &[
+        (1, 0, Some(Seen::Number(0))),
+        (105, 0, Some(Seen::Fail(Errno::EINTR))),
+    ],
+};
+
+const REFUSED: Wanted = Wanted {
+    stop: None,
+    rows: &[
+        (1, 0, Some(Seen::Number(0))),
+        (105, 0, Some(Seen::Done)),
+        (107, 0, Some(Seen::Fail(Errno::EAGAIN))),
+    ],
+};
 
 // At the end of its patience it fails, and at once where its description is not to block.
 #[test]
 fn a_door_that_is_never_ready(rt: HostRuntime) -> Result<(), Fail> {
-    let blocking = "host_open out w\nwrite 0 x61";
-    assert!(rt; fails_at_last(rt.alloc(), blocking, Errno::EINTR)?);
     let nonblocking = "host_open out w\nsetfl 0 nonblock\nwrite 0 x61";
-    assert!(rt; fails_at_last(rt.alloc(), nonblocking, Errno::EAGAIN)?);
+    let run = run_one(rt.alloc(), WRITE_A, NEVER_READY, patience(1));
+    assert!(rt; gives(run, INTERRUPTED)?);
+    let run = run_one(rt.alloc(), nonblocking, NEVER_READY, patience(1));
+    assert!(rt; gives(run, REFUSED)?);
     Ok(())
 }
 
@@ -344,23 +383,43 @@ const READY_AT_LAST_LOG: &[u8] = b"DIOL\0\x01\0\x01\0\0\0\x03\0\0\0\x64\
     R\0\0\0\0\0\x03\x03\0\0\0\0\0\0\0\0\x01\0\0\
     E\0\0\0\x04";
 
+fn ready_at_last(alloc: Global) -> Result<Plain, PlainFault> {
+    run_one(alloc, WRITE_A, READY_AT_LAST, patience(3))
+}
+
 // Each turn of a call that is made again has a record.
 #[test]
 fn each_blocked_turn_outside_has_a_record(rt: HostRuntime) -> Result<(), Fail> {
-    let text = "host_open out w\nwrite 0 x61";
-    let plain = run_one(rt.alloc(), text, READY_AT_LAST, patience(3))?;
-    assert_eq!(rt; plain.stop, None);
-    assert!(rt; plain.log.as_slice() == READY_AT_LAST_LOG);
-    let threads = plain.transcripts.threads();
-    assert_eq!(rt; threads.len(), 1);
-    assert_eq!(rt; threads[0].rows().len(), 2);
+    assert!(rt; writes(ready_at_last(rt.alloc()), READY_AT_LAST_LOG)?);
+    assert!(rt; stops(ready_at_last(rt.alloc()), None, 4, &[2])?);
     Ok(())
 }
 
-// Whether this came from outside for the row of this number.
-fn came_for(plain: &Plain, number: usize, outcome: Outcome) -> bool {
-    match plain.history.rows().get(number) {
-        Some(row) => row.outcome == Some(outcome),
+const READY_AT_LAST_SEEN: Wanted = Wanted {
+    stop: None,
+    rows: &[
+        (1, 0, Some(Seen::Number(0))),
+        (105, 0, None),
+        (209, 0, None),
+        (313, 0, Some(Seen::Count(1))),
+    ],
+};
+
+// Whether this failure came from outside for the row of this number.
+fn failed_outside(
+    run: Result<Plain, PlainFault>,
+    number: usize,
+    error: Errno,
+) -> Result<bool, PlainFault> {
+    match run {
+        Ok(plain) => Ok(came_for(plain.history.rows().get(number), error)),
+        Err(fault) => Err(fault),
+    }
+}
+
+fn came_for(row: Option<&HistoryRow>, error: Errno) -> bool {
+    match row {
+        Some(row) => row.outcome == Some(Outcome::Fail(error)),
         None => false,
     }
 }
@@ -368,13 +427,7 @@ fn came_for(plain: &Plain, number: usize, outcome: Outcome) -> bool {
 // And it is in the history with its outcome.
 #[test]
 fn each_blocked_turn_outside_has_a_row(rt: HostRuntime) -> Result<(), Fail> {
-    let text = "host_open out w\nwrite 0 x61";
-    let plain = run_one(rt.alloc(), text, READY_AT_LAST, patience(3))?;
-    assert!(rt; has_turns(&plain, &[(1, 0), (105, 0), (209, 0), (313, 0)]));
-    assert!(rt; is_replied(&plain, 0, Reply::Number(0)));
-    assert!(rt; is_answered(&plain, 1, Answer::Again));
-    assert!(rt; is_answered(&plain, 2, Answer::Again));
-    assert!(rt; is_replied(&plain, 3, Reply::Count(1)));
-    assert!(rt; came_for(&plain, 2, Outcome::Fail(Errno::EAGAIN)));
+    assert!(rt; gives(ready_at_last(rt.alloc()), READY_AT_LAST_SEEN)?);
+    assert!(rt; failed_outside(ready_at_last(rt.alloc()), 2, Errno::EAGAIN)?);
     Ok(())
 }

@@ -1,49 +1,14 @@
-use call_machine::{Machine, NotRecorded, Refused, Stop};
-use input_log::{Header, LogWriter, MemorySink};
+use crate::driven::{CREATE, Driven, OLD, SETTINGS, machine, open, write};
+use crate::seen::{Seen, replied};
+use call_machine::{NotRecorded, Refused, Stop};
 use lock_machine::{Attempt, Phase};
-use posix_terms::{
-    Access, Answer, Bytes, Call, HistoryRow, OpenFlags, Outcome, Reply, Settings, Step,
-};
+use posix_terms::{Access, Answer, Bytes, Call, HistoryRow, Outcome, Reply, Step};
 use std::alloc::{AllocError, Global};
 use std::test::Fail;
 
-const SETTINGS: Settings = Settings {
-    patience: 1000,
-    door_cost: 100,
-};
-
-const HEADER: Header = Header {
-    threads: 2,
-    patience: 1000,
-    door_cost: 100,
-};
-
-const OLD: OpenFlags = OpenFlags {
-    create: false,
-    exclusive: false,
-    truncate: false,
-    append: false,
-    nonblock: false,
-};
-
-const CREATE: OpenFlags = OpenFlags {
-    create: true,
-    exclusive: false,
-    truncate: false,
-    append: false,
-    nonblock: false,
-};
-
-// Two threads, whose log has so much room. A door is a number here.
-#[tactic(auto, unfolding(input_log::specs::Grammar::in_range))]
-fn two_threads(alloc: Global, room: usize) -> Result<Machine<MemorySink, u8>, AllocError> {
-    match LogWriter::begin(MemorySink::new(alloc, room)?, HEADER) {
-        Ok(log) => match Machine::new(alloc, 2, SETTINGS, log) {
-            Ok(machine) => Ok(machine),
-            Err(_) => Err(AllocError),
-        },
-        Err(_) => Err(AllocError),
-    }
+// Two threads, whose log has so much room.
+fn two_threads(alloc: Global, room: usize) -> Result<Driven, AllocError> {
+    machine(alloc, 2, SETTINGS, room)
 }
 
 // ## Close and reopen, in whatever order
@@ -58,38 +23,22 @@ enum First {
 
 // What thread 0 or 1 asks, by how much it asked before.
 fn asks(alloc: Global, i: usize, asked: usize) -> Result<Step, AllocError> {
-    let path = Bytes::from_slice(alloc, b"/a")?;
-    Ok(match (i, asked) {
-        (0, 0) => Step::Call(Call::Open {
-            path,
-            access: Access::ReadWrite,
-            flags: CREATE,
-        }),
-        (0, 1) => Step::Call(Call::Write {
-            descriptor: 0,
-            bytes: Bytes::from_slice(alloc, b"a")?,
-        }),
-        (1, 0) => Step::Work(6),
-        (1, 1) => Step::Call(Call::Close { descriptor: 0 }),
-        (1, 2) => Step::Call(Call::Open {
-            path,
-            access: Access::ReadOnly,
-            flags: OLD,
-        }),
-        (1, 3) => Step::Call(Call::Read {
+    match (i, asked) {
+        (0, 0) => open(alloc, b"/a", Access::ReadWrite, CREATE),
+        (0, 1) => write(alloc, 0, b"a"),
+        (1, 0) => Ok(Step::Work(6)),
+        (1, 1) => Ok(Step::Call(Call::Close { descriptor: 0 })),
+        (1, 2) => open(alloc, b"/a", Access::ReadOnly, OLD),
+        (1, 3) => Ok(Step::Call(Call::Read {
             descriptor: 0,
             count: 1,
-        }),
-        _ => Step::End,
-    })
+        })),
+        _ => Ok(Step::End),
+    }
 }
 
 // Thread i makes its event, where it can.
-fn advance(
-    alloc: Global,
-    machine: &mut Machine<MemorySink, u8>,
-    i: usize,
-) -> Result<bool, AllocError> {
+fn advance(alloc: Global, machine: &mut Driven, i: usize) -> Result<bool, AllocError> {
     if i >= machine.len() {
         return Ok(false);
     }
@@ -118,7 +67,7 @@ fn order(first: First, round: usize) -> [usize; 2] {
 }
 
 // Both threads, to their ends.
-fn driven(alloc: Global, first: First) -> Result<Machine<MemorySink, u8>, AllocError> {
+fn driven(alloc: Global, first: First) -> Result<Driven, AllocError> {
     let mut machine = two_threads(alloc, 21)?;
     for round in 0..200_usize {
         let [one, other] = order(first, round);
@@ -129,39 +78,31 @@ fn driven(alloc: Global, first: First) -> Result<Machine<MemorySink, u8>, AllocE
     Ok(machine)
 }
 
-// Whether a row is this thread's, was granted at this clock and has this reply.
-fn replied(row: &HistoryRow, thread: usize, clock: u64, reply: &Reply) -> bool {
-    match &row.answer {
-        Some(Answer::Reply(own)) => {
-            row.turn.thread == thread && row.turn.clock == clock && own == reply
+fn is_reopened(rows: &[HistoryRow]) -> bool {
+    match rows {
+        [open, write, close, reopen, read] => {
+            replied(open, 0, 1, Seen::Number(0))
+                && replied(write, 0, 5, Seen::Count(1))
+                && replied(close, 1, 8, Seen::Done)
+                && replied(reopen, 1, 12, Seen::Number(0))
+                && replied(read, 1, 16, Seen::Data(b"a"))
         }
         _ => false,
     }
 }
 
-fn is_reopened(alloc: Global, rows: &[HistoryRow]) -> Result<bool, AllocError> {
-    let data = Reply::Data(Bytes::from_slice(alloc, b"a")?);
-    Ok(match rows {
-        [open, write, close, reopen, read] => {
-            replied(open, 0, 1, &Reply::Number(0))
-                && replied(write, 0, 5, &Reply::Count(1))
-                && replied(close, 1, 8, &Reply::Done)
-                && replied(reopen, 1, 12, &Reply::Number(0))
-                && replied(read, 1, 16, &data)
-        }
-        _ => false,
-    })
+// Whether the history of both threads in this order is that, and their log has no record.
+fn gives_it(alloc: Global, first: First) -> Result<bool, AllocError> {
+    let machine = driven(alloc, first)?;
+    let is_reopened = is_reopened(machine.history());
+    let left = machine.finish();
+    Ok(is_reopened && left.stop.is_none() && left.sink.bytes().len() == 21)
 }
 
 #[test]
 fn gives_the_same_history_in_whatever_order(rt: HostRuntime) -> Result<(), Fail> {
-    let alloc = rt.alloc();
     for first in &[First::Least, First::Greatest, First::InTurns] {
-        let machine = driven(alloc, *first)?;
-        assert!(rt; is_reopened(alloc, machine.history())?);
-        let left = machine.finish();
-        assert!(rt; left.stop.is_none());
-        assert!(rt; left.sink.bytes().len() == 21);
+        assert!(rt; gives_it(rt.alloc(), *first)?);
     }
     Ok(())
 }
@@ -169,7 +110,7 @@ fn gives_the_same_history_in_whatever_order(rt: HostRuntime) -> Result<(), Fail>
 // ## Stops
 
 // What thread i's try for its object gives, where there is such a thread.
-fn granted(machine: &mut Machine<MemorySink, u8>, i: usize) -> Option<Result<Attempt, Refused>> {
+fn granted(machine: &mut Driven, i: usize) -> Option<Result<Attempt, Refused>> {
     if i >= machine.len() {
         return None;
     }
@@ -177,23 +118,30 @@ fn granted(machine: &mut Machine<MemorySink, u8>, i: usize) -> Option<Result<Att
 }
 
 // What thread i's end gives, where there is such a thread.
-fn ended(machine: &mut Machine<MemorySink, u8>, i: usize) -> Option<Result<(), Refused>> {
+fn ended(machine: &mut Driven, i: usize) -> Option<Result<(), Refused>> {
     if i >= machine.len() {
         return None;
     }
     Some(machine.end(i))
 }
 
+// Whether a machine that wants the object of thread 0 is stopped, and then refuses each event.
+fn refuses_all(machine: &mut Driven) -> bool {
+    machine.stop(Stop::Memory).is_ok()
+        && granted(machine, 0) == Some(Err(Refused::Stopped(Stop::Memory)))
+        && machine.stop(Stop::ClockFull) == Err(Refused::Stopped(Stop::Memory))
+        && ended(machine, 1) == Some(Err(Refused::Stopped(Stop::Memory)))
+}
+
+fn refuses_all_once_stopped(alloc: Global) -> Result<bool, AllocError> {
+    let mut machine = two_threads(alloc, 100)?;
+    let wants_object = advance(alloc, &mut machine, 0)? && advance(alloc, &mut machine, 0)?;
+    Ok(wants_object && refuses_all(&mut machine))
+}
+
 #[test]
 fn refuses_all_events_once_it_is_stopped(rt: HostRuntime) -> Result<(), Fail> {
-    let alloc = rt.alloc();
-    let mut machine = two_threads(alloc, 100)?;
-    assert!(rt; advance(alloc, &mut machine, 0)?);
-    assert!(rt; advance(alloc, &mut machine, 0)?);
-    assert!(rt; machine.stop(Stop::Memory).is_ok());
-    assert!(rt; granted(&mut machine, 0) == Some(Err(Refused::Stopped(Stop::Memory))));
-    assert!(rt; machine.stop(Stop::ClockFull) == Err(Refused::Stopped(Stop::Memory)));
-    assert!(rt; ended(&mut machine, 1) == Some(Err(Refused::Stopped(Stop::Memory))));
+    assert!(rt; refuses_all_once_stopped(rt.alloc())?);
     Ok(())
 }
 
@@ -201,51 +149,50 @@ fn refuses_all_events_once_it_is_stopped(rt: HostRuntime) -> Result<(), Fail> {
 
 // What thread 0 asks that opens a host file and writes to it.
 fn asks_outside(alloc: Global, asked: usize) -> Result<Step, AllocError> {
-    Ok(match asked {
-        0 => Step::Call(Call::HostOpen {
+    match asked {
+        0 => Ok(Step::Call(Call::HostOpen {
             path: Bytes::from_slice(alloc, b"out")?,
             access: Access::WriteOnly,
             flags: CREATE,
-        }),
-        _ => Step::Call(Call::Write {
-            descriptor: 0,
-            bytes: Bytes::from_slice(alloc, &[0, 1, 2, 3, 4, 5, 6, 7])?,
-        }),
-    })
+        })),
+        _ => write(alloc, 0, &[0, 1, 2, 3, 4, 5, 6, 7]),
+    }
 }
 
-// Thread 0 asks its next call and goes outside with it, with the door that is given.
-fn goes_outside(
-    alloc: Global,
-    machine: &mut Machine<MemorySink, u8>,
-) -> Result<Option<u8>, AllocError> {
+// Thread 0 asks its next call and is granted the table and the object.
+fn asks_next(alloc: Global, machine: &mut Driven) -> Result<(), AllocError> {
     if machine.len() == 0 {
         return Err(AllocError);
     }
     let step = asks_outside(alloc, machine.asked(0).len())?;
-    let made = machine.ask(0, step).is_ok()
+    let is_granted = machine.ask(0, step).is_ok()
         && advance(alloc, machine, 0)?
         && advance(alloc, machine, 0)?;
-    if !made || machine.len() == 0 {
-        return Err(AllocError);
-    }
-    match (machine.request(0)?, machine.begin_outside(0)) {
-        (Some(_), Ok(door)) => Ok(door),
-        _ => Err(AllocError),
-    }
+    if is_granted { Ok(()) } else { Err(AllocError) }
+}
+
+// Whether thread 0 shows a request.
+fn shows_request(machine: &Driven) -> Result<bool, AllocError> {
+    Ok(machine.len() > 0 && machine.request(0)?.is_some())
+}
+
+// Whether it goes outside with its next call, and with this door.
+fn goes_outside(alloc: Global, machine: &mut Driven, door: Option<u8>) -> Result<bool, AllocError> {
+    asks_next(alloc, machine)?;
+    Ok(shows_request(machine)? && machine.len() > 0 && machine.begin_outside(0) == Ok(door))
 }
 
 // This outcome comes for thread 0, where it goes with what was asked.
 fn comes(
-    machine: &mut Machine<MemorySink, u8>,
+    machine: &mut Driven,
     outcome: Outcome,
     back: Option<u8>,
     opened: Option<u8>,
-) -> Result<Result<(), NotRecorded<u8>>, AllocError> {
+) -> Option<Result<(), NotRecorded<u8>>> {
     if machine.len() == 0 || !machine.takes(0, &outcome, back.is_some(), opened.is_some()) {
-        return Err(AllocError);
+        return None;
     }
-    Ok(machine.record(0, outcome, back, opened))
+    Some(machine.record(0, outcome, back, opened))
 }
 
 fn success(alloc: Global, value: u64) -> Outcome {
@@ -255,26 +202,66 @@ fn success(alloc: Global, value: u64) -> Outcome {
     }
 }
 
+fn is_success(outcome: &Outcome, wanted: u64) -> bool {
+    match outcome {
+        Outcome::Ok { value, bytes } => *value == wanted && bytes.as_slice().is_empty(),
+        Outcome::Fail(_) => false,
+    }
+}
+
+// Whether thread 0 opens a host file, whose door is 7. The other one works, so thread 0 has the turn throughout.
+fn opens_outside(alloc: Global, machine: &mut Driven) -> Result<bool, AllocError> {
+    Ok(
+        machine.len() == 2
+            && machine.ask(1, Step::Work(1 << 40)).is_ok()
+            && goes_outside(alloc, machine, None)?
+            && is_recorded(comes(machine, success(alloc, 0), None, Some(7)))
+            && is_opened(machine),
+    )
+}
+
+fn is_recorded(told: Option<Result<(), NotRecorded<u8>>>) -> bool {
+    match told {
+        Some(recorded) => recorded.is_ok(),
+        None => false,
+    }
+}
+
+fn is_opened(machine: &mut Driven) -> bool {
+    machine.len() > 0 && machine.answer(0) == Ok(Answer::Reply(Reply::Number(0)))
+}
+
+// Whether a write goes outside with that door, and its outcome is handed back with it.
+fn is_handed_back(alloc: Global, machine: &mut Driven) -> Result<bool, AllocError> {
+    Ok(
+        goes_outside(alloc, machine, Some(7))?
+            && has_it_back(comes(machine, success(alloc, 3), Some(7), None)),
+    )
+}
+
+fn has_it_back(told: Option<Result<(), NotRecorded<u8>>>) -> bool {
+    match told {
+        Some(Err(not)) => {
+            not.cause == Refused::Sink
+                && is_success(&not.outcome, 3)
+                && not.back == Some(7)
+                && not.opened.is_none()
+        }
+        _ => false,
+    }
+}
+
+// A machine with room for the header, one record and 7 bytes of another.
+fn hands_back(alloc: Global) -> Result<bool, AllocError> {
+    let mut machine = two_threads(alloc, 42)?;
+    let is_handed_back = opens_outside(alloc, &mut machine)?
+        && is_handed_back(alloc, &mut machine)?;
+    let is_stopped = ended(&mut machine, 1) == Some(Err(Refused::Stopped(Stop::Sink)));
+    Ok(is_handed_back && is_stopped && machine.finish().sink.bytes().len() == 42)
+}
+
 #[test]
 fn hands_back_what_its_sink_did_not_take(rt: HostRuntime) -> Result<(), Fail> {
-    let alloc = rt.alloc();
-    // Room for the header, one record and 7 bytes of another.
-    let mut machine = two_threads(alloc, 42)?;
-    // So thread 0 has the turn throughout.
-    assert!(rt; machine.len() == 2 && machine.ask(1, Step::Work(1 << 40)).is_ok());
-    assert!(rt; goes_outside(alloc, &mut machine)?.is_none());
-    assert!(rt; comes(&mut machine, success(alloc, 0), None, Some(7))?.is_ok());
-    assert!(rt; machine.len() > 0 && machine.answer(0) == Ok(Answer::Reply(Reply::Number(0))));
-    assert!(rt; goes_outside(alloc, &mut machine)? == Some(7));
-    match comes(&mut machine, success(alloc, 3), Some(7), None)? {
-        Ok(()) => return Err("the sink has no room".into()),
-        Err(not) => {
-            assert!(rt; not.cause == Refused::Sink);
-            assert!(rt; not.outcome == success(alloc, 3));
-            assert!(rt; not.back == Some(7) && not.opened.is_none());
-        }
-    }
-    assert!(rt; machine.len() == 2 && machine.end(1) == Err(Refused::Stopped(Stop::Sink)));
-    assert!(rt; machine.finish().sink.bytes().len() == 42);
+    assert!(rt; hands_back(rt.alloc())?);
     Ok(())
 }

@@ -1,8 +1,9 @@
 ghost use Rattle.std.specs.Prelude.{◌<◌, length};
 
+use crate::driven::{Driven, machine};
 use crate::random_scripts::{Dice, made_up, script_texts};
-use call_machine::{Machine, Plain, plain_run};
-use input_log::{Header, LogWriter, MemorySink};
+use call_machine::{Finished, Plain, PlainFault, Refused, plain_run};
+use input_log::MemorySink;
 use lock_machine::{Attempt, Phase};
 use posix_terms::{
     Answer, Given, HistoryRow, OutKind, Outcome, Outcomes, Reply, Request, Row, Settings,
@@ -13,7 +14,7 @@ use std::alloc::{AllocError, Global};
 use std::mem::replace;
 use std::process::Abort;
 use std::test::Fail;
-use thread_scripts::{Actor, Script, ScriptActor, Step, parse};
+use thread_scripts::{Actor, Memory, Script, ScriptActor, ScriptFault, Step, parse};
 
 // How many runs there are of each choice, each by a seed of its own.
 const RUNS: u64 = 250;
@@ -28,6 +29,52 @@ const SETTINGS: Settings = Settings {
     patience: 3,
     door_cost: 7,
 };
+
+// Why a run fails.
+#[derive(Clone, Copy, Debug)]
+enum Fault {
+    Memory,
+    Refused(Refused),
+    Script(ScriptFault),
+    Plain(PlainFault),
+    // a thread is outside and asked nothing
+    AskedNothing,
+    // another door went out than the call needs
+    OtherDoor,
+    // an outcome does not answer what was asked
+    NoAnswer,
+    WithoutEnd,
+}
+
+impl From<AllocError> for Fault {
+    fn from(_error: AllocError) -> Fault {
+        Fault::Memory
+    }
+}
+
+impl From<Memory> for Fault {
+    fn from(_memory: Memory) -> Fault {
+        Fault::Memory
+    }
+}
+
+impl From<Refused> for Fault {
+    fn from(refused: Refused) -> Fault {
+        Fault::Refused(refused)
+    }
+}
+
+impl From<ScriptFault> for Fault {
+    fn from(fault: ScriptFault) -> Fault {
+        Fault::Script(fault)
+    }
+}
+
+impl From<PlainFault> for Fault {
+    fn from(fault: PlainFault) -> Fault {
+        Fault::Plain(fault)
+    }
+}
 
 // ## A thread of a run
 
@@ -58,12 +105,7 @@ impl Player {
     }
 
     // Thread i makes the event of its phase, where it can; whether it did.
-    fn advance(
-        &mut self,
-        alloc: Global,
-        machine: &mut Machine<MemorySink, u8>,
-        i: usize,
-    ) -> Result<bool, Fail>
+    fn advance(&mut self, alloc: Global, machine: &mut Driven, i: usize) -> Result<bool, Fault>
         requires { i < length machine.old.whole.threads }
     {
         match machine.phase(i) {
@@ -81,7 +123,7 @@ impl Player {
         }
     }
 
-    fn ask(&mut self, machine: &mut Machine<MemorySink, u8>, i: usize) -> Result<bool, Fail>
+    fn ask(&mut self, machine: &mut Driven, i: usize) -> Result<bool, Fault>
         requires { i < length machine.old.whole.threads }
     {
         let step = self.actor.next(self.last.as_ref())?;
@@ -93,11 +135,7 @@ impl Player {
         Ok(true)
     }
 
-    fn attempt_table(
-        &mut self,
-        machine: &mut Machine<MemorySink, u8>,
-        i: usize,
-    ) -> Result<bool, Fail>
+    fn attempt_table(&mut self, machine: &mut Driven, i: usize) -> Result<bool, Fault>
         requires { i < length machine.old.whole.threads }
     {
         if !machine.has_turn(i) {
@@ -107,11 +145,7 @@ impl Player {
         Ok(true)
     }
 
-    fn attempt_object(
-        &mut self,
-        machine: &mut Machine<MemorySink, u8>,
-        i: usize,
-    ) -> Result<bool, Fail>
+    fn attempt_object(&mut self, machine: &mut Driven, i: usize) -> Result<bool, Fault>
         requires { i < length machine.old.whole.threads }
     {
         if !machine.has_turn(i) {
@@ -127,7 +161,7 @@ impl Player {
         }
     }
 
-    fn go_outside(&mut self, machine: &mut Machine<MemorySink, u8>, i: usize) -> Result<bool, Fail>
+    fn go_outside(&mut self, machine: &mut Driven, i: usize) -> Result<bool, Fault>
         requires { i < length machine.old.whole.threads }
     {
         self.request = machine.request(i)?;
@@ -135,33 +169,46 @@ impl Player {
         Ok(true)
     }
 
-    fn come_back(
-        &mut self,
-        alloc: Global,
-        machine: &mut Machine<MemorySink, u8>,
-        i: usize,
-    ) -> Result<bool, Fail>
+    fn come_back(&mut self, alloc: Global, machine: &mut Driven, i: usize) -> Result<bool, Fault>
         requires { i < length machine.old.whole.threads }
     {
-        let Some(request) = &self.request else {
-            return Err("a thread is outside and asked nothing".into());
+        let Some(kind) = self.kind() else {
+            return Err(Fault::AskedNothing);
         };
-        let kind = request.kind;
-        let number = self.given.len() as u64;
-        let mut dice = Dice::new(self.seed.wrapping_add(number));
-        let outcome = made_up(alloc, &mut dice, request)?;
-        self.given.push(Given {
-            kind,
-            outcome: outcome.try_clone()?,
-        })?;
         let door = self.door.take();
         if !goes_with(kind, door) {
-            return Err("another door went out than the call needs".into());
+            return Err(Fault::OtherDoor);
         }
+        let outcome = self.outcome(alloc)?;
         record(machine, i, kind, outcome, door)
     }
 
-    fn answer(&mut self, machine: &mut Machine<MemorySink, u8>, i: usize) -> Result<bool, Fail>
+    // The kind of what it asked outside.
+    fn kind(&self) -> Option<OutKind> {
+        match &self.request {
+            Some(request) => Some(request.kind),
+            None => None,
+        }
+    }
+
+    // The next outcome for what it asked, of which it keeps a copy.
+    fn outcome(&mut self, alloc: Global) -> Result<Outcome, Fault> {
+        let Some(request) = &self.request else {
+            return Err(Fault::AskedNothing);
+        };
+        let number = self.given.len() as u64;
+        let mut dice = Dice::new(self.seed.wrapping_add(number));
+        let outcome = made_up(alloc, &mut dice, request)?;
+        keep(&mut self.given, request.kind, &outcome)?;
+        Ok(outcome)
+    }
+
+    // What came for it, which it has no more.
+    fn outcomes(&mut self, alloc: Global) -> Outcomes {
+        Outcomes::from_vec(replace(&mut self.given, Vec::new(alloc)))
+    }
+
+    fn answer(&mut self, machine: &mut Driven, i: usize) -> Result<bool, Fault>
         requires { i < length machine.old.whole.threads }
     {
         if let Answer::Reply(reply) = machine.answer(i)? {
@@ -169,6 +216,13 @@ impl Player {
         }
         Ok(true)
     }
+}
+
+// Adds a copy of an outcome.
+fn keep(given: &mut Vec<Given>, kind: OutKind, outcome: &Outcome) -> Result<(), AllocError> {
+    let outcome = outcome.try_clone()?;
+    given.push(Given { kind, outcome })?;
+    Ok(())
 }
 
 // ## Doors, each the number of the kind of request that it was opened by
@@ -201,18 +255,18 @@ fn opened_by(kind: OutKind, outcome: &Outcome) -> Option<u8> {
 
 // This outcome comes for thread i, with the door that went out, unless it was closed.
 fn record(
-    machine: &mut Machine<MemorySink, u8>,
+    machine: &mut Driven,
     i: usize,
     kind: OutKind,
     outcome: Outcome,
     door: Option<u8>,
-) -> Result<bool, Fail>
+) -> Result<bool, Fault>
     requires { i < length machine.old.whole.threads }
 {
     let back = if kind == OutKind::Close { None } else { door };
     let opened = opened_by(kind, &outcome);
     if !machine.takes(i, &outcome, back.is_some(), opened.is_some()) {
-        return Err("an outcome does not answer what was asked".into());
+        return Err(Fault::NoAnswer);
     }
     match machine.record(i, outcome, back, opened) {
         Ok(()) => Ok(true),
@@ -262,7 +316,7 @@ fn all_saw(transcripts: &[Transcript], threads: usize, rows: &[HistoryRow]) -> b
 
 // ## A run
 
-fn scripts(alloc: Global, texts: &[Vec<u8>]) -> Result<Vec<Script>, Fail> {
+fn scripts(alloc: Global, texts: &[Vec<u8>]) -> Result<Vec<Script>, ScriptFault> {
     let mut scripts = Vec::new(alloc);
     for text in texts {
         scripts.push(parse(alloc, text.as_slice())?)?;
@@ -270,31 +324,13 @@ fn scripts(alloc: Global, texts: &[Vec<u8>]) -> Result<Vec<Script>, Fail> {
     Ok(scripts)
 }
 
-fn players(alloc: Global, texts: &[Vec<u8>], dice: &mut Dice) -> Result<Vec<Player>, Fail> {
+fn players(alloc: Global, texts: &[Vec<u8>], dice: &mut Dice) -> Result<Vec<Player>, ScriptFault> {
     let mut players = Vec::new(alloc);
-    for script in scripts(alloc, texts)? {
+    for text in texts {
+        let script = parse(alloc, text.as_slice())?;
         players.push(Player::new(alloc, dice.roll(), script))?;
     }
     Ok(players)
-}
-
-#[tactic(auto, unfolding(input_log::specs::Grammar::in_range))]
-fn machine(alloc: Global, threads: usize) -> Result<Machine<MemorySink, u8>, AllocError> {
-    if threads < 1 || threads > 8 {
-        return Err(AllocError);
-    }
-    let header = Header {
-        threads: threads as u16,
-        patience: SETTINGS.patience,
-        door_cost: SETTINGS.door_cost,
-    };
-    match LogWriter::begin(MemorySink::new(alloc, ROOM)?, header) {
-        Ok(log) => match Machine::new(alloc, threads, SETTINGS, log) {
-            Ok(machine) => Ok(machine),
-            Err(_) => Err(AllocError),
-        },
-        Err(_) => Err(AllocError),
-    }
 }
 
 // How the thread is chosen that goes on.
@@ -326,14 +362,14 @@ fn chosen(dice: &mut Dice, choice: Choice, threads: usize, before: usize) -> usi
 struct Run {
     texts: Vec<Vec<u8>>,
     players: Vec<Player>,
-    machine: Machine<MemorySink, u8>,
+    machine: Driven,
 }
 
 impl Run {
-    fn new(alloc: Global, dice: &mut Dice) -> Result<Run, Fail> {
+    fn new(alloc: Global, dice: &mut Dice) -> Result<Run, Fault> {
         let texts = script_texts(alloc, dice)?;
         let players = players(alloc, texts.as_slice(), dice)?;
-        let machine = machine(alloc, texts.len())?;
+        let machine = machine(alloc, texts.len(), SETTINGS, ROOM)?;
         Ok(Run {
             texts,
             players,
@@ -342,7 +378,7 @@ impl Run {
     }
 
     // Thread i makes its event, where it can; whether it did.
-    fn advance(&mut self, alloc: Global, i: usize) -> Result<bool, Fail> {
+    fn advance(&mut self, alloc: Global, i: usize) -> Result<bool, Fault> {
         match self.players.get_mut(i) {
             Some(player) if i < self.machine.len() => player.advance(alloc, &mut self.machine, i),
             _ => Ok(false),
@@ -350,7 +386,7 @@ impl Run {
     }
 
     // One thread makes its event: this one, or else the next one that can.
-    fn advance_from(&mut self, alloc: Global, first: usize) -> Result<bool, Fail> {
+    fn advance_from(&mut self, alloc: Global, first: usize) -> Result<bool, Fault> {
         for i in first..self.players.len() {
             if self.advance(alloc, i)? {
                 return Ok(true);
@@ -365,7 +401,7 @@ impl Run {
     }
 
     // Makes events, each of a thread by chance, until no thread can make any.
-    fn drive(&mut self, alloc: Global, choice: Choice, dice: &mut Dice) -> Result<(), Fail> {
+    fn drive(&mut self, alloc: Global, choice: Choice, dice: &mut Dice) -> Result<(), Fault> {
         let mut thread = 0;
         for _ in 0..MOST_EVENTS {
             thread = chosen(dice, choice, self.players.len(), thread);
@@ -373,47 +409,58 @@ impl Run {
                 return Ok(());
             }
         }
-        Err("a run without end".into())
+        Err(Fault::WithoutEnd)
     }
 
     // What came for each thread, which its player has no more.
-    fn outcomes(&mut self, alloc: Global) -> Result<Vec<Outcomes>, Fail> {
+    fn outcomes(&mut self, alloc: Global) -> Result<Vec<Outcomes>, AllocError> {
         let mut outcomes = Vec::new(alloc);
         for player in self.players.iter_mut() {
-            let given = replace(&mut player.given, Vec::new(alloc));
-            outcomes.push(Outcomes::from_vec(given))?;
+            outcomes.push(player.outcomes(alloc))?;
         }
         Ok(outcomes)
     }
 
     // The plain run of the same scripts, for which the same comes.
-    fn plain(&mut self, alloc: Global) -> Result<Plain, Fail> {
+    fn plain(&mut self, alloc: Global) -> Result<Plain, Fault> {
         let scripts = scripts(alloc, self.texts.as_slice())?;
         Ok(plain_run(alloc, scripts, self.outcomes(alloc)?, SETTINGS)?)
     }
 
     // Whether the plain run comes to its end and gives the same.
-    fn is_plain(&mut self, alloc: Global) -> Result<bool, Fail> {
+    fn is_plain(&mut self, alloc: Global) -> Result<bool, Fault> {
         let plain = self.plain(alloc)?;
-        let rows = self.machine.history();
-        Ok(
-            plain.stop.is_none()
-                && plain.history.rows() == rows
-                && all_saw(plain.transcripts.threads(), self.texts.len(), rows),
-        )
+        Ok(is_same(&plain, self.machine.history(), self.texts.len()))
     }
 
     // Whether all threads ended, and the replay of the machine's log gives what they saw.
-    fn is_replayed(self, alloc: Global) -> Result<bool, Fail> {
+    fn is_replayed(self, alloc: Global) -> Result<bool, Fault> {
+        let are_ended = self.machine.turn_holder().is_none();
         let Run { texts, machine, .. } = self;
-        if machine.turn_holder().is_some() {
-            return Ok(false);
-        }
-        let finished = machine.finish();
-        let scripts = scripts(alloc, texts.as_slice())?;
-        let replayed = replay(alloc, finished.sink.bytes(), scripts)?;
-        let rows = finished.history.rows.as_slice();
-        Ok(finished.stop.is_none() && all_saw(replayed.transcripts.threads(), texts.len(), rows))
+        Ok(are_ended && is_replayed(alloc, texts.as_slice(), &machine.finish())?)
+    }
+}
+
+// Whether a plain run came to its end with these rows.
+fn is_same(plain: &Plain, rows: &[HistoryRow], threads: usize) -> bool {
+    plain.stop.is_none()
+        && plain.history.rows() == rows
+        && all_saw(plain.transcripts.threads(), threads, rows)
+}
+
+// Whether what is left came to its end, and the replay of its log gives what its threads saw.
+fn is_replayed(
+    alloc: Global,
+    texts: &[Vec<u8>],
+    left: &Finished<MemorySink>,
+) -> Result<bool, Fault> {
+    let scripts = scripts(alloc, texts)?;
+    let rows = left.history.rows.as_slice();
+    match replay(alloc, left.sink.bytes(), scripts) {
+        Ok(replayed) => Ok(
+            left.stop.is_none() && all_saw(replayed.transcripts.threads(), texts.len(), rows),
+        ),
+        Err(_) => Ok(false),
     }
 }
 
@@ -451,7 +498,12 @@ impl Met {
 }
 
 // Whether the run of this seed gives what the plain run gives.
-fn is_the_plain_run(alloc: Global, choice: Choice, seed: u64, met: &mut Met) -> Result<bool, Fail> {
+fn is_the_plain_run(
+    alloc: Global,
+    choice: Choice,
+    seed: u64,
+    met: &mut Met,
+) -> Result<bool, Fault> {
     let mut dice = Dice::new(seed);
     let mut run = Run::new(alloc, &mut dice)?;
     run.drive(alloc, choice, &mut dice)?;
@@ -470,9 +522,9 @@ fn are_the_plain_runs(
     for seed in first..first.saturating_add(RUNS) {
         match is_the_plain_run(alloc, choice, seed, &mut met) {
             Ok(same) => assert!(rt; same, "seed {seed}"),
-            Err(fail) => {
+            Err(fault) => {
                 let _ = eprintln!(rt; "seed {seed}");
-                return Err(fail);
+                return Err(fault.into());
             }
         }
     }

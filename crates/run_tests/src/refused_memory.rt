@@ -1,50 +1,25 @@
-use call_machine::{Machine, Refused};
-use input_log::{Header, LogWriter, MemorySink};
+use crate::driven::{CREATE, Driven, SETTINGS, machine, open, write};
+use crate::seen::{Seen, replied, was_blocked};
+use call_machine::Refused;
 use lock_machine::Phase;
-use posix_terms::{Access, Answer, Bytes, Call, HistoryRow, OpenFlags, Reply, Settings, Step};
+use posix_terms::{Access, Call, HistoryRow, Step};
 use std::alloc::{AllocError, Global};
 use std::test::Fail;
-
-const SETTINGS: Settings = Settings {
-    patience: 1000,
-    door_cost: 100,
-};
-
-const HEADER: Header = Header {
-    threads: 2,
-    patience: 1000,
-    door_cost: 100,
-};
-
-const CREATE: OpenFlags = OpenFlags {
-    create: true,
-    exclusive: false,
-    truncate: false,
-    append: false,
-    nonblock: false,
-};
 
 // Two machines that make the same events, the second each one behind the first. So where an event of the first is refused, the second
 // shows how the first stood before.
 #[derive(Drop)]
 struct Twins {
-    first: Machine<MemorySink, u8>,
-    second: Machine<MemorySink, u8>,
+    first: Driven,
+    second: Driven,
 }
 
-#[tactic(auto, unfolding(input_log::specs::Grammar::in_range))]
-fn two_threads(alloc: Global) -> Result<Machine<MemorySink, u8>, AllocError> {
-    match LogWriter::begin(MemorySink::new(alloc, 21)?, HEADER) {
-        Ok(log) => match Machine::new(alloc, 2, SETTINGS, log) {
-            Ok(machine) => Ok(machine),
-            Err(_) => Err(AllocError),
-        },
-        Err(_) => Err(AllocError),
-    }
+fn two_threads(alloc: Global) -> Result<Driven, AllocError> {
+    machine(alloc, 2, SETTINGS, 21)
 }
 
 // One allocation alone is refused, so what lacked its memory has it when it is tried again.
-fn started(alloc: Global) -> Result<Machine<MemorySink, u8>, AllocError> {
+fn started(alloc: Global) -> Result<Driven, AllocError> {
     match two_threads(alloc) {
         Ok(machine) => Ok(machine),
         Err(_) => two_threads(alloc),
@@ -55,25 +30,18 @@ fn started(alloc: Global) -> Result<Machine<MemorySink, u8>, AllocError> {
 
 // What a thread asks, by how much it asked before: the second reads from a pipe of the first before that writes to it.
 fn made_step(alloc: Global, i: usize, asked: usize) -> Result<Step, AllocError> {
-    Ok(match (i, asked) {
-        (0, 0) => Step::Call(Call::Pipe),
-        (0, 1) => Step::Work(20),
-        (0, 2) => Step::Call(Call::Write {
-            descriptor: 1,
-            bytes: Bytes::from_slice(alloc, b"z")?,
-        }),
-        (1, 0) => Step::Work(5),
-        (1, 1) => Step::Call(Call::Read {
+    match (i, asked) {
+        (0, 0) => Ok(Step::Call(Call::Pipe)),
+        (0, 1) => Ok(Step::Work(20)),
+        (0, 2) => write(alloc, 1, b"z"),
+        (1, 0) => Ok(Step::Work(5)),
+        (1, 1) => Ok(Step::Call(Call::Read {
             descriptor: 0,
             count: 1,
-        }),
-        (1, 2) => Step::Call(Call::Open {
-            path: Bytes::from_slice(alloc, b"/a")?,
-            access: Access::ReadWrite,
-            flags: CREATE,
-        }),
-        _ => Step::End,
-    })
+        })),
+        (1, 2) => open(alloc, b"/a", Access::ReadWrite, CREATE),
+        _ => Ok(Step::End),
+    }
 }
 
 fn step(alloc: Global, i: usize, asked: usize) -> Result<Step, AllocError> {
@@ -84,7 +52,7 @@ fn step(alloc: Global, i: usize, asked: usize) -> Result<Step, AllocError> {
 }
 
 // Thread i makes the event of its phase. Without the turn for its attempt it is refused, as in another phase.
-fn event(alloc: Global, machine: &mut Machine<MemorySink, u8>, i: usize) -> Result<(), Refused> {
+fn event(alloc: Global, machine: &mut Driven, i: usize) -> Result<(), Refused> {
     if i >= machine.len() {
         return Err(Refused::WrongPhase);
     }
@@ -102,7 +70,7 @@ fn made<T: Drop>(told: Result<T, Refused>) -> Result<(), Refused> {
     Ok(())
 }
 
-fn ask(alloc: Global, machine: &mut Machine<MemorySink, u8>, i: usize) -> Result<(), Refused> {
+fn ask(alloc: Global, machine: &mut Driven, i: usize) -> Result<(), Refused> {
     if i >= machine.len() {
         return Err(Refused::WrongPhase);
     }
@@ -211,31 +179,11 @@ impl Twins {
 
 // ## What comes of it
 
-// Whether a row is this thread's, and was granted at this clock.
-fn granted(row: &HistoryRow, thread: usize, clock: u64) -> bool {
-    row.turn.thread == thread && row.turn.clock == clock
-}
-
-fn replied(row: &HistoryRow, thread: usize, clock: u64, reply: &Reply) -> bool {
-    match &row.answer {
-        Some(Answer::Reply(own)) => granted(row, thread, clock) && own == reply,
-        _ => false,
-    }
-}
-
-fn read_z(row: &HistoryRow, clock: u64) -> bool {
-    match &row.answer {
-        Some(Answer::Reply(Reply::Data(bytes))) => granted(row, 1, clock)
-            && bytes.as_slice() == b"z".as_slice(),
-        _ => false,
-    }
-}
-
 // Whether these are blocked turns of the second thread, from 6 on, each 4 behind the one before.
 fn were_blocked(rows: &[HistoryRow]) -> bool {
     let mut clock = 6_u64;
     for row in rows {
-        if !granted(row, 1, clock) || row.answer != Some(Answer::Again) {
+        if !was_blocked(row, 1, clock) {
             return false;
         }
         clock = clock.wrapping_add(4);
@@ -247,29 +195,37 @@ fn were_blocked(rows: &[HistoryRow]) -> bool {
 fn is_whole(rows: &[HistoryRow]) -> bool {
     match rows {
         [pipe, blocked @ .., write, read, open] => {
-            replied(pipe, 0, 1, &Reply::Pair(0, 1))
+            replied(pipe, 0, 1, Seen::Pair(0, 1))
                 && blocked.len() == 5
                 && were_blocked(blocked)
-                && replied(write, 0, 25, &Reply::Count(1))
-                && read_z(read, 28)
-                && replied(open, 1, 32, &Reply::Number(2))
+                && replied(write, 0, 25, Seen::Count(1))
+                && replied(read, 1, 28, Seen::Data(b"z"))
+                && replied(open, 1, 32, Seen::Number(2))
         }
         _ => false,
     }
+}
+
+// Whether a machine has all that, and came to its end.
+fn is_over(machine: Driven) -> bool {
+    is_whole(machine.history()) && machine.finish().stop.is_none()
+}
+
+// Whether the twins are both so, once they ran.
+fn are_over(alloc: Global) -> Result<bool, Fail> {
+    let mut twins = Twins {
+        first: started(alloc)?,
+        second: started(alloc)?,
+    };
+    twins.run(alloc)?;
+    let Twins { first, second } = twins;
+    Ok(is_over(first) && is_over(second))
 }
 
 // Whichever allocation is refused, by `rt try --test --fail-alloc`, the run is the same: `ask` and `again` say that there is no memory, change
 // nothing, and are made when they are asked again. See tools/refused-allocations.
 #[test]
 fn asks_again_where_memory_was_refused(rt: HostRuntime) -> Result<(), Fail> {
-    let alloc = rt.alloc();
-    let mut twins = Twins {
-        first: started(alloc)?,
-        second: started(alloc)?,
-    };
-    twins.run(alloc)?;
-    assert!(rt; is_whole(twins.first.history()));
-    assert!(rt; is_whole(twins.second.history()));
-    assert!(rt; twins.first.finish().stop.is_none());
+    assert!(rt; are_over(rt.alloc())?);
     Ok(())
 }

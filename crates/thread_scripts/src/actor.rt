@@ -4,6 +4,7 @@ ghost use Rattle.thread_scripts.specs.declared.actor.ScriptState.{ScriptState};
 use crate::fault::Memory;
 use crate::script::Script;
 use posix_terms::{Bytes, Reply, Step};
+use std::alloc::AllocError;
 use std::marker::Model;
 
 /// A script and how far it has come.
@@ -60,12 +61,12 @@ impl ScriptActor {
         }
     }
 
-    /// The next step, as [`Actor::next`] gives it, for a caller that gives up where there is no memory for it: nothing is saved, and the
-    /// actor is of no more use then.
+    /// The next step, as [`Actor::next`] gives it, for a caller that gives up where there is no memory for it: the reply goes into
+    /// the registers uncopied and nothing is saved, so the actor is of no more use then.
     #[tactic(auto, using(crate::proofs::Ending::next_ends, crate::proofs::Ending::next_script))]
-    pub fn next_unsaved(&mut self, last: Option<&Reply>) -> Result<Step, Memory>
-        ensures step { IfOk result (λ step. step ≡ (next_of (option_copied last.entry) self.old).0) }
-        ensures after { OnOk result (self.new ≡ (next_of (option_copied last.entry) self.old).1) }
+    pub fn next_unsaved(&mut self, last: Option<Reply>) -> Result<Step, Memory>
+        ensures step { IfOk result (λ step. step ≡ (next_of last self.old).0) }
+        ensures after { OnOk result (self.new ≡ (next_of last self.old).1) }
     {
         let Ok(step) = self.state.advance(last) else {
             return Err(Memory);
@@ -79,6 +80,7 @@ impl Actor for ScriptActor {
 
     #[tactic(auto, using(crate::proofs::Ending::next_ends, crate::proofs::Ending::next_script))]
     fn next(&mut self, last: Option<&Reply>) -> Result<Step, Memory> {
+        let last = copied(last)?;
         let saved = self.state.save()?;
         match self.state.advance(last) {
             Ok(step) => Ok(step),
@@ -87,5 +89,15 @@ impl Actor for ScriptActor {
                 Err(Memory)
             }
         }
+    }
+}
+
+// A copy of the last reply, if there was one.
+fn copied(last: Option<&Reply>) -> Result<Option<Reply>, AllocError>
+    ensures { IfOk result (λ copy. copy ≡ option_copied last.entry) }
+{
+    match last {
+        Some(reply) => Ok(Some(reply.try_clone()?)),
+        None => Ok(None),
     }
 }

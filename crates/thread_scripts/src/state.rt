@@ -318,22 +318,20 @@ impl ScriptState {
         Ok(Step::End)
     }
 
-    /// Stores a reply in the registers. Without memory the state is as it was.
-    fn store(&mut self, reply: &Reply) -> Result<(), AllocError>
-        ensures ok { OnOk result (self.new ≡ stored (Some reply.now) self.old) }
-        ensures err { OnErr result (self.new ≡ self.old) }
+    /// Stores a reply in the registers.
+    fn store(&mut self, reply: Reply)
+        ensures { self.new ≡ stored (Some reply) self.old }
     {
         match reply {
             Reply::Count(count) => self.numbers[0] = count.cast_signed(),
             Reply::Data(bytes) => {
-                let copy = bytes.try_clone()?;
                 self.numbers[0] = (bytes.as_slice().len() as u64).cast_signed();
-                self.bytes[0] = copy;
+                self.bytes[0] = bytes;
             }
-            Reply::Number(number) => self.numbers[0] = *number,
+            Reply::Number(number) => self.numbers[0] = number,
             Reply::Pair(first, second) => {
-                self.numbers[0] = *first;
-                self.numbers[1] = *second;
+                self.numbers[0] = first;
+                self.numbers[1] = second;
             }
             Reply::Stat { number, links, .. } => {
                 self.numbers[0] = number.cast_signed();
@@ -342,7 +340,6 @@ impl ScriptState {
             Reply::Done => self.numbers[0] = 0,
             Reply::Fail(error) => self.numbers[0] = -(error.code() as i64),
         }
-        Ok(())
     }
 
     /// A copy of what changes while lines are executed.
@@ -380,14 +377,14 @@ impl ScriptState {
     }
 
     /// The next step after the last reply. Without memory only the script is as it was.
-    pub(crate) fn advance(&mut self, last: Option<&Reply>) -> Result<Step, AllocError>
-        ensures ok { IfOk result (λ step. (step, self.new) ≡ next_of (option_copied last.entry) self.old) }
+    pub(crate) fn advance(&mut self, last: Option<Reply>) -> Result<Step, AllocError>
+        ensures ok { IfOk result (λ step. (step, self.new) ≡ next_of last self.old) }
         ensures script { self.new.script ≡ self.old.script }
     {
         let mut failed = false;
         if let Some(reply) = last {
-            self.store(reply)?;
             failed = matches!(reply, Reply::Fail(_));
+            self.store(reply);
         }
         self.run(failed)
     }

@@ -4,4 +4,4 @@ use Rattle.logical_clocks.proofs.row.place_of.Given as goal
 
 -- none of those passed is the one
 abbrev pub invariant-loop-at : goal.invariant-loop-at
-invariant-loop-at l = AllWithin (λ t. t.thread ≢ l.thread) l.row 0 l.at
+invariant-loop-at l = (let queue = l.row in AllWithin (λ t. t.thread ≢ l.thread) queue 0 l.at)

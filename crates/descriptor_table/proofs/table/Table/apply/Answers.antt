@@ -3,7 +3,7 @@ use Rattle.std.proofs.lemmas.Bool.{false≢true}
 use Rattle.descriptor_table.specs.Changes.{is_refused}
 use Rattle.descriptor_table.specs.Plans.{planned}
 use Rattle.descriptor_table.specs.declared.plan.Plan.{Plan}
-use Rattle.descriptor_table.proofs.FollowLemmas.{changes-as_step, tells-as_step}
+use Rattle.descriptor_table.proofs.CallLemmas.{changes-as_step, tells-as_step}
 use Rattle.descriptor_table.proofs.NumberLemmas.{numbers-stay, numbers-unchanged}
 use Rattle.descriptor_table.proofs.OffsetLemmas.{offsets-stay, offsets-unchanged}
 use Rattle.descriptor_table.proofs.table.Table.apply.Goals as goal
@@ -15,22 +15,22 @@ refused_so p q b r is test same = ap (λ (x : Plan). is_refused x) (sym same) �
 pub returns-then-is_refused-clause-step : goal.returns-then-is_refused-clause-step
 returns-then-is_refused-clause-step c = λ same.
     let no = refused_so c.args.plan.now (planned c.args.self.now c.args.call.now) true c.is_refused.result c.is_refused.ensures c.if-is_refused.true same in
-    changes-as_step c.args.self.now c.args.call.now _ c.args.self.now c.known.ensures.table c.known.ensures.descriptions (λ h. refl) (λ made. absurd (false≢true (sym made ∙ no)))
+    changes-as_step c.changes_keep_sound.ensures c.failed_calls_change_nothing.ensures c.args.self.now c.args.call.now _ c.args.self.now c.known.ensures.table c.known.ensures.descriptions (λ h. refl) (λ made. absurd (false≢true (sym made ∙ no)))
 
 pub returns-then-is_refused-clause-tells : goal.returns-then-is_refused-clause-tells
 returns-then-is_refused-clause-tells c = λ same.
     let no = refused_so c.args.plan.now (planned c.args.self.now c.args.call.now) true c.is_refused.result c.is_refused.ensures c.if-is_refused.true same in
-    tells-as_step c.args.self.now c.args.call.now _ _ c.known.ensures.table c.known.ensures.descriptions (λ h. refl) (λ made. absurd (false≢true (sym made ∙ no)))
+    tells-as_step c.changes_keep_sound.ensures c.args.self.now c.args.call.now _ _ c.known.ensures.table c.known.ensures.descriptions (λ h. refl) (λ made. absurd (false≢true (sym made ∙ no)))
 
 pub returns-clause-step : goal.returns-clause-step
 returns-clause-step c = λ same.
     let made = refused_so c.args.plan.now (planned c.args.self.now c.args.call.now) false c.is_refused.result c.is_refused.ensures c.if-is_refused.false same in
-    changes-as_step c.args.self.now c.args.call.now _ c.change.new.self c.known.ensures.table c.known.ensures.descriptions (λ h. absurd (false≢true (sym made ∙ h))) (λ h. c.change.ensures.changes)
+    changes-as_step c.changes_keep_sound.ensures c.failed_calls_change_nothing.ensures c.args.self.now c.args.call.now _ c.change.new.self c.known.ensures.table c.known.ensures.descriptions (λ h. absurd (false≢true (sym made ∙ h))) (λ h. c.change.ensures.changes)
 
 pub returns-clause-tells : goal.returns-clause-tells
 returns-clause-tells c = λ same.
     let made = refused_so c.args.plan.now (planned c.args.self.now c.args.call.now) false c.is_refused.result c.is_refused.ensures c.if-is_refused.false same in
-    tells-as_step c.args.self.now c.args.call.now _ c.change.result c.known.ensures.table c.known.ensures.descriptions (λ h. absurd (false≢true (sym made ∙ h))) (λ h. c.change.ensures.number)
+    tells-as_step c.changes_keep_sound.ensures c.args.self.now c.args.call.now _ c.change.result c.known.ensures.table c.known.ensures.descriptions (λ h. absurd (false≢true (sym made ∙ h))) (λ h. c.change.ensures.number)
 
 pub returns-then-is_refused-clause-numbers : goal.returns-then-is_refused-clause-numbers
 returns-then-is_refused-clause-numbers c = numbers-unchanged c.args.self.now

@@ -65,7 +65,7 @@ returns-in-None-clause-event c =
     let P : Option ℕ → Type 0 = λ o. GrantedIn (let t : declared.Thread = item_at m.threads.items c.args.i in t.phase) c.args.row o in
     let item = item_of m.threads.items m.clocks c.args.i x c.answer.new.thread c.answer.new.clocks m.agree inside c.index_mut.ensures.value c.answer.ensures.others in
     subst (λ (w : Whole). Tells c.answer.result c.args.i w (record v { threads = joined (set m.threads.items c.args.i c.answer.new.thread) c.answer.new.clocks; lock = c.answer.new.lock; rows = c.answer.new.rows.items })) view
-    (answer_done v m.threads.items m.clocks c.answer.new.clocks c.answer.new.rows.items c.args.i c.args.row None x c.answer.new.thread m.shared.lock c.answer.new.lock c.answer.result item
+    (answer_done c.arising_states.ensures.locks c.arising_states.ensures.rows v m.threads.items m.clocks c.answer.new.clocks c.answer.new.rows.items c.args.i c.args.row None x c.answer.new.thread m.shared.lock c.answer.new.lock c.answer.result item
     (granted_at m.threads.items c.args.i c.args.row None x inside c.index_mut.ensures.value (subst P c.in-None.is (item_in (λ p. GrantedIn p c.args.row c.args.object) m.threads.items m.clocks v c.args.self.now c.args.i refl view inside c.requires.granted))) refl c.answer.ensures.event)
 
 pub returns-in-Some-get_mut-clause-event : goal.returns-in-Some-get_mut-clause-event
@@ -80,7 +80,7 @@ returns-in-Some-get_mut-clause-event c =
     let own : c.in-Some-get_mut.lock.now ≡ get_or m.objects.items n new_lock = search rules in
     let item = item_of m.threads.items m.clocks c.args.i x c.answer-in-Some.new.thread c.answer-in-Some.new.clocks m.agree inside c.index_mut-in-Some.ensures.value c.answer-in-Some.ensures.others in
     subst (λ (w : Whole). Tells c.answer-in-Some.result c.args.i w (record v { threads = joined (set m.threads.items c.args.i c.answer-in-Some.new.thread) c.answer-in-Some.new.clocks; objects = set m.objects.items n c.answer-in-Some.new.lock; rows = c.answer-in-Some.new.rows.items })) view
-    (answer_done v m.threads.items m.clocks c.answer-in-Some.new.clocks c.answer-in-Some.new.rows.items c.args.i c.args.row (Some n) x c.answer-in-Some.new.thread c.in-Some-get_mut.lock.now c.answer-in-Some.new.lock c.answer-in-Some.result item
+    (answer_done c.arising_states.ensures.locks c.arising_states.ensures.rows v m.threads.items m.clocks c.answer-in-Some.new.clocks c.answer-in-Some.new.rows.items c.args.i c.args.row (Some n) x c.answer-in-Some.new.thread c.in-Some-get_mut.lock.now c.answer-in-Some.new.lock c.answer-in-Some.result item
     (granted_at m.threads.items c.args.i c.args.row (Some n) x inside c.index_mut-in-Some.ensures.value (subst P c.in-Some.is (item_in (λ p. GrantedIn p c.args.row c.args.object) m.threads.items m.clocks v c.args.self.now c.args.i refl view inside c.requires.granted))) own c.answer-in-Some.ensures.event)
 
 pub returns-in_default-clause-event : goal.returns-in_default-clause-event

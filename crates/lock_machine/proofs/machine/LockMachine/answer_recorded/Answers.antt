@@ -58,7 +58,7 @@ returns-clause-event c =
     let item = item_of m.threads.items m.clocks c.args.i c.index_mut.result.now c.answer_outside.new.thread c.answer_outside.new.clocks m.agree inside c.index_mut.ensures.value c.answer_outside.ensures.others in
     let own : c.in-Some-get_mut.lock.now ≡ get_or m.objects.items c.in-Some.object new_lock = search rules in
     subst (λ (w : Whole). Tells c.answer_outside.result c.args.i w (record v { threads = joined (set m.threads.items c.args.i c.answer_outside.new.thread) c.answer_outside.new.clocks; lock = c.answer_outside.new.shared.lock; objects = set m.objects.items c.in-Some.object c.answer_outside.new.lock; table = c.answer_outside.new.shared.store; rows = c.answer_outside.new.shared.rows.items })) view
-    (conclude_done v m.threads.items m.clocks c.answer_outside.new.clocks c.args.i c.in-Some.object c.args.outing c.index_mut.result.now c.answer_outside.new.thread c.in-Some-get_mut.lock.now c.answer_outside.new.lock c.answer_outside.new.shared.lock c.answer_outside.new.shared.store c.answer_outside.new.shared.rows.items c.answer_outside.result item
+    (conclude_done c.arising_states.ensures.locks c.arising_states.ensures.rows c.arising_states.ensures.plans v m.threads.items m.clocks c.answer_outside.new.clocks c.args.i c.in-Some.object c.args.outing c.index_mut.result.now c.answer_outside.new.thread c.in-Some-get_mut.lock.now c.answer_outside.new.lock c.answer_outside.new.shared.lock c.answer_outside.new.shared.store c.answer_outside.new.shared.rows.items c.answer_outside.result item
     (phase_at m.threads.items c.args.i c.index_mut.result.now (phase.Recorded c.args.outing) inside c.index_mut.ensures.value (item_in (λ p. p ≡ phase.Recorded c.args.outing) m.threads.items m.clocks v c.args.self.now c.args.i refl view inside c.requires.recorded)) c.in-Some.is own c.answer_outside.ensures.event)
 
 pub index_mut-requires : goal.index_mut-requires

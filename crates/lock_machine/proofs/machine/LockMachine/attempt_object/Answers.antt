@@ -51,7 +51,7 @@ returns-clause-event c =
     let inside = inside_of m.threads.items m.clocks v c.args.self.now c.args.i refl view c.requires.inside in
     let own : c.in-Some.lock.now ≡ get_or m.objects.items c.args.object new_lock = search rules in
     subst (λ (w : Whole). (λ (made : Bool). Attempts made c.args.i w (record v { threads = joined (set m.threads.items c.args.i c.try_object.new.thread) c.try_object.new.clocks; lock = c.try_object.new.shared.lock; objects = set m.objects.items c.args.object c.try_object.new.lock; table = c.try_object.new.shared.store; rows = c.try_object.new.shared.rows.items })) c.try_object.result) view
-    (reach_done v m.threads.items m.clocks c.try_object.new.clocks c.args.i c.args.object c.index_mut.result.now c.try_object.new.thread c.try_object.new.shared.lock c.in-Some.lock.now c.try_object.new.lock c.try_object.new.shared.store c.try_object.new.shared.rows.items (Ok c.try_object.result)
+    (reach_done c.calls_outside.ensures.keeps c.arising_states.ensures.plans v m.threads.items m.clocks c.try_object.new.clocks c.args.i c.args.object c.index_mut.result.now c.try_object.new.thread c.try_object.new.shared.lock c.in-Some.lock.now c.try_object.new.lock c.try_object.new.shared.store c.try_object.new.shared.rows.items (Ok c.try_object.result)
     (item_of m.threads.items m.clocks c.args.i c.index_mut.result.now c.try_object.new.thread c.try_object.new.clocks m.agree inside c.index_mut.ensures.value c.try_object.ensures.others)
     m.agree (turn_of m.threads.items m.clocks v c.args.self.now c.args.i m.agree refl view c.requires.turn) (wants_at m.threads.items c.args.i c.args.object c.index_mut.result.now inside c.index_mut.ensures.value (item_in (λ p. WantsIn p c.args.object) m.threads.items m.clocks v c.args.self.now c.args.i refl view inside c.requires.wants)) own c.try_object.ensures.event)
 

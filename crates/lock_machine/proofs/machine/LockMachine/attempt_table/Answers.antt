@@ -48,7 +48,7 @@ returns-clause-event c =
     let table = table_phase x.phase (phase_in P m.threads.items c.args.i x inside c.index_mut.ensures.value wants) in
     let turn = turn_of m.threads.items m.clocks v c.args.self.now c.args.i m.agree refl view c.requires.turn in
     subst (λ (w : Whole). (λ (made : Bool). Attempts made c.args.i w (record v { threads = joined (set m.threads.items c.args.i c.try_table.new.thread) c.try_table.new.clocks; lock = c.try_table.new.shared.lock; table = c.try_table.new.shared.store; rows = c.try_table.new.shared.rows.items })) c.try_table.result) view
-    (try_done v m.threads.items m.clocks c.try_table.new.clocks c.args.i table.0 table.1 x c.try_table.new.thread c.try_table.new.shared.lock c.try_table.new.shared.store c.try_table.new.shared.rows.items (Ok c.try_table.result)
+    (try_done c.calls_outside.ensures.locks c.locks_and_doors.ensures.numbers v m.threads.items m.clocks c.try_table.new.clocks c.args.i table.0 table.1 x c.try_table.new.thread c.try_table.new.shared.lock c.try_table.new.shared.store c.try_table.new.shared.rows.items (Ok c.try_table.result)
     (item_of m.threads.items m.clocks c.args.i x c.try_table.new.thread c.try_table.new.clocks m.agree inside c.index_mut.ensures.value c.try_table.ensures.others)
     m.agree turn table.2 c.try_table.ensures.event)
 

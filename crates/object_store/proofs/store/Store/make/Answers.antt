@@ -21,7 +21,7 @@ returns-in-Reply-clause-makes c =
     let call = c.args.call.now in
     let planned_is : planned h.table call ≡ plan.Reply c.in-Reply.reply = search rules in
     let replies : Replies h call c.settle.result c.settle.new.self = search rules in
-    turn_replied h c.settle.new.self call c.settle.result c.args.patience c.args.turns (reply_alone h call c.in-Reply.reply planned_is) replies
+    turn_replied h c.settle.new.self call c.settle.result c.args.patience c.args.turns (reply_alone c.table_follows_step.ensures.follows h call c.in-Reply.reply planned_is) replies
 
 pub returns-in-Node-default-Ask-default-clause-makes : goal.returns-in-Node-default-Ask-default-clause-makes
 returns-in-Node-default-Ask-default-clause-makes c =
@@ -30,7 +30,7 @@ returns-in-Node-default-Ask-default-clause-makes c =
     let x = c.in-Node-default-Ask-default in
     let is : planned h.table call ≡ plan.Node x.node (op.Ask x.errand) x.keep_table = search rules in
     let leaves : LeavesTable x.keep_table h call c.go_out.new.self = search rules in
-    goes_out h c.go_out.new.self call x.node x.errand x.keep_table c.args.patience c.args.turns is leaves
+    goes_out c.table_follows_step.ensures.follows h c.go_out.new.self call x.node x.errand x.keep_table c.args.patience c.args.turns is leaves
 
 pub returns-after-act : goal.returns-after-act
 returns-after-act c = record { makes = makes; room = few; births = c.act.ensures.births }
@@ -48,7 +48,7 @@ returns-after-act c = record { makes = makes; room = few; births = c.act.ensures
     inside = search rules
 
     alone : AsksNothing c.args.self.now c.args.call.now
-    alone = act_alone c.args.self.now c.args.call.now c.in-Node.node c.in-Node.op planned_is inside
+    alone = act_alone c.table_follows_step.ensures.follows c.args.self.now c.args.call.now c.in-Node.node c.in-Node.op planned_is inside
 
     ends_turn : (e : Option Reply) → c.act.result ≡ e → EndsTurn h call e c.act.new.self
     ends_turn e is = subst (λ (x : Option Reply). EndsTurn h call x c.act.new.self) is c.act.ensures.ends

@@ -1,0 +1,52 @@
+-- Internal: no contract of the headline or of a command stands on it.
+-- What holds of every table, whose plan and change of a call are what the sequential object does.
+use Rattle.std.specs.Prelude.{◌≡◌, ℕ, ℤ, List, true, Some, None, Ok, Err}
+use Rattle.std.specs.FinMap as map
+use Rattle.sequential_object.specs.Descriptors as posix
+use Rattle.sequential_object.specs.Names.{file_named}
+use Rattle.sequential_object.specs.Object.{State}
+use Rattle.posix_terms.specs.declared.call.Call.{Call}
+use Rattle.posix_terms.specs.declared.errno.Errno.TheVariants.{EBADF}
+use Rattle.posix_terms.specs.declared.object.Door.{Door}
+use Rattle.file_descriptions.specs.Descriptions.{AreSound, ContainsKey, with_offset}
+use Rattle.file_descriptions.specs.declared.description.Description.{Description}
+use Rattle.descriptor_table.specs.Acts.{ActsAsStep, StaysAsStep}
+use Rattle.descriptor_table.specs.Agreement.{ChangesAsStep, PlansAsStep}
+use Rattle.descriptor_table.specs.Changes.{Changes}
+use Rattle.descriptor_table.specs.Plans.{LocksKnown, planned, read_count}
+use Rattle.descriptor_table.specs.Shows.{Shows, same_door, shown}
+use Rattle.descriptor_table.specs.Table.{IsSound, TableState, described, is_used, key_at}
+
+-- what is planned of a call is what its step does
+pub record FollowsStep (t : TableState) (c : Call) : Type 0 where
+  pub known : LocksKnown t (read_count c) (planned t c)
+  pub plans : PlansAsStep t c (planned t c)
+  pub acts : ActsAsStep t c (planned t c)
+  pub stays : StaysAsStep t c (planned t c)
+  -- where it changes no table, the table as it is shows the state after it
+  pub unchanged : Changes t c None t → ChangesAsStep t c None t
+
+-- what a descriptor refers to, in the table and in the state
+pub data FoundBoth (t : TableState) (s : State) (descriptor : ℤ) : Type 0 where
+  Shut : (table : described t descriptor ≡ Err EBADF) → (state : posix.described s descriptor ≡ Err EBADF) → FoundBoth t s descriptor
+  Open : (key : ℕ) (d : Description) (offset : ℕ)
+      → (at : key_at t descriptor ≡ Some key) → (got : map.get t.descriptions.by_key key ≡ Some d) → (there : map.get s.descriptions d.birth ≡ Some (shown t d offset))
+      → (table : described t descriptor ≡ Ok (key, d)) → (state : posix.described s descriptor ≡ Ok (d.birth, shown t d offset)) → FoundBoth t s descriptor
+
+abbrev pub at_offset : TableState → ℕ → ℕ → TableState
+at_offset t key offset = record t { descriptions = with_offset t.descriptions key offset }
+
+-- what a table shows is no matter of offsets
+pub record OffsetIsFree (t : TableState) (key offset : ℕ) : Type 0 where
+  pub sound : IsSound (at_offset t key offset)
+  pub described : AreSound (at_offset t key offset).descriptions
+  pub shows : (s : State) → Shows t s → Shows (at_offset t key offset) s
+
+pub record TableFollows : Type 0 where
+  pub calls : (t : TableState) (c : Call) → IsSound t → AreSound t.descriptions → FollowsStep t c
+  pub found : (t : TableState) (s : State) (descriptor : ℤ) → IsSound t → Shows t s → FoundBoth t s descriptor
+  -- the file of a path is there
+  pub named : (t : TableState) (path : List ℕ) (node : ℕ) → IsSound t → file_named t.paths path ≡ Ok node → is_used t node ≡ true
+  -- doors of one kind, and listeners of one port, are the same
+  pub doors : (one other : Door) → same_door one other ≡ true → other ≡ one
+  pub offsets : (t : TableState) (key offset : ℕ) → IsSound t → AreSound t.descriptions → ContainsKey t.descriptions key → OffsetIsFree t key offset

@@ -1,0 +1,45 @@
+-- What stands in a list or a map at a place where something does.
+use Rattle.std.proofs.Common.{◌≡◌, ◌≢◌, ℕ, zero, suc, ◌<◌, List, [], ◌∷◌, length, Option, Some, None, is_some, unwrap_or, true, false, refl, sym, ◌∙◌, arith}
+use Rattle.std.proofs.lemmas.Bool.{false≢true}
+use Rattle.std.proofs.lemmas.Bool.Decides.{nat_tests}
+use Rattle.std.proofs.lemmas.Option.{none-some}
+use Rattle.std.specs.Cmp.{nat_cmp_is, nat_cmp_total, unsigned_tied}
+use Rattle.std.specs.FinMap as fin
+use Rattle.std.specs.FinMap.{FinMap, get-insert}
+use Rattle.std.specs.Ordering.{eq_by_cmp, nat_cmp}
+use Rattle.std.specs.Prelude.{slice_index_or}
+use Rattle.std.specs.declared.cmp.Ordering.TheVariants.{Equal}
+use Rattle.file_descriptions.specs.Descriptions.{ContainsKey, DescriptionMap, description_at, no_description}
+use Rattle.descriptor_table.specs.Shows.{birth_at}
+use Rattle.descriptor_table.specs.Table.{TableState, is_used}
+
+some_is : {A : Type 0} (o : Option A) (d : A) → is_some o ≡ true → o ≡ Some (unwrap_or o d)
+some_is None d there = absurd (false≢true there)
+some_is (Some x) d there = refl
+
+-- an object that is there, and a description
+pub birth_is : (t : TableState) (node : ℕ) → is_used t node ≡ true → slice_index_or t.objects node None ≡ Some (birth_at t node)
+birth_is t node used = some_is (slice_index_or t.objects node None) t.made_objects used
+
+pub known_at : (m : DescriptionMap) (key : ℕ) → ContainsKey m key → fin.get m.by_key key ≡ Some (description_at m key)
+known_at m key there = some_is (fin.get m.by_key key) no_description there
+
+pub place_within : (slots : List (Option ℕ)) (n x : ℕ) → slice_index_or slots n None ≡ Some x → n < length slots
+place_within [] n x is = absurd (none-some x is)
+place_within (o ∷ slots) zero x is = omega arith
+place_within (o ∷ slots) (suc n) x is = let h : n < length slots = place_within slots n x is in omega arith
+
+-- ## After an insertion
+
+tied_not : (x y : ℕ) → x ≢ y → eq_by_cmp nat_cmp x y ≡ false
+tied_not x y apart = unsigned_tied x y ∙ grind (arith, nat_tests)
+
+tied_same : (x : ℕ) → nat_cmp x x ≡ Equal
+tied_same x = sym (nat_cmp_is x x Equal refl)
+
+module _ {X : Type 0} where
+  pub get-insert_same : (m : FinMap nat_cmp X) (key : ℕ) (x : X) → fin.get (fin.insert m key x) key ≡ Some x
+  get-insert_same m key x = get-insert nat_cmp_total m key x key ∙ rw (tied_same key) refl
+
+  pub get-insert_other : (m : FinMap nat_cmp X) (key : ℕ) (x : X) (q : ℕ) → q ≢ key → fin.get (fin.insert m key x) q ≡ fin.get m q
+  get-insert_other m key x q apart = get-insert nat_cmp_total m key x q ∙ rw (tied_not q key apart) refl

@@ -1,0 +1,64 @@
+use call_machine::{Plain, PlainFault, plain_run};
+use posix_terms::{Bytes, Errno, Given, OutKind, Outcome, Outcomes, Settings};
+use std::alloc::{AllocError, Global};
+use thread_scripts::{Script, ScriptFault, parse};
+
+// What comes from outside: a kind, with a value or a failure.
+pub(crate) type Came = (OutKind, Result<u64, Errno>);
+
+fn given(alloc: Global, kind: OutKind, came: Result<u64, Errno>) -> Given {
+    let outcome = match came {
+        Ok(value) => Outcome::Ok {
+            value,
+            bytes: Bytes::from_vec(Vec::new(alloc)),
+        },
+        Err(error) => Outcome::Fail(error),
+    };
+    Given { kind, outcome }
+}
+
+// What comes for a thread.
+fn list(alloc: Global, all: &[Came]) -> Result<Outcomes, AllocError> {
+    let mut outcomes = Vec::new(alloc);
+    for (kind, came) in all {
+        outcomes.push(given(alloc, *kind, *came))?;
+    }
+    Ok(Outcomes::from_vec(outcomes))
+}
+
+// What comes for each thread.
+fn lists(alloc: Global, all: &[&[Came]]) -> Result<Vec<Outcomes>, AllocError> {
+    let mut lists = Vec::new(alloc);
+    for came in all {
+        lists.push(list(alloc, came)?)?;
+    }
+    Ok(lists)
+}
+
+// These scripts. One that is bad counts as a wrong number of them.
+fn plain_scripts(alloc: Global, texts: &[&str]) -> Result<Vec<Script>, PlainFault> {
+    match scripts(alloc, texts) {
+        Ok(scripts) => Ok(scripts),
+        Err(ScriptFault::Memory) => Err(PlainFault::Memory),
+        Err(_) => Err(PlainFault::Threads),
+    }
+}
+
+pub(crate) fn scripts(alloc: Global, texts: &[&str]) -> Result<Vec<Script>, ScriptFault> {
+    let mut scripts = Vec::new(alloc);
+    for text in texts {
+        scripts.push(parse(alloc, text.as_bytes())?)?;
+    }
+    Ok(scripts)
+}
+
+// The plain run of these scripts, for which this comes.
+pub(crate) fn plain(
+    alloc: Global,
+    texts: &[&str],
+    came: &[&[Came]],
+    settings: Settings,
+) -> Result<Plain, PlainFault> {
+    let scripts = plain_scripts(alloc, texts)?;
+    plain_run(alloc, scripts, lists(alloc, came)?, settings)
+}
