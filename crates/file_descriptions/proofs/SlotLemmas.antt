@@ -1,7 +1,8 @@
 -- What the map of the descriptions in slots answers.
-use Rattle.std.proofs.Common.{◌≡◌, ◌≢◌, ℕ, zero, suc, ◌+◌, ◌<◌, List, [], ◌∷◌, length, get_or, Option, Some, None, is_some, true, false, count_by, refl, sym, ap, ◌∙◌, inl, inr, arith}
+use Rattle.std.proofs.Common.{◌≡◌, ◌≢◌, ℕ, zero, suc, ◌+◌, ◌<◌, List, [], ◌∷◌, length, get_or, Option, Some, None, is_some, true, false, cond, count_by, refl, sym, ap, ◌∙◌, inl, inr, arith}
 use Rattle.std.proofs.lemmas.Bool.{cases_eq}
 use Rattle.std.proofs.lemmas.Bool.Decides.{nat_tests}
+use Rattle.std.proofs.lemmas.List.Sums.{sum_by-cons}
 use Rattle.std.specs.Cmp.{nat_cmp_is, nat_cmp_total, unsigned_tied}
 use Rattle.std.specs.FinMap as fin
 use Rattle.std.specs.FinMap.{FinMap, same_map, nat_cmp-IsAntisymmetric, entries-from_sorted, get-insert, get-remove, find, is_sorted, len-entries, get-entries, get-empty}
@@ -10,7 +11,6 @@ use Rattle.std.specs.Ordering.{nat_cmp, eq_by_cmp}
 use Rattle.std.specs.declared.cmp.Ordering.TheVariants.{Less, Equal, Greater}
 use Rattle.slab.specs.Slab.{Slab, Updates, entries_from}
 use Rattle.slab.specs.Slab.{get as slot_at}
-use Rattle.slab.proofs.SlabLemmas.{length-entries_from}
 use Rattle.file_descriptions.specs.Descriptions.{described}
 use Rattle.file_descriptions.specs.declared.description.Description.{Description}
 
@@ -46,6 +46,12 @@ module _ {X : Type 0} where
   find-entries_from n (suc k) q (None ∷ slots) e = find-entries_from (n + 1) k q slots (omega arith)
   find-entries_from n zero q (Some d ∷ slots) e = rw (same q n (omega arith)) refl
   find-entries_from n (suc k) q (Some d ∷ slots) e = rw (greater q n (omega arith)) (find-entries_from (n + 1) k q slots (omega arith))
+
+  -- there is an entry for each slot in use
+  length-entries_from : (n : ℕ) (slots : List (Option X)) → length (entries_from n slots) ≡ count_by is_some slots
+  length-entries_from n [] = refl
+  length-entries_from n (None ∷ slots) = omega (arith, length-entries_from (n + 1) slots, sum_by-cons (λ o. cond (is_some o) 1 0) None slots)
+  length-entries_from n (Some d ∷ slots) = omega (arith, length-entries_from (n + 1) slots, sum_by-cons (λ o. cond (is_some o) 1 0) (Some d) slots)
 
 tied_not : (x y : ℕ) → x ≢ y → eq_by_cmp nat_cmp x y ≡ false
 tied_not x y apart = unsigned_tied x y ∙ grind (arith, nat_tests)

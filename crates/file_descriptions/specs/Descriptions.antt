@@ -1,7 +1,7 @@
 -- Believed: a contract of the headline stands on it.
 -- Open file descriptions, by keys that are used again, with the number of descriptors that hold each.
 -- POSIX.1-2017, Base Definitions, 3.258 (open file description).
-use Rattle.std.specs.Prelude.{◌≡◌, ℕ, ◌+◌, ◌-◌, ◌<◌, ◌≤◌, List, Bool, true, false, not, ◌&&◌, ◌==◌, Option, Some, IsTrue, unwrap_or, count_by, if◌then◌else◌}
+use Rattle.std.specs.Prelude.{◌≡◌, ℕ, ◌+◌, ◌-◌, ◌<◌, ◌≤◌, List, Bool, false, not, ◌&&◌, ◌==◌, Option, Some, IsTrue, unwrap_or, count_by, if◌then◌else◌}
 use Rattle.std.specs.FinMap as map
 use Rattle.std.specs.FinMap.{FinMap}
 use Rattle.std.specs.Ordering.{nat_cmp}
