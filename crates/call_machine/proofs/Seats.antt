@@ -23,9 +23,6 @@ got_at xs i x inside is = slice_get_read xs (length xs) i x refl (lt-true inside
     lt-true : true ≡ nat_lt i (length xs) → i < length xs
     lt-true h = grind (arith, nat_tests)
 
-pub seated : (d : Driver) (i : ℕ) → i < length d.players.items → i < length d.machine.threads
-seated d i inside = subst (λ (n : ℕ). i < n) d.seats inside
-
 -- an element that was found is there whatever stands past the last
 item_is : {A : Type 0} (xs : List A) (i : ℕ) (x d : A) → i < length xs → x ≡ get_or xs i x → get_or xs i d ≡ x
 item_is xs i x d inside h = get_or_default xs i d x inside ∙ sym h

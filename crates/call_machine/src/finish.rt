@@ -1,4 +1,4 @@
-ghost use Rattle.std.specs.Prelude.{◌≡◌, ℕ, List, IfOk, map};
+ghost use Rattle.std.specs.Prelude.{◌≡◌, IfOk, map};
 ghost use Rattle.call_machine.specs.History.{transcript_of, transcripts_of};
 ghost use Rattle.call_machine.specs.Plain.{all_true};
 ghost use Rattle.call_machine.specs.Starting.{is_ended, stop_told, stuck_for, told};

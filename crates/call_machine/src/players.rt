@@ -1,4 +1,4 @@
-ghost use Rattle.std.specs.Prelude.{◌≡◌, IfOk, Some, length, map};
+ghost use Rattle.std.specs.Prelude.{◌≡◌, IfOk, Some, map};
 ghost use Rattle.thread_scripts.specs.Meaning.{next_of};
 ghost use Rattle.call_machine.specs.Starting.{first_player};
 ghost use Rattle.call_machine.specs.Playing.{heard};

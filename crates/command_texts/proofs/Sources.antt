@@ -1,19 +1,15 @@
 -- Texts and scripts, one behind the others.
-use Rattle.std.proofs.Common.{◌≡◌, ℕ, suc, ◌<◌, List, [], ◌∷◌, ◌++◌, length, map, take, drop, get_or, Option, Result, Ok, Err, refl, ap, sym, ◌∙◌, subst, append_assoc}
+use Rattle.std.proofs.Common.{◌≡◌, ℕ, suc, ◌<◌, List, [], ◌∷◌, ◌++◌, length, map, take, drop, get_or, Option, Result, Ok, Err, refl, ap, sym, ◌∙◌, subst}
 use Rattle.std.proofs.Math.Seq.{drop-cons}
 use Rattle.std.proofs.lemmas.List.{map-append, take-append-drop}
 use Rattle.thread_scripts.specs.Faults.{Fault}
 use Rattle.thread_scripts.specs.declared.line.Line.{Line}
-use Rattle.command_texts.specs.Reading.{AreTexts, IsFirstUnread, IsText, script_before}
+use Rattle.command_texts.specs.Reading.{AreTexts, IsFirstUnread, IsText}
 
 -- more scripts behind these
 abbrev pub with_front : List (List Line) → Result (List (List Line)) (ℕ × Fault) → Result (List (List Line)) (ℕ × Fault)
 with_front scripts (Ok more) = Ok (scripts ++ more)
 with_front scripts (Err fault) = Err fault
-
-pub front_push : (scripts : List (List Line)) (script : List Line) (i : ℕ) (more : Result (List (List Line)) (ℕ × Fault)) → with_front (scripts ++ script ∷ []) more ≡ with_front scripts (script_before i (Ok script) more)
-front_push scripts script i (Ok more) = ap Ok (append_assoc scripts (script ∷ []) more)
-front_push scripts script i (Err fault) = refl
 
 texts_push : (sources : List (List ℕ × Option (List ℕ))) (texts : List (List ℕ)) (source : List ℕ × Option (List ℕ)) (text : List ℕ)
     → AreTexts sources texts → IsText source.1 text → AreTexts (sources ++ source ∷ []) (texts ++ text ∷ [])

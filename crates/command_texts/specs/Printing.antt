@@ -40,13 +40,14 @@ pub record IsPrinted (printed : Printed) (status : ℕ) (output output' errors e
   pub output_is : Appends output output' printed.output
   pub errors_are : Appends errors errors' printed.errors
 
--- the device failed when the output was written
+-- the device failed while the output was written
 pub record IsCut (status : ℕ) (errors errors' : Option (List ℕ)) : Type 0 where
   pub status_is : status ≡ 4
   pub errors_are : Appends errors errors' (codes "cannot write -\n")
 
--- a command printed one of these, or that there is no memory, or it could not write its output
+-- a command printed one of these, or could not write it; or that there is no memory
 abbrev pub Prints : (Printed → Type 0) → ℕ → Option (List ℕ) → Option (List ℕ) → Option (List ℕ) → Option (List ℕ) → Type 0
 Prints Meant status output output' errors errors' =
-    ((printed : Printed) × Meant printed × IsPrinted printed status output output' errors errors')
-    ⊎ (IsPrinted no_memory status output output' errors errors' ⊎ IsCut status errors errors')
+    ((printed : Printed) × Meant printed
+    × (IsPrinted printed status output output' errors errors' ⊎ IsCut status errors errors'))
+    ⊎ IsPrinted no_memory status output output' errors errors'

@@ -1,18 +1,18 @@
 -- The act of each plan, beside what the sequential object does with the file.
-use Rattle.std.proofs.Common.{◌≡◌, ℕ, ◌+◌, ◌-◌, ◌==◌, ◌&&◌, ◌||◌, List, [], length, Option, Some, None, is_some, unwrap_or, Result, Ok, Err, Bool, true, false, not, if◌then◌else◌, refl, sym, ap, ◌∙◌, subst}
+use Rattle.std.proofs.Common.{◌≡◌, ℕ, ◌+◌, ◌-◌, ◌==◌, ◌&&◌, List, [], length, Option, Some, None, unwrap_or, Result, Ok, Err, Bool, true, false, not, if◌then◌else◌, refl, sym, ap, ◌∙◌, subst}
 use Rattle.std.proofs.lemmas.Bool.{true≢false}
 use Rattle.std.proofs.lemmas.Option.{same_Some}
 use Rattle.std.specs.FinMap as fin
 use Rattle.std.specs.Ordering.{int_eq}
 use Rattle.std.specs.Option.{option_map}
-use Rattle.std.specs.Prelude.{ℤ, ◌+ℤ◌, pos, nat_le, nat_lt, slice_index_or}
+use Rattle.std.specs.Prelude.{ℤ, ◌+ℤ◌, pos, nat_lt}
 use Rattle.posix_terms.specs.Calls.{can_read, can_write}
 use Rattle.sequential_object.specs.Descriptors as posix
 use Rattle.sequential_object.specs.Descriptors.{close_result, open_result}
-use Rattle.sequential_object.specs.Doors.{NewDoor, host_open_result, host_path, opens, port_of, tcp_accept_result, tcp_connect_result, tcp_listen_result}
+use Rattle.sequential_object.specs.Doors.{NewDoor, opens}
 use Rattle.sequential_object.specs.Duplicates as duplicates
 use Rattle.sequential_object.specs.Duplicates.{dup2_result, descriptor_number}
-use Rattle.sequential_object.specs.Effects.{Effect, Asks, Blocks, Completes, asks_of}
+use Rattle.sequential_object.specs.Effects.{Effect, Blocks, Completes, asks_of}
 use Rattle.sequential_object.specs.Files.{bytes_at, resized, written}
 use Rattle.sequential_object.specs.Names.{file_named, file_node, links_of, removed, removed_dir, unlink_result, with_paths}
 use Rattle.sequential_object.specs.Paths.{node_at, resolved}
@@ -34,7 +34,7 @@ use Rattle.posix_terms.specs.declared.call.OpenFlags.{OpenFlags}
 use Rattle.posix_terms.specs.declared.call.ShutdownHow.{ShutdownHow}
 use Rattle.posix_terms.specs.declared.call.Whence.{Whence}
 use Rattle.posix_terms.specs.declared.errno.Errno.{Errno}
-use Rattle.posix_terms.specs.declared.errno.Errno.TheVariants.{EAGAIN, EBADF, EBUSY, EEXIST, EINVAL, EMFILE, ENFILE, ENOENT, ENOSPC, ESPIPE}
+use Rattle.posix_terms.specs.declared.errno.Errno.TheVariants.{EAGAIN, EBADF, EBUSY, EINVAL, EMFILE, ESPIPE}
 use Rattle.posix_terms.specs.declared.object.Door.{Door}
 use Rattle.posix_terms.specs.declared.object.Door.TheVariants as door
 use Rattle.posix_terms.specs.declared.object.End.{End}
@@ -52,20 +52,23 @@ use Rattle.posix_terms.specs.declared.reply.ObjectKind.TheVariants as kind
 use Rattle.posix_terms.specs.declared.transcript.Settings.{Settings}
 use Rattle.file_descriptions.specs.Descriptions.{AreSound}
 use Rattle.file_descriptions.specs.declared.description.Description.{Description}
+use Rattle.descriptor_table.proofs.OpeningLemmas.{over_open, over_opens, over_two_ends, with_both}
+use Rattle.descriptor_table.proofs.MapLemmas.{get-insert_same}
+use Rattle.descriptor_table.proofs.DoorLemmas.{accepted_door, host_door, listener_door, over_accept, over_connect, over_host_open, over_listen, stream_door}
+use Rattle.descriptor_table.proofs.Binding.{bound}
 use Rattle.descriptor_table.proofs.ChangeLemmas.{birth_got}
-use Rattle.descriptor_table.proofs.EndLemmas.{Kind, IsDoor, IsFile, IsPipe, IsPair, has_end_shown, kind_of, of_file_file, of_file_stream, socket_stream}
+use Rattle.descriptor_table.proofs.EndLemmas.{Kind, IsDoor, IsFile, IsPipe, IsPair, has_end_shown, of_file_file, of_file_stream, socket_stream, kind_at}
 use Rattle.descriptor_table.proofs.FollowLemmas.{waited_after}
-use Rattle.descriptor_table.proofs.PathLemmas.{names_shown, node_shown, resolved_shown}
-use Rattle.descriptor_table.proofs.PlanLemmas.{asking_of, ends_shown, full_shown, last_open, listener_by, lowest_none, moves_file_inside, moves_inside, moves_outside, outside_at, transfers_by, two_shown}
-use Rattle.descriptor_table.specs.Laws.{FoundBoth}
-use Rattle.descriptor_table.specs.Laws.FoundBoth.{Open, Shut}
-use Rattle.descriptor_table.proofs.ShownLemmas.{found_both, lowest_shown}
-use Rattle.descriptor_table.proofs.SoundLemmas.{get-insert_same}
+use Rattle.descriptor_table.proofs.PathLemmas.{node_shown, resolved_shown}
+use Rattle.descriptor_table.proofs.PlanLemmas.{ends_shown, last_open, moves_file_inside, moves_inside, moves_outside, outside_at, transfers_by}
+use Rattle.descriptor_table.specs.Laws.{RefersAlike}
+use Rattle.descriptor_table.specs.Laws.RefersAlike.{Open, Shut}
+use Rattle.descriptor_table.proofs.ShownLemmas.{found_both}
 use Rattle.descriptor_table.specs.Acts.{Acted, ActsAsStep, Holds, IsActed, StandsAt, acted, ended, has_read, has_written, held_after, is_open, offset_at, outside_content, outside_ending, read_acted, replied, sought, told_outside, write_acted, wrote}
 use Rattle.descriptor_table.specs.Agreement.{numbers_told}
-use Rattle.descriptor_table.specs.Plans.{act_or_ask, answered, close_plan, ends_a_door, errand, fstat_plan, ftruncate_plan, host_open_plan, leads_outside, locks, lseek_plan, moves, not_listener, of_file, of_listener, opens_plan, seekable, shut_act, shutdown_plan, stat_by, stat_plan, tcp_accept_plan, tcp_connect_plan, tcp_listen_plan, two_ends_plan, pread_plan, pwrite_plan, read_plan, seen, write_plan, addable, dup2_plan, dup_from_plan, dup_plan, getfl_plan, link_plan, mkdir_plan, open_new, open_node, open_plan, open_there, planned, replaced, rmdir_plan, setfl_plan, unlink_plan}
+use Rattle.descriptor_table.specs.Plans.{act_or_ask, answered, close_plan, ends_a_door, errand, fstat_plan, ftruncate_plan, leads_outside, locks, lseek_plan, moves, not_listener, of_file, opens_plan, seekable, shut_act, shutdown_plan, stat_by, stat_plan, two_ends_plan, pread_plan, pwrite_plan, read_plan, seen, write_plan, addable, dup2_plan, dup_from_plan, dup_plan, getfl_plan, link_plan, mkdir_plan, open_plan, planned, replaced, rmdir_plan, setfl_plan, unlink_plan}
 use Rattle.descriptor_table.specs.Shows.{Shows, birth_at, birth_of, is_of, shown, shown_node}
-use Rattle.descriptor_table.specs.Table.{TableState, IsSound, described, free_object, is_last_name, lowest_from, two_numbers}
+use Rattle.descriptor_table.specs.Table.{TableState, IsSound, described, free_object, is_last_name, lowest_from}
 use Rattle.descriptor_table.specs.declared.plan.Errand.{Errand}
 use Rattle.descriptor_table.specs.declared.plan.NewNumbers.TheVariants as numbers
 use Rattle.descriptor_table.specs.declared.plan.Op.{Op}
@@ -99,9 +102,6 @@ module _ (t : TableState) (s : State) (settings : Settings) (outcome : Option Ou
   -- a plan that is another one, for a content that is another one
   does_as : (call : Call) (p q : Plan) (c e : Content) (f : Content → Result Effect Errno) → p ≡ q → c ≡ e → Does call q (f e) → Does call p (f c)
   does_as call p q c e f plans contents does = subst (λ (x : Plan). Does call x (f c)) (sym plans) (subst (λ (x : Content). Does call q (f x)) (sym contents) does)
-
-  kind_at : (key : ℕ) (d : Description) → fin.get t.descriptions.by_key key ≡ Some d → Kind d.«end» (content_of s (birth_at t d.node))
-  kind_at key d got = kind_of d.«end» (content_of s (birth_at t d.node)) (shows.ends key d got)
 
   -- whether an end is open, in both
   open_at : (key : ℕ) (d : Description) (which : End) → fin.get t.descriptions.by_key key ≡ Some d → is_of which (content_of s (birth_at t d.node)) ≡ true → posix.has_end s (birth_at t d.node) which ≡ is_open t d.node which
@@ -166,10 +166,12 @@ module _ (t : TableState) (s : State) (settings : Settings) (outcome : Option Ou
 
   -- ## Transfers
 
-  acts-read : (descriptor count : ℤ) → FoundBoth t s descriptor → Acts (call.Read descriptor count) (read_plan t descriptor count) (read_result s descriptor count)
+  acts-read : (descriptor count : ℤ) → RefersAlike t s descriptor → Acts (call.Read descriptor count) (read_plan t descriptor count) (read_result s descriptor count)
   unfolding read_plan read_result
   acts-read descriptor count (Shut table state) = rw table tt
-  acts-read descriptor count (Open key d offset at got there table state) = rw (table, state, transfers_by d.«end» (content_of s (birth_at t d.node)) (kind_at key d got)) (by_access (not_listener d.«end») (not (can_read d.access)) (count_of count))
+  acts-read descriptor count (Open key d offset at got there table state) =
+      rw (table, state, transfers_by d.«end» (content_of s (birth_at t d.node)) (kind_at t s shows key d got))
+      (by_access (not_listener d.«end») (not (can_read d.access)) (count_of count))
     where
       act : ℕ → Op
       act n = op.Read (seen key d) n
@@ -228,12 +230,14 @@ module _ (t : TableState) (s : State) (settings : Settings) (outcome : Option Ou
       by_access (Err e) b r = tt
       by_access (Ok u) true r = tt
       by_access (Ok u) false (Err e) = tt
-      by_access (Ok u) false (Ok n) = by_kind n (kind_at key d got)
+      by_access (Ok u) false (Ok n) = by_kind n (kind_at t s shows key d got)
 
-  acts-write : (descriptor : ℤ) (bytes : List ℕ) → FoundBoth t s descriptor → Acts (call.Write descriptor bytes) (write_plan t descriptor (length bytes)) (write_result s descriptor bytes)
+  acts-write : (descriptor : ℤ) (bytes : List ℕ) → RefersAlike t s descriptor → Acts (call.Write descriptor bytes) (write_plan t descriptor (length bytes)) (write_result s descriptor bytes)
   unfolding write_plan write_result
   acts-write descriptor bytes (Shut table state) = rw table tt
-  acts-write descriptor bytes (Open key d offset at got there table state) = rw (table, state, transfers_by d.«end» (content_of s (birth_at t d.node)) (kind_at key d got)) (by_refusals (not_listener d.«end») (not (can_write d.access)) (nat_lt 32767 (length bytes)))
+  acts-write descriptor bytes (Open key d offset at got there table state) =
+      rw (table, state, transfers_by d.«end» (content_of s (birth_at t d.node)) (kind_at t s shows key d got))
+      (by_refusals (not_listener d.«end») (not (can_write d.access)) (nat_lt 32767 (length bytes)))
     where
       act : Op
       act = op.Write (seen key d)
@@ -314,12 +318,12 @@ module _ (t : TableState) (s : State) (settings : Settings) (outcome : Option Ou
       by_refusals (Err e) a b = tt
       by_refusals (Ok u) true b = tt
       by_refusals (Ok u) false true = tt
-      by_refusals (Ok u) false false = by_kind (kind_at key d got)
+      by_refusals (Ok u) false false = by_kind (kind_at t s shows key d got)
 
-  acts-lseek : (descriptor to : ℤ) (whence : Whence) → FoundBoth t s descriptor → Acts (call.Lseek descriptor to whence) (lseek_plan t descriptor to whence) (lseek_result s descriptor to whence)
+  acts-lseek : (descriptor to : ℤ) (whence : Whence) → RefersAlike t s descriptor → Acts (call.Lseek descriptor to whence) (lseek_plan t descriptor to whence) (lseek_result s descriptor to whence)
   unfolding lseek_plan lseek_result
   acts-lseek descriptor to whence (Shut table state) = rw table tt
-  acts-lseek descriptor to whence (Open key d offset at got there table state) = rw (table, state) (by_kind (kind_at key d got))
+  acts-lseek descriptor to whence (Open key d offset at got there table state) = rw (table, state) (by_kind (kind_at t s shows key d got))
     where
       ask : Op
       ask = errand d out.Seek 0 false
@@ -357,10 +361,10 @@ module _ (t : TableState) (s : State) (settings : Settings) (outcome : Option Ou
       by_kind (IsPair p side its is) = does_as (call.Lseek descriptor to whence) _ (answered (by_end (part.Socket side))) _ (Pair p) (seek_content s d.birth (shown t d offset) to whence) (ap (λ (e : End). answered (by_end e)) its) is tt
       by_kind (IsDoor door its is) = does_as (call.Lseek descriptor to whence) _ (answered (by_end (part.Door door))) _ (DoorTo door) (seek_content s d.birth (shown t d offset) to whence) (ap (λ (e : End). answered (by_end e)) its) is (by_door door)
 
-  acts-fstat : (descriptor : ℤ) → FoundBoth t s descriptor → Acts (call.Fstat descriptor) (fstat_plan t descriptor) (fstat_result s descriptor)
+  acts-fstat : (descriptor : ℤ) → RefersAlike t s descriptor → Acts (call.Fstat descriptor) (fstat_plan t descriptor) (fstat_result s descriptor)
   unfolding fstat_plan fstat_result
   acts-fstat descriptor (Shut table state) = rw table tt
-  acts-fstat descriptor (Open key d offset at got there table state) = rw (table, state) (by_kind (kind_at key d got))
+  acts-fstat descriptor (Open key d offset at got there table state) = rw (table, state) (by_kind (kind_at t s shows key d got))
     where
       by_file : (file : List ℕ) (content : Content) (other : ℕ) → content_of s (birth_at t d.node) ≡ File file → content ≡ File file
           → Ended d.node (op.Fstat (links_of t.paths d.node)) (acted t d.node (op.Fstat (links_of t.paths d.node)) (call.Fstat descriptor) outcome numbers.None content other) (Ok (Completes s (stat_of s (birth_at t d.node) (File file))))
@@ -390,10 +394,11 @@ module _ (t : TableState) (s : State) (settings : Settings) (outcome : Option Ou
       by_kind (IsPair p side its is) = subst (λ (e : End). Does (call.Fstat descriptor) (stat_plan d (links_of t.paths d.node) (stat_by e)) (Ok (Completes s (stat_of s (birth_at t d.node) (content_of s (birth_at t d.node)))))) (sym its) tt
       by_kind (IsDoor door its is) = does_as (call.Fstat descriptor) _ (by_end (part.Door door)) _ (DoorTo door) does (ap by_end its) is (by_door door)
 
-  acts-pread : (descriptor count position : ℤ) → FoundBoth t s descriptor → Acts (call.Pread descriptor count position) (pread_plan t descriptor count position) (pread_result s descriptor count position)
+  acts-pread : (descriptor count position : ℤ) → RefersAlike t s descriptor → Acts (call.Pread descriptor count position) (pread_plan t descriptor count position) (pread_result s descriptor count position)
   unfolding pread_plan pread_result
   acts-pread descriptor count position (Shut table state) = rw table tt
-  acts-pread descriptor count position (Open key d offset at got there table state) = rw (table, state) (by_kind (kind_at key d got))
+  acts-pread descriptor count position (Open key d offset at got there table state) =
+      rw (table, state) (by_kind (kind_at t s shows key d got))
     where
       by_file : (n start : ℕ) (file : List ℕ) (content : Content) (other : ℕ) → content_of s (birth_at t d.node) ≡ File file → content ≡ File file
           → Ended d.node (op.Pread n start) (acted t d.node (op.Pread n start) (call.Pread descriptor count position) outcome numbers.None content other) (Ok (Completes s (reply.Data (bytes_at file start n))))
@@ -416,10 +421,11 @@ module _ (t : TableState) (s : State) (settings : Settings) (outcome : Option Ou
       by_kind (IsPair p side its is) = rw (of_file_stream d ESPIPE (socket_stream d.«end» side its)) tt
       by_kind (IsDoor door its is) = rw (of_file_stream d ESPIPE (ap (λ (e : End). is_end e part.Only) its)) tt
 
-  acts-pwrite : (descriptor : ℤ) (bytes : List ℕ) (position : ℤ) → FoundBoth t s descriptor → Acts (call.Pwrite descriptor bytes position) (pwrite_plan t descriptor (length bytes) position) (pwrite_result s descriptor bytes position)
+  acts-pwrite : (descriptor : ℤ) (bytes : List ℕ) (position : ℤ) → RefersAlike t s descriptor → Acts (call.Pwrite descriptor bytes position) (pwrite_plan t descriptor (length bytes) position) (pwrite_result s descriptor bytes position)
   unfolding pwrite_plan pwrite_result
   acts-pwrite descriptor bytes position (Shut table state) = rw table tt
-  acts-pwrite descriptor bytes position (Open key d offset at got there table state) = rw (table, state) (by_kind (kind_at key d got))
+  acts-pwrite descriptor bytes position (Open key d offset at got there table state) =
+      rw (table, state) (by_kind (kind_at t s shows key d got))
     where
       by_written : (file : List ℕ) (start other : ℕ) (r : Result (List ℕ × ℕ) Errno) → content_of s (birth_at t d.node) ≡ File file
           → Ended d.node (op.Pwrite start) (wrote r file other (λ count. other)) (r >>= (λ w. Ok (Completes (with_content s (birth_at t d.node) (File w.0)) (reply.Count w.1))))
@@ -452,10 +458,11 @@ module _ (t : TableState) (s : State) (settings : Settings) (outcome : Option Ou
       by_kind (IsPair p side its is) = rw (of_file_stream d ESPIPE (socket_stream d.«end» side its)) tt
       by_kind (IsDoor door its is) = rw (of_file_stream d ESPIPE (ap (λ (e : End). is_end e part.Only) its)) tt
 
-  acts-ftruncate : (descriptor size : ℤ) → FoundBoth t s descriptor → Acts (call.Ftruncate descriptor size) (ftruncate_plan t descriptor size) (ftruncate_result s descriptor size)
+  acts-ftruncate : (descriptor size : ℤ) → RefersAlike t s descriptor → Acts (call.Ftruncate descriptor size) (ftruncate_plan t descriptor size) (ftruncate_result s descriptor size)
   unfolding ftruncate_plan ftruncate_result
   acts-ftruncate descriptor size (Shut table state) = rw table tt
-  acts-ftruncate descriptor size (Open key d offset at got there table state) = rw (table, state) (by_kind (not (can_write d.access)) (kind_at key d got))
+  acts-ftruncate descriptor size (Open key d offset at got there table state) =
+      rw (table, state) (by_kind (not (can_write d.access)) (kind_at t s shows key d got))
     where
       by_file : (n : ℕ) (file : List ℕ) (content : Content) (other : ℕ) → content_of s (birth_at t d.node) ≡ File file → content ≡ File file
           → Ended d.node (op.Ftruncate n) (acted t d.node (op.Ftruncate n) (call.Ftruncate descriptor size) outcome numbers.None content other) (Ok (Completes (with_content s (birth_at t d.node) (File (resized file n))) reply.Done))
@@ -476,10 +483,11 @@ module _ (t : TableState) (s : State) (settings : Settings) (outcome : Option Ou
       by_kind false (IsPair p side its is) = rw (of_file_stream d EINVAL (socket_stream d.«end» side its)) tt
       by_kind false (IsDoor door its is) = rw (of_file_stream d EINVAL (ap (λ (e : End). is_end e part.Only) its)) tt
 
-  acts-shutdown : (descriptor : ℤ) (how : ShutdownHow) → FoundBoth t s descriptor → Acts (call.Shutdown descriptor how) (shutdown_plan t descriptor how) (shutdown_result s descriptor how)
+  acts-shutdown : (descriptor : ℤ) (how : ShutdownHow) → RefersAlike t s descriptor → Acts (call.Shutdown descriptor how) (shutdown_plan t descriptor how) (shutdown_result s descriptor how)
   unfolding shutdown_plan shutdown_result
   acts-shutdown descriptor how (Shut table state) = rw table tt
-  acts-shutdown descriptor how (Open key d offset at got there table state) = rw (table, state) (by_kind d.«end» (kind_at key d got))
+  acts-shutdown descriptor how (Open key d offset at got there table state) =
+      rw (table, state) (by_kind d.«end» (kind_at t s shows key d got))
     where
       by_pair : (side : Side) (p : PairState) (content : Content) (other : ℕ) → content ≡ Pair p
           → Ended d.node (op.Shutdown side how) (acted t d.node (op.Shutdown side how) (call.Shutdown descriptor how) outcome numbers.None content other) (Ok (Completes (with_content s (birth_at t d.node) (Pair (shut p side how))) reply.Done))
@@ -504,7 +512,7 @@ module _ (t : TableState) (s : State) (settings : Settings) (outcome : Option Ou
 
   -- ## Letting go
 
-  acts-close : (descriptor : ℤ) → FoundBoth t s descriptor → Acts (call.Close descriptor) (close_plan t descriptor) (close_result s descriptor)
+  acts-close : (descriptor : ℤ) → RefersAlike t s descriptor → Acts (call.Close descriptor) (close_plan t descriptor) (close_result s descriptor)
   unfolding close_plan close_result
   acts-close descriptor (Shut table state) = rw table tt
   acts-close descriptor (Open key d offset at got there table state) =
@@ -525,7 +533,7 @@ module _ (t : TableState) (s : State) (settings : Settings) (outcome : Option Ou
   closed_content target birth content (Ok found) holds = released_content (posix.freed s target) found.0 birth found.1 content (freed_content s target birth content holds)
   closed_content target birth content (Err e) holds = holds
 
-  acts-dup2 : (descriptor target : ℤ) → FoundBoth t s descriptor → FoundBoth t s target → Acts (call.Dup2 descriptor target) (dup2_plan t descriptor target) (dup2_result s descriptor target)
+  acts-dup2 : (descriptor target : ℤ) → RefersAlike t s descriptor → RefersAlike t s target → Acts (call.Dup2 descriptor target) (dup2_plan t descriptor target) (dup2_result s descriptor target)
   unfolding dup2_plan dup2_result
   acts-dup2 descriptor target (Shut table state) other = rw table tt
   acts-dup2 descriptor target (Open key d offset at got there table state) other = rw (table, state, ends_shown t s sound all shows target other) (by_number (descriptor_number target EBADF))
@@ -581,47 +589,29 @@ module _ (t : TableState) (s : State) (settings : Settings) (outcome : Option Ou
   truncated_content birth content true holds = put_content s birth (File [])
   truncated_content birth content false holds = same_content s birth content holds
 
-  acts-there : (path : List ℕ) (access : Access) (flags : OpenFlags) (node : Node) → Acts (call.Open path access flags) (open_there t node flags) (posix.open_there s (shown_node t node) access flags)
-  acts-there path access flags Directory = tt
-  acts-there path access flags (FileNode node) = rw (lowest_shown t s 32 0 shows) (by_number (lowest_from t.descriptors 32 0))
-    where
-      by_number : (o : Option ℕ) → Acts (call.Open path access flags) (some_or o EMFILE >>= (λ n. Ok (locks node (op.Open flags.truncate)))) (some_or o EMFILE >>= (λ n. Ok (Completes (posix.opened (posix.truncated s (birth_at t node) flags.truncate) n (birth_at t node) part.Only access flags.append flags.nonblock) (reply.Number (pos n)))))
-      by_number None = tt
-      by_number (Some n) = λ content other holds stands. record { answer_is = refl; carried_is = refl; content_is = truncated_content (birth_at t node) content flags.truncate holds; offset_is = tt }
+  -- what is made is under the next number
+  content_made : (node : ℕ) (content now : Content) → birth_at t node ≡ s.next_object
+      → fin.get (fin.insert s.objects s.next_object content) (birth_at t node) ≡ Some now → now ≡ content
+  content_made node content now at is =
+      same_Some _ _
+      (sym is ∙ ap (fin.get (fin.insert s.objects s.next_object content)) at ∙ get-insert_same s.objects s.next_object content)
 
-  acts-new : (path : List ℕ) (components : List (List ℕ)) (access : Access) (flags : OpenFlags) → Acts (call.Open path access flags) (open_new t flags) (posix.open_new s components access flags)
-  acts-new path components access flags = rw (names_shown t s shows, full_shown t s sound all shows, lowest_shown t s 32 0 shows) (by_rest (not flags.create) (nat_le 64 (fin.len t.paths)) (free_object t) (lowest_from t.descriptors 32 0) (λ node is. lowest_none t.objects 48 0 node is))
-    where
-      by_rest : (a b : Bool) (o number : Option ℕ) → ((node : ℕ) → o ≡ Some node → slice_index_or t.objects node None ≡ None)
-          → Acts (call.Open path access flags) (refuse_if a ENOENT >>= (λ _. refuse_if b ENOSPC >>= (λ _. some_or o ENOSPC >>= (λ node. some_or number EMFILE >>= (λ _. Ok (locks node (op.Open true)))))))
-          (refuse_if a ENOENT >>= (λ _. refuse_if (b || not (is_some o)) ENOSPC >>= (λ _. some_or number EMFILE >>= (λ n. Ok (Completes (posix.opened (posix.with_file s components) n s.next_object part.Only access flags.append flags.nonblock) (reply.Number (pos n)))))))
-      by_rest true b o number free = tt
-      by_rest false true o number free = tt
-      by_rest false false None number free = tt
-      by_rest false false (Some node) None free = tt
-      by_rest false false (Some node) (Some n) free = λ content other holds stands. record {
+  acts-open : (path : List ℕ) (access : Access) (flags : OpenFlags)
+      → Acts (call.Open path access flags) (open_plan t path access flags) (open_result s path access flags)
+  acts-open path access flags =
+      over_open t s sound all shows (Acts (call.Open path access flags)) (λ e. tt) path access flags
+      (λ n node content other holds stands. record {
         answer_is = refl;
         carried_is = refl;
-        content_is = λ now at. same_Some _ _ (sym at ∙ ap (fin.get (fin.insert s.objects s.next_object (File []))) (ap (λ (o : Option ℕ). unwrap_or o t.made_objects) (free node refl) ∙ sym shows.next_object) ∙ get-insert_same s.objects s.next_object (File []));
+        content_is = truncated_content (birth_at t node) content flags.truncate holds;
         offset_is = tt;
-      }
-
-  acts-open : (path : List ℕ) (access : Access) (flags : OpenFlags) → Acts (call.Open path access flags) (open_plan t path access flags) (open_result s path access flags)
-  unfolding open_plan open_result
-  acts-open path access flags = rw (resolved_shown t s path shows) (by_rest (flags.truncate && not (can_write access)) (resolved t.paths path))
-    where
-      by_node : (components : List (List ℕ)) (o : Option Node) → Acts (call.Open path access flags) (open_node t o flags) (posix.open_node s components (option_map (shown_node t) o) access flags)
-      by_node components None = acts-new path components access flags
-      by_node components (Some node) = by_refusal (flags.create && flags.exclusive)
-        where
-          by_refusal : (b : Bool) → Acts (call.Open path access flags) (refuse_if b EEXIST >>= (λ _. open_there t node flags)) (refuse_if b EEXIST >>= (λ _. posix.open_there s (shown_node t node) access flags))
-          by_refusal true = tt
-          by_refusal false = acts-there path access flags node
-
-      by_rest : (b : Bool) (r : Result (List (List ℕ)) Errno) → Acts (call.Open path access flags) (refuse_if b EINVAL >>= (λ _. r >>= (λ components. open_node t (node_at t.paths components) flags))) (refuse_if b EINVAL >>= (λ _. r >>= (λ components. posix.open_node s components (node_at s.paths components) access flags)))
-      by_rest true r = tt
-      by_rest false (Err e) = tt
-      by_rest false (Ok components) = rw (node_shown t s components shows) (by_node components (node_at t.paths components))
+      })
+      (λ components n node at content other holds stands. record {
+        answer_is = refl;
+        carried_is = refl;
+        content_is = λ now is. content_made node (File []) now at is;
+        offset_is = tt;
+      })
 
   -- ## Opening both ends
 
@@ -629,22 +619,19 @@ module _ (t : TableState) (s : State) (settings : Settings) (outcome : Option Ou
       → ((first second : ℤ) (held : Content) (offset : ℕ) → acted t (unwrap_or (free_object t) 0) act c outcome (numbers_told c (answer.Reply (reply.Pair first second))) held offset ≡ replied (reply.Pair first second) content offset)
       → ((after : State) (offset : ℕ) → StandsAt t after act offset)
       → Acts c (two_ends_plan t act) (sockets.two_ends s content one other)
-  acts-two c act content one other acts stays = rw (two_shown t s sound all shows, full_shown t s sound all shows) (by_rest (two_numbers t) (free_object t) refl (λ node is. lowest_none t.objects 48 0 node is))
-    where
-      by_rest : (r : Result (ℕ × ℕ) Errno) (o : Option ℕ) → free_object t ≡ o → ((node : ℕ) → o ≡ Some node → slice_index_or t.objects node None ≡ None)
-          → Acts c (r >>= (λ _. some_or o ENFILE >>= (λ node. Ok (locks node act))))
-          (r >>= (λ numbers. refuse_if (not (is_some o)) ENFILE >>= (λ _. Ok (Completes (posix.opened (posix.opened (object.with_object s content) numbers.0 s.next_object one.which one.access false false) numbers.1 s.next_object other.which other.access false false) (reply.Pair (pos numbers.0) (pos numbers.1))))))
-      by_rest (Err e) o at free = tt
-      by_rest (Ok two) None at free = tt
-      by_rest (Ok two) (Some node) at free = λ held offset holds stands.
-          let done : acted t node act c outcome (numbers_told c (answer.Reply (reply.Pair (pos two.0) (pos two.1)))) held offset ≡ replied (reply.Pair (pos two.0) (pos two.1)) content offset =
-          subst (λ (n : ℕ). acted t n act c outcome (numbers_told c (answer.Reply (reply.Pair (pos two.0) (pos two.1)))) held offset ≡ replied (reply.Pair (pos two.0) (pos two.1)) content offset) (ap (λ (o : Option ℕ). unwrap_or o 0) at) (acts (pos two.0) (pos two.1) held offset) in
-          rw done (record {
-            answer_is = refl;
-            carried_is = refl;
-            content_is = λ now is. same_Some _ _ (sym is ∙ ap (fin.get (fin.insert s.objects s.next_object content)) (ap (λ (o : Option ℕ). unwrap_or o t.made_objects) (free node refl) ∙ sym shows.next_object) ∙ get-insert_same s.objects s.next_object content);
-            offset_is = stays (posix.opened (posix.opened (object.with_object s content) two.0 s.next_object one.which one.access false false) two.1 s.next_object other.which other.access false false) offset;
-          })
+  acts-two c act content one other acts stays =
+      over_two_ends t s sound all shows (Acts c) (λ e. tt) act content one other (λ two node free at held offset holds stands.
+      let done : acted t node act c outcome (numbers_told c (answer.Reply (reply.Pair (pos two.0) (pos two.1)))) held offset ≡ replied
+      (reply.Pair (pos two.0) (pos two.1)) content offset =
+      subst (λ (n : ℕ). acted t n act c outcome (numbers_told c (answer.Reply (reply.Pair (pos two.0) (pos two.1)))) held offset ≡ replied
+      (reply.Pair (pos two.0) (pos two.1)) content offset) (ap (λ (o : Option ℕ). unwrap_or o 0) free)
+      (acts (pos two.0) (pos two.1) held offset) in
+      rw done (record {
+        answer_is = refl;
+        carried_is = refl;
+        content_is = λ now is. content_made node content now at is;
+        offset_is = stays (with_both s content one other two) offset;
+      }))
 
   acts-pipe : Acts call.Pipe (two_ends_plan t op.Pipe) (pipe_result s)
   unfolding pipe_result
@@ -660,106 +647,59 @@ module _ (t : TableState) (s : State) (settings : Settings) (outcome : Option Ou
       → ((n value : ℕ) (bytes : List ℕ) → reply.Number (pos n) ≡ told_outside o.kind (numbers_told c (answer.Reply (reply.Number (pos n)))) value bytes)
       → ((value : ℕ) (content : Content) → held_after o.kind value content ≡ DoorTo (o.door value))
       → Acts c (opens_plan t o.kind o.asked o.waits listener) (opens s o)
-  acts-opens c o listener tells becomes = rw (lowest_shown t s 32 0 shows, full_shown t s sound all shows) (by_rest (lowest_from t.descriptors 32 0) (free_object t) (λ node is. lowest_none t.objects 48 0 node is))
+  acts-opens c o listener tells becomes =
+      over_opens t s sound all shows (Acts c) (λ e. tt) o listener (λ n node at content offset holds stands.
+      outside_as c node o.kind o.asked o.waits listener (succeeds n) s content offset holds (same_content s (birth_at t node) content holds)
+      (tells n)
+      (λ value bytes now is. content_made node (DoorTo (o.door value)) now at is ∙ sym (becomes value content))
+      outcome)
     where
-      act : Op
-      act = op.Ask (record { kind = o.kind; asked = o.asked; waits = o.waits; door = listener })
-
       succeeds : ℕ → ℕ → List ℕ → State × Reply
       succeeds n value bytes = (posix.opened (object.with_object s (DoorTo (o.door value))) n s.next_object (part.Door (o.door value)) o.access o.append false, reply.Number (pos n))
 
-      by_rest : (number free : Option ℕ) → ((node : ℕ) → free ≡ Some node → slice_index_or t.objects node None ≡ None)
-          → Acts c (some_or number EMFILE >>= (λ _. some_or free ENFILE >>= (λ node. Ok (plan.Node node act true))))
-          (some_or number EMFILE >>= (λ n. refuse_if (not (is_some free)) ENFILE >>= (λ _. Ok (Asks (asking_of s o n)))))
-      by_rest None free unused = tt
-      by_rest (Some n) None unused = tt
-      by_rest (Some n) (Some node) unused = λ content offset holds stands.
-          outside_as c node o.kind o.asked o.waits listener (succeeds n) s content offset holds (same_content s (birth_at t node) content holds) (tells n)
-          (λ value bytes now at. same_Some _ _ (sym at ∙ ap (fin.get (fin.insert s.objects s.next_object (DoorTo (o.door value)))) (ap (λ (o : Option ℕ). unwrap_or o t.made_objects) (unused node refl) ∙ sym shows.next_object) ∙ get-insert_same s.objects s.next_object (DoorTo (o.door value))) ∙ sym (becomes value content))
-          outcome
-
-  acts-host_open : (path : List ℕ) (access : Access) (flags : OpenFlags) → Acts (call.HostOpen path access flags) (host_open_plan t path access flags) (host_open_result s path access flags)
-  unfolding host_open_plan host_open_result
-  acts-host_open path access flags = by_refusals (flags.truncate && not (can_write access)) (host_path path)
-    where
-      opening : NewDoor
-      opening = record { kind = out.Open; asked = 0; door = λ value. door.HostFile; access = access; append = flags.append; waits = false }
-
-      by_refusals : (b : Bool) (r : Result (Unit {0}) Errno) → Acts (call.HostOpen path access flags) (refuse_if b EINVAL >>= (λ _. r >>= (λ _. opens_plan t out.Open 0 false None))) (refuse_if b EINVAL >>= (λ _. r >>= (λ _. opens s opening)))
-      by_refusals true r = tt
-      by_refusals false (Err e) = tt
-      by_refusals false (Ok u) = acts-opens (call.HostOpen path access flags) opening None (λ n value bytes. refl) (λ value content. refl)
-
-  acts-listen : (port : ℤ) → Acts (call.TcpListen port) (tcp_listen_plan t port) (tcp_listen_result s port)
-  unfolding tcp_listen_plan tcp_listen_result
-  acts-listen port = by_port (port_of 0 port)
-    where
-      opening : ℕ → NewDoor
-      opening asked = record { kind = out.Listen; asked = asked; door = λ value. door.Listener value; access = ReadWrite; append = false; waits = false }
-
-      by_port : (r : Result ℕ Errno) → Acts (call.TcpListen port) (r >>= (λ asked. opens_plan t out.Listen asked false None)) (r >>= (λ asked. opens s (opening asked)))
-      by_port (Ok asked) = acts-opens (call.TcpListen port) (opening asked) None (λ n value bytes. refl) (λ value content. refl)
-      by_port (Err e) = tt
-
-  acts-connect : (port : ℤ) → Acts (call.TcpConnect port) (tcp_connect_plan t port) (tcp_connect_result s port)
-  unfolding tcp_connect_plan tcp_connect_result
-  acts-connect port = by_port (port_of 1 port)
-    where
-      opening : ℕ → NewDoor
-      opening asked = record { kind = out.Connect; asked = asked; door = λ value. door.Stream; access = ReadWrite; append = false; waits = false }
-
-      by_port : (r : Result ℕ Errno) → Acts (call.TcpConnect port) (r >>= (λ asked. opens_plan t out.Connect asked false None)) (r >>= (λ asked. opens s (opening asked)))
-      by_port (Ok asked) = acts-opens (call.TcpConnect port) (opening asked) None (λ n value bytes. refl) (λ value content. refl)
-      by_port (Err e) = tt
-
-  acts-accept : (descriptor : ℤ) → FoundBoth t s descriptor → Acts (call.TcpAccept descriptor) (tcp_accept_plan t descriptor) (tcp_accept_result s descriptor)
-  unfolding tcp_accept_plan tcp_accept_result
-  acts-accept descriptor (Shut table state) = rw table tt
-  acts-accept descriptor (Open key d offset at got there table state) =
-      rw (table, state, listener_by d.«end» (content_of s (birth_at t d.node)) (kind_at key d got)) (by_listener (of_listener d.«end»))
-    where
-      opening : NewDoor
-      opening = record { kind = out.Accept; asked = 0; door = λ value. door.Stream; access = ReadWrite; append = false; waits = not d.flags.nonblock }
-
-      by_listener : (r : Result (Unit {0}) Errno) → Acts (call.TcpAccept descriptor) (r >>= (λ _. opens_plan t out.Accept 0 (not d.flags.nonblock) (Some d.node))) (r >>= (λ _. opens s opening))
-      by_listener (Ok u) = acts-opens (call.TcpAccept descriptor) opening (Some d.node) (λ n value bytes. refl) (λ value content. refl)
-      by_listener (Err e) = tt
-
   -- ## Calls that lock nothing
 
-  alone : (c : Call) {A : Type 0} (r : Result A Errno) (f : A → Result Plan Errno) (stepped : Stepped) → ((x : A) → ActsOn t s settings outcome carried c (answered (f x)) stepped) → ActsOn t s settings outcome carried c (answered (r >>= f)) stepped
-  alone c (Ok x) f stepped each = each x
-  alone c (Err e) f stepped each = tt
+  abbrev Alone : Call → Stepped → Result Plan Errno → Type 0
+  Alone c stepped p = ActsOn t s settings outcome carried c (answered p) stepped
 
   acts-dup : (descriptor : ℤ) (stepped : Stepped) → ActsOn t s settings outcome carried (call.Dup descriptor) (answered (dup_plan t descriptor)) stepped
   unfolding dup_plan
-  acts-dup descriptor stepped = alone (call.Dup descriptor) (described t descriptor) _ stepped (λ found. alone (call.Dup descriptor) (some_or (lowest_from t.descriptors 32 0) EMFILE) _ stepped (λ n. tt))
+  acts-dup descriptor stepped =
+      bound (Alone (call.Dup descriptor) stepped) (λ e. tt) (described t descriptor) _ (λ _ _.
+      bound (Alone (call.Dup descriptor) stepped) (λ e. tt) (some_or (lowest_from t.descriptors 32 0) EMFILE) _ (λ _ _. tt))
 
   acts-dup_from : (descriptor least : ℤ) (stepped : Stepped) → ActsOn t s settings outcome carried (call.DupFrom descriptor least) (answered (dup_from_plan t descriptor least)) stepped
   unfolding dup_from_plan
-  acts-dup_from descriptor least stepped = alone (call.DupFrom descriptor least) (described t descriptor) _ stepped (λ found. alone (call.DupFrom descriptor least) (descriptor_number least EINVAL) _ stepped (λ first. alone (call.DupFrom descriptor least) (some_or (lowest_from t.descriptors (32 - first) first) EMFILE) _ stepped (λ n. tt)))
+  acts-dup_from descriptor least stepped =
+      bound (Alone (call.DupFrom descriptor least) stepped) (λ e. tt) (described t descriptor) _ (λ _ _.
+      bound (Alone (call.DupFrom descriptor least) stepped) (λ e. tt) (descriptor_number least EINVAL) _ (λ first _.
+      bound (Alone (call.DupFrom descriptor least) stepped) (λ e. tt) (some_or (lowest_from t.descriptors (32 - first) first) EMFILE) _
+      (λ _ _. tt)))
 
   acts-getfl : (descriptor : ℤ) (stepped : Stepped) → ActsOn t s settings outcome carried (call.Getfl descriptor) (answered (getfl_plan t descriptor)) stepped
   unfolding getfl_plan
-  acts-getfl descriptor stepped = alone (call.Getfl descriptor) (described t descriptor) _ stepped (λ found. tt)
+  acts-getfl descriptor stepped = bound (Alone (call.Getfl descriptor) stepped) (λ e. tt) (described t descriptor) _ (λ _ _. tt)
 
   acts-setfl : (descriptor : ℤ) (append nonblock : Bool) (stepped : Stepped) → ActsOn t s settings outcome carried (call.Setfl descriptor append nonblock) (answered (setfl_plan t descriptor)) stepped
   unfolding setfl_plan
-  acts-setfl descriptor append nonblock stepped = alone (call.Setfl descriptor append nonblock) (described t descriptor) _ stepped (λ found. tt)
+  acts-setfl descriptor append nonblock stepped =
+      bound (Alone (call.Setfl descriptor append nonblock) stepped) (λ e. tt) (described t descriptor) _ (λ _ _. tt)
 
   acts-link : (old_path new_path : List ℕ) (stepped : Stepped) → ActsOn t s settings outcome carried (call.Link old_path new_path) (answered (link_plan t old_path new_path)) stepped
   unfolding link_plan
-  acts-link old_path new_path stepped = alone (call.Link old_path new_path) (file_named t.paths old_path) _ stepped (λ node. alone (call.Link old_path new_path) (addable t.paths new_path) _ stepped (λ a. tt))
+  acts-link old_path new_path stepped =
+      bound (Alone (call.Link old_path new_path) stepped) (λ e. tt) (file_named t.paths old_path) _ (λ _ _.
+      bound (Alone (call.Link old_path new_path) stepped) (λ e. tt) (addable t.paths new_path) _ (λ _ _. tt))
 
   acts-mkdir : (path : List ℕ) (stepped : Stepped) → ActsOn t s settings outcome carried (call.Mkdir path) (answered (mkdir_plan t path)) stepped
   unfolding mkdir_plan
-  acts-mkdir path stepped = alone (call.Mkdir path) (addable t.paths path) _ stepped (λ a. tt)
+  acts-mkdir path stepped = bound (Alone (call.Mkdir path) stepped) (λ e. tt) (addable t.paths path) _ (λ _ _. tt)
 
   acts-rmdir : (path : List ℕ) (stepped : Stepped) → ActsOn t s settings outcome carried (call.Rmdir path) (answered (rmdir_plan t path)) stepped
   unfolding rmdir_plan
-  acts-rmdir path stepped = alone (call.Rmdir path) (removed_dir t.paths path) _ stepped (λ a. tt)
+  acts-rmdir path stepped = bound (Alone (call.Rmdir path) stepped) (λ e. tt) (removed_dir t.paths path) _ (λ _ _. tt)
 
-  found_at : (descriptor : ℤ) → FoundBoth t s descriptor
+  found_at : (descriptor : ℤ) → RefersAlike t s descriptor
   found_at descriptor = found_both t s descriptor sound shows
 
   acts_call : (c : Call) → ActsOn t s settings outcome carried c (planned t c) (step settings s c outcome carried)
@@ -784,10 +724,18 @@ module _ (t : TableState) (s : State) (settings : Settings) (outcome : Option Ou
   acts_call call.Pipe = acts-pipe
   acts_call call.Socketpair = acts-socketpair
   acts_call (call.Shutdown descriptor how) = acts-shutdown descriptor how (found_at descriptor)
-  acts_call (call.HostOpen path access flags) = acts-host_open path access flags
-  acts_call (call.TcpListen port) = acts-listen port
-  acts_call (call.TcpConnect port) = acts-connect port
-  acts_call (call.TcpAccept descriptor) = acts-accept descriptor (found_at descriptor)
+  acts_call (call.HostOpen path access flags) =
+      over_host_open t s (Acts (call.HostOpen path access flags)) (λ e. tt) path access flags
+      (acts-opens (call.HostOpen path access flags) (host_door access flags) None (λ n value bytes. refl) (λ value content. refl))
+  acts_call (call.TcpListen port) =
+      over_listen t s (Acts (call.TcpListen port)) (λ e. tt) port
+      (λ asked. acts-opens (call.TcpListen port) (listener_door asked) None (λ n value bytes. refl) (λ value content. refl))
+  acts_call (call.TcpConnect port) =
+      over_connect t s (Acts (call.TcpConnect port)) (λ e. tt) port
+      (λ asked. acts-opens (call.TcpConnect port) (stream_door asked) None (λ n value bytes. refl) (λ value content. refl))
+  acts_call (call.TcpAccept descriptor) =
+      over_accept t s (Acts (call.TcpAccept descriptor)) (λ e. tt) descriptor shows (found_at descriptor)
+      (λ d. acts-opens (call.TcpAccept descriptor) (accepted_door d) (Some d.node) (λ n value bytes. refl) (λ value content. refl))
 
 by_plan : (t : TableState) (c : Call) (p : Plan) → ((settings : Settings) (s : State) (outcome : Option Outcome) (carried : Carried) → Shows t s → ActsOn t s settings outcome carried c p (step settings s c outcome carried)) → ActsAsStep t c p
 by_plan t c (plan.Reply r) each = tt

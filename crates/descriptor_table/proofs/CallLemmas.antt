@@ -1,23 +1,22 @@
 -- The change of a call that opens two ends or a door, and of all calls, beside what the sequential object does.
-use Rattle.std.proofs.Common.{◌≡◌, ◌≢◌, IsTrue, ℕ, ◌+◌, ◌-◌, ◌<◌, ◌&&◌, List, [], length, Option, Some, None, is_some, Result, Ok, Err, Bool, true, false, not, if◌then◌else◌, refl, sym, ap, ◌∙◌, subst, arith}
-use Rattle.std.proofs.lemmas.Bool.{false≢true, true≢false}
+use Rattle.std.proofs.Common.{◌≡◌, IsTrue, ℕ, ◌+◌, ◌<◌, List, [], length, Option, Some, None, is_some, Result, Ok, Err, Bool, true, false, not, if◌then◌else◌, refl, sym, ap, ◌∙◌, subst, arith}
+use Rattle.std.proofs.lemmas.Bool.{eq-eqb, false≢true, true≢false}
 use Rattle.std.specs.FinMap as fin
 use Rattle.std.specs.Prelude.{ℤ, pos, nat_lt, slice_index_or}
-use Rattle.posix_terms.specs.Calls.{can_write}
 use Rattle.sequential_object.specs.Descriptors as posix
 use Rattle.sequential_object.specs.Descriptors.{close_result, open_result}
 use Rattle.sequential_object.specs.Duplicates.{dup_result, dup_from_result, dup2_result}
 use Rattle.sequential_object.specs.Doors as doors
-use Rattle.sequential_object.specs.Doors.{host_open_result, host_path, port_of, tcp_accept_result, tcp_connect_result, tcp_listen_result}
+use Rattle.sequential_object.specs.Doors.{host_open_result, tcp_accept_result, tcp_connect_result, tcp_listen_result}
 use Rattle.sequential_object.specs.Effects.{Effect, Asking, Asks, Blocks, Completes}
 use Rattle.sequential_object.specs.Names.{link_result, mkdir_result, rmdir_result, unlink_result}
-use Rattle.sequential_object.specs.Object.{State, Content, Pipe, Pair, DoorTo, content_of}
+use Rattle.sequential_object.specs.Object.{State, Content, Pipe, Pair, DoorTo}
 use Rattle.sequential_object.specs.Object as object
 use Rattle.sequential_object.specs.Refusals.{◌>>=◌, refuse_if, some_or}
 use Rattle.sequential_object.specs.Status.{fstat_result, getfl_result, setfl_result}
 use Rattle.sequential_object.specs.Sockets as sockets
 use Rattle.sequential_object.specs.Sockets.{pipe_result, shutdown_result, socketpair_result}
-use Rattle.sequential_object.specs.Step.{Carried, Stepped, asks, closes_door, concluded, failed, is_again, outside, step, waited}
+use Rattle.sequential_object.specs.Step.{Carried, Stepped, asks, closes_door, concluded, outside, step}
 use Rattle.sequential_object.specs.Streams.{new_pair}
 use Rattle.sequential_object.specs.Transfers.{read_result, write_result, pread_result, pwrite_result, lseek_result, ftruncate_result}
 use Rattle.posix_terms.specs.declared.call.Access.{Access}
@@ -26,7 +25,7 @@ use Rattle.posix_terms.specs.declared.call.Call.{Call}
 use Rattle.posix_terms.specs.declared.call.Call.TheVariants as call
 use Rattle.posix_terms.specs.declared.call.OpenFlags.{OpenFlags}
 use Rattle.posix_terms.specs.declared.errno.Errno.{Errno}
-use Rattle.posix_terms.specs.declared.errno.Errno.TheVariants.{EINTR, EINVAL, EIO, EMFILE, ENFILE}
+use Rattle.posix_terms.specs.declared.errno.Errno.TheVariants.{EINTR, EIO, EMFILE, ENFILE}
 use Rattle.posix_terms.specs.declared.object.Door.{Door}
 use Rattle.posix_terms.specs.declared.object.Door.TheVariants as door
 use Rattle.posix_terms.specs.declared.object.End.{End}
@@ -43,19 +42,19 @@ use Rattle.posix_terms.specs.declared.reply.Reply.TheVariants as reply
 use Rattle.posix_terms.specs.declared.transcript.Settings.{Settings}
 use Rattle.file_descriptions.specs.Descriptions.{AreSound, new_description}
 use Rattle.file_descriptions.specs.declared.description.Description.{Description}
+use Rattle.descriptor_table.proofs.OpeningLemmas.{AreFree, full_shown, lowest_none, two_free, two_shown}
+use Rattle.descriptor_table.proofs.DoorLemmas.{over_accept, over_connect, over_host_open, over_listen}
 use Rattle.descriptor_table.proofs.ChangeLemmas.{birth_of_new, content_of_new, shows-opened, shows-with_object}
 use Rattle.file_descriptions.specs.Laws.{ChangesKeepSound}
 use Rattle.std.proofs.lemmas.List.{get_or-set_same}
-use Rattle.descriptor_table.proofs.EndLemmas.{kind_of}
 use Rattle.descriptor_table.proofs.KnownLemmas.{lowest_below}
-use Rattle.descriptor_table.proofs.PlanLemmas.{AreFree, full_shown, listener_by, lowest_none, plans-as_step, two_free, two_shown}
-use Rattle.descriptor_table.specs.Laws.{FoundBoth}
-use Rattle.descriptor_table.specs.Laws.FoundBoth.{Open, Shut}
+use Rattle.descriptor_table.proofs.PlanLemmas.{plans-as_step}
+use Rattle.descriptor_table.specs.Laws.{RefersAlike}
 use Rattle.descriptor_table.proofs.ShownLemmas.{found_both, lowest_shown}
-use Rattle.descriptor_table.proofs.SoundLemmas.{itself, room_of, sound-opened, sound-with_object}
+use Rattle.descriptor_table.proofs.SoundLemmas.{room_of, sound-opened, sound-with_object}
 use Rattle.descriptor_table.specs.Changes as changes
 use Rattle.descriptor_table.specs.Changes.{AreOpened, Changes, IsOpened, NewDoor, OpensDoor, TwoEnds, door_flags, door_given, door_number, new_door, no_flags, two_ends, two_given, with_object, is_refused, numbers_given, opened_number, Opening, opened, opening, close_change, dup2_change, dup_change, dup_from_change, kept_or, link_change, mkdir_change, rmdir_change, setfl_change, unlink_change}
-use Rattle.descriptor_table.specs.Plans.{answered, dup2_plan, host_open_plan, locks, of_listener, open_plan, opens_plan, planned, tcp_accept_plan, tcp_connect_plan, tcp_listen_plan, two_ends_plan}
+use Rattle.descriptor_table.specs.Plans.{answered, dup2_plan, host_open_plan, locks, open_plan, opens_plan, planned, tcp_accept_plan, tcp_connect_plan, tcp_listen_plan, two_ends_plan}
 use Rattle.descriptor_table.specs.declared.plan.NewNumbers.{NewNumbers}
 use Rattle.descriptor_table.specs.declared.plan.NewNumbers.TheVariants as numbers
 use Rattle.descriptor_table.specs.declared.plan.Op.{Op}
@@ -68,7 +67,7 @@ use Rattle.sequential_object.specs.Locked.{locked_object}
 use Rattle.posix_terms.specs.declared.reply.Answer.TheVariants as answer
 use Rattle.descriptor_table.specs.Shows.{Shows, birth_at, is_of, same_door}
 use Rattle.descriptor_table.specs.Table.{TableState, IsSound, free_object, lowest_from, two_numbers}
-use Rattle.descriptor_table.proofs.FollowLemmas.{Follows, OpensAs, Stays, follows-close, follows-dup, follows-dup2, follows-dup_from, follows-link, follows-mkdir, follows-rmdir, follows-setfl, follows-unlink, follows_after, follows_plan, opens, stays-fstat, stays-ftruncate, stays-getfl, stays-lseek, stays-pread, stays-pwrite, stays-read, stays-shutdown, stays-write, stays_after, waited_after}
+use Rattle.descriptor_table.proofs.FollowLemmas.{Follows, OpensAs, Stays, follows-close, follows-dup, follows-dup2, follows-dup_from, follows-link, follows-mkdir, follows-rmdir, follows-setfl, follows-unlink, follows_after, follows_plan, opens, stays-fstat, stays-ftruncate, stays-getfl, stays-lseek, stays-pread, stays-pwrite, stays-read, stays-shutdown, stays-write, stays_after, over_failed, waited_shown}
 
 -- ## Opening both ends
 
@@ -195,7 +194,7 @@ opened_after t settings s outcome carried access flags (Err e) o does after soun
 -- a door is the same as itself
 same_itself : (d : Door) → same_door d d ≡ true
 same_itself door.HostFile = refl
-same_itself (door.Listener port) = itself port
+same_itself (door.Listener port) = eq-eqb port port refl
 same_itself door.Stream = refl
 
 -- what a call opens outside, and for what
@@ -217,10 +216,6 @@ module _ (t : TableState) (s : State) (sound : IsSound t) (all : AreSound t.desc
   DoorsAs (Ok p) (Ok new) (Err e) = ⊥
   DoorsAs (Ok p) (Err e) does = ⊥
   DoorsAs (Err e) new does = Unit {0}
-
-  doors_through : {A : Type 0} (r : Result A Errno) (p : A → Result Plan Errno) (new : Result NewDoor Errno) (f : A → Result Effect Errno) → ((x : A) → DoorsAs (p x) new (f x)) → DoorsAs (r >>= p) new (r >>= f)
-  doors_through (Ok x) p new f each = each x
-  doors_through (Err e) p new f each = tt
 
   shows-door : (node n key value : ℕ) → node < 48 → slice_index_or t.objects node None ≡ None → n < 32 → fin.get t.descriptions.by_key key ≡ None
       → Shows (door_opened (record { number = n; node = node }) value key) (posix.opened (object.with_object s (DoorTo (opens_as value))) n s.next_object (part.Door (opens_as value)) access append false)
@@ -275,11 +270,10 @@ module _ (t : TableState) (s : State) (sound : IsSound t) (all : AreSound t.desc
     where
       by_made : changes.IsDoor t (opens_as value) access append (Ok new) after → Shows after (a.succeeds value bytes).0
       by_made (key, fresh, same) = subst (λ (u : TableState). Shows u (a.succeeds value bytes).0) (sym same) (opens.door_shown value bytes key fresh)
-  door_after settings (Some (came.Fail e)) carried (Ok p) (Ok new) (Ok (Asks a)) after at opens made is = subst (λ (u : TableState). Shows u (outside settings s a (Some (came.Fail e)) carried).after) (sym is) (by_waits (a.waits && is_again e))
-    where
-      by_waits : (b : Bool) → Shows t (if b then waited settings s carried else failed a.otherwise e).after
-      by_waits true = subst (Shows t) (sym (waited_after settings s carried)) shows
-      by_waits false = subst (Shows t) (sym opens.else_same) shows
+  door_after settings (Some (came.Fail e)) carried (Ok p) (Ok new) (Ok (Asks a)) after at opens made is =
+      subst (λ (u : TableState). Shows u (outside settings s a (Some (came.Fail e)) carried).after) (sym is)
+      (over_failed (λ (x : Stepped). Shows t x.after) settings s carried a e (waited_shown t settings s carried shows)
+      (subst (Shows t) (sym opens.else_same) shows))
   door_after settings None carried (Ok p) (Ok new) (Ok (Asks a)) after at opens made is = subst (λ (u : TableState). Shows u a.otherwise) (sym is) (subst (Shows t) (sym opens.else_same) shows)
   door_after settings outcome carried (Ok p) (Ok new) (Ok (Completes state r)) after at opens made is = absurd opens
   door_after settings outcome carried (Ok p) (Ok new) (Ok Blocks) after at opens made is = absurd opens
@@ -292,15 +286,13 @@ module _ (t : TableState) (s : State) (sound : IsSound t) (all : AreSound t.desc
       → new_door t ≡ new → DoorsAs p new does → is_refused (answered p) ≡ false → ((n : ℤ) → numbers_told c (answer.Reply (reply.Number n)) ≡ numbers.One n) → ((e : Errno) → numbers.None ≡ numbers_told c (answer.Reply (reply.Fail e))) → numbers.None ≡ numbers_told c answer.Again
       → door_given t outcome ≡ numbers_told c (concluded settings s outcome carried does).answer
   door_said settings (Some (came.Ok value bytes)) carried c (Ok p) (Ok new) (Ok (Asks a)) at opens made one none again = ap door_number at ∙ sym (ap (λ (x : Reply). numbers_told c (answer.Reply x)) (opens.door_told value bytes) ∙ one (pos new.number))
-  door_said settings (Some (came.Fail e)) carried c (Ok p) (Ok new) (Ok (Asks a)) at opens made one none again = by_waits (a.waits && is_again e)
+  door_said settings (Some (came.Fail e)) carried c (Ok p) (Ok new) (Ok (Asks a)) at opens made one none again =
+      over_failed (λ (x : Stepped). numbers.None ≡ numbers_told c x.answer) settings s carried a e
+      (by_patience (nat_lt (carried + 1) settings.patience)) (none e)
     where
       by_patience : (b : Bool) → numbers.None ≡ numbers_told c (let stepped : Stepped = if b then record { after = s; answer = answer.Again; carried = carried + 1 } else record { after = s; answer = answer.Reply (reply.Fail EINTR); carried = 0 } in stepped.answer)
       by_patience true = again
       by_patience false = none EINTR
-
-      by_waits : (b : Bool) → numbers.None ≡ numbers_told c (if b then waited settings s carried else failed a.otherwise e).answer
-      by_waits true = by_patience (nat_lt (carried + 1) settings.patience)
-      by_waits false = none e
   door_said settings None carried c (Ok p) (Ok new) (Ok (Asks a)) at opens made one none again = none EIO
   door_said settings outcome carried c (Ok p) (Ok new) (Ok (Completes state r)) at opens made one none again = absurd opens
   door_said settings outcome carried c (Ok p) (Ok new) (Ok Blocks) at opens made one none again = absurd opens
@@ -318,26 +310,29 @@ abbrev stream : ℕ → Door
 stream value = door.Stream
 
 module _ (t : TableState) (s : State) (sound : IsSound t) (all : AreSound t.descriptions) (shows : Shows t s) where
-  doors-host_open : (path : List ℕ) (access : Access) (flags : OpenFlags) → DoorsAs t s sound all shows host_file access flags.append (host_open_plan t path access flags) (new_door t) (host_open_result s path access flags)
-  unfolding host_open_plan host_open_result
+  doors-host_open : (path : List ℕ) (access : Access) (flags : OpenFlags)
+      → DoorsAs t s sound all shows host_file access flags.append (host_open_plan t path access flags) (new_door t)
+      (host_open_result s path access flags)
   doors-host_open path access flags =
-      doors_through t s sound all shows host_file access flags.append (refuse_if (flags.truncate && not (can_write access)) EINVAL) _ (new_door t) _ (λ _.
-      doors_through t s sound all shows host_file access flags.append (host_path path) _ (new_door t) _ (λ _. doors-open t s sound all shows host_file access flags.append out.Open 0 false None))
+      over_host_open t s (λ p does. DoorsAs t s sound all shows host_file access flags.append p (new_door t) does)
+      (λ e. tt) path access flags
+      (doors-open t s sound all shows host_file access flags.append out.Open 0 false None)
 
   doors-listen : (port : ℤ) → DoorsAs t s sound all shows listener_at ReadWrite false (tcp_listen_plan t port) (new_door t) (tcp_listen_result s port)
-  unfolding tcp_listen_plan tcp_listen_result
-  doors-listen port = doors_through t s sound all shows listener_at ReadWrite false (port_of 0 port) _ (new_door t) _ (λ asked. doors-open t s sound all shows listener_at ReadWrite false out.Listen asked false None)
+  doors-listen port =
+      over_listen t s (λ p does. DoorsAs t s sound all shows listener_at ReadWrite false p (new_door t) does) (λ e. tt) port
+      (λ asked. doors-open t s sound all shows listener_at ReadWrite false out.Listen asked false None)
 
   doors-connect : (port : ℤ) → DoorsAs t s sound all shows stream ReadWrite false (tcp_connect_plan t port) (new_door t) (tcp_connect_result s port)
-  unfolding tcp_connect_plan tcp_connect_result
-  doors-connect port = doors_through t s sound all shows stream ReadWrite false (port_of 1 port) _ (new_door t) _ (λ asked. doors-open t s sound all shows stream ReadWrite false out.Connect asked false None)
+  doors-connect port =
+      over_connect t s (λ p does. DoorsAs t s sound all shows stream ReadWrite false p (new_door t) does) (λ e. tt) port
+      (λ asked. doors-open t s sound all shows stream ReadWrite false out.Connect asked false None)
 
-  doors-accept : (descriptor : ℤ) → FoundBoth t s descriptor → DoorsAs t s sound all shows stream ReadWrite false (tcp_accept_plan t descriptor) (new_door t) (tcp_accept_result s descriptor)
-  unfolding tcp_accept_plan tcp_accept_result
-  doors-accept descriptor (Shut table state) = rw table tt
-  doors-accept descriptor (Open key d offset at got there table state) =
-      rw (table, state, listener_by d.«end» (content_of s (birth_at t d.node)) (kind_of d.«end» (content_of s (birth_at t d.node)) (shows.ends key d got)))
-      (doors_through t s sound all shows stream ReadWrite false (of_listener d.«end») _ (new_door t) _ (λ _. doors-open t s sound all shows stream ReadWrite false out.Accept 0 (not d.flags.nonblock) (Some d.node)))
+  doors-accept : (descriptor : ℤ) → RefersAlike t s descriptor
+      → DoorsAs t s sound all shows stream ReadWrite false (tcp_accept_plan t descriptor) (new_door t) (tcp_accept_result s descriptor)
+  doors-accept descriptor found =
+      over_accept t s (λ p does. DoorsAs t s sound all shows stream ReadWrite false p (new_door t) does) (λ e. tt) descriptor shows found
+      (λ d. doors-open t s sound all shows stream ReadWrite false out.Accept 0 (not d.flags.nonblock) (Some d.node))
 
 -- ## All calls
 
@@ -348,7 +343,7 @@ module _ (t : TableState) (s : State) (settings : Settings) (outcome : Option Ou
   stays_call : (after : TableState) (does : Result Effect Errno) → Stays t does → after ≡ t → Shows after (concluded settings s outcome carried does).after
   stays_call after does stays is = subst (λ (x : TableState). Shows x (concluded settings s outcome carried does).after) (sym is) (stays_after t settings s outcome carried does shows stays)
 
-  found_at : (descriptor : ℤ) → FoundBoth t s descriptor
+  found_at : (descriptor : ℤ) → RefersAlike t s descriptor
   found_at descriptor = found_both t s descriptor sound shows
 
   pub changes_call : ChangesKeepSound → (c : Call) (made_with : Option Outcome) (after : TableState) → IsMadeWith c made_with outcome → is_refused (planned t c) ≡ false → Changes t c made_with after → Shows after (step settings s c outcome carried).after

@@ -1,6 +1,6 @@
 -- Changes of a table, beside those of the state that it shows.
-use Rattle.std.proofs.Common.{◌≡◌, ◌≢◌, ℕ, ◌+◌, ◌-◌, ◌<◌, ◌==◌, ◌&&◌, ◌||◌, List, [], length, Option, Some, None, is_some, unwrap_or, Bool, true, false, cond, not, if◌then◌else◌, refl, sym, ap, ◌∙◌, subst, inl, inr, arith}
-use Rattle.std.proofs.lemmas.Bool.{cases_eq, false≢true, true≢false}
+use Rattle.std.proofs.Common.{◌≡◌, ◌≢◌, ◌⊎◌, ℕ, ◌+◌, ◌-◌, ◌<◌, ◌==◌, ◌&&◌, ◌||◌, List, [], length, Option, Some, None, is_some, unwrap_or, Bool, true, false, cond, not, if◌then◌else◌, refl, sym, ap, ◌∙◌, subst, inl, inr, arith}
+use Rattle.std.proofs.lemmas.Bool.{and_parts, cases_eq, eq-eqb, eqb-true, false≢true, true≢false}
 use Rattle.std.proofs.lemmas.List.{get_or-set_same, get_or-set_other}
 use Rattle.std.proofs.lemmas.Option.{none-some, same_Some}
 use Rattle.std.specs.FinMap as fin
@@ -15,18 +15,19 @@ use Rattle.sequential_object.specs.Names.{links_of}
 use Rattle.sequential_object.specs.Object as object
 use Rattle.sequential_object.specs.Object.{State, Content, File, Node, FileNode, Directory, path_cmp, content_of}
 use Rattle.file_descriptions.specs.Laws.{ChangesKeepSound}
-use Rattle.file_descriptions.specs.Descriptions.{AreSound, ContainsKey, DescriptionMap, description_at, new_description, no_description, with_description, with_holder, with_new, with_offset, without}
+use Rattle.file_descriptions.specs.Descriptions.{AreSound, ContainsKey, DescriptionMap, description_at, new_description, with_description, with_holder, with_new, with_offset, without}
 use Rattle.file_descriptions.specs.declared.description.Description.{Description}
 use Rattle.posix_terms.specs.declared.object.End.{End}
 use Rattle.posix_terms.specs.declared.object.End.TheVariants as part
 use Rattle.file_descriptions.specs.declared.description.StatusFlags.{StatusFlags}
 use Rattle.posix_terms.specs.declared.call.Access.{Access}
+use Rattle.std.specs.Cmp.{nat_cmp_total}
+use Rattle.descriptor_table.proofs.MapLemmas.{each_put, get-insert_other, get-insert_same, get-remove_other, get-remove_same, got_less, got_put, less_at, paths_total, put_at, some_less, some_put, still_some}
 use Rattle.descriptor_table.proofs.EndLemmas.{HasEndsOf}
-use Rattle.descriptor_table.proofs.KnownLemmas.{some_inside}
 use Rattle.descriptor_table.proofs.ObjectLemmas.{IsNew, IsOld, Taken, freed_slot, taken_slot}
 use Rattle.descriptor_table.proofs.PathLemmas.{birth_below, birth_is, closed_shown, first_of_any, linked_shown, one_object}
 use Rattle.descriptor_table.proofs.ShownLemmas.{key_known, last_shown}
-use Rattle.descriptor_table.proofs.SoundLemmas.{get-insert_other, get-insert_same, get-remove_other, get-remove_same, not_described, not_named, is_zero, known_at, none_past, paths_total, same_nat, sound-let_go}
+use Rattle.descriptor_table.proofs.SoundLemmas.{not_described, not_named, known_at, sound-let_go, description_got, key_inside, same_file, with_other, with_same, without_other}
 use Rattle.descriptor_table.specs.Changes.{closed, opened, shared, with_file, with_object, without_gone}
 use Rattle.descriptor_table.specs.Shows.{Shows, birth_at, birth_of, is_of, shown, shown_node}
 use Rattle.descriptor_table.specs.Table.{TableState, IsSound, is_closed, is_gone, is_used}
@@ -52,12 +53,9 @@ describes_put t m sd after key d offset was only same here others = record { the
   where
     there : (q : ℕ) (e : Description) → fin.get (fin.insert m.by_key key d) q ≡ Some e → (offset : ℕ) × (fin.get after e.birth ≡ Some (shown t e offset))
     there q e is =
-        elim (cases_eq q key) [
-          | inl at ↦ (let new : d ≡ e = same_Some _ _ (sym (ap (fin.get (fin.insert m.by_key key d)) at ∙ get-insert_same m.by_key key d) ∙ is) in subst (λ (x : Description). (offset : ℕ) × (fin.get after x.birth ≡ Some (shown t x offset))) new (offset, here))
-          | inr apart ↦ (
-              let old : fin.get m.by_key q ≡ Some e = sym (get-insert_other m.by_key key d q apart) ∙ is in
-              let before = was.there q e old in
-              (before.0, others e.birth (λ b. apart (only q e old b)) ∙ before.1))
+        elim (put_at m.by_key key d q e is) [
+          | inl new ↦ subst (λ (x : Description). (offset : ℕ) × (fin.get after x.birth ≡ Some (shown t x offset))) new.1 (offset, here)
+          | inr old ↦ (let before = was.there q e old.1 in (before.0, others e.birth (λ b. old.0 (only q e old.1 b)) ∙ before.1))
         ]
 
     own : (birth : ℕ) → is_some (fin.get after birth) ≡ true → (q : ℕ) × (e : Description) × (fin.get (fin.insert m.by_key key d) q ≡ Some e) × (e.birth ≡ birth)
@@ -69,62 +67,55 @@ describes_put t m sd after key d offset was only same here others = record { the
               (before.0, before.1, get-insert_other m.by_key key d before.0 (λ e. apart (sym before.3 ∙ same before.1 (ap (fin.get m.by_key) (sym e) ∙ before.2))) ∙ before.2, before.3))
         ]
 
+same_birth : (m : DescriptionMap) (key : ℕ) (d : Description) → fin.get m.by_key key ≡ Some d → (e : Description)
+    → fin.get m.by_key key ≡ Some e → e.birth ≡ d.birth
+same_birth m key d got e is = ap (λ (x : Description). x.birth) (same_Some _ _ (sym is ∙ got))
+
 -- without a description
 pub describes_less : (t : TableState) (m : DescriptionMap) (sd : FinMap nat_cmp object.Description) (key : ℕ) (d : Description) → AreSound m → Describes t m sd → fin.get m.by_key key ≡ Some d → Describes t (without m key) (fin.remove sd d.birth)
 describes_less t m sd key d all was got = record { there = there; own = own }
   where
     there : (q : ℕ) (e : Description) → fin.get (fin.remove m.by_key key) q ≡ Some e → (offset : ℕ) × (fin.get (fin.remove sd d.birth) e.birth ≡ Some (shown t e offset))
     there q e is =
-        elim (cases_eq q key) [
-          | inl at ↦ absurd (none-some _ (sym (ap (fin.get (fin.remove m.by_key key)) at ∙ get-remove_same m.by_key key) ∙ is))
-          | inr apart ↦ (
-              let old : fin.get m.by_key q ≡ Some e = sym (get-remove_other m.by_key key q apart) ∙ is in
-              let before = was.there q e old in
-              (before.0, get-remove_other sd d.birth e.birth (λ b. apart (all.distinct q key e d old got b)) ∙ before.1))
-        ]
+        let old = less_at m.by_key key q e is in
+        let before = was.there q e old.1 in
+        (before.0, get-remove_other sd d.birth e.birth (λ b. old.0 (all.distinct q key e d old.1 got b)) ∙ before.1)
 
     own : (birth : ℕ) → is_some (fin.get (fin.remove sd d.birth) birth) ≡ true → (q : ℕ) × (e : Description) × (fin.get (fin.remove m.by_key key) q ≡ Some e) × (e.birth ≡ birth)
     own birth is =
-        elim (cases_eq birth d.birth) [
-          | inl at ↦ absurd (false≢true (sym (ap (λ (o : Option object.Description). is_some o) (ap (fin.get (fin.remove sd d.birth)) at ∙ get-remove_same sd d.birth)) ∙ is))
-          | inr apart ↦ (
-              let before = was.own birth (sym (ap (λ (o : Option object.Description). is_some o) (get-remove_other sd d.birth birth apart)) ∙ is) in
-              (before.0, before.1, get-remove_other m.by_key key before.0 (λ e. apart (sym before.3 ∙ ap (λ (x : Description). x.birth) (same_Some _ _ (sym before.2 ∙ ap (fin.get m.by_key) e ∙ got)))) ∙ before.2, before.3))
-        ]
+        let left = some_less sd d.birth birth is in
+        let before = was.own birth left.1 in
+        let apart : before.0 ≢ key =
+        (λ e. left.0 (sym before.3 ∙ same_birth m key d got before.1 (ap (fin.get m.by_key) (sym e) ∙ before.2))) in
+        (before.0, before.1, get-remove_other m.by_key key before.0 apart ∙ before.2, before.3)
 
 -- the part of the ends
 abbrev pub HaveEnds : TableState → State → DescriptionMap → Type 0
 HaveEnds t s m = (key : ℕ) (d : Description) → fin.get m.by_key key ≡ Some d → is_of d.«end» (content_of s (birth_at t d.node)) ≡ true
 
-pub ends_put : (t : TableState) (s : State) (m : DescriptionMap) (key : ℕ) (d : Description) → HaveEnds t s m → is_of d.«end» (content_of s (birth_at t d.node)) ≡ true → HaveEnds t s (with_description m key d)
-ends_put t s m key d was here q e is =
-    elim (cases_eq q key) [
-      | inl at ↦ (let new : d ≡ e = same_Some _ _ (sym (ap (fin.get (fin.insert m.by_key key d)) at ∙ get-insert_same m.by_key key d) ∙ is) in subst (λ (x : Description). is_of x.«end» (content_of s (birth_at t x.node)) ≡ true) new here)
-      | inr apart ↦ was q e (sym (get-insert_other m.by_key key d q apart) ∙ is)
-    ]
+pub ends_put : (t : TableState) (s : State) (m : DescriptionMap) (key : ℕ) (d : Description)
+    → HaveEnds t s m → is_of d.«end» (content_of s (birth_at t d.node)) ≡ true → HaveEnds t s (with_description m key d)
+ends_put t s m key d was here =
+    each_put nat_cmp_total (λ (e : Description). is_of e.«end» (content_of s (birth_at t e.node)) ≡ true) m.by_key key d was here
 
 pub ends_less : (t : TableState) (s : State) (m : DescriptionMap) (key : ℕ) → HaveEnds t s m → HaveEnds t s (without m key)
-ends_less t s m key was q e is =
-    elim (cases_eq q key) [
-      | inl at ↦ absurd (none-some _ (sym (ap (fin.get (fin.remove m.by_key key)) at ∙ get-remove_same m.by_key key) ∙ is))
-      | inr apart ↦ was q e (sym (get-remove_other m.by_key key q apart) ∙ is)
-    ]
+ends_less t s m key was q e is = was q e (got_less nat_cmp_total m.by_key key q e is)
 
 -- the birth of the description under a key
 abbrev pub birth_in : DescriptionMap → ℕ → ℕ
 birth_in m key = let d : Description = description_at m key in d.birth
 
 pub birth_got : (m : DescriptionMap) (key : ℕ) (d : Description) → fin.get m.by_key key ≡ Some d → birth_in m key ≡ d.birth
-birth_got m key d got = ap (λ (o : Option Description). let x : Description = unwrap_or o no_description in x.birth) got
+birth_got m key d got = ap (λ (x : Description). x.birth) (description_got m key d got)
 
 birth_other : (m : DescriptionMap) (key q : ℕ) (d : Description) → q ≢ key → birth_in (with_description m key d) q ≡ birth_in m q
-birth_other m key q d apart = ap (λ (o : Option Description). let x : Description = unwrap_or o no_description in x.birth) (get-insert_other m.by_key key d q apart)
+birth_other m key q d apart = ap (λ (x : Description). x.birth) (with_other m key d q apart)
 
 birth_here : (m : DescriptionMap) (key : ℕ) (d : Description) → birth_in (with_description m key d) key ≡ d.birth
-birth_here m key d = birth_got (with_description m key d) key d (get-insert_same m.by_key key d)
+birth_here m key d = ap (λ (x : Description). x.birth) (with_same m key d)
 
 birth_less : (m : DescriptionMap) (key q : ℕ) → q ≢ key → birth_in (without m key) q ≡ birth_in m q
-birth_less m key q apart = ap (λ (o : Option Description). let x : Description = unwrap_or o no_description in x.birth) (get-remove_other m.by_key key q apart)
+birth_less m key q apart = ap (λ (x : Description). x.birth) (without_other m key q apart)
 
 -- a description that keeps its birth
 birth_kept : (m : DescriptionMap) (key q : ℕ) (d : Description) → d.birth ≡ birth_in m key → birth_in (with_description m key d) q ≡ birth_in m q
@@ -158,17 +149,11 @@ refers_set t s m after n o shows inside here others births k =
 only_birth : (m : DescriptionMap) (key : ℕ) (d : Description) → AreSound m → fin.get m.by_key key ≡ Some d → (q : ℕ) (e : Description) → fin.get m.by_key q ≡ Some e → e.birth ≡ d.birth → q ≡ key
 only_birth m key d all got q e is same = all.distinct q key e d is got same
 
-same_birth : (m : DescriptionMap) (key : ℕ) (d : Description) → fin.get m.by_key key ≡ Some d → (e : Description) → fin.get m.by_key key ≡ Some e → e.birth ≡ d.birth
-same_birth m key d got e is = ap (λ (x : Description). x.birth) (same_Some _ _ (sym is ∙ got))
-
 -- a description with another number of holders is shown as it was
 describes_held : (t : TableState) (s : State) (key holders : ℕ) (d : Description) → AreSound t.descriptions → Shows t s → fin.get t.descriptions.by_key key ≡ Some d → Describes t (with_description t.descriptions key (record d { holders = holders })) s.descriptions
 describes_held t s key holders d all shows got =
     let there = shows.descriptions key d got in
     describes_put t t.descriptions s.descriptions s.descriptions key (record d { holders = holders }) there.0 (describes_of t s shows) (only_birth t.descriptions key d all got) (same_birth t.descriptions key d got) there.1 (λ birth apart. refl)
-
-pub description_got : (m : DescriptionMap) (key : ℕ) (d : Description) → fin.get m.by_key key ≡ Some d → description_at m key ≡ d
-description_got m key d got = ap (λ (o : Option Description). unwrap_or o no_description) got
 
 pub shows-shared : (t : TableState) (s : State) (n key : ℕ) (d : Description) → AreSound t.descriptions → Shows t s → n < length t.descriptors → fin.get t.descriptions.by_key key ≡ Some d → Shows (shared t n key) (duplicates.shared s n d.birth)
 shows-shared t s n key d all shows inside got =
@@ -276,12 +261,11 @@ shows-freed t s node sound shows used undescribed unnamed =
 
     numbered : (birth : ℕ) → is_some (fin.get (fin.remove s.objects (birth_at t node)) birth) ≡ true → (n : ℕ) × (slice_index_or (slice_set t.objects node None) n None ≡ Some birth)
     numbered birth is =
-        elim (cases_eq birth (birth_at t node)) [
-          | inl at ↦ absurd (false≢true (sym (ap (λ (o : Option Content). is_some o) (ap (fin.get (fin.remove s.objects (birth_at t node))) at ∙ get-remove_same s.objects (birth_at t node))) ∙ is))
-          | inr apart ↦ (
-              let was = shows.numbered birth (sym (ap (λ (o : Option Content). is_some o) (get-remove_other s.objects (birth_at t node) birth apart)) ∙ is) in
-              (was.0, get_or-set_other t.objects node was.0 None None (λ same. apart (same_Some _ _ (sym was.1 ∙ ap (λ (k : ℕ). slice_index_or t.objects k None) same ∙ birth_is t node used))) ∙ was.1))
-        ]
+        let left = some_less s.objects (birth_at t node) birth is in
+        let was = shows.numbered birth left.1 in
+        let other : was.0 ≢ node =
+        (λ same. left.0 (same_Some _ _ (sym was.1 ∙ ap (λ (k : ℕ). slice_index_or t.objects k None) same ∙ birth_is t node used))) in
+        (was.0, get_or-set_other t.objects node was.0 None None other ∙ was.1)
 
 both_of : (a b : Bool) → (not a && not b) ≡ not (a || b)
 both_of true b = refl
@@ -296,18 +280,13 @@ shows-without_gone t s node sound all shows used =
     by_test (is_gone t node) (posix.has_description s (birth_at t node) || posix.has_path s (birth_at t node)) refl
     (gone_as (is_closed t node) (links_of t.paths node == 0) (posix.has_description s (birth_at t node)) (posix.has_path s (birth_at t node)) (closed_shown t s node sound all shows used) (linked_shown t s node sound shows used))
   where
-    parts : (a b : Bool) → (a && b) ≡ true → (a ≡ true) × (b ≡ true)
-    parts true true h = (refl, refl)
-    parts true false h = absurd (false≢true h)
-    parts false b h = absurd (false≢true h)
-
     by_test : (g u : Bool) → is_gone t node ≡ g → g ≡ not u → Shows (if g then record t { objects = slice_set t.objects node None } else t) (if u then s else record s { objects = fin.remove s.objects (birth_at t node) })
     by_test true true is e = absurd (true≢false e)
     by_test false false is e = absurd (false≢true e)
     by_test false true is e = shows
     by_test true false is e =
-        let both = parts (is_closed t node) (links_of t.paths node == 0) is in
-        shows-freed t s node sound shows used (not_described t node both.0) (not_named t node (is_zero (links_of t.paths node) both.1))
+        let both = and_parts (is_closed t node) (links_of t.paths node == 0) is in
+        shows-freed t s node sound shows used (not_described t node both.0) (not_named t node (eqb-true (links_of t.paths node) 0 both.1))
 
 -- ## A descriptor that is closed
 
@@ -315,11 +294,12 @@ shows-without_gone t s node sound all shows used =
 alone_at : (t : TableState) (s : State) (n key : ℕ) (d : Description) → IsSound t → AreSound t.descriptions → Shows t s → slice_index_or t.descriptors n None ≡ Some key → fin.get t.descriptions.by_key key ≡ Some d → (d.holders == 1) ≡ true
     → (k : ℕ) → k ≢ n → slice_index_or t.descriptors k None ≡ Some key → ⊥
 alone_at t s n key d sound all shows at got last k apart is =
-    let inside : k < length t.descriptors = some_inside t.descriptors k (ap (λ (o : Option ℕ). is_some o) is) (none_past t.descriptors k) in
+    let inside : k < length t.descriptors = key_inside t.descriptors k key is in
     let long : length t.descriptors ≡ 32 = sound.numbers in
     let refers : fin.get (fin.remove s.descriptors n) k ≡ Some (birth_of t key) = get-remove_other s.descriptors n k apart ∙ shows.descriptors k ∙ ap (option_map (birth_of t)) is in
     let found : posix.has_descriptor (posix.freed s (pos n)) d.birth ≡ true =
-    first_of_any 32 (λ m. is_key (fin.get (fin.remove s.descriptors n) m) d.birth) k (omega (arith, long)) (ap (λ (o : Option ℕ). is_key o d.birth) refers ∙ same_nat (birth_of t key) d.birth (birth_got t.descriptions key d got)) in
+    first_of_any 32 (λ m. is_key (fin.get (fin.remove s.descriptors n) m) d.birth) k (omega (arith, long))
+    (ap (λ (o : Option ℕ). is_key o d.birth) refers ∙ eq-eqb (birth_of t key) d.birth (birth_got t.descriptions key d got)) in
     true≢false (sym found ∙ last_shown t s n key d sound all shows at got ∙ ap not last)
 
 pub shows-closed : ChangesKeepSound → (t : TableState) (s : State) (n key offset : ℕ) → IsSound t → AreSound t.descriptions → Shows t s → slice_index_or t.descriptors n None ≡ Some key → fin.get t.descriptions.by_key key ≡ Some (description_at t.descriptions key)
@@ -333,7 +313,7 @@ shows-closed keep t s n key offset sound all shows at got =
     d = description_at t.descriptions key
 
     inside : n < length t.descriptors
-    inside = some_inside t.descriptors n (ap (λ (o : Option ℕ). is_some o) at) (none_past t.descriptors n)
+    inside = key_inside t.descriptors n key at
 
     left : Bool → TableState
     left b = record t { descriptors = slice_set t.descriptors n None; descriptions = (if b then without t.descriptions key else with_description t.descriptions key (record d { holders = d.holders - 1 })) }
@@ -347,9 +327,13 @@ shows-closed keep t s n key offset sound all shows at got =
 
 -- ## Flags and offsets
 
-pub shows-flags : (t : TableState) (s : State) (key offset : ℕ) (d : Description) (flags : StatusFlags) → AreSound t.descriptions → Shows t s → fin.get t.descriptions.by_key key ≡ Some d
-    → Shows (record t { descriptions = with_description t.descriptions key (record d { flags = flags }) }) (record s { descriptions = fin.insert s.descriptions d.birth (record (shown t d offset) { append = flags.append; nonblock = flags.nonblock }) })
-shows-flags t s key offset d flags all shows got =
+-- a description that keeps its birth, as the state has it after
+shows-put : (t : TableState) (s : State) (key : ℕ) (d new : Description) (after : FinMap nat_cmp object.Description)
+    → Shows t s → fin.get t.descriptions.by_key key ≡ Some d → new.birth ≡ d.birth
+    → is_of new.«end» (content_of s (birth_at t new.node)) ≡ true
+    → Describes t (with_description t.descriptions key new) after
+    → Shows (record t { descriptions = with_description t.descriptions key new }) (record s { descriptions = after })
+shows-put t s key d new after shows got same ends put =
     record {
       descriptors = λ n. shows.descriptors n ∙ births (slice_index_or t.descriptors n None);
       descriptions = put.there;
@@ -357,21 +341,36 @@ shows-flags t s key offset d flags all shows got =
       paths = shows.paths;
       objects = shows.objects;
       numbered = shows.numbered;
-      ends = ends_put t s t.descriptions key new shows.ends (shows.ends key d got);
+      ends = ends_put t s t.descriptions key new shows.ends ends;
       files = shows.files;
       next_description = shows.next_description;
       next_object = shows.next_object;
     }
   where
+    births : (o : Option ℕ) → option_map (birth_of t) o ≡ option_map (birth_in (with_description t.descriptions key new)) o
+    births None = refl
+    births (Some q) =
+        ap (λ (b : ℕ). Some b) (sym (birth_kept t.descriptions key q new (same ∙ sym (birth_got t.descriptions key d got))))
+
+pub shows-flags : (t : TableState) (s : State) (key offset : ℕ) (d : Description) (flags : StatusFlags)
+    → AreSound t.descriptions → Shows t s → fin.get t.descriptions.by_key key ≡ Some d
+    → let new = record (shown t d offset) { append = flags.append; nonblock = flags.nonblock } in
+    Shows (record t { descriptions = with_description t.descriptions key (record d { flags = flags }) })
+    (record s { descriptions = fin.insert s.descriptions d.birth new })
+shows-flags t s key offset d flags all shows got = shows-put t s key d new after shows got refl (shows.ends key d got) put
+  where
     new : Description
     new = record d { flags = flags }
 
-    births : (o : Option ℕ) → option_map (birth_of t) o ≡ option_map (birth_in (with_description t.descriptions key new)) o
-    births None = refl
-    births (Some q) = ap (λ (b : ℕ). Some b) (sym (birth_kept t.descriptions key q new (sym (birth_got t.descriptions key d got))))
+    after : FinMap nat_cmp object.Description
+    after = fin.insert s.descriptions d.birth (shown t new offset)
 
-    put : Describes t (with_description t.descriptions key new) (fin.insert s.descriptions d.birth (shown t new offset))
-    put = describes_put t t.descriptions s.descriptions (fin.insert s.descriptions d.birth (shown t new offset)) key new offset (describes_of t s shows) (only_birth t.descriptions key d all got) (same_birth t.descriptions key d got) (get-insert_same s.descriptions d.birth (shown t new offset)) (λ birth apart. get-insert_other s.descriptions d.birth (shown t new offset) birth apart)
+    put : Describes t (with_description t.descriptions key new) after
+    put =
+        describes_put t t.descriptions s.descriptions after key new offset (describes_of t s shows)
+        (only_birth t.descriptions key d all got) (same_birth t.descriptions key d got)
+        (get-insert_same s.descriptions d.birth (shown t new offset))
+        (λ birth apart. get-insert_other s.descriptions d.birth (shown t new offset) birth apart)
 
 -- wherever the offsets are
 pub shows-offset : (t : TableState) (s : State) (key offset : ℕ) (d : Description) → AreSound t.descriptions → Shows t s → fin.get t.descriptions.by_key key ≡ Some d → Shows t (record s { descriptions = fin.insert s.descriptions d.birth (shown t d offset) })
@@ -401,9 +400,9 @@ shows-offset t s key offset d all shows got =
 
     own : (birth : ℕ) → is_some (fin.get (fin.insert s.descriptions d.birth (shown t d offset)) birth) ≡ true → (q : ℕ) × (e : Description) × (fin.get t.descriptions.by_key q ≡ Some e) × (e.birth ≡ birth)
     own birth is =
-        elim (cases_eq birth d.birth) [
+        elim (some_put s.descriptions d.birth (shown t d offset) birth is) [
           | inl at ↦ (key, d, got, sym at)
-          | inr apart ↦ shows.described birth (sym (ap (λ (o : Option object.Description). is_some o) (get-insert_other s.descriptions d.birth (shown t d offset) birth apart)) ∙ is)
+          | inr old ↦ shows.described birth old.1
         ]
 
 -- whatever the objects hold
@@ -414,7 +413,7 @@ shows-content t s birth content shows there alike =
       descriptions = shows.descriptions;
       described = shows.described;
       paths = shows.paths;
-      objects = λ node b is. kept b (shows.objects node b is);
+      objects = λ node b is. still_some s.objects birth content b (shows.objects node b is);
       numbered = λ b is. shows.numbered b (was b is);
       ends = λ key d got. kind (birth_at t d.node) d.«end» (shows.ends key d got);
       files = λ path node is. kind (birth_at t node) part.Only (shows.files path node is);
@@ -429,18 +428,11 @@ shows-content t s birth content shows there alike =
           | inr apart ↦ ap (λ (o : Option Content). is_of which (unwrap_or o (File []))) (get-insert_other s.objects birth content b apart) ∙ is
         ]
 
-    kept : (b : ℕ) → is_some (fin.get s.objects b) ≡ true → is_some (fin.get (fin.insert s.objects birth content) b) ≡ true
-    kept b is =
-        elim (cases_eq b birth) [
-          | inl at ↦ ap (λ (o : Option Content). is_some o) (ap (fin.get (fin.insert s.objects birth content)) at ∙ get-insert_same s.objects birth content)
-          | inr apart ↦ ap (λ (o : Option Content). is_some o) (get-insert_other s.objects birth content b apart) ∙ is
-        ]
-
     was : (b : ℕ) → is_some (fin.get (fin.insert s.objects birth content) b) ≡ true → is_some (fin.get s.objects b) ≡ true
     was b is =
-        elim (cases_eq b birth) [
+        elim (some_put s.objects birth content b is) [
           | inl at ↦ ap (λ (x : ℕ). is_some (fin.get s.objects x)) at ∙ there
-          | inr apart ↦ ap (λ (o : Option Content). is_some o) (sym (get-insert_other s.objects birth content b apart)) ∙ is
+          | inr old ↦ old.1
         ]
 
 -- ## Names
@@ -459,14 +451,15 @@ shows-name t s path node shows file =
       objects = shows.objects;
       numbered = shows.numbered;
       ends = shows.ends;
-      files = λ q n is. by_tie q n is (eq_by_cmp path_cmp q path) refl;
+      files = λ q n is. file_of q n (got_put paths_total t.paths path node q (FileNode n) is);
       next_description = shows.next_description;
       next_object = shows.next_object;
     }
   where
-    by_tie : (q : List (List ℕ)) (n : ℕ) → fin.get (fin.insert t.paths path node) q ≡ Some (FileNode n) → (b : Bool) → eq_by_cmp path_cmp q path ≡ b → is_of part.Only (content_of s (birth_at t n)) ≡ true
-    by_tie q n is true tied = file n (same_Some _ _ (sym (get-insert paths_total t.paths path node q ∙ ap (λ (b : Bool). cond b (Some node) (fin.get t.paths q)) tied) ∙ is))
-    by_tie q n is false tied = shows.files q n (sym (get-insert paths_total t.paths path node q ∙ ap (λ (b : Bool). cond b (Some node) (fin.get t.paths q)) tied) ∙ is)
+    file_of : (q : List (List ℕ)) (n : ℕ) → (node ≡ FileNode n) ⊎ (fin.get t.paths q ≡ Some (FileNode n))
+        → is_of part.Only (content_of s (birth_at t n)) ≡ true
+    file_of q n (inl same) = file n same
+    file_of q n (inr old) = shows.files q n old
 
 -- ## A new description
 
@@ -557,23 +550,16 @@ shows-with_object t s content node sound shows inside free =
     named (Some Directory) used = refl
     named (Some (FileNode n)) used = ap (λ (b : ℕ). Some (FileNode b)) (sym (birth_still t node n free (used n refl)))
 
-    kept : (birth : ℕ) → is_some (fin.get s.objects birth) ≡ true → is_some (fin.get (fin.insert s.objects s.next_object content) birth) ≡ true
-    kept birth is =
-        elim (cases_eq birth s.next_object) [
-          | inl at ↦ ap (λ (o : Option Content). is_some o) (ap (fin.get (fin.insert s.objects s.next_object content)) at ∙ get-insert_same s.objects s.next_object content)
-          | inr apart ↦ ap (λ (o : Option Content). is_some o) (get-insert_other s.objects s.next_object content birth apart) ∙ is
-        ]
-
     there : (n birth : ℕ) → Taken t.objects node t.made_objects n birth → is_some (fin.get (fin.insert s.objects s.next_object content) birth) ≡ true
     there n birth (IsNew here is) = ap (λ (o : Option Content). is_some o) (ap (fin.get (fin.insert s.objects s.next_object content)) (is ∙ sym shows.next_object) ∙ get-insert_same s.objects s.next_object content)
-    there n birth (IsOld was) = kept birth (shows.objects n birth was)
+    there n birth (IsOld was) = still_some s.objects s.next_object content birth (shows.objects n birth was)
 
     numbered : (birth : ℕ) → is_some (fin.get (fin.insert s.objects s.next_object content) birth) ≡ true → (n : ℕ) × (slice_index_or (slice_set t.objects node (Some t.made_objects)) n None ≡ Some birth)
     numbered birth is =
-        elim (cases_eq birth s.next_object) [
+        elim (some_put s.objects s.next_object content birth is) [
           | inl at ↦ (node, get_or-set_same t.objects node (Some t.made_objects) None inside ∙ ap (λ (b : ℕ). Some b) (sym (at ∙ shows.next_object)))
-          | inr apart ↦ (
-              let was = shows.numbered birth (sym (ap (λ (o : Option Content). is_some o) (get-insert_other s.objects s.next_object content birth apart)) ∙ is) in
+          | inr old ↦ (
+              let was = shows.numbered birth old.1 in
               (was.0, get_or-set_other t.objects node was.0 (Some t.made_objects) None (λ same. none-some _ (sym free ∙ ap (λ (k : ℕ). slice_index_or t.objects k None) (sym same) ∙ was.1)) ∙ was.1))
         ]
 
@@ -583,30 +569,16 @@ pub shows-with_file : (t : TableState) (s : State) (components : List (List ℕ)
 shows-with_file t s components node sound shows inside free =
     subst (λ (b : ℕ). Shows (with_file t (fin.insert t.paths components (FileNode node)) node) (record (object.with_object s (File [])) { paths = fin.insert s.paths components (FileNode b) }))
     (birth_of_new t node inside ∙ sym shows.next_object)
-    (shows-name (with_object t node) (object.with_object s (File [])) components (FileNode node) (shows-with_object t s (File []) node sound shows inside free) (λ n e. is_file n (same_node n e)))
+    (shows-name (with_object t node) (object.with_object s (File [])) components (FileNode node)
+    (shows-with_object t s (File []) node sound shows inside free) (λ n e. is_file n (same_file node n e)))
   where
-    same_node : (n : ℕ) → FileNode node ≡ FileNode n → node ≡ n
-    same_node n e = cc
-
     is_file : (n : ℕ) → node ≡ n → is_of part.Only (content_of (object.with_object s (File [])) (birth_at (with_object t node) n)) ≡ true
     is_file n same = ap (λ (k : ℕ). is_of part.Only (content_of (object.with_object s (File [])) (birth_at (with_object t node) k))) (sym same) ∙ ap (is_of part.Only) (content_of_new t s node (File []) shows inside)
 
 -- ## An offset that is set
 
 pub shows-set_offset : (t : TableState) (s : State) (key offset : ℕ) → AreSound t.descriptions → ContainsKey t.descriptions key → Shows t s → Shows (record t { descriptions = with_offset t.descriptions key offset }) s
-shows-set_offset t s key offset all known shows =
-    record {
-      descriptors = λ n. shows.descriptors n ∙ births (slice_index_or t.descriptors n None);
-      descriptions = put.there;
-      described = put.own;
-      paths = shows.paths;
-      objects = shows.objects;
-      numbered = shows.numbered;
-      ends = ends_put t s t.descriptions key new shows.ends (shows.ends key d got);
-      files = shows.files;
-      next_description = shows.next_description;
-      next_object = shows.next_object;
-    }
+shows-set_offset t s key offset all known shows = shows-put t s key d new s.descriptions shows got refl (shows.ends key d got) put
   where
     d : Description
     d = description_at t.descriptions key
@@ -617,11 +589,8 @@ shows-set_offset t s key offset all known shows =
     got : fin.get t.descriptions.by_key key ≡ Some d
     got = known_at t.descriptions key known
 
-    births : (o : Option ℕ) → option_map (birth_of t) o ≡ option_map (birth_in (with_description t.descriptions key new)) o
-    births None = refl
-    births (Some q) = ap (λ (b : ℕ). Some b) (sym (birth_kept t.descriptions key q new refl))
-
     put : Describes t (with_description t.descriptions key new) s.descriptions
     put =
         let there = shows.descriptions key d got in
-        describes_put t t.descriptions s.descriptions s.descriptions key new there.0 (describes_of t s shows) (only_birth t.descriptions key d all got) (same_birth t.descriptions key d got) there.1 (λ birth apart. refl)
+        describes_put t t.descriptions s.descriptions s.descriptions key new there.0 (describes_of t s shows)
+        (only_birth t.descriptions key d all got) (same_birth t.descriptions key d got) there.1 (λ birth apart. refl)

@@ -1,8 +1,8 @@
 -- What an object holds after a change, and how many names a file has.
-use Rattle.std.proofs.Common.{◌≡◌, ℕ, ◌+◌, ◌-◌, ◌==◌, ◌||◌, List, [], ◌∷◌, map, Option, Some, unwrap_or, Result, Ok, Bool, true, false, cond, not, if◌then◌else◌, count_by, refl, sym, ap, ◌∙◌, inl, inr}
-use Rattle.std.proofs.lemmas.Bool.{cases_eq, false≢true, true≢false}
+use Rattle.std.proofs.Common.{◌≡◌, ℕ, ◌+◌, ◌==◌, ◌||◌, List, [], ◌∷◌, map, Option, Some, unwrap_or, Result, Ok, Bool, true, false, cond, not, count_by, refl, sym, ap, ◌∙◌}
+use Rattle.std.proofs.lemmas.Bool.{false≢true, true≢false}
 use Rattle.std.proofs.lemmas.List.Sums.{sum_by-cons}
-use Rattle.std.proofs.lemmas.Option.{none-some, same_Some}
+use Rattle.std.proofs.lemmas.Option.{same_Some}
 use Rattle.std.specs.FinMap as fin
 use Rattle.std.specs.List.{list_any}
 use Rattle.std.specs.Prelude.{ℤ, pos, negsuc}
@@ -12,9 +12,11 @@ use Rattle.sequential_object.specs.Names.{PathMap, links_of}
 use Rattle.sequential_object.specs.Object.{State, Content, File, Node, FileNode, Directory, with_content, content_of}
 use Rattle.sequential_object.specs.Object as object
 use Rattle.posix_terms.specs.declared.errno.Errno.{Errno}
+use Rattle.std.specs.Cmp.{nat_cmp_total}
+use Rattle.descriptor_table.proofs.Closing.{over_released, over_unused}
+use Rattle.descriptor_table.proofs.MapLemmas.{get-insert_same, got_less, paths_total}
 use Rattle.descriptor_table.proofs.EntryLemmas.{standing_in}
 use Rattle.descriptor_table.proofs.PathLemmas.{births_alike, entries_shown}
-use Rattle.descriptor_table.proofs.SoundLemmas.{get-insert_same, get-remove_other, get-remove_same, paths_total}
 use Rattle.descriptor_table.specs.Acts.{Holds}
 use Rattle.descriptor_table.specs.Shows.{Shows, birth_at, shown_node}
 use Rattle.descriptor_table.specs.Table.{TableState, IsSound, is_used}
@@ -26,28 +28,19 @@ same_content s birth content is other at = sym (ap (λ (o : Option Content). unw
 
 -- what stays when an object leaves the map, or not
 kept_content : (s : State) (birth other : ℕ) (content : Content) → Holds s birth content → Holds (record s { objects = fin.remove s.objects other }) birth content
-kept_content s birth other content holds now at =
-    elim (cases_eq birth other) [
-      | inl e ↦ absurd (none-some _ (sym (ap (fin.get (fin.remove s.objects other)) e ∙ get-remove_same s.objects other) ∙ at))
-      | inr apart ↦ holds now (sym (get-remove_other s.objects other birth apart) ∙ at)
-    ]
+kept_content s birth other content holds now at = holds now (got_less nat_cmp_total s.objects other birth now at)
 
 pub put_content : (s : State) (birth : ℕ) (content : Content) → Holds (with_content s birth content) birth content
 put_content s birth content now at = same_Some _ _ (sym at ∙ get-insert_same s.objects birth content)
 
 pub unused_content : (s : State) (birth other : ℕ) (content : Content) → Holds s birth content → Holds (posix.without_unused s other) birth content
-unused_content s birth other content holds = by_used (posix.has_description s other || posix.has_path s other)
-  where
-    by_used : (b : Bool) → Holds (if b then s else record s { objects = fin.remove s.objects other }) birth content
-    by_used true = holds
-    by_used false = kept_content s birth other content holds
+unused_content s birth other content holds =
+    over_unused (λ (a : State). Holds a birth content) s other holds (kept_content s birth other content holds)
 
 pub released_content : (s : State) (key birth : ℕ) (d : object.Description) (content : Content) → Holds s birth content → Holds (posix.released s key d) birth content
-released_content s key birth d content holds = by_last (posix.has_descriptor s key)
-  where
-    by_last : (b : Bool) → Holds (if b then s else posix.without_unused (record s { descriptions = fin.remove s.descriptions key }) d.object) birth content
-    by_last true = holds
-    by_last false = unused_content (record s { descriptions = fin.remove s.descriptions key }) birth d.object content holds
+released_content s key birth d content holds =
+    over_released (λ (a : State). Holds a birth content) s key d holds holds
+    (kept_content (record s { descriptions = fin.remove s.descriptions key }) birth d.object content holds)
 
 pub freed_content : (s : State) (descriptor : ℤ) (birth : ℕ) (content : Content) → Holds s birth content → Holds (posix.freed s descriptor) birth content
 freed_content s (pos n) birth content holds = holds

@@ -1,7 +1,7 @@
 -- The ends of objects: which are open, and what the ends say of what an object is.
 use Rattle.std.proofs.Common.{◌≡◌, ℕ, ℤ, ◌<◌, ◌==◌, ◌&&◌, List, Option, Some, None, is_some, Ok, Err, Bool, true, false, not, if◌then◌else◌, count_by, refl, sym, ap, ◌∙◌}
-use Rattle.std.proofs.lemmas.Bool.{false≢true}
-use Rattle.std.specs.Cmp.{nat_cmp_total}
+use Rattle.std.proofs.lemmas.Bool.{eqb-true, false≢true}
+use Rattle.std.specs.Cmp.{both_ways, nat_cmp_total}
 use Rattle.std.specs.FinMap as fin
 use Rattle.std.specs.List.{list_any}
 use Rattle.std.specs.Ordering.{nat_cmp}
@@ -27,7 +27,6 @@ use Rattle.posix_terms.specs.declared.reply.ObjectKind.TheVariants as kind
 use Rattle.file_descriptions.specs.Descriptions.{AreSound, ends_of, has_first_end, has_second_end}
 use Rattle.file_descriptions.specs.declared.description.Description.{Description}
 use Rattle.descriptor_table.proofs.EntryLemmas.{any_of, any_second, counted_none, standing_in}
-use Rattle.descriptor_table.proofs.KnownLemmas.{equal_nat}
 use Rattle.descriptor_table.proofs.PathLemmas.{any_of_first, births_alike, first_of_any}
 use Rattle.descriptor_table.specs.Acts.{is_open}
 use Rattle.descriptor_table.specs.Plans.{act_or_ask, leads_outside, locks, moves, not_listener, of_file, of_listener, seekable, shut_act, stat_by}
@@ -58,7 +57,7 @@ pub data Kind (e : End) (c : Content) : Type 0 where
 -- doors that are of one kind, and listeners of one port, are the same
 pub one_door : (one other : Door) → same_door one other ≡ true → other ≡ one
 one_door door.HostFile door.HostFile same = refl
-one_door (door.Listener port) (door.Listener other) same = ap (λ (p : ℕ). door.Listener p) (sym (equal_nat port other same))
+one_door (door.Listener port) (door.Listener other) same = ap (λ (p : ℕ). door.Listener p) (sym (eqb-true port other same))
 one_door door.Stream door.Stream same = refl
 one_door door.HostFile (door.Listener other) same = absurd (false≢true same)
 one_door door.HostFile door.Stream same = absurd (false≢true same)
@@ -89,6 +88,10 @@ kind_of (part.Door door) (File file) has = absurd (false≢true has)
 kind_of (part.Door door) (Pipe waiting) has = absurd (false≢true has)
 kind_of (part.Door door) (Pair p) has = absurd (false≢true has)
 
+pub kind_at : (t : TableState) (s : State) → Shows t s → (key : ℕ) (d : Description) → fin.get t.descriptions.by_key key ≡ Some d
+    → Kind d.«end» (content_of s (birth_at t d.node))
+kind_at t s shows key d got = kind_of d.«end» (content_of s (birth_at t d.node)) (shows.ends key d got)
+
 -- the one end of a file
 pub file_only : (e : End) (file : List ℕ) → is_of e (File file) ≡ true → e ≡ part.Only
 file_only part.Only file has = refl
@@ -96,14 +99,6 @@ file_only part.Read file has = absurd (false≢true has)
 file_only part.Write file has = absurd (false≢true has)
 file_only (part.Socket side) file has = absurd (false≢true has)
 file_only (part.Door door) file has = absurd (false≢true has)
-
--- the ends of a pair
-pub pair_side : (e : End) (p : PairState) → is_of e (Pair p) ≡ true → (side : Side) × (e ≡ part.Socket side)
-pair_side part.Only p has = absurd (false≢true has)
-pair_side part.Read p has = absurd (false≢true has)
-pair_side part.Write p has = absurd (false≢true has)
-pair_side (part.Socket side) p has = (side, refl)
-pair_side (part.Door door) p has = absurd (false≢true has)
 
 -- a socket is no file
 pub socket_stream : (e : End) (side : Side) → e ≡ part.Socket side → is_end e part.Only ≡ false
@@ -187,7 +182,8 @@ counted_shown : (t : TableState) (s : State) (p : Option object.Description → 
     → ((key : ℕ) (d : Description) (offset : ℕ) → fin.get t.descriptions.by_key key ≡ Some d → p (Some (shown t d offset)) ≡ q d)
     → any_below s.next_description (λ key. p (fin.get s.descriptions key)) ≡ not (count_by q (fin.values t.descriptions.by_key) == 0)
 counted_shown t s p q all shows none alike =
-    by_test (any_below s.next_description (λ key. p (fin.get s.descriptions key))) refl (list_any q (fin.values t.descriptions.by_key)) refl
+    both_ways (any_below s.next_description (λ key. p (fin.get s.descriptions key)))
+    (list_any q (fin.values t.descriptions.by_key)) to_table to_state
     ∙ sym (ap not (counted_none q (fin.values t.descriptions.by_key)) ∙ not_not (list_any q (fin.values t.descriptions.by_key)))
   where
     not_not : (b : Bool) → not (not b) ≡ b
@@ -213,11 +209,6 @@ counted_shown t s p q all shows none alike =
         let there = shows.descriptions at.0 at.1 at.2 in
         let below : at.1.birth < s.next_description = rw shows.next_description (all.born at.0 at.1 at.2) in
         first_of_any s.next_description (λ key. p (fin.get s.descriptions key)) at.1.birth below (ap p there.1 ∙ alike at.0 at.1 there.0 at.2 ∙ at.3)
-
-    by_test : (a : Bool) → any_below s.next_description (λ key. p (fin.get s.descriptions key)) ≡ a → (b : Bool) → list_any q (fin.values t.descriptions.by_key) ≡ b → any_below s.next_description (λ key. p (fin.get s.descriptions key)) ≡ list_any q (fin.values t.descriptions.by_key)
-    by_test true x b y = x ∙ sym (to_table x)
-    by_test false x true y = absurd (false≢true (sym x ∙ to_state y))
-    by_test false x false y = x ∙ sym y
 
 -- two ends of one object are the same just where both count first, or neither
 same_end : (c : Content) (a b : End) → is_of a c ≡ true → is_of b c ≡ true → is_end a b ≡ (if is_first b then is_first a else not (is_first a))
@@ -275,7 +266,8 @@ has_end_shown t s node which sound all shows used its = by_first (is_first which
       where
         by_node : (b : Bool) → (d.node == node) ≡ b → (b && is_end d.«end» which) ≡ (b && (if first then is_first d.«end» else not (is_first d.«end»)))
         by_node true same =
-            same_end (content_of s (birth_at t node)) d.«end» which (ap (λ (n : ℕ). is_of d.«end» (content_of s (birth_at t n))) (sym (equal_nat d.node node same)) ∙ shows.ends key d got) its
+            same_end (content_of s (birth_at t node)) d.«end» which
+            (ap (λ (n : ℕ). is_of d.«end» (content_of s (birth_at t n))) (sym (eqb-true d.node node same)) ∙ shows.ends key d got) its
             ∙ ap (λ (b : Bool). if b then is_first d.«end» else not (is_first d.«end»)) is
         by_node false same = refl
 

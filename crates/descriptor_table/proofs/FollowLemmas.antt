@@ -1,12 +1,12 @@
 -- The change of each call on a descriptor, a name or a file that it opens, beside what the sequential object does.
 use Rattle.std.proofs.Common.{◌≡◌, ◌≢◌, ℕ, ◌+◌, ◌-◌, ◌<◌, ◌≤◌, ◌==◌, ◌&&◌, ◌||◌, List, [], length, Option, Some, None, is_some, unwrap_or, Result, Ok, Err, Bool, true, false, not, if◌then◌else◌, refl, sym, ap, ◌∙◌, subst, arith}
-use Rattle.std.proofs.lemmas.Bool.{false≢true, true≢false}
+use Rattle.std.proofs.lemmas.Bool.{false≢true, true≢false, cond_both}
 use Rattle.std.proofs.lemmas.Bool.Decides.{nat_tests}
 use Rattle.std.proofs.lemmas.Option.{same_Some}
 use Rattle.std.specs.FinMap as fin
 use Rattle.std.specs.Ordering.{int_eq}
 use Rattle.std.specs.Option.{option_map}
-use Rattle.std.specs.Prelude.{ℤ, ◌+ℤ◌, pos, negsuc, nat_le, nat_lt, slice_index_or, slice_set}
+use Rattle.std.specs.Prelude.{ℤ, ◌+ℤ◌, pos, negsuc, nat_le, nat_lt, slice_index_or}
 use Rattle.posix_terms.specs.Calls.{can_read, can_write}
 use Rattle.sequential_object.specs.Descriptors as posix
 use Rattle.sequential_object.specs.Descriptors.{close_result, open_result}
@@ -25,7 +25,7 @@ use Rattle.sequential_object.specs.Refusals.{◌>>=◌, count_of, position_of, r
 use Rattle.sequential_object.specs.Status.{fstat_result, getfl_result, setfl_result}
 use Rattle.posix_terms.specs.Ends.{side_of, peer_of}
 use Rattle.sequential_object.specs.Sockets.{shut_content, shutdown_result, shuttable}
-use Rattle.sequential_object.specs.Step.{Carried, concluded, failed, is_again, waited}
+use Rattle.sequential_object.specs.Step.{Carried, concluded, failed, is_again, waited, Stepped, outside}
 use Rattle.sequential_object.specs.Streams.{Reading, Reads, Ends, NothingYet, Writing, Writes, Breaks, NoRoom, pair_read, pair_write, shut, stream_read, stream_write, with_waiting}
 use Rattle.sequential_object.specs.Transfers.{base_of, file_in, has_peer, host_offset, not_listener, offset_of, read_content, read_done, seek_content, write_at, write_content, write_done, read_result, write_result, pread_result, pwrite_result, lseek_result, ftruncate_result, size_of, start_of}
 use Rattle.posix_terms.specs.declared.call.Access.{Access}
@@ -42,18 +42,22 @@ use Rattle.posix_terms.specs.declared.outcome.Outcome.TheVariants as came
 use Rattle.posix_terms.specs.declared.reply.Reply.{Reply}
 use Rattle.posix_terms.specs.declared.reply.Reply.TheVariants as reply
 use Rattle.posix_terms.specs.declared.transcript.Settings.{Settings}
-use Rattle.file_descriptions.specs.Descriptions.{AreSound, description_at, is_last_held, with_description, without}
+use Rattle.file_descriptions.specs.Descriptions.{AreSound, description_at}
 use Rattle.file_descriptions.specs.declared.description.Description.{Description}
-use Rattle.descriptor_table.proofs.ChangeLemmas.{birth_of_new, content_of_new, description_got, shows-opened, shows-with_file, shows-closed, shows-content, shows-flags, shows-name, shows-offset, shows-shared, shows-without_gone}
+use Rattle.descriptor_table.proofs.OpeningLemmas.{full_shown, lowest_none}
+use Rattle.descriptor_table.proofs.Closing.{over_closed, over_holder, over_released}
+use Rattle.descriptor_table.proofs.MapLemmas.{get-insert_same, get-remove_other}
+use Rattle.descriptor_table.proofs.Binding.{bound}
+use Rattle.descriptor_table.proofs.ChangeLemmas.{birth_of_new, content_of_new, shows-opened, shows-with_file, shows-closed, shows-content, shows-flags, shows-name, shows-offset, shows-shared, shows-without_gone}
 use Rattle.file_descriptions.specs.Laws.{ChangesKeepSound}
 use Rattle.descriptor_table.proofs.EndLemmas.{HasEndsOf, alike_file, alike_pair, alike_pipe, file_alike}
-use Rattle.descriptor_table.proofs.KnownLemmas.{lowest_below, some_inside}
+use Rattle.descriptor_table.proofs.KnownLemmas.{lowest_below}
 use Rattle.descriptor_table.proofs.PathLemmas.{birth_is, file_at_name, has_entries_shown, names_shown, node_shown, resolved_shown}
-use Rattle.descriptor_table.proofs.PlanLemmas.{ends_shown, full_shown, lowest_none, named_shown, shows-without_name, some_shown}
-use Rattle.descriptor_table.specs.Laws.{FoundBoth}
-use Rattle.descriptor_table.specs.Laws.FoundBoth.{Open, Shut}
+use Rattle.descriptor_table.proofs.PlanLemmas.{ends_shown, named_shown, shows-without_name, some_shown}
+use Rattle.descriptor_table.specs.Laws.{RefersAlike}
+use Rattle.descriptor_table.specs.Laws.RefersAlike.{Open, Shut}
 use Rattle.descriptor_table.proofs.ShownLemmas.{key_known, key_shown, lowest_shown}
-use Rattle.descriptor_table.proofs.SoundLemmas.{closed_other, get-insert_same, get-remove_other, named_as, named_at, names_without, none_past, ok_same, sound-freed, sound-let_go, sound-named, sound-with_file}
+use Rattle.descriptor_table.proofs.SoundLemmas.{closed_other, description_got, key_inside, named_as, named_at, names_without, ok_same, same_file, sound-closed, sound-named, sound-with_file}
 use Rattle.descriptor_table.specs.Changes.{file_at, is_refused, Opening, found_or_made, opened, opening, status_flags, with_file, close_change, closed, closed_if_open, dup2_change, dup_change, dup_from_change, kept_or, let_go, link_change, mkdir_change, rmdir_change, setfl_change, shared, unlink_change, with_paths, without_gone}
 use Rattle.directories.specs.Lookup.{looked_up}
 use Rattle.descriptor_table.specs.Plans.{answered, dup2_plan, ends_a_door, locks, open_new, open_node, open_plan, open_there, replaced}
@@ -61,7 +65,7 @@ use Rattle.descriptor_table.specs.declared.plan.Op.TheVariants as op
 use Rattle.descriptor_table.specs.declared.plan.Plan.{Plan}
 use Rattle.descriptor_table.specs.declared.plan.Plan.TheVariants as plan
 use Rattle.descriptor_table.specs.Shows.{Shows, birth_at, birth_of, is_of, shown, shown_node}
-use Rattle.descriptor_table.specs.Table.{TableState, IsSound, described, free_object, is_gone, is_used, key_at, lowest_from}
+use Rattle.descriptor_table.specs.Table.{TableState, IsSound, described, free_object, is_used, key_at, lowest_from}
 
 -- whatever comes of what is asked outside, the table shows what is left
 abbrev pub LeavesShown : TableState → Asking → Type 0
@@ -94,6 +98,15 @@ follows_after t settings s outcome carried (Err e) (Err f) shows follows = shows
 pub waited_after : (settings : Settings) (s : State) (carried : Carried) → (waited settings s carried).after ≡ s
 waited_after settings s carried = grind arith
 
+pub waited_shown : (t : TableState) (settings : Settings) (s : State) (carried : Carried) → Shows t s
+    → Shows t (waited settings s carried).after
+waited_shown t settings s carried shows = subst (Shows t) (sym (waited_after settings s carried)) shows
+
+-- what is refused outside has to wait, or is told
+pub over_failed : (P : Stepped → Type 0) (settings : Settings) (s : State) (carried : Carried) (a : Asking) (e : Errno)
+    → P (waited settings s carried) → P (failed a.otherwise e) → P (outside settings s a (Some (came.Fail e)) carried)
+over_failed P settings s carried a e later told = cond_both (a.waits && is_again e) _ _ P (λ again. later) (λ never. told)
+
 -- the table stays, and shows the state after
 abbrev pub Stays : TableState → Result Effect Errno → Type 0
 Stays t (Ok (Completes after r)) = Shows t after
@@ -103,23 +116,12 @@ Stays t (Err e) = Unit {0}
 
 pub stays_after : (t : TableState) (settings : Settings) (s : State) (outcome : Option Outcome) (carried : Carried) (does : Result Effect Errno) → Shows t s → Stays t does → Shows t (concluded settings s outcome carried does).after
 stays_after t settings s outcome carried (Ok (Completes after r)) shows stays = stays
-stays_after t settings s outcome carried (Ok Blocks) shows stays = subst (Shows t) (sym (waited_after settings s carried)) shows
+stays_after t settings s outcome carried (Ok Blocks) shows stays = waited_shown t settings s carried shows
 stays_after t settings s (Some (came.Ok value bytes)) carried (Ok (Asks a)) shows stays = stays.1 value bytes
-stays_after t settings s (Some (came.Fail e)) carried (Ok (Asks a)) shows stays = by_waits (a.waits && is_again e)
-  where
-    by_waits : (b : Bool) → Shows t (if b then waited settings s carried else failed a.otherwise e).after
-    by_waits true = subst (Shows t) (sym (waited_after settings s carried)) shows
-    by_waits false = stays.0
+stays_after t settings s (Some (came.Fail e)) carried (Ok (Asks a)) shows stays =
+    over_failed (λ (x : Stepped). Shows t x.after) settings s carried a e (waited_shown t settings s carried shows) stays.0
 stays_after t settings s None carried (Ok (Asks a)) shows stays = stays.0
 stays_after t settings s outcome carried (Err e) shows stays = shows
-
-through : (t : TableState) {A : Type 0} (r : Result A Errno) (f : A → Result Effect Errno) → ((x : A) → Stays t (f x)) → Stays t (r >>= f)
-through t (Ok x) f each = each x
-through t (Err e) f each = tt
-
-through_as : (t : TableState) {A : Type 0} (r : Result A Errno) (f : A → Result Effect Errno) → ((x : A) → r ≡ Ok x → Stays t (f x)) → Stays t (r >>= f)
-through_as t (Ok x) f each = each x refl
-through_as t (Err e) f each = tt
 
 pub file_is : (c : Content) (e : Errno) (file : List ℕ) → file_in c e ≡ Ok file → c ≡ File file
 file_is (File bytes) e file is = ap (λ (bs : List ℕ). File bs) (ok_same bytes file is)
@@ -153,23 +155,25 @@ module _ (t : TableState) (s : State) (sound : IsSound t) (all : AreSound t.desc
 
   pub stays-getfl : (descriptor : ℤ) → Stays t (getfl_result s descriptor)
   unfolding getfl_result
-  stays-getfl descriptor = through t (posix.described s descriptor) _ (λ found. shows)
+  stays-getfl descriptor = bound (Stays t) (λ e. tt) (posix.described s descriptor) _ (λ _ _. shows)
 
   pub stays-fstat : (descriptor : ℤ) → Stays t (fstat_result s descriptor)
   unfolding fstat_result
-  stays-fstat descriptor = through t (posix.described s descriptor) _ (λ found. shows)
+  stays-fstat descriptor = bound (Stays t) (λ e. tt) (posix.described s descriptor) _ (λ _ _. shows)
 
   pub stays-pread : (descriptor count position : ℤ) → Stays t (pread_result s descriptor count position)
   unfolding pread_result
   stays-pread descriptor count position =
-      through t (posix.described s descriptor) _ (λ found. through t (file_in (content_of s found.1.object) ESPIPE) _ (λ file. through t (refuse_if (not (can_read found.1.access)) EBADF) _ (λ a.
-      through t (count_of count) _ (λ n. through t (position_of position) _ (λ start. shows)))))
+      bound (Stays t) (λ e. tt) (posix.described s descriptor) _ (λ found _.
+      bound (Stays t) (λ e. tt) (file_in (content_of s found.1.object) ESPIPE) _ (λ _ _.
+      bound (Stays t) (λ e. tt) (refuse_if (not (can_read found.1.access)) EBADF) _ (λ _ _.
+      bound (Stays t) (λ e. tt) (count_of count) _ (λ _ _. bound (Stays t) (λ e. tt) (position_of position) _ (λ _ _. shows)))))
 
   stays_blocked : (b : Bool) → Stays t (if b then Err EAGAIN else Ok Blocks)
   stays_blocked true = tt
   stays_blocked false = tt
 
-  pub stays-read : (descriptor count : ℤ) → FoundBoth t s descriptor → Stays t (read_result s descriptor count)
+  pub stays-read : (descriptor count : ℤ) → RefersAlike t s descriptor → Stays t (read_result s descriptor count)
   unfolding read_result
   stays-read descriptor count (Shut table state) = rw state tt
   stays-read descriptor count (Open key d offset at got there table state) = rw state (by_access (not_listener (content_of s (birth_at t d.node))) (not (can_read d.access)))
@@ -196,9 +200,9 @@ module _ (t : TableState) (s : State) (sound : IsSound t) (all : AreSound t.desc
       by_access : (r : Result (Unit {0}) Errno) (b : Bool) → Stays t ((r >>= (λ _. refuse_if b EBADF >>= (λ _. Ok (d.birth, shown t d offset)))) >>= (λ (found : ℕ × object.Description). count_of count >>= (λ n. read_content s found.0 found.1 n (content_of s found.1.object))))
       by_access (Err e) b = tt
       by_access (Ok x) true = tt
-      by_access (Ok x) false = through t (count_of count) _ (λ n. by_content n (content_of s (birth_at t d.node)) refl)
+      by_access (Ok x) false = bound (Stays t) (λ e. tt) (count_of count) _ (λ n _. by_content n (content_of s (birth_at t d.node)) refl)
 
-  pub stays-write : (descriptor : ℤ) (bytes : List ℕ) → FoundBoth t s descriptor → Stays t (write_result s descriptor bytes)
+  pub stays-write : (descriptor : ℤ) (bytes : List ℕ) → RefersAlike t s descriptor → Stays t (write_result s descriptor bytes)
   unfolding write_result
   stays-write descriptor bytes (Shut table state) = rw state tt
   stays-write descriptor bytes (Open key d offset at got there table state) = rw state (by_refusals (not_listener (content_of s (birth_at t d.node))) (not (can_write d.access)) (nat_lt 32767 (length bytes)) (length bytes == 0))
@@ -209,7 +213,11 @@ module _ (t : TableState) (s : State) (sound : IsSound t) (all : AreSound t.desc
       by_writing holds NoRoom alike = stays_blocked d.flags.nonblock
 
       by_content : (c : Content) → content_of s (birth_at t d.node) ≡ c → Stays t (write_content s d.birth (shown t d offset) bytes c)
-      by_content (File file) is = through t (written file (start_of (shown t d offset) file) bytes) _ (λ w. shows-content t (record s { descriptions = fin.insert s.descriptions d.birth (shown t d (start_of (shown t d offset) file + w.1)) }) (birth_at t d.node) (File w.0)
+      by_content (File file) is =
+          bound (Stays t) (λ e. tt) (written file (start_of (shown t d offset) file) bytes) _
+          (λ w _. shows-content t
+          (record s { descriptions = fin.insert s.descriptions d.birth (shown t d (start_of (shown t d offset) file + w.1)) })
+          (birth_at t d.node) (File w.0)
           (shows-offset t s key (start_of (shown t d offset) file + w.1) d all shows got) (object_there key d got) (alike_file (content_of s (birth_at t d.node)) w.0 file is))
       by_content (Pipe waiting) is = by_writing (λ left. Pipe left) (stream_write waiting bytes (posix.has_end s (birth_at t d.node) part.Read)) (λ left. alike_pipe (content_of s (birth_at t d.node)) left waiting is)
       by_content (Pair p) is = by_writing (λ left. Pair (with_waiting p (peer_of (side_of d.«end»)) left)) (pair_write p (side_of d.«end») bytes (has_peer s (birth_at t d.node) (side_of d.«end»))) (λ left. alike_pair (content_of s (birth_at t d.node)) (with_waiting p (peer_of (side_of d.«end»)) left) p is)
@@ -222,38 +230,48 @@ module _ (t : TableState) (s : State) (sound : IsSound t) (all : AreSound t.desc
       by_refusals (Ok x) false false true = shows
       by_refusals (Ok x) false false false = by_content (content_of s (birth_at t d.node)) refl
 
-  pub stays-lseek : (descriptor offset : ℤ) (whence : Whence) → FoundBoth t s descriptor → Stays t (lseek_result s descriptor offset whence)
+  pub stays-lseek : (descriptor offset : ℤ) (whence : Whence) → RefersAlike t s descriptor → Stays t (lseek_result s descriptor offset whence)
   unfolding lseek_result
   stays-lseek descriptor offset whence (Shut table state) = rw state tt
   stays-lseek descriptor offset whence (Open key d at_offset at got there table state) = rw state (by_content (content_of s (birth_at t d.node)))
     where
       by_content : (c : Content) → Stays t (seek_content s d.birth (shown t d at_offset) offset whence c)
-      by_content (File file) = through t (offset_of (pos (base_of whence at_offset (length file)) +ℤ offset)) _ (λ to. shows-offset t s key to d all shows got)
+      by_content (File file) =
+          bound (Stays t) (λ e. tt) (offset_of (pos (base_of whence at_offset (length file)) +ℤ offset)) _
+          (λ to _. shows-offset t s key to d all shows got)
       by_content (Pipe bytes) = tt
       by_content (Pair p) = tt
-      by_content (DoorTo door.HostFile) = through t (host_offset offset whence) _ (λ _. (shows, λ value bytes. shows))
+      by_content (DoorTo door.HostFile) = bound (Stays t) (λ e. tt) (host_offset offset whence) _ (λ _ _. (shows, λ value bytes. shows))
       by_content (DoorTo (door.Listener port)) = tt
       by_content (DoorTo door.Stream) = tt
 
-  pub stays-pwrite : (descriptor : ℤ) (bytes : List ℕ) (position : ℤ) → FoundBoth t s descriptor → Stays t (pwrite_result s descriptor bytes position)
+  pub stays-pwrite : (descriptor : ℤ) (bytes : List ℕ) (position : ℤ) → RefersAlike t s descriptor → Stays t (pwrite_result s descriptor bytes position)
   unfolding pwrite_result
   stays-pwrite descriptor bytes position (Shut table state) = rw state tt
   stays-pwrite descriptor bytes position (Open key d offset at got there table state) =
-      rw state (through_as t (file_in (content_of s (birth_at t d.node)) ESPIPE) _ (λ file is. through t (refuse_if (not (can_write d.access)) EBADF) _ (λ a. through t (refuse_if (nat_lt 32767 (length bytes)) EINVAL) _ (λ b.
-      through t (position_of position) _ (λ start. by_length file start (file_is (content_of s (birth_at t d.node)) ESPIPE file is) (length bytes == 0))))))
+      rw state (bound (Stays t) (λ e. tt) (file_in (content_of s (birth_at t d.node)) ESPIPE) _ (λ file is.
+      bound (Stays t) (λ e. tt) (refuse_if (not (can_write d.access)) EBADF) _ (λ _ _.
+      bound (Stays t) (λ e. tt) (refuse_if (nat_lt 32767 (length bytes)) EINVAL) _ (λ _ _.
+      bound (Stays t) (λ e. tt) (position_of position) _
+      (λ start _. by_length file start (file_is (content_of s (birth_at t d.node)) ESPIPE file is) (length bytes == 0))))))
     where
       by_length : (file : List ℕ) (start : ℕ) → content_of s (birth_at t d.node) ≡ File file → (b : Bool) → Stays t (if b then Ok (Completes s (reply.Count 0)) else write_at s (birth_at t d.node) file start bytes)
       by_length file start is true = shows
-      by_length file start is false = through t (written file start bytes) _ (λ w. shows-content t s (birth_at t d.node) (File w.0) shows (object_there key d got) (alike_file (content_of s (birth_at t d.node)) w.0 file is))
+      by_length file start is false =
+          bound (Stays t) (λ e. tt) (written file start bytes) _
+          (λ w _. shows-content t s (birth_at t d.node) (File w.0) shows (object_there key d got)
+          (alike_file (content_of s (birth_at t d.node)) w.0 file is))
 
-  pub stays-ftruncate : (descriptor size : ℤ) → FoundBoth t s descriptor → Stays t (ftruncate_result s descriptor size)
+  pub stays-ftruncate : (descriptor size : ℤ) → RefersAlike t s descriptor → Stays t (ftruncate_result s descriptor size)
   unfolding ftruncate_result
   stays-ftruncate descriptor size (Shut table state) = rw state tt
   stays-ftruncate descriptor size (Open key d offset at got there table state) =
-      rw state (through t (refuse_if (not (can_write d.access)) EINVAL) _ (λ a. through_as t (file_in (content_of s (birth_at t d.node)) EINVAL) _ (λ file is. through t (size_of size) _ (λ n.
+      rw state (bound (Stays t) (λ e. tt) (refuse_if (not (can_write d.access)) EINVAL) _ (λ _ _.
+      bound (Stays t) (λ e. tt) (file_in (content_of s (birth_at t d.node)) EINVAL) _ (λ file is.
+      bound (Stays t) (λ e. tt) (size_of size) _ (λ n _.
       shows-content t s (birth_at t d.node) (File (resized file n)) shows (object_there key d got) (alike_file (content_of s (birth_at t d.node)) (resized file n) file (file_is (content_of s (birth_at t d.node)) EINVAL file is))))))
 
-  pub stays-shutdown : (descriptor : ℤ) (how : ShutdownHow) → FoundBoth t s descriptor → Stays t (shutdown_result s descriptor how)
+  pub stays-shutdown : (descriptor : ℤ) (how : ShutdownHow) → RefersAlike t s descriptor → Stays t (shutdown_result s descriptor how)
   unfolding shutdown_result
   stays-shutdown descriptor how (Shut table state) = rw state tt
   stays-shutdown descriptor how (Open key d offset at got there table state) = rw state (by_content (content_of s (birth_at t d.node)) refl)
@@ -268,7 +286,7 @@ module _ (t : TableState) (s : State) (sound : IsSound t) (all : AreSound t.desc
 
   -- ## Descriptors
 
-  pub follows-setfl : (descriptor : ℤ) (append nonblock : Bool) → FoundBoth t s descriptor → Follows (setfl_change t descriptor append nonblock) (setfl_result s descriptor append nonblock)
+  pub follows-setfl : (descriptor : ℤ) (append nonblock : Bool) → RefersAlike t s descriptor → Follows (setfl_change t descriptor append nonblock) (setfl_result s descriptor append nonblock)
   unfolding setfl_change setfl_result
   follows-setfl descriptor append nonblock (Shut table state) = rw (table, state) tt
   follows-setfl descriptor append nonblock (Open key d offset at got there table state) =
@@ -277,7 +295,7 @@ module _ (t : TableState) (s : State) (sound : IsSound t) (all : AreSound t.desc
   long : length t.descriptors ≡ 32
   long = sound.numbers
 
-  pub follows-dup : (descriptor : ℤ) → FoundBoth t s descriptor → Follows (dup_change t descriptor) (dup_result s descriptor)
+  pub follows-dup : (descriptor : ℤ) → RefersAlike t s descriptor → Follows (dup_change t descriptor) (dup_result s descriptor)
   unfolding dup_change dup_result
   follows-dup descriptor (Shut table state) = rw (table, state) tt
   follows-dup descriptor (Open key d offset at got there table state) = rw (table, state, lowest_shown t s 32 0 shows) (by_number (lowest_from t.descriptors 32 0) (λ n is. lowest_below t.descriptors 32 0 n is))
@@ -286,7 +304,7 @@ module _ (t : TableState) (s : State) (sound : IsSound t) (all : AreSound t.desc
       by_number None below = tt
       by_number (Some n) below = let inside : n < 0 + 32 = below n refl in shows-shared t s n key d all shows (omega (arith, inside, long)) got
 
-  pub follows-dup_from : (descriptor least : ℤ) → FoundBoth t s descriptor → Follows (dup_from_change t descriptor least) (dup_from_result s descriptor least)
+  pub follows-dup_from : (descriptor least : ℤ) → RefersAlike t s descriptor → Follows (dup_from_change t descriptor least) (dup_from_result s descriptor least)
   unfolding dup_from_change dup_from_result
   follows-dup_from descriptor least (Shut table state) = rw (table, state) tt
   follows-dup_from descriptor least (Open key d offset at got there table state) = rw (table, state) (by_first (descriptor_number least EINVAL) (λ first is. number_below least EINVAL first is))
@@ -304,7 +322,7 @@ module _ (t : TableState) (s : State) (sound : IsSound t) (all : AreSound t.desc
   closed_as : ChangesKeepSound → (n key : ℕ) (d : Description) (offset : ℕ) → slice_index_or t.descriptors n None ≡ Some key → fin.get t.descriptions.by_key key ≡ Some d → Shows (closed t n key) (posix.released (posix.freed s (pos n)) d.birth (shown t d offset))
   closed_as keep n key d offset at got = subst (λ (x : Description). Shows (closed t n key) (posix.released (posix.freed s (pos n)) x.birth (shown t x offset))) (description_got t.descriptions key d got) (shows-closed keep t s n key offset sound all shows at (key_known t (pos n) key sound at))
 
-  pub follows-close : ChangesKeepSound → (descriptor : ℤ) → FoundBoth t s descriptor → Follows (close_change t descriptor) (close_result s descriptor)
+  pub follows-close : ChangesKeepSound → (descriptor : ℤ) → RefersAlike t s descriptor → Follows (close_change t descriptor) (close_result s descriptor)
   unfolding close_change close_result
   follows-close keep descriptor (Shut table state) = rw (table, state) (by_number (descriptor_number descriptor EBADF))
     where
@@ -313,7 +331,7 @@ module _ (t : TableState) (s : State) (sound : IsSound t) (all : AreSound t.desc
       by_number (Err e) = tt
   follows-close keep (negsuc n) (Open key d offset at got there table state) = cc
   follows-close keep (pos n) (Open key d offset at got there table state) =
-      let inside : n < length t.descriptors = some_inside t.descriptors n (ap (λ (o : Option ℕ). is_some o) at) (none_past t.descriptors n) in
+      let inside : n < length t.descriptors = key_inside t.descriptors n key at in
       rw (table, state, within n (omega (arith, inside, long))) (by_door (posix.ends_door s (pos n) (d.birth, shown t d offset)) (closed_as keep n key d offset at got))
     where
       -- a door is closed outside, and the descriptor is free whatever comes of that
@@ -323,61 +341,35 @@ module _ (t : TableState) (s : State) (sound : IsSound t) (all : AreSound t.desc
 
   -- ## A descriptor that another one replaces
 
-  -- what remains when a descriptor is closed
-  pub left_sound : (n key : ℕ) → slice_index_or t.descriptors n None ≡ Some key → IsSound (closed t n key)
-  left_sound n key at = by_last (is_last_held t.descriptions key)
-    where
-      inside : n < 32
-      inside = let h : n < length t.descriptors = some_inside t.descriptors n (ap (λ (o : Option ℕ). is_some o) at) (none_past t.descriptors n) in omega (arith, h, long)
-
-      left : IsSound (let_go t n key)
-      left = sound-let_go t n key sound inside at
-
-      by_gone : (node : ℕ) (g : Bool) → is_gone (let_go t n key) node ≡ g → IsSound (if g then record (let_go t n key) { objects = slice_set (let_go t n key).objects node None } else let_go t n key)
-      by_gone node true is = sound-freed (let_go t n key) node is left
-      by_gone node false is = left
-
-      by_last : (b : Bool) → IsSound (if b then without_gone (let_go t n key) (description_at t.descriptions key).node else let_go t n key)
-      by_last true = by_gone (description_at t.descriptions key).node (is_gone (let_go t n key) (description_at t.descriptions key).node) refl
-      by_last false = left
-
   left_all : ChangesKeepSound → (n key : ℕ) → slice_index_or t.descriptors n None ≡ Some key → AreSound (closed t n key).descriptions
-  left_all keep n key at = subst AreSound (sym (same_left (is_last_held t.descriptions key))) (by_last (is_last_held t.descriptions key) refl)
+  left_all keep n key at = subst AreSound (sym same_left) still
     where
-      got : fin.get t.descriptions.by_key key ≡ Some (description_at t.descriptions key)
+      d : Description
+      d = description_at t.descriptions key
+
+      got : fin.get t.descriptions.by_key key ≡ Some d
       got = key_known t (pos n) key sound at
 
-      same_left : (b : Bool) → (if b then without_gone (let_go t n key) (description_at t.descriptions key).node else let_go t n key).descriptions ≡ (let_go t n key).descriptions
-      same_left true = same_gone (is_gone (let_go t n key) (description_at t.descriptions key).node)
-        where
-          same_gone : (g : Bool) → (if g then record (let_go t n key) { objects = slice_set t.objects (description_at t.descriptions key).node None } else let_go t n key).descriptions ≡ (let_go t n key).descriptions
-          same_gone true = refl
-          same_gone false = refl
-      same_left false = refl
+      same_left : (closed t n key).descriptions ≡ (let_go t n key).descriptions
+      same_left = over_closed (λ (u : TableState). u.descriptions ≡ (let_go t n key).descriptions) t n key refl (λ node gone. refl)
 
       two : (h : ℕ) → 1 ≤ h → (h == 1) ≡ false → 1 ≤ h - 1
       two h some last = grind (arith, nat_tests)
 
-      by_last : (b : Bool) → is_last_held t.descriptions key ≡ b → AreSound (if b then without t.descriptions key else with_description t.descriptions key (record (description_at t.descriptions key) { holders = (description_at t.descriptions key).holders - 1 }))
-      by_last true is = keep.removed t.descriptions key all
-      by_last false is = keep.changed t.descriptions key (description_at t.descriptions key) (record (description_at t.descriptions key) { holders = (description_at t.descriptions key).holders - 1 }) all got (two (description_at t.descriptions key).holders (all.held key (description_at t.descriptions key) got) is) refl
+      still : AreSound (let_go t n key).descriptions
+      still =
+          over_holder AreSound t.descriptions key (keep.removed t.descriptions key all)
+          (λ more. keep.changed t.descriptions key d (record d { holders = d.holders - 1 }) all got
+          (two d.holders (all.held key d got) more) refl)
 
   released_descriptors : (a : State) (key : ℕ) (e : object.Description) → (posix.released a key e).descriptors ≡ a.descriptors
-  released_descriptors a key e = by_last (posix.has_descriptor a key)
-    where
-      by_used : (b : Bool) → (if b then record a { descriptions = fin.remove a.descriptions key } else record a { descriptions = fin.remove a.descriptions key; objects = fin.remove a.objects e.object }).descriptors ≡ a.descriptors
-      by_used true = refl
-      by_used false = refl
-
-      by_last : (b : Bool) → (if b then a else posix.without_unused (record a { descriptions = fin.remove a.descriptions key }) e.object).descriptors ≡ a.descriptors
-      by_last true = refl
-      by_last false = by_used (posix.has_description (record a { descriptions = fin.remove a.descriptions key }) e.object || posix.has_path (record a { descriptions = fin.remove a.descriptions key }) e.object)
+  released_descriptors a key e = over_released (λ (b : State). b.descriptors ≡ a.descriptors) a key e refl refl refl
 
   key_stays : (a : State) (n : ℕ) (descriptor : ℤ) → descriptor ≢ pos n → a.descriptors ≡ fin.remove s.descriptors n → posix.key_at a descriptor ≡ posix.key_at s descriptor
   key_stays a n (pos m) apart same = ap (λ (ds : FinMap nat_cmp ℕ). fin.get ds m) same ∙ get-remove_other s.descriptors n m (λ e. apart (ap (λ (x : ℕ). pos x) e))
   key_stays a n (negsuc m) apart same = refl
 
-  replaced_as : ChangesKeepSound → (descriptor : ℤ) (n key : ℕ) (d : Description) → n < 32 → descriptor ≢ pos n → key_at t descriptor ≡ Some key → fin.get t.descriptions.by_key key ≡ Some d → FoundBoth t s (pos n)
+  replaced_as : ChangesKeepSound → (descriptor : ℤ) (n key : ℕ) (d : Description) → n < 32 → descriptor ≢ pos n → key_at t descriptor ≡ Some key → fin.get t.descriptions.by_key key ≡ Some d → RefersAlike t s (pos n)
       → Shows (shared (closed_if_open t n (described t (pos n))) n key) (duplicates.shared (duplicates.closed s (pos n) (posix.described s (pos n))) n d.birth)
   replaced_as keep descriptor n key d inside apart at got (Shut table state) = rw (table, state) (shows-shared t s n key d all shows (omega (arith, inside, long)) got)
   replaced_as keep descriptor n key d inside apart at got (Open other e offset its_at its_got there table state) =
@@ -393,7 +385,7 @@ module _ (t : TableState) (s : State) (sound : IsSound t) (all : AreSound t.desc
       shown_left = closed_as keep n other e offset its_at its_got
 
       left_long : length left.descriptors ≡ 32
-      left_long = (left_sound n other its_at).numbers
+      left_long = (sound-closed t n other sound its_at).numbers
 
       now_at : key_at left descriptor ≡ Some key
       now_at = closed_other t n other descriptor apart ∙ at
@@ -402,7 +394,7 @@ module _ (t : TableState) (s : State) (sound : IsSound t) (all : AreSound t.desc
       now = description_at left.descriptions key
 
       now_got : fin.get left.descriptions.by_key key ≡ Some now
-      now_got = key_known left descriptor key (left_sound n other its_at) now_at
+      now_got = key_known left descriptor key (sound-closed t n other sound its_at) now_at
 
       births : now.birth ≡ d.birth
       births =
@@ -420,7 +412,7 @@ module _ (t : TableState) (s : State) (sound : IsSound t) (all : AreSound t.desc
   follows_plan (Ok p) u does follows made = follows
   follows_plan (Err e) u does follows made = absurd (true≢false made)
 
-  pub follows-dup2 : ChangesKeepSound → (descriptor target : ℤ) → FoundBoth t s descriptor → ((n : ℕ) → FoundBoth t s (pos n)) → FollowsPlan (dup2_plan t descriptor target) (dup2_change t descriptor target) (dup2_result s descriptor target)
+  pub follows-dup2 : ChangesKeepSound → (descriptor target : ℤ) → RefersAlike t s descriptor → ((n : ℕ) → RefersAlike t s (pos n)) → FollowsPlan (dup2_plan t descriptor target) (dup2_change t descriptor target) (dup2_result s descriptor target)
   unfolding dup2_plan dup2_change dup2_result
   follows-dup2 keep descriptor target (Shut table state) other = rw table tt
   follows-dup2 keep descriptor (negsuc m) (Open key d offset at got there table state) other = rw table tt
@@ -473,14 +465,13 @@ module _ (t : TableState) (s : State) (sound : IsSound t) (all : AreSound t.desc
   unfolding link_change link_result
   follows-link old_path new_path = rw (named_shown t s sound all shows old_path) (by_file (file_named t.paths old_path) refl)
     where
-      same_node : (n m : ℕ) → FileNode n ≡ FileNode m → n ≡ m
-      same_node n m e = cc
-
       named_file : (node : ℕ) → file_named t.paths old_path ≡ Ok node → is_of part.Only (content_of s (birth_at t node)) ≡ true
       named_file node is = let at = named_as t.paths old_path node is in file_at_name t s at.0 node shows at.1
 
       by_file : (r : Result ℕ Errno) → file_named t.paths old_path ≡ r → Follows (r >>= (λ node. added t.paths new_path (FileNode node) >>= (λ paths. Ok (with_paths t paths)))) ((r >>= (λ node. Ok (birth_at t node))) >>= (λ object. added s.paths new_path (FileNode object) >>= (λ paths. Ok (Completes (names.with_paths s paths) reply.Done))))
-      by_file (Ok node) is = follows-add new_path (FileNode node) (λ n e. subst (λ (k : ℕ). is_of part.Only (content_of s (birth_at t k)) ≡ true) (same_node node n e) (named_file node is))
+      by_file (Ok node) is =
+          follows-add new_path (FileNode node)
+          (λ n e. subst (λ (k : ℕ). is_of part.Only (content_of s (birth_at t k)) ≡ true) (same_file node n e) (named_file node is))
       by_file (Err e) is = tt
 
   pub follows-rmdir : (path : List ℕ) → Follows (rmdir_change t path) (rmdir_result s path)

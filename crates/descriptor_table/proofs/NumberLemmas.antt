@@ -1,12 +1,12 @@
 -- The numbers of objects, and how many were made, after a change.
-use Rattle.std.proofs.Common.{◌≡◌, ◌⊎◌, ℕ, ◌+◌, ◌-◌, ◌<◌, length, List, Option, Some, None, Result, Ok, Err, Bool, true, false, if◌then◌else◌, refl, sym, ap, ◌∙◌, subst, inl, inr, arith}
+use Rattle.std.proofs.Common.{◌≡◌, ◌⊎◌, ℕ, ◌+◌, ◌<◌, length, List, Option, Some, None, Result, Ok, Err, Bool, true, false, if◌then◌else◌, refl, sym, ap, ◌∙◌, subst, inl, inr, arith}
 use Rattle.std.proofs.lemmas.List.{get_or-set_other, get_or-set_same}
 use Rattle.std.proofs.lemmas.Option.{none-some}
 use Rattle.std.specs.Ordering.{int_eq}
 use Rattle.std.specs.Prelude.{ℤ, slice_index_or, slice_set}
 use Rattle.sequential_object.specs.Duplicates.{descriptor_number}
 use Rattle.sequential_object.specs.Names.{PathMap, added, file_named, removed, removed_dir}
-use Rattle.sequential_object.specs.Object.{Node, FileNode, Directory}
+use Rattle.sequential_object.specs.Object.{FileNode, Directory}
 use Rattle.sequential_object.specs.Refusals.{◌>>=◌, some_or}
 use Rattle.posix_terms.specs.declared.call.Access.{Access}
 use Rattle.posix_terms.specs.declared.call.Access.TheVariants.{ReadOnly, WriteOnly, ReadWrite}
@@ -19,19 +19,19 @@ use Rattle.posix_terms.specs.declared.call.Call.{Call}
 use Rattle.posix_terms.specs.declared.call.Call.TheVariants as call
 use Rattle.posix_terms.specs.declared.call.OpenFlags.{OpenFlags}
 use Rattle.posix_terms.specs.declared.outcome.Outcome.{Outcome}
-use Rattle.posix_terms.specs.declared.outcome.Outcome.TheVariants as came
 use Rattle.posix_terms.specs.declared.errno.Errno.{Errno}
-use Rattle.posix_terms.specs.declared.errno.Errno.TheVariants.{EBADF, EINVAL, EMFILE, ENFILE, ENOSPC}
-use Rattle.directories.specs.Lookup.{looked_up}
-use Rattle.file_descriptions.specs.Descriptions.{description_at, is_last_held, with_description, without}
+use Rattle.posix_terms.specs.declared.errno.Errno.TheVariants.{EBADF, EINVAL, EMFILE, ENFILE}
 use Rattle.file_descriptions.specs.declared.description.Description.{Description}
+use Rattle.file_descriptions.specs.Descriptions.{DescriptionMap}
+use Rattle.descriptor_table.proofs.OpeningLemmas.{OfOpening, lowest_none, over_door, over_opening}
+use Rattle.descriptor_table.proofs.Closing.{over_closed, over_gone, over_holder}
+use Rattle.descriptor_table.proofs.Binding.{bound}
 use Rattle.descriptor_table.proofs.KnownLemmas.{lowest_below, was_some}
 use Rattle.descriptor_table.proofs.SoundLemmas.{bind_ok, ok_same}
-use Rattle.descriptor_table.proofs.PlanLemmas.{lowest_none}
 use Rattle.descriptor_table.proofs.ObjectLemmas.{IsNew, IsOld, Taken, freed_slot, taken_slot}
 use Rattle.descriptor_table.specs.Agreement.{IsBorn, NumbersStay}
-use Rattle.descriptor_table.specs.Changes.{AreOpened, Changes, IsDoor, IsOpened, NewDoor, OpensDoor, TwoEnds, new_door, two_ends, with_object, Opening, close_change, closed, closed_if_open, dup2_change, dup_change, dup_from_change, file_at, found_or_made, kept_or, let_go, link_change, mkdir_change, opening, rmdir_change, setfl_change, shared, unlink_change, with_file, with_paths, without_gone}
-use Rattle.descriptor_table.specs.Table.{TableState, IsSound, described, free_object, is_gone, lowest_free, two_numbers}
+use Rattle.descriptor_table.specs.Changes.{AreOpened, Changes, IsOpened, NewDoor, OpensDoor, TwoEnds, new_door, two_ends, with_object, Opening, close_change, closed, closed_if_open, dup2_change, dup_change, dup_from_change, kept_or, let_go, link_change, mkdir_change, opening, rmdir_change, setfl_change, shared, unlink_change, with_file, with_paths, without_gone}
+use Rattle.descriptor_table.specs.Table.{TableState, IsSound, described, free_object, lowest_free, two_numbers}
 
 numbers_same : (t u : TableState) → u.objects ≡ t.objects → u.made_objects ≡ t.made_objects → u.descriptions.made ≡ t.descriptions.made → NumbersStay t u
 numbers_same t u objects made descriptions =
@@ -42,26 +42,27 @@ numbers_same t u objects made descriptions =
       descriptions = omega (arith, descriptions);
     }
 
+numbers_freed : (t u : TableState) (node : ℕ) → NumbersStay t u → u.made_objects ≡ t.made_objects
+    → NumbersStay t (record u { objects = slice_set u.objects node None })
+numbers_freed t u node stay made = record {
+  numbers = λ n birth is. stay.numbers n birth (freed_slot u.objects node n birth is).0;
+  objects = stay.objects;
+  born = inl made;
+  descriptions = stay.descriptions;
+}
+
 numbers_gone : (t u : TableState) (node : ℕ) → NumbersStay t u → u.made_objects ≡ t.made_objects → NumbersStay t (without_gone u node)
-numbers_gone t u node stay made = by_gone (is_gone u node)
-  where
-    by_gone : (b : Bool) → NumbersStay t (if b then record u { objects = slice_set u.objects node None } else u)
-    by_gone true = record { numbers = λ n birth is. stay.numbers n birth (freed_slot u.objects node n birth is).0; objects = stay.objects; born = inl made; descriptions = stay.descriptions }
-    by_gone false = stay
+numbers_gone t u node stay made = over_gone (NumbersStay t) u node stay (λ gone. numbers_freed t u node stay made)
 
 numbers_let_go : (t : TableState) (n key : ℕ) → NumbersStay t (let_go t n key)
-numbers_let_go t n key = numbers_same t (let_go t n key) refl refl (by_last (is_last_held t.descriptions key))
-  where
-    by_last : (b : Bool) → (if b then without t.descriptions key else with_description t.descriptions key (record (description_at t.descriptions key) { holders = (description_at t.descriptions key).holders - 1 })).made ≡ t.descriptions.made
-    by_last true = refl
-    by_last false = refl
+numbers_let_go t n key =
+    numbers_same t (let_go t n key) refl refl
+    (over_holder (λ (m : DescriptionMap). m.made ≡ t.descriptions.made) t.descriptions key refl (λ more. refl))
 
 numbers_closed : (t : TableState) (n key : ℕ) → NumbersStay t (closed t n key)
-numbers_closed t n key = by_last (is_last_held t.descriptions key)
-  where
-    by_last : (b : Bool) → NumbersStay t (if b then without_gone (let_go t n key) (description_at t.descriptions key).node else let_go t n key)
-    by_last true = numbers_gone t (let_go t n key) (description_at t.descriptions key).node (numbers_let_go t n key) refl
-    by_last false = numbers_let_go t n key
+numbers_closed t n key =
+    over_closed (NumbersStay t) t n key (numbers_let_go t n key)
+    (λ node gone. numbers_freed t (let_go t n key) node (numbers_let_go t n key) refl)
 
 born_along : (t u v : TableState) → v.objects ≡ u.objects → v.made_objects ≡ u.made_objects → (u.made_objects ≡ t.made_objects) ⊎ IsBorn t u → (v.made_objects ≡ t.made_objects) ⊎ IsBorn t v
 born_along t u v objects made (inl same) = inl (made ∙ same)
@@ -77,10 +78,6 @@ abbrev Stay : TableState → Result TableState Errno → Type 0
 Stay t (Ok u) = NumbersStay t u
 Stay t (Err e) = Unit {0}
 
-through : (t : TableState) {A : Type 0} (r : Result A Errno) (f : A → Result TableState Errno) → ((x : A) → Stay t (f x)) → Stay t (r >>= f)
-through t (Ok x) f each = each x
-through t (Err e) f each = tt
-
 kept : (t after : TableState) (u : Result TableState Errno) → Stay t u → after ≡ kept_or t u → NumbersStay t after
 kept t after (Ok u) stay is = subst (NumbersStay t) (sym is) stay
 kept t after (Err e) stay is = subst (NumbersStay t) (sym is) (numbers_same t t refl refl refl)
@@ -88,19 +85,29 @@ kept t after (Err e) stay is = subst (NumbersStay t) (sym is) (numbers_same t t 
 module _ (t : TableState) where
   stay-close : (descriptor : ℤ) → Stay t (close_change t descriptor)
   unfolding close_change
-  stay-close descriptor = through t (descriptor_number descriptor EBADF) _ (λ n. through t (described t descriptor) _ (λ found. numbers_closed t n found.0))
+  stay-close descriptor =
+      bound (Stay t) (λ e. tt) (descriptor_number descriptor EBADF) _ (λ n _.
+      bound (Stay t) (λ e. tt) (described t descriptor) _ (λ found _. numbers_closed t n found.0))
 
   stay-dup : (descriptor : ℤ) → Stay t (dup_change t descriptor)
   unfolding dup_change
-  stay-dup descriptor = through t (described t descriptor) _ (λ found. through t (some_or (lowest_free t 0) EMFILE) _ (λ n. numbers_shared t t n found.0 (numbers_same t t refl refl refl)))
+  stay-dup descriptor =
+      bound (Stay t) (λ e. tt) (described t descriptor) _ (λ found _.
+      bound (Stay t) (λ e. tt) (some_or (lowest_free t 0) EMFILE) _ (λ n _. numbers_shared t t n found.0 (numbers_same t t refl refl refl)))
 
   stay-dup_from : (descriptor least : ℤ) → Stay t (dup_from_change t descriptor least)
   unfolding dup_from_change
-  stay-dup_from descriptor least = through t (described t descriptor) _ (λ found. through t (descriptor_number least EINVAL) _ (λ first. through t (some_or (lowest_free t first) EMFILE) _ (λ n. numbers_shared t t n found.0 (numbers_same t t refl refl refl))))
+  stay-dup_from descriptor least =
+      bound (Stay t) (λ e. tt) (described t descriptor) _ (λ found _.
+      bound (Stay t) (λ e. tt) (descriptor_number least EINVAL) _ (λ first _.
+      bound (Stay t) (λ e. tt) (some_or (lowest_free t first) EMFILE) _
+      (λ n _. numbers_shared t t n found.0 (numbers_same t t refl refl refl))))
 
   stay-dup2 : (descriptor target : ℤ) → Stay t (dup2_change t descriptor target)
   unfolding dup2_change
-  stay-dup2 descriptor target = through t (described t descriptor) _ (λ found. through t (descriptor_number target EBADF) _ (λ n. by_same n found.0 (int_eq descriptor target)))
+  stay-dup2 descriptor target =
+      bound (Stay t) (λ e. tt) (described t descriptor) _ (λ found _.
+      bound (Stay t) (λ e. tt) (descriptor_number target EBADF) _ (λ n _. by_same n found.0 (int_eq descriptor target)))
     where
       by_target : (n : ℕ) (r : Result (ℕ × Description) Errno) → NumbersStay t (closed_if_open t n r)
       by_target n (Ok found) = numbers_closed t n found.0
@@ -112,23 +119,28 @@ module _ (t : TableState) where
 
   stay-setfl : (descriptor : ℤ) (append nonblock : Bool) → Stay t (setfl_change t descriptor append nonblock)
   unfolding setfl_change
-  stay-setfl descriptor append nonblock = through t (described t descriptor) _ (λ found. numbers_same t _ refl refl refl)
+  stay-setfl descriptor append nonblock = bound (Stay t) (λ e. tt) (described t descriptor) _ (λ _ _. numbers_same t _ refl refl refl)
 
   stay-link : (old_path new_path : List ℕ) → Stay t (link_change t old_path new_path)
   unfolding link_change
-  stay-link old_path new_path = through t (file_named t.paths old_path) _ (λ node. through t (added t.paths new_path (FileNode node)) _ (λ paths. numbers_same t (with_paths t paths) refl refl refl))
+  stay-link old_path new_path =
+      bound (Stay t) (λ e. tt) (file_named t.paths old_path) _ (λ node _.
+      bound (Stay t) (λ e. tt) (added t.paths new_path (FileNode node)) _ (λ paths _. numbers_same t (with_paths t paths) refl refl refl))
 
   stay-unlink : (path : List ℕ) → Stay t (unlink_change t path)
   unfolding unlink_change
-  stay-unlink path = through t (removed t.paths path) _ (λ less. numbers_gone t (with_paths t less.0) less.1 (numbers_same t (with_paths t less.0) refl refl refl) refl)
+  stay-unlink path =
+      bound (Stay t) (λ e. tt) (removed t.paths path) _
+      (λ less _. numbers_gone t (with_paths t less.0) less.1 (numbers_same t (with_paths t less.0) refl refl refl) refl)
 
   stay-mkdir : (path : List ℕ) → Stay t (mkdir_change t path)
   unfolding mkdir_change
-  stay-mkdir path = through t (added t.paths path Directory) _ (λ paths. numbers_same t (with_paths t paths) refl refl refl)
+  stay-mkdir path =
+      bound (Stay t) (λ e. tt) (added t.paths path Directory) _ (λ paths _. numbers_same t (with_paths t paths) refl refl refl)
 
   stay-rmdir : (path : List ℕ) → Stay t (rmdir_change t path)
   unfolding rmdir_change
-  stay-rmdir path = through t (removed_dir t.paths path) _ (λ paths. numbers_same t (with_paths t paths) refl refl refl)
+  stay-rmdir path = bound (Stay t) (λ e. tt) (removed_dir t.paths path) _ (λ paths _. numbers_same t (with_paths t paths) refl refl refl)
 
 -- ## Opening
 
@@ -164,38 +176,8 @@ ready_file t paths node sound free =
     none_taken : (other birth : ℕ) → other ≡ node → slice_index_or t.objects other None ≡ Some birth → ⊥
     none_taken other birth same is = none-some birth (sym (ap (λ (k : ℕ). slice_index_or t.objects k None) same ∙ lowest_none t.objects 48 0 node free) ∙ is)
 
-abbrev ReadyFile : TableState → Result (TableState × ℕ) Errno → Type 0
-ReadyFile t (Ok file) = Ready t file.0
-ReadyFile t (Err e) = Unit {0}
-
-abbrev ReadyOpening : TableState → Result Opening Errno → Type 0
-ReadyOpening t (Ok o) = Ready t o.ready
-ReadyOpening t (Err e) = Unit {0}
-
-through_file : (t : TableState) {A : Type 0} (r : Result A Errno) (f : A → Result (TableState × ℕ) Errno) → ((x : A) → r ≡ Ok x → ReadyFile t (f x)) → ReadyFile t (r >>= f)
-through_file t (Ok x) f each = each x refl
-through_file t (Err e) f each = tt
-
-file_ready : (t : TableState) (path : List ℕ) (node : Option Node) → IsSound t → ReadyFile t (file_at t path node)
-file_ready t path (Some (FileNode node)) sound = (numbers_same t t refl refl refl, refl)
-file_ready t path (Some Directory) sound = tt
-file_ready t path None sound =
-    through_file t (some_or (free_object t) ENOSPC) _ (λ node is. through_file t (added t.paths path (FileNode node)) _ (λ paths a. ready_file t paths node sound (was_some (free_object t) ENOSPC node is)))
-
-found_ready : (t : TableState) (path : List ℕ) → IsSound t → ReadyFile t (found_or_made t path)
-unfolding found_or_made
-found_ready t path sound = through_file t (looked_up t.paths path) _ (λ node is. file_ready t path node sound)
-
-opening_ready : (t : TableState) (path : List ℕ) → IsSound t → ReadyOpening t (opening t path)
-unfolding opening
-opening_ready t path sound = by_number (some_or (lowest_free t 0) EMFILE) (found_or_made t path) (found_ready t path sound)
-  where
-    by_number : (r : Result ℕ Errno) (file : Result (TableState × ℕ) Errno) → ReadyFile t file → ReadyOpening t (r >>= (λ n. file >>= (λ (x : TableState × ℕ). Ok (record { number = n; node = x.1; ready = x.0 }))))
-    by_number (Err e) file ready = tt
-    by_number (Ok n) (Err e) ready = tt
-    by_number (Ok n) (Ok x) ready = ready
-
-opened_stay : (t after : TableState) (access : Access) (flags : OpenFlags) (o : Result Opening Errno) → ReadyOpening t o → IsOpened t access flags o after → NumbersStay t after
+opened_stay : (t after : TableState) (access : Access) (flags : OpenFlags) (o : Result Opening Errno) → OfOpening (Ready t) o
+    → IsOpened t access flags o after → NumbersStay t after
 opened_stay t after access flags (Err e) ready is = subst (NumbersStay t) (sym is) (numbers_same t t refl refl refl)
 opened_stay t after access flags (Ok o) ready (key, fresh, is) = subst (NumbersStay t) (sym is) (record { numbers = ready.0.numbers; objects = ready.0.objects; born = born_along t o.ready _ refl refl ready.0.born; descriptions = omega arith })
 
@@ -231,21 +213,26 @@ door_object t new is =
     let object = bind_ok (some_or (free_object t) ENFILE) (λ node. door_at number.0 node) new number.1.1 in
     was_some (free_object t) ENFILE object.0 object.1.0 ∙ ap (λ (x : NewDoor). Some x.node) (ok_same (record { number = number.0; node = object.0 }) new object.1.1)
 
-door_made : (t after : TableState) (d : Door) (access : Access) (append : Bool) (r : Result NewDoor Errno) → IsSound t → new_door t ≡ r → IsDoor t d access append r after → NumbersStay t after
-door_made t after d access append (Err e) sound at is = subst (NumbersStay t) (sym is) (numbers_same t t refl refl refl)
-door_made t after d access append (Ok new) sound at (key, fresh, is) =
+door_stay : (t after : TableState) (opens_as : ℕ → Door) (access : Access) (append : Bool) (o : Option Outcome)
+    → IsSound t → OpensDoor t opens_as access append o after → NumbersStay t after
+door_stay t after opens_as access append o sound is =
+    over_door (NumbersStay t) t after opens_as access append o (numbers_same t t refl refl refl)
+    (λ new d key at.
     let ready = ready_file t t.paths new.node sound (door_object t new at) in
-    subst (NumbersStay t) (sym is) (record { numbers = ready.0.numbers; objects = ready.0.objects; born = born_along t (with_object t new.node) _ refl refl ready.0.born; descriptions = omega arith })
-
-door_stay : (t after : TableState) (opens_as : ℕ → Door) (access : Access) (append : Bool) (o : Option Outcome) → IsSound t → OpensDoor t opens_as access append o after → NumbersStay t after
-door_stay t after opens_as access append (Some (came.Ok value bytes)) sound is = door_made t after (opens_as value) access append (new_door t) sound refl is
-door_stay t after opens_as access append (Some (came.Fail e)) sound is = subst (NumbersStay t) (sym is) (numbers_same t t refl refl refl)
-door_stay t after opens_as access append None sound is = subst (NumbersStay t) (sym is) (numbers_same t t refl refl refl)
+    record {
+      numbers = ready.0.numbers;
+      objects = ready.0.objects;
+      born = born_along t (with_object t new.node) _ refl refl ready.0.born;
+      descriptions = omega arith;
+    })
+    is
 
 -- ## All calls
 
 pub numbers-stay : (t : TableState) (c : Call) (o : Option Outcome) (after : TableState) → IsSound t → Changes t c o after → NumbersStay t after
-numbers-stay t (call.Open path access flags) o after sound is = opened_stay t after access flags (opening t path) (opening_ready t path sound) is
+numbers-stay t (call.Open path access flags) o after sound is =
+    opened_stay t after access flags (opening t path)
+    (over_opening (Ready t) t path (numbers_same t t refl refl refl, refl) (λ paths node free. ready_file t paths node sound free)) is
 numbers-stay t (call.Close descriptor) o after sound is = kept t after (close_change t descriptor) (stay-close t descriptor) is
 numbers-stay t (call.Read descriptor count) o after sound is = kept t after (Ok t) (numbers_same t t refl refl refl) is
 numbers-stay t (call.Write descriptor bytes) o after sound is = kept t after (Ok t) (numbers_same t t refl refl refl) is

@@ -1,5 +1,5 @@
 -- What a call leaves alone: other objects, and other descriptions' offsets.
-use Rattle.std.proofs.Common.{◌≡◌, ◌≢◌, ◌⊎◌, ◌≤◌, ℕ, ◌+◌, ◌-◌, ◌==◌, ◌&&◌, ◌||◌, List, [], length, Option, Some, None, is_some, unwrap_or, Result, Ok, Err, Bool, true, false, not, if◌then◌else◌, refl, sym, ap, ◌∙◌, inl, inr, subst, arith}
+use Rattle.std.proofs.Common.{◌≡◌, ◌≢◌, ◌⊎◌, ◌≤◌, ℕ, ◌+◌, ◌-◌, ◌==◌, ◌&&◌, List, [], length, Option, Some, None, Result, Ok, Err, Bool, true, false, not, if◌then◌else◌, refl, sym, ap, ◌∙◌, inl, inr, subst, arith}
 use Rattle.std.proofs.lemmas.Bool.{cases_eq}
 use Rattle.std.proofs.lemmas.Option.{none-some, same_Some}
 use Rattle.std.specs.FinMap as fin
@@ -7,11 +7,11 @@ use Rattle.std.specs.FinMap.{FinMap}
 use Rattle.std.specs.Ordering.{nat_cmp}
 use Rattle.std.specs.Ordering.{int_eq}
 use Rattle.std.specs.Option.{option_map}
-use Rattle.std.specs.Prelude.{ℤ, ◌+ℤ◌, pos, negsuc, nat_le, nat_lt, slice_index_or}
+use Rattle.std.specs.Prelude.{ℤ, ◌+ℤ◌, pos, negsuc, nat_lt}
 use Rattle.posix_terms.specs.Calls.{can_read, can_write}
 use Rattle.sequential_object.specs.Descriptors as posix
 use Rattle.sequential_object.specs.Descriptors.{close_result, open_result}
-use Rattle.sequential_object.specs.Doors.{NewDoor, host_open_result, host_path, opens, port_of, tcp_accept_result, tcp_connect_result, tcp_listen_result}
+use Rattle.sequential_object.specs.Doors.{NewDoor, opens}
 use Rattle.sequential_object.specs.Duplicates as duplicates
 use Rattle.sequential_object.specs.Duplicates.{dup_result, dup_from_result, dup2_result, descriptor_number}
 use Rattle.sequential_object.specs.Effects.{Effect, Asks, Blocks, Completes, asks_of}
@@ -20,13 +20,12 @@ use Rattle.sequential_object.specs.Names.{PathMap, added, file_named, link_resul
 use Rattle.sequential_object.specs.Object.{State, Content, File, Pipe, Pair, DoorTo, Node, FileNode, Directory, with_content, content_of}
 use Rattle.sequential_object.specs.Object as object
 use Rattle.posix_terms.specs.Ends.{side_of, peer_of}
-use Rattle.sequential_object.specs.Paths.{node_at, resolved}
 use Rattle.sequential_object.specs.Refusals.{◌>>=◌, count_of, position_of, refuse_if, some_or}
 use Rattle.sequential_object.specs.Status.{fstat_result, getfl_result, setfl_result}
 use Rattle.sequential_object.specs.Sockets as sockets
 use Rattle.sequential_object.specs.Sockets.{NewEnd, pipe_result, shut_content, shuttable, shutdown_result, socketpair_result}
 use Rattle.sequential_object.specs.Streams.{Reading, Reads, Ends, NothingYet, Writing, Writes, Breaks, NoRoom, new_pair, pair_read, pair_write, shut, stream_read, stream_write, with_waiting}
-use Rattle.sequential_object.specs.Step.{Carried, concluded, effect_of, failed, is_again, waited}
+use Rattle.sequential_object.specs.Step.{Carried, concluded, effect_of, waited, Stepped}
 use Rattle.sequential_object.specs.Transfers.{base_of, file_in, has_peer, host_offset, offset_of, read_content, read_done, seek_content, write_at, write_content, write_done, read_result, write_result, pread_result, pwrite_result, lseek_result, ftruncate_result, size_of, start_of}
 use Rattle.posix_terms.specs.declared.call.Access.{Access}
 use Rattle.posix_terms.specs.declared.call.Access.TheVariants.{ReadOnly, WriteOnly, ReadWrite}
@@ -36,7 +35,7 @@ use Rattle.posix_terms.specs.declared.call.OpenFlags.{OpenFlags}
 use Rattle.posix_terms.specs.declared.call.ShutdownHow.{ShutdownHow}
 use Rattle.posix_terms.specs.declared.call.Whence.{Whence}
 use Rattle.posix_terms.specs.declared.errno.Errno.{Errno}
-use Rattle.posix_terms.specs.declared.errno.Errno.TheVariants.{EAGAIN, EBADF, EBUSY, EEXIST, EINVAL, EMFILE, ENFILE, ENOENT, ENOSPC, ESPIPE}
+use Rattle.posix_terms.specs.declared.errno.Errno.TheVariants.{EAGAIN, EBADF, EBUSY, EINVAL, EMFILE, ESPIPE}
 use Rattle.posix_terms.specs.declared.object.Door.{Door}
 use Rattle.posix_terms.specs.declared.object.Door.TheVariants as door
 use Rattle.posix_terms.specs.declared.object.End.{End}
@@ -51,19 +50,23 @@ use Rattle.posix_terms.specs.declared.reply.Reply.TheVariants as reply
 use Rattle.posix_terms.specs.declared.transcript.Settings.{Settings}
 use Rattle.file_descriptions.specs.Descriptions.{AreSound}
 use Rattle.file_descriptions.specs.declared.description.Description.{Description}
+use Rattle.std.specs.Cmp.{nat_cmp_total}
+use Rattle.descriptor_table.proofs.OpeningLemmas.{over_open, over_opens, over_two_ends}
+use Rattle.descriptor_table.proofs.Closing.{over_released, over_unused}
+use Rattle.descriptor_table.proofs.MapLemmas.{get-insert_other, get-insert_same, get-remove_other, get-remove_same, got_less}
+use Rattle.descriptor_table.proofs.DoorLemmas.{accepted_door, host_door, listener_door, over_accept, over_connect, over_host_open, over_listen, stream_door}
+use Rattle.descriptor_table.proofs.Binding.{bound, bound_both}
 use Rattle.descriptor_table.proofs.ChangeLemmas.{birth_got}
-use Rattle.descriptor_table.proofs.EndLemmas.{Kind, IsDoor, IsFile, IsPipe, IsPair, file_only, kind_of, of_file_file, socket_stream}
-use Rattle.descriptor_table.proofs.FollowLemmas.{file_is, waited_after}
-use Rattle.descriptor_table.proofs.PathLemmas.{names_shown, node_shown, resolved_shown}
-use Rattle.descriptor_table.proofs.PlanLemmas.{asking_of, full_shown, listener_by, lowest_none, moves_file_inside, moves_inside, moves_outside, transfers_by, two_shown}
-use Rattle.descriptor_table.specs.Laws.{FoundBoth}
-use Rattle.descriptor_table.specs.Laws.FoundBoth.{Open, Shut}
-use Rattle.descriptor_table.proofs.ShownLemmas.{found_both, lowest_shown}
-use Rattle.descriptor_table.proofs.SoundLemmas.{get-insert_other, get-insert_same, get-remove_other, get-remove_same}
+use Rattle.descriptor_table.proofs.EndLemmas.{Kind, IsDoor, IsFile, IsPipe, IsPair, file_only, of_file_file, socket_stream, kind_at}
+use Rattle.descriptor_table.proofs.FollowLemmas.{file_is, waited_after, over_failed}
+use Rattle.descriptor_table.proofs.PlanLemmas.{moves_file_inside, moves_inside, moves_outside, transfers_by}
+use Rattle.descriptor_table.specs.Laws.{RefersAlike}
+use Rattle.descriptor_table.specs.Laws.RefersAlike.{Open, Shut}
+use Rattle.descriptor_table.proofs.ShownLemmas.{found_both}
 use Rattle.descriptor_table.specs.Acts.{OthersStay, StaysAsStep, offset_at}
-use Rattle.descriptor_table.specs.Plans.{act_or_ask, answered, errand, ftruncate_plan, host_open_plan, leads_outside, locks, lseek_plan, moves, not_listener, of_file, of_listener, open_new, open_node, open_plan, open_there, opens_plan, planned, pwrite_plan, read_plan, seekable, seen, shut_act, shutdown_plan, tcp_accept_plan, tcp_connect_plan, tcp_listen_plan, two_ends_plan, write_plan}
-use Rattle.descriptor_table.specs.Shows.{Shows, birth_at, birth_of, is_of, shown, shown_node}
-use Rattle.descriptor_table.specs.Table.{TableState, IsSound, free_object, lowest_from, two_numbers}
+use Rattle.descriptor_table.specs.Plans.{act_or_ask, answered, errand, ftruncate_plan, leads_outside, locks, lseek_plan, moves, not_listener, of_file, open_plan, opens_plan, planned, pwrite_plan, read_plan, seekable, seen, shut_act, shutdown_plan, two_ends_plan, write_plan}
+use Rattle.descriptor_table.specs.Shows.{Shows, birth_at, birth_of, is_of, shown}
+use Rattle.descriptor_table.specs.Table.{TableState, IsSound}
 use Rattle.descriptor_table.specs.declared.plan.Op.{Op}
 use Rattle.descriptor_table.specs.declared.plan.Op.TheVariants as op
 use Rattle.descriptor_table.specs.declared.plan.Plan.{Plan}
@@ -88,26 +91,18 @@ FewerAfter s (Ok Blocks) = Unit {0}
 FewerAfter s (Ok (Asks asking)) = ((value : ℕ) (bytes : List ℕ) → Fewer s (asking.succeeds value bytes).0) × Fewer s asking.otherwise
 FewerAfter s (Err e) = Unit {0}
 
-through : (s : State) {A : Type 0} (r : Result A Errno) (f : A → Result Effect Errno) → ((x : A) → FewerAfter s (f x)) → FewerAfter s (r >>= f)
-through s (Ok x) f each = each x
-through s (Err e) f each = tt
+fewer_less : (s a : State) (n : ℕ) → Fewer s a → Fewer s (record a { objects = fin.remove a.objects n })
+fewer_less s a n fewer = record {
+  contents = λ birth content at. fewer.contents birth content (got_less nat_cmp_total a.objects n birth content at);
+  offsets = fewer.offsets;
+}
 
 fewer_unused : (s a : State) (n : ℕ) → Fewer s a → Fewer s (posix.without_unused a n)
-fewer_unused s a n fewer = by_used (posix.has_description a n || posix.has_path a n)
-  where
-    contents : (birth : ℕ) (content : Content) → fin.get (fin.remove a.objects n) birth ≡ Some content → fin.get s.objects birth ≡ Some content
-    contents birth content at =
-        elim (cases_eq birth n) [
-          | inl e ↦ absurd (none-some _ (sym (ap (fin.get (fin.remove a.objects n)) e ∙ get-remove_same a.objects n) ∙ at))
-          | inr apart ↦ fewer.contents birth content (sym (get-remove_other a.objects n birth apart) ∙ at)
-        ]
-
-    by_used : (b : Bool) → Fewer s (if b then a else record a { objects = fin.remove a.objects n })
-    by_used true = fewer
-    by_used false = record { contents = contents; offsets = fewer.offsets }
+fewer_unused s a n fewer = over_unused (Fewer s) a n fewer (fewer_less s a n fewer)
 
 fewer_released : (s a : State) (key : ℕ) (d : object.Description) → Fewer s a → Fewer s (posix.released a key d)
-fewer_released s a key d fewer = by_last (posix.has_descriptor a key)
+fewer_released s a key d fewer =
+    over_released (Fewer s) a key d fewer ended (fewer_less s (record a { descriptions = fin.remove a.descriptions key }) d.object ended)
   where
     offsets : (birth offset : ℕ) → option_map (λ (x : object.Description). x.offset) (fin.get (fin.remove a.descriptions key) birth) ≡ Some offset → offset_at s birth ≡ Some offset
     offsets birth offset at =
@@ -116,9 +111,8 @@ fewer_released s a key d fewer = by_last (posix.has_descriptor a key)
           | inr apart ↦ fewer.offsets birth offset (sym (ap (option_map (λ (x : object.Description). x.offset)) (get-remove_other a.descriptions key birth apart)) ∙ at)
         ]
 
-    by_last : (b : Bool) → Fewer s (if b then a else posix.without_unused (record a { descriptions = fin.remove a.descriptions key }) d.object)
-    by_last true = fewer
-    by_last false = fewer_unused s (record a { descriptions = fin.remove a.descriptions key }) d.object (record { contents = fewer.contents; offsets = offsets })
+    ended : Fewer s (record a { descriptions = fin.remove a.descriptions key })
+    ended = record { contents = fewer.contents; offsets = offsets }
 
 fewer_freed : (s : State) (descriptor : ℤ) → Fewer s (posix.freed s descriptor)
 fewer_freed s (pos n) = record { contents = λ birth content at. at; offsets = λ birth offset at. at }
@@ -137,7 +131,10 @@ fewer_paths s paths = record { contents = λ birth content at. at; offsets = λ 
 module _ (s : State) where
   fewer-close : (descriptor : ℤ) → FewerAfter s (close_result s descriptor)
   unfolding close_result
-  fewer-close descriptor = through s (posix.described s descriptor) _ (λ found. by_door (posix.released (posix.freed s descriptor) found.0 found.1) (fewer_released s (posix.freed s descriptor) found.0 found.1 (fewer_freed s descriptor)) (posix.ends_door s descriptor found))
+  fewer-close descriptor =
+      bound (FewerAfter s) (λ e. tt) (posix.described s descriptor) _
+      (λ found _. by_door (posix.released (posix.freed s descriptor) found.0 found.1)
+      (fewer_released s (posix.freed s descriptor) found.0 found.1 (fewer_freed s descriptor)) (posix.ends_door s descriptor found))
     where
       by_door : (after : State) → Fewer s after → (b : Bool) → FewerAfter s (Ok (if b then asks_of after out.Close 0 false (λ value bytes. reply.Done) else Completes after reply.Done))
       by_door after fewer true = (λ value bytes. fewer, fewer)
@@ -145,30 +142,43 @@ module _ (s : State) where
 
   fewer-fstat : (descriptor : ℤ) → FewerAfter s (fstat_result s descriptor)
   unfolding fstat_result
-  fewer-fstat descriptor = through s (posix.described s descriptor) _ (λ found. fewer_same s)
+  fewer-fstat descriptor = bound (FewerAfter s) (λ e. tt) (posix.described s descriptor) _ (λ _ _. fewer_same s)
 
   fewer-getfl : (descriptor : ℤ) → FewerAfter s (getfl_result s descriptor)
   unfolding getfl_result
-  fewer-getfl descriptor = through s (posix.described s descriptor) _ (λ found. fewer_same s)
+  fewer-getfl descriptor = bound (FewerAfter s) (λ e. tt) (posix.described s descriptor) _ (λ _ _. fewer_same s)
 
   fewer-pread : (descriptor count position : ℤ) → FewerAfter s (pread_result s descriptor count position)
   unfolding pread_result
   fewer-pread descriptor count position =
-      through s (posix.described s descriptor) _ (λ found. through s (file_in (content_of s found.1.object) ESPIPE) _ (λ file. through s (refuse_if (not (can_read found.1.access)) EBADF) _ (λ a.
-      through s (count_of count) _ (λ n. through s (position_of position) _ (λ start. fewer_same s)))))
+      bound (FewerAfter s) (λ e. tt) (posix.described s descriptor) _ (λ found _.
+      bound (FewerAfter s) (λ e. tt) (file_in (content_of s found.1.object) ESPIPE) _ (λ _ _.
+      bound (FewerAfter s) (λ e. tt) (refuse_if (not (can_read found.1.access)) EBADF) _ (λ _ _.
+      bound (FewerAfter s) (λ e. tt) (count_of count) _ (λ _ _.
+      bound (FewerAfter s) (λ e. tt) (position_of position) _ (λ _ _. fewer_same s)))))
 
   fewer-dup : (descriptor : ℤ) → FewerAfter s (dup_result s descriptor)
   unfolding dup_result
-  fewer-dup descriptor = through s (posix.described s descriptor) _ (λ found. through s (some_or (posix.lowest_free s) EMFILE) _ (λ n. fewer_shared s s n found.0 (fewer_same s)))
+  fewer-dup descriptor =
+      bound (FewerAfter s) (λ e. tt) (posix.described s descriptor) _ (λ found _.
+      bound (FewerAfter s) (λ e. tt) (some_or (posix.lowest_free s) EMFILE) _ (λ n _. fewer_shared s s n found.0 (fewer_same s)))
 
   fewer-dup_from : (descriptor least : ℤ) → FewerAfter s (dup_from_result s descriptor least)
   unfolding dup_from_result
-  fewer-dup_from descriptor least = through s (posix.described s descriptor) _ (λ found. through s (descriptor_number least EINVAL) _ (λ first. through s (some_or (posix.lowest_from s (32 - first) first) EMFILE) _ (λ n. fewer_shared s s n found.0 (fewer_same s))))
+  fewer-dup_from descriptor least =
+      bound (FewerAfter s) (λ e. tt) (posix.described s descriptor) _ (λ found _.
+      bound (FewerAfter s) (λ e. tt) (descriptor_number least EINVAL) _ (λ first _.
+      bound (FewerAfter s) (λ e. tt) (some_or (posix.lowest_from s (32 - first) first) EMFILE) _
+      (λ n _. fewer_shared s s n found.0 (fewer_same s))))
 
   fewer-dup2 : (descriptor target : ℤ) → FewerAfter s (dup2_result s descriptor target)
   unfolding dup2_result
-  fewer-dup2 descriptor target = through s (posix.described s descriptor) _ (λ found. through s (descriptor_number target EBADF) _ (λ n.
-      through s (refuse_if (not (int_eq descriptor target) && duplicates.ends_a_door s target (posix.described s target)) EBUSY) _ (λ a. by_same n found.0 (int_eq descriptor target))))
+  fewer-dup2 descriptor target =
+      bound (FewerAfter s) (λ e. tt) (posix.described s descriptor) _ (λ found _.
+      bound (FewerAfter s) (λ e. tt) (descriptor_number target EBADF) _ (λ n _.
+      bound (FewerAfter s) (λ e. tt)
+      (refuse_if (not (int_eq descriptor target) && duplicates.ends_a_door s target (posix.described s target)) EBUSY) _
+      (λ _ _. by_same n found.0 (int_eq descriptor target))))
     where
       by_same : (n key : ℕ) (b : Bool) → Fewer s (if b then s else duplicates.shared (duplicates.closed s target (posix.described s target)) n key)
       by_same n key true = fewer_same s
@@ -176,19 +186,23 @@ module _ (s : State) where
 
   fewer-link : (old_path new_path : List ℕ) → FewerAfter s (link_result s old_path new_path)
   unfolding link_result
-  fewer-link old_path new_path = through s (file_named s.paths old_path) _ (λ object. through s (added s.paths new_path (FileNode object)) _ (λ paths. fewer_paths s paths))
+  fewer-link old_path new_path =
+      bound (FewerAfter s) (λ e. tt) (file_named s.paths old_path) _ (λ object _.
+      bound (FewerAfter s) (λ e. tt) (added s.paths new_path (FileNode object)) _ (λ paths _. fewer_paths s paths))
 
   fewer-mkdir : (path : List ℕ) → FewerAfter s (mkdir_result s path)
   unfolding mkdir_result
-  fewer-mkdir path = through s (added s.paths path Directory) _ (λ paths. fewer_paths s paths)
+  fewer-mkdir path = bound (FewerAfter s) (λ e. tt) (added s.paths path Directory) _ (λ paths _. fewer_paths s paths)
 
   fewer-rmdir : (path : List ℕ) → FewerAfter s (rmdir_result s path)
   unfolding rmdir_result
-  fewer-rmdir path = through s (removed_dir s.paths path) _ (λ paths. fewer_paths s paths)
+  fewer-rmdir path = bound (FewerAfter s) (λ e. tt) (removed_dir s.paths path) _ (λ paths _. fewer_paths s paths)
 
   fewer-unlink : (path : List ℕ) → FewerAfter s (unlink_result s path)
   unfolding unlink_result
-  fewer-unlink path = through s (removed s.paths path) _ (λ without. fewer_unused s (with_paths s without.0) without.1 (fewer_paths s without.0))
+  fewer-unlink path =
+      bound (FewerAfter s) (λ e. tt) (removed s.paths path) _
+      (λ without _. fewer_unused s (with_paths s without.0) without.1 (fewer_paths s without.0))
 
 -- ## Each call
 
@@ -214,7 +228,7 @@ module _ (t : TableState) (s : State) (sound : IsSound t) (all : AreSound t.desc
   other_at : (birth object : ℕ) (content new : Content) → birth ≢ object → fin.get (fin.insert s.objects object new) birth ≡ Some content → fin.get s.objects birth ≡ Some content
   other_at birth object content new other at = sym (get-insert_other s.objects object new birth other) ∙ at
 
-  others-setfl : (p : Plan) (descriptor : ℤ) (append nonblock : Bool) → FoundBoth t s descriptor → Others t s p (setfl_result s descriptor append nonblock)
+  others-setfl : (p : Plan) (descriptor : ℤ) (append nonblock : Bool) → RefersAlike t s descriptor → Others t s p (setfl_result s descriptor append nonblock)
   unfolding setfl_result
   others-setfl p descriptor append nonblock (Shut table state) = rw state tt
   others-setfl p descriptor append nonblock (Open key d offset at got there table state) = rw state (record { contents = λ birth content other is. is; offsets = λ birth o still is. inl (stands birth o is) })
@@ -248,17 +262,16 @@ module _ (t : TableState) (s : State) (sound : IsSound t) (all : AreSound t.desc
   others_blocked p true = tt
   others_blocked p false = tt
 
-  kind_at : (key : ℕ) (d : Description) → fin.get t.descriptions.by_key key ≡ Some d → Kind d.«end» (content_of s (birth_at t d.node))
-  kind_at key d got = kind_of d.«end» (content_of s (birth_at t d.node)) (shows.ends key d got)
-
   -- the end of a description whose object is a file
   only_at : (key : ℕ) (d : Description) (e : Errno) (file : List ℕ) → fin.get t.descriptions.by_key key ≡ Some d → file_in (content_of s (birth_at t d.node)) e ≡ Ok file → d.«end» ≡ part.Only
   only_at key d e file got is = file_only d.«end» file (ap (is_of d.«end») (sym (file_is (content_of s (birth_at t d.node)) e file is)) ∙ shows.ends key d got)
 
-  others-read : (descriptor count : ℤ) → FoundBoth t s descriptor → Others t s (answered (read_plan t descriptor count)) (read_result s descriptor count)
+  others-read : (descriptor count : ℤ) → RefersAlike t s descriptor → Others t s (answered (read_plan t descriptor count)) (read_result s descriptor count)
   unfolding read_plan read_result
   others-read descriptor count (Shut table state) = rw (table, state) tt
-  others-read descriptor count (Open key d offset at got there table state) = rw (table, state, transfers_by d.«end» (content_of s (birth_at t d.node)) (kind_at key d got)) (by_refusals (not_listener d.«end») (not (can_read d.access)) (count_of count))
+  others-read descriptor count (Open key d offset at got there table state) =
+      rw (table, state, transfers_by d.«end» (content_of s (birth_at t d.node)) (kind_at t s shows key d got))
+      (by_refusals (not_listener d.«end») (not (can_read d.access)) (count_of count))
     where
       act : ℕ → Op
       act n = op.Read (seen key d) n
@@ -297,12 +310,14 @@ module _ (t : TableState) (s : State) (sound : IsSound t) (all : AreSound t.desc
       by_refusals (Err e) b r = tt
       by_refusals (Ok u) true r = tt
       by_refusals (Ok u) false (Err e) = tt
-      by_refusals (Ok u) false (Ok n) = by_kind n (kind_at key d got)
+      by_refusals (Ok u) false (Ok n) = by_kind n (kind_at t s shows key d got)
 
-  others-write : (descriptor : ℤ) (bytes : List ℕ) → FoundBoth t s descriptor → Others t s (answered (write_plan t descriptor (length bytes))) (write_result s descriptor bytes)
+  others-write : (descriptor : ℤ) (bytes : List ℕ) → RefersAlike t s descriptor → Others t s (answered (write_plan t descriptor (length bytes))) (write_result s descriptor bytes)
   unfolding write_plan write_result
   others-write descriptor bytes (Shut table state) = rw (table, state) tt
-  others-write descriptor bytes (Open key d offset at got there table state) = rw (table, state, transfers_by d.«end» (content_of s (birth_at t d.node)) (kind_at key d got)) (by_refusals (not_listener d.«end») (not (can_write d.access)) (nat_lt 32767 (length bytes)))
+  others-write descriptor bytes (Open key d offset at got there table state) =
+      rw (table, state, transfers_by d.«end» (content_of s (birth_at t d.node)) (kind_at t s shows key d got))
+      (by_refusals (not_listener d.«end») (not (can_write d.access)) (nat_lt 32767 (length bytes)))
     where
       act : Op
       act = op.Write (seen key d)
@@ -310,13 +325,13 @@ module _ (t : TableState) (s : State) (sound : IsSound t) (all : AreSound t.desc
       ask : Op
       ask = errand d out.Write (length bytes) (not d.flags.nonblock)
 
-      by_written : (file : List ℕ) (r : Result (List ℕ × ℕ) Errno) → Others t s (locks d.node act) (r >>= (λ w. Ok (Completes (with_content (record s { descriptions = fin.insert s.descriptions d.birth (shown t d (start_of (shown t d offset) file + w.1)) }) (birth_at t d.node) (File w.0)) (reply.Count w.1))))
-      by_written file (Ok w) = record { contents = λ birth content other is. other_at birth (birth_at t d.node) content (File w.0) other is; offsets = λ birth o still is. inl (still_at key birth o (start_of (shown t d offset) file + w.1) d got still is) }
-      by_written file (Err e) = tt
-
       by_file : (file : List ℕ) (b : Bool) → Others t s (locks d.node act) (if b then Ok (Completes s (reply.Count 0)) else write_content s d.birth (shown t d offset) bytes (File file))
       by_file file true = others_nothing (locks d.node act)
-      by_file file false = by_written file (written file (start_of (shown t d offset) file) bytes)
+      by_file file false =
+          bound (Others t s (locks d.node act)) (λ e. tt) (written file (start_of (shown t d offset) file) bytes) _ (λ w _. record {
+            contents = λ birth content other is. other_at birth (birth_at t d.node) content (File w.0) other is;
+            offsets = λ birth o still is. inl (still_at key birth o (start_of (shown t d offset) file + w.1) d got still is);
+          })
 
       by_writing : (b : Bool) (holds : List ℕ → Content) (w : Writing) → Others t s (if b then plan.Reply (reply.Count 0) else locks d.node act) (if b then Ok (Completes s (reply.Count 0)) else write_done s (shown t d offset) (length bytes) holds w)
       by_writing true holds w = others_nothing (plan.Reply (reply.Count 0))
@@ -346,12 +361,12 @@ module _ (t : TableState) (s : State) (sound : IsSound t) (all : AreSound t.desc
       by_refusals (Err e) a b = tt
       by_refusals (Ok u) true b = tt
       by_refusals (Ok u) false true = tt
-      by_refusals (Ok u) false false = by_kind (kind_at key d got)
+      by_refusals (Ok u) false false = by_kind (kind_at t s shows key d got)
 
-  others-lseek : (descriptor to : ℤ) (whence : Whence) → FoundBoth t s descriptor → Others t s (answered (lseek_plan t descriptor to whence)) (lseek_result s descriptor to whence)
+  others-lseek : (descriptor to : ℤ) (whence : Whence) → RefersAlike t s descriptor → Others t s (answered (lseek_plan t descriptor to whence)) (lseek_result s descriptor to whence)
   unfolding lseek_plan lseek_result
   others-lseek descriptor to whence (Shut table state) = rw (table, state) tt
-  others-lseek descriptor to whence (Open key d offset at got there table state) = rw (table, state) (by_kind (kind_at key d got))
+  others-lseek descriptor to whence (Open key d offset at got there table state) = rw (table, state) (by_kind (kind_at t s shows key d got))
     where
       ask : Op
       ask = errand d out.Seek 0 false
@@ -360,38 +375,36 @@ module _ (t : TableState) (s : State) (sound : IsSound t) (all : AreSound t.desc
       by_end : End → Result Plan Errno
       by_end e = seekable e to whence >>= (λ _. Ok (locks d.node (if leads_outside e then ask else op.Lseek (seen key d))))
 
-      by_offset : (r : Result ℕ Errno) → Others t s (locks d.node (op.Lseek (seen key d))) (r >>= (λ to. Ok (Completes (record s { descriptions = fin.insert s.descriptions d.birth (shown t d to) }) (reply.Number (pos to)))))
-      by_offset (Ok to) = record { contents = λ birth content other is. is; offsets = λ birth o still is. inl (still_at key birth o to d got still is) }
-      by_offset (Err e) = tt
-
-      by_host : (r : Result (Unit {0}) Errno) → Others t s (answered (r >>= (λ _. Ok (locks d.node ask)))) (r >>= (λ _. Ok (asks_of s out.Seek 0 false (λ value bytes. reply.Number (pos value)))))
-      by_host (Ok u) = others_asked (locks d.node ask) out.Seek 0 false (λ value bytes. reply.Number (pos value))
-      by_host (Err e) = tt
-
       by_door : (door : Door) → Others t s (answered (by_end (part.Door door))) (seek_content s d.birth (shown t d offset) to whence (DoorTo door))
-      by_door door.HostFile = by_host (host_offset to whence)
+      by_door door.HostFile =
+          bound_both (λ p does. Others t s (answered p) does) (λ e. tt) (host_offset to whence) _ _
+          (λ _ _. others_asked (locks d.node ask) out.Seek 0 false (λ value bytes. reply.Number (pos value)))
       by_door (door.Listener port) = tt
       by_door door.Stream = tt
 
       by_kind : Kind d.«end» (content_of s (birth_at t d.node)) → Others t s (answered (by_end d.«end»)) (seek_content s d.birth (shown t d offset) to whence (content_of s (birth_at t d.node)))
       by_kind (IsFile file its is) =
-          others_as _ (answered (by_end part.Only)) _ (File file) (seek_content s d.birth (shown t d offset) to whence) (ap (λ (e : End). answered (by_end e)) its) is (by_offset (offset_of (pos (base_of whence offset (length file)) +ℤ to)))
+          others_as _ (answered (by_end part.Only)) _ (File file) (seek_content s d.birth (shown t d offset) to whence)
+          (ap (λ (e : End). answered (by_end e)) its) is
+          (bound (Others t s (locks d.node (op.Lseek (seen key d)))) (λ e. tt)
+          (offset_of (pos (base_of whence offset (length file)) +ℤ to)) _ (λ to _. record {
+            contents = λ birth content other is. is;
+            offsets = λ birth o still is. inl (still_at key birth o to d got still is);
+          }))
       by_kind (IsPipe waiting pipe is) = others_as _ (answered (by_end d.«end»)) _ (Pipe waiting) (seek_content s d.birth (shown t d offset) to whence) refl is tt
       by_kind (IsPair p side its is) = others_as _ (answered (by_end d.«end»)) _ (Pair p) (seek_content s d.birth (shown t d offset) to whence) refl is tt
       by_kind (IsDoor door its is) = others_as _ (answered (by_end (part.Door door))) _ (DoorTo door) (seek_content s d.birth (shown t d offset) to whence) (ap (λ (e : End). answered (by_end e)) its) is (by_door door)
 
-  others-pwrite : (descriptor : ℤ) (bytes : List ℕ) (position : ℤ) → FoundBoth t s descriptor → Others t s (answered (pwrite_plan t descriptor (length bytes) position)) (pwrite_result s descriptor bytes position)
+  others-pwrite : (descriptor : ℤ) (bytes : List ℕ) (position : ℤ) → RefersAlike t s descriptor → Others t s (answered (pwrite_plan t descriptor (length bytes) position)) (pwrite_result s descriptor bytes position)
   unfolding pwrite_plan pwrite_result
   others-pwrite descriptor bytes position (Shut table state) = rw (table, state) tt
   others-pwrite descriptor bytes position (Open key d offset at got there table state) = rw (table, state) (by_file (file_in (content_of s (birth_at t d.node)) ESPIPE) refl)
     where
-      by_written : (start : ℕ) (r : Result (List ℕ × ℕ) Errno) → Others t s (locks d.node (op.Pwrite start)) (r >>= (λ w. Ok (Completes (with_content s (birth_at t d.node) (File w.0)) (reply.Count w.1))))
-      by_written start (Ok w) = others_put d.node (op.Pwrite start) (File w.0)
-      by_written start (Err e) = tt
-
       by_length : (file : List ℕ) (start : ℕ) (b : Bool) → Others t s (locks d.node (op.Pwrite start)) (if b then Ok (Completes s (reply.Count 0)) else write_at s (birth_at t d.node) file start bytes)
       by_length file start true = others_nothing (locks d.node (op.Pwrite start))
-      by_length file start false = by_written start (written file start bytes)
+      by_length file start false =
+          bound (Others t s (locks d.node (op.Pwrite start))) (λ e. tt) (written file start bytes) _
+          (λ w _. others_put d.node (op.Pwrite start) (File w.0))
 
       by_refusals : (a b : Bool) (p : Result ℕ Errno) (file : List ℕ) → Others t s (answered (refuse_if a EBADF >>= (λ _. refuse_if b EINVAL >>= (λ _. p >>= (λ start. Ok (locks d.node (op.Pwrite start)))))))
           (refuse_if a EBADF >>= (λ _. refuse_if b EINVAL >>= (λ _. p >>= (λ start. if length bytes == 0 then Ok (Completes s (reply.Count 0)) else write_at s (birth_at t d.node) file start bytes))))
@@ -406,26 +419,25 @@ module _ (t : TableState) (s : State) (sound : IsSound t) (all : AreSound t.desc
       by_file (Err e) is = tt
       by_file (Ok file) is = rw (of_file_file d ESPIPE (only_at key d ESPIPE file got is)) (by_refusals (not (can_write d.access)) (nat_lt 32767 (length bytes)) (position_of position) file)
 
-  others-ftruncate : (descriptor size : ℤ) → FoundBoth t s descriptor → Others t s (answered (ftruncate_plan t descriptor size)) (ftruncate_result s descriptor size)
+  others-ftruncate : (descriptor size : ℤ) → RefersAlike t s descriptor → Others t s (answered (ftruncate_plan t descriptor size)) (ftruncate_result s descriptor size)
   unfolding ftruncate_plan ftruncate_result
   others-ftruncate descriptor size (Shut table state) = rw (table, state) tt
   others-ftruncate descriptor size (Open key d offset at got there table state) = rw (table, state) (by_file (not (can_write d.access)) (file_in (content_of s (birth_at t d.node)) EINVAL) refl)
     where
-      by_size : (r : Result ℕ Errno) (file : List ℕ) → Others t s (answered (r >>= (λ n. Ok (locks d.node (op.Ftruncate n))))) (r >>= (λ n. Ok (Completes (with_content s (birth_at t d.node) (File (resized file n))) reply.Done)))
-      by_size (Err e) file = tt
-      by_size (Ok n) file = others_put d.node (op.Ftruncate n) (File (resized file n))
-
       by_file : (a : Bool) (f : Result (List ℕ) Errno) → file_in (content_of s (birth_at t d.node)) EINVAL ≡ f
           → Others t s (answered (refuse_if a EINVAL >>= (λ _. of_file d EINVAL >>= (λ _. size_of size >>= (λ n. Ok (locks d.node (op.Ftruncate n)))))))
           (refuse_if a EINVAL >>= (λ _. f >>= (λ file. size_of size >>= (λ n. Ok (Completes (with_content s (birth_at t d.node) (File (resized file n))) reply.Done)))))
       by_file true f is = tt
       by_file false (Err e) is = tt
-      by_file false (Ok file) is = rw (of_file_file d EINVAL (only_at key d EINVAL file got is)) (by_size (size_of size) file)
+      by_file false (Ok file) is =
+          rw (of_file_file d EINVAL (only_at key d EINVAL file got is))
+          (bound_both (λ p does. Others t s (answered p) does) (λ e. tt) (size_of size) _ _
+          (λ n _. others_put d.node (op.Ftruncate n) (File (resized file n))))
 
-  others-shutdown : (descriptor : ℤ) (how : ShutdownHow) → FoundBoth t s descriptor → Others t s (answered (shutdown_plan t descriptor how)) (shutdown_result s descriptor how)
+  others-shutdown : (descriptor : ℤ) (how : ShutdownHow) → RefersAlike t s descriptor → Others t s (answered (shutdown_plan t descriptor how)) (shutdown_result s descriptor how)
   unfolding shutdown_plan shutdown_result
   others-shutdown descriptor how (Shut table state) = rw (table, state) tt
-  others-shutdown descriptor how (Open key d offset at got there table state) = rw (table, state) (by_kind (kind_at key d got))
+  others-shutdown descriptor how (Open key d offset at got there table state) = rw (table, state) (by_kind (kind_at t s shows key d got))
     where
       by_end : End → Result Plan Errno
       by_end e = shut_act d how e >>= (λ act. Ok (locks d.node act))
@@ -461,68 +473,57 @@ module _ (t : TableState) (s : State) (sound : IsSound t) (all : AreSound t.desc
   new_at : (birth o : ℕ) (new : object.Description) → new.offset ≡ 0 → option_map (λ (x : object.Description). x.offset) (fin.get (fin.insert s.descriptions s.next_description new) birth) ≡ Some o → StandsOrIsNew birth o
   new_at birth o new zero is = new_in s.descriptions s.next_description birth o new (omega arith) zero (λ at. inl at) is
 
-  others-there : (node : Node) (access : Access) (flags : OpenFlags) → Others t s (answered (open_there t node flags)) (posix.open_there s (shown_node t node) access flags)
-  others-there Directory access flags = tt
-  others-there (FileNode node) access flags = rw (lowest_shown t s 32 0 shows) (by_number (lowest_from t.descriptors 32 0))
+  others-open : (path : List ℕ) (access : Access) (flags : OpenFlags)
+      → Others t s (answered (open_plan t path access flags)) (open_result s path access flags)
+  others-open path access flags =
+      over_open t s sound all shows (λ p does. Others t s (answered p) does) (λ e. tt) path access flags
+      (λ n node. by_cut n node flags.truncate) by_new
     where
-      by_cut : (n : ℕ) (cut : Bool) → OthersStay t (locks node (op.Open flags.truncate)) s (posix.opened (posix.truncated s (birth_at t node) cut) n (birth_at t node) part.Only access flags.append flags.nonblock)
-      by_cut n true = record { contents = λ birth content other is. other_at birth (birth_at t node) content (File []) other is; offsets = λ birth o still is. new_at birth o (record { object = birth_at t node; «end» = part.Only; access = access; offset = 0; append = flags.append; nonblock = flags.nonblock }) refl is }
-      by_cut n false = record { contents = λ birth content other is. is; offsets = λ birth o still is. new_at birth o (record { object = birth_at t node; «end» = part.Only; access = access; offset = 0; append = flags.append; nonblock = flags.nonblock }) refl is }
-
-      by_number : (o : Option ℕ) → Others t s (answered (some_or o EMFILE >>= (λ n. Ok (locks node (op.Open flags.truncate))))) (some_or o EMFILE >>= (λ n. Ok (Completes (posix.opened (posix.truncated s (birth_at t node) flags.truncate) n (birth_at t node) part.Only access flags.append flags.nonblock) (reply.Number (pos n)))))
-      by_number None = tt
-      by_number (Some n) = by_cut n flags.truncate
-
-  others-new : (components : List (List ℕ)) (access : Access) (flags : OpenFlags) → Others t s (answered (open_new t flags)) (posix.open_new s components access flags)
-  others-new components access flags = rw (names_shown t s shows, full_shown t s sound all shows, lowest_shown t s 32 0 shows) (by_rest (not flags.create) (nat_le 64 (fin.len t.paths)) (free_object t) (lowest_from t.descriptors 32 0) (λ node is. lowest_none t.objects 48 0 node is))
-    where
-      by_rest : (a b : Bool) (o number : Option ℕ) → ((node : ℕ) → o ≡ Some node → slice_index_or t.objects node None ≡ None)
-          → Others t s (answered (refuse_if a ENOENT >>= (λ _. refuse_if b ENOSPC >>= (λ _. some_or o ENOSPC >>= (λ node. some_or number EMFILE >>= (λ _. Ok (locks node (op.Open true))))))))
-          (refuse_if a ENOENT >>= (λ _. refuse_if (b || not (is_some o)) ENOSPC >>= (λ _. some_or number EMFILE >>= (λ n. Ok (Completes (posix.opened (posix.with_file s components) n s.next_object part.Only access flags.append flags.nonblock) (reply.Number (pos n)))))))
-      by_rest true b o number free = tt
-      by_rest false true o number free = tt
-      by_rest false false None number free = tt
-      by_rest false false (Some node) None free = tt
-      by_rest false false (Some node) (Some n) free = record {
-        contents = λ birth content other is. other_at birth s.next_object content (File []) (λ e. other (e ∙ shows.next_object ∙ ap (λ (o : Option ℕ). unwrap_or o t.made_objects) (sym (free node refl)))) is;
-        offsets = λ birth o still is. new_at birth o (record { object = s.next_object; «end» = part.Only; access = access; offset = 0; append = flags.append; nonblock = flags.nonblock }) refl is;
+      opened_at : ℕ → object.Description
+      opened_at object = record {
+        object = object;
+        «end» = part.Only;
+        access = access;
+        offset = 0;
+        append = flags.append;
+        nonblock = flags.nonblock;
       }
 
-  others-open : (path : List ℕ) (access : Access) (flags : OpenFlags) → Others t s (answered (open_plan t path access flags)) (open_result s path access flags)
-  unfolding open_plan open_result
-  others-open path access flags = rw (resolved_shown t s path shows) (by_rest (flags.truncate && not (can_write access)) (resolved t.paths path))
-    where
-      by_node : (components : List (List ℕ)) (o : Option Node) → Others t s (answered (open_node t o flags)) (posix.open_node s components (option_map (shown_node t) o) access flags)
-      by_node components None = others-new components access flags
-      by_node components (Some node) = by_refusal (flags.create && flags.exclusive)
-        where
-          by_refusal : (b : Bool) → Others t s (answered (refuse_if b EEXIST >>= (λ _. open_there t node flags))) (refuse_if b EEXIST >>= (λ _. posix.open_there s (shown_node t node) access flags))
-          by_refusal true = tt
-          by_refusal false = others-there node access flags
+      by_cut : (n node : ℕ) (cut : Bool)
+          → OthersStay t (locks node (op.Open flags.truncate)) s
+          (posix.opened (posix.truncated s (birth_at t node) cut) n (birth_at t node) part.Only access flags.append flags.nonblock)
+      by_cut n node true = record {
+        contents = λ birth content other is. other_at birth (birth_at t node) content (File []) other is;
+        offsets = λ birth o still is. new_at birth o (opened_at (birth_at t node)) refl is;
+      }
+      by_cut n node false = record {
+        contents = λ birth content other is. is;
+        offsets = λ birth o still is. new_at birth o (opened_at (birth_at t node)) refl is;
+      }
 
-      by_rest : (b : Bool) (r : Result (List (List ℕ)) Errno) → Others t s (answered (refuse_if b EINVAL >>= (λ _. r >>= (λ components. open_node t (node_at t.paths components) flags)))) (refuse_if b EINVAL >>= (λ _. r >>= (λ components. posix.open_node s components (node_at s.paths components) access flags)))
-      by_rest true r = tt
-      by_rest false (Err e) = tt
-      by_rest false (Ok components) = rw (node_shown t s components shows) (by_node components (node_at t.paths components))
+      by_new : (components : List (List ℕ)) (n node : ℕ) → birth_at t node ≡ s.next_object
+          → OthersStay t (locks node (op.Open true)) s
+          (posix.opened (posix.with_file s components) n s.next_object part.Only access flags.append flags.nonblock)
+      by_new components n node at = record {
+        contents = λ birth content other is. other_at birth s.next_object content (File []) (λ e. other (e ∙ sym at)) is;
+        offsets = λ birth o still is. new_at birth o (opened_at s.next_object) refl is;
+      }
 
   others-two : (act : Op) (content : Content) (one other : NewEnd) → Others t s (answered (two_ends_plan t act)) (sockets.two_ends s content one other)
-  others-two act content one other = rw (two_shown t s sound all shows, full_shown t s sound all shows) (by_rest (two_numbers t) (free_object t) (λ node is. lowest_none t.objects 48 0 node is))
+  others-two act content one other =
+      over_two_ends t s sound all shows (λ p does. Others t s (answered p) does) (λ e. tt) act content one other
+      (λ two node free at. record {
+        contents = λ birth held apart is. other_at birth s.next_object held content (λ e. apart (e ∙ sym at)) is;
+        offsets = λ birth o still is.
+            new_in (fin.insert s.descriptions s.next_description first) (s.next_description + 1) birth o second (omega arith) refl
+            (λ at. new_at birth o first refl at) is;
+      })
     where
       first : object.Description
       first = record { object = s.next_object; «end» = one.which; access = one.access; offset = 0; append = false; nonblock = false }
 
       second : object.Description
       second = record { object = s.next_object; «end» = other.which; access = other.access; offset = 0; append = false; nonblock = false }
-
-      by_rest : (r : Result (ℕ × ℕ) Errno) (o : Option ℕ) → ((node : ℕ) → o ≡ Some node → slice_index_or t.objects node None ≡ None)
-          → Others t s (answered (r >>= (λ _. some_or o ENFILE >>= (λ node. Ok (locks node act)))))
-          (r >>= (λ numbers. refuse_if (not (is_some o)) ENFILE >>= (λ _. Ok (Completes (posix.opened (posix.opened (object.with_object s content) numbers.0 s.next_object one.which one.access false false) numbers.1 s.next_object other.which other.access false false) (reply.Pair (pos numbers.0) (pos numbers.1))))))
-      by_rest (Err e) o free = tt
-      by_rest (Ok two) None free = tt
-      by_rest (Ok two) (Some node) free = record {
-        contents = λ birth held apart is. other_at birth s.next_object held content (λ e. apart (e ∙ shows.next_object ∙ ap (λ (o : Option ℕ). unwrap_or o t.made_objects) (sym (free node refl)))) is;
-        offsets = λ birth o still is. new_in (fin.insert s.descriptions s.next_description first) (s.next_description + 1) birth o second (omega arith) refl (λ at. new_at birth o first refl at) is;
-      }
 
   others-pipe : Others t s (answered (two_ends_plan t op.Pipe)) (pipe_result s)
   unfolding pipe_result
@@ -535,72 +536,16 @@ module _ (t : TableState) (s : State) (sound : IsSound t) (all : AreSound t.desc
   -- ## Opening a door
 
   others-opens : (o : NewDoor) (listener : Option ℕ) → Others t s (answered (opens_plan t o.kind o.asked o.waits listener)) (opens s o)
-  others-opens o listener = rw (lowest_shown t s 32 0 shows, full_shown t s sound all shows) (by_rest (lowest_from t.descriptors 32 0) (free_object t) (λ node is. lowest_none t.objects 48 0 node is))
-    where
-      act : Op
-      act = op.Ask (record { kind = o.kind; asked = o.asked; waits = o.waits; door = listener })
-
-      by_rest : (number free : Option ℕ) → ((node : ℕ) → free ≡ Some node → slice_index_or t.objects node None ≡ None)
-          → Others t s (answered (some_or number EMFILE >>= (λ _. some_or free ENFILE >>= (λ node. Ok (plan.Node node act true)))))
-          (some_or number EMFILE >>= (λ n. refuse_if (not (is_some free)) ENFILE >>= (λ _. Ok (Asks (asking_of s o n)))))
-      by_rest None free unused = tt
-      by_rest (Some n) None unused = tt
-      by_rest (Some n) (Some node) unused = (
+  others-opens o listener =
+      over_opens t s sound all shows (λ p does. Others t s (answered p) does) (λ e. tt) o listener (λ n node at. (
         λ value bytes. record {
-          contents = λ birth held apart is. other_at birth s.next_object held (DoorTo (o.door value)) (λ e. apart (e ∙ shows.next_object ∙ ap (λ (o : Option ℕ). unwrap_or o t.made_objects) (sym (unused node refl)))) is;
+          contents = λ birth held apart is. other_at birth s.next_object held (DoorTo (o.door value)) (λ e. apart (e ∙ sym at)) is;
           offsets = λ birth stood still is. new_at birth stood (record { object = s.next_object; «end» = part.Door (o.door value); access = o.access; offset = 0; append = o.append; nonblock = false }) refl is;
         },
-        others_nothing (plan.Node node act true),
-      )
+        others_nothing (plan.Node node (op.Ask (record { kind = o.kind; asked = o.asked; waits = o.waits; door = listener })) true),
+      ))
 
-  others-host_open : (path : List ℕ) (access : Access) (flags : OpenFlags) → Others t s (answered (host_open_plan t path access flags)) (host_open_result s path access flags)
-  unfolding host_open_plan host_open_result
-  others-host_open path access flags = by_refusals (flags.truncate && not (can_write access)) (host_path path)
-    where
-      opening : NewDoor
-      opening = record { kind = out.Open; asked = 0; door = λ value. door.HostFile; access = access; append = flags.append; waits = false }
-
-      by_refusals : (b : Bool) (r : Result (Unit {0}) Errno) → Others t s (answered (refuse_if b EINVAL >>= (λ _. r >>= (λ _. opens_plan t out.Open 0 false None)))) (refuse_if b EINVAL >>= (λ _. r >>= (λ _. opens s opening)))
-      by_refusals true r = tt
-      by_refusals false (Err e) = tt
-      by_refusals false (Ok u) = others-opens opening None
-
-  others-listen : (port : ℤ) → Others t s (answered (tcp_listen_plan t port)) (tcp_listen_result s port)
-  unfolding tcp_listen_plan tcp_listen_result
-  others-listen port = by_port (port_of 0 port)
-    where
-      opening : ℕ → NewDoor
-      opening asked = record { kind = out.Listen; asked = asked; door = λ value. door.Listener value; access = ReadWrite; append = false; waits = false }
-
-      by_port : (r : Result ℕ Errno) → Others t s (answered (r >>= (λ asked. opens_plan t out.Listen asked false None))) (r >>= (λ asked. opens s (opening asked)))
-      by_port (Ok asked) = others-opens (opening asked) None
-      by_port (Err e) = tt
-
-  others-connect : (port : ℤ) → Others t s (answered (tcp_connect_plan t port)) (tcp_connect_result s port)
-  unfolding tcp_connect_plan tcp_connect_result
-  others-connect port = by_port (port_of 1 port)
-    where
-      opening : ℕ → NewDoor
-      opening asked = record { kind = out.Connect; asked = asked; door = λ value. door.Stream; access = ReadWrite; append = false; waits = false }
-
-      by_port : (r : Result ℕ Errno) → Others t s (answered (r >>= (λ asked. opens_plan t out.Connect asked false None))) (r >>= (λ asked. opens s (opening asked)))
-      by_port (Ok asked) = others-opens (opening asked) None
-      by_port (Err e) = tt
-
-  others-accept : (descriptor : ℤ) → FoundBoth t s descriptor → Others t s (answered (tcp_accept_plan t descriptor)) (tcp_accept_result s descriptor)
-  unfolding tcp_accept_plan tcp_accept_result
-  others-accept descriptor (Shut table state) = rw (table, state) tt
-  others-accept descriptor (Open key d offset at got there table state) =
-      rw (table, state, listener_by d.«end» (content_of s (birth_at t d.node)) (kind_at key d got)) (by_listener (of_listener d.«end»))
-    where
-      opening : NewDoor
-      opening = record { kind = out.Accept; asked = 0; door = λ value. door.Stream; access = ReadWrite; append = false; waits = not d.flags.nonblock }
-
-      by_listener : (r : Result (Unit {0}) Errno) → Others t s (answered (r >>= (λ _. opens_plan t out.Accept 0 (not d.flags.nonblock) (Some d.node)))) (r >>= (λ _. opens s opening))
-      by_listener (Ok u) = others-opens opening (Some d.node)
-      by_listener (Err e) = tt
-
-  found_at : (descriptor : ℤ) → FoundBoth t s descriptor
+  found_at : (descriptor : ℤ) → RefersAlike t s descriptor
   found_at descriptor = found_both t s descriptor sound shows
 
   others_call : (c : Call) (carried : Carried) → Others t s (planned t c) (effect_of s c carried)
@@ -625,10 +570,15 @@ module _ (t : TableState) (s : State) (sound : IsSound t) (all : AreSound t.desc
   others_call call.Pipe carried = others-pipe
   others_call call.Socketpair carried = others-socketpair
   others_call (call.Shutdown descriptor how) carried = others-shutdown descriptor how (found_at descriptor)
-  others_call (call.HostOpen path access flags) carried = others-host_open path access flags
-  others_call (call.TcpListen port) carried = others-listen port
-  others_call (call.TcpConnect port) carried = others-connect port
-  others_call (call.TcpAccept descriptor) carried = others-accept descriptor (found_at descriptor)
+  others_call (call.HostOpen path access flags) carried =
+      over_host_open t s (λ p does. Others t s (answered p) does) (λ e. tt) path access flags (others-opens (host_door access flags) None)
+  others_call (call.TcpListen port) carried =
+      over_listen t s (λ p does. Others t s (answered p) does) (λ e. tt) port (λ asked. others-opens (listener_door asked) None)
+  others_call (call.TcpConnect port) carried =
+      over_connect t s (λ p does. Others t s (answered p) does) (λ e. tt) port (λ asked. others-opens (stream_door asked) None)
+  others_call (call.TcpAccept descriptor) carried =
+      over_accept t s (λ p does. Others t s (answered p) does) (λ e. tt) descriptor shows (found_at descriptor)
+      (λ d. others-opens (accepted_door d) (Some d.node))
 
 waited_others : (t : TableState) (s : State) (settings : Settings) (carried : Carried) (p : Plan) → OthersStay t p s (waited settings s carried).after
 waited_others t s settings carried p = subst (OthersStay t p s) (sym (waited_after settings s carried)) (fewer_others t p s s (fewer_same s))
@@ -637,11 +587,8 @@ concluded_others : (t : TableState) (s : State) (settings : Settings) (outcome :
 concluded_others t s settings outcome carried p (Ok (Completes after r)) others = others
 concluded_others t s settings outcome carried p (Ok Blocks) others = waited_others t s settings carried p
 concluded_others t s settings (Some (outcomes.Ok value bytes)) carried p (Ok (Asks asking)) others = others.0 value bytes
-concluded_others t s settings (Some (outcomes.Fail e)) carried p (Ok (Asks asking)) others = by_waiting (asking.waits && is_again e)
-  where
-    by_waiting : (b : Bool) → OthersStay t p s (if b then waited settings s carried else failed asking.otherwise e).after
-    by_waiting true = waited_others t s settings carried p
-    by_waiting false = others.1
+concluded_others t s settings (Some (outcomes.Fail e)) carried p (Ok (Asks asking)) others =
+    over_failed (λ (x : Stepped). OthersStay t p s x.after) settings s carried asking e (waited_others t s settings carried p) others.1
 concluded_others t s settings None carried p (Ok (Asks asking)) others = others.1
 concluded_others t s settings outcome carried p (Err e) others = fewer_others t p s s (fewer_same s)
 

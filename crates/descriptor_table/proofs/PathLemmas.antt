@@ -1,12 +1,11 @@
 -- What a table shows of a state: names, and what refers to an object.
-use Rattle.std.proofs.Common.{◌≡◌, ◌≢◌, ℕ, zero, suc, ◌+◌, ◌-◌, ◌<◌, ◌==◌, ◌&&◌, ◌||◌, List, [], ◌∷◌, ◌++◌, length, map, Option, Some, None, is_some, unwrap_or, Result, Ok, Err, Bool, true, false, cond, not, count_by, refl, sym, ap, ◌∙◌, inl, inr, arith}
-use Rattle.std.proofs.lemmas.Bool.{cases_eq, false≢true}
+use Rattle.std.proofs.Common.{◌≡◌, ◌≢◌, ℕ, zero, suc, ◌-◌, ◌<◌, ◌==◌, ◌||◌, List, [], ◌∷◌, ◌++◌, length, map, Option, Some, None, is_some, unwrap_or, Result, Ok, Err, Bool, true, false, cond, not, count_by, refl, sym, ap, ◌∙◌, inl, inr, arith}
+use Rattle.std.proofs.lemmas.Bool.{and_from, and_parts, cases_eq, eq-eqb, eqb-true, false≢true, or_right}
 use Rattle.std.proofs.lemmas.List.{length-map}
-use Rattle.std.proofs.lemmas.List.Sums.{sum_by-cons}
 use Rattle.std.proofs.lemmas.Option.{none-some, same_Some}
-use Rattle.std.specs.Cmp.{nat_cmp_total}
+use Rattle.std.specs.Cmp.{both_ways, nat_cmp_total}
 use Rattle.std.specs.FinMap as fin
-use Rattle.std.specs.FinMap.{FinMap, IsAntisymmetric, get-empty, len-empty, len-entries, len-remove, nat_cmp-IsAntisymmetric, same_map, slice_cmp-IsAntisymmetric}
+use Rattle.std.specs.FinMap.{FinMap, IsAntisymmetric, get-empty, len-entries, len-remove, nat_cmp-IsAntisymmetric, slice_cmp-IsAntisymmetric}
 use Rattle.std.specs.List.{list_any}
 use Rattle.std.specs.Option.{option_map}
 use Rattle.std.specs.Ordering.{nat_cmp}
@@ -22,9 +21,9 @@ use Rattle.posix_terms.specs.declared.errno.Errno.{Errno}
 use Rattle.posix_terms.specs.Ends.{is_first}
 use Rattle.file_descriptions.specs.Descriptions.{AreSound, has_first_end, has_second_end}
 use Rattle.file_descriptions.specs.declared.description.Description.{Description}
+use Rattle.descriptor_table.proofs.MapLemmas.{get-remove_other, no_keys, paths_total, some_less}
 use Rattle.descriptor_table.proofs.EntryLemmas.{any_of, any_second, counted_none, entries-mapped, standing_in}
-use Rattle.descriptor_table.proofs.KnownLemmas.{equal_nat}
-use Rattle.descriptor_table.proofs.SoundLemmas.{get-remove_other, get-remove_same, not_described, paths_total, same_nat}
+use Rattle.descriptor_table.proofs.SoundLemmas.{none_past, not_described, open-cons}
 use Rattle.posix_terms.specs.declared.object.End.TheVariants as part
 use Rattle.descriptor_table.specs.Shows as shown_by
 use Rattle.descriptor_table.specs.Shows.{Shows, birth_at, shown, shown_node}
@@ -93,12 +92,10 @@ file_at_name t s (name ∷ names) node shows at = shows.files (name ∷ names) n
 
 -- objects have one birth just where they have one number
 pub births_alike : (t : TableState) (n node : ℕ) → IsSound t → is_used t n ≡ true → is_used t node ≡ true → (birth_at t n == birth_at t node) ≡ (n == node)
-births_alike t n node sound its used = by_test (birth_at t n == birth_at t node) refl (n == node) refl
-  where
-    by_test : (a : Bool) → (birth_at t n == birth_at t node) ≡ a → (b : Bool) → (n == node) ≡ b → (birth_at t n == birth_at t node) ≡ (n == node)
-    by_test true x b y = x ∙ sym (same_nat n node (one_object t n node sound its used (equal_nat (birth_at t n) (birth_at t node) x)))
-    by_test false x true y = absurd (false≢true (sym x ∙ same_nat (birth_at t n) (birth_at t node) (ap (birth_at t) (equal_nat n node y))))
-    by_test false x false y = x ∙ sym y
+births_alike t n node sound its used =
+    both_ways (birth_at t n == birth_at t node) (n == node)
+    (λ x. eq-eqb n node (one_object t n node sound its used (eqb-true (birth_at t n) (birth_at t node) x)))
+    (λ y. eq-eqb (birth_at t n) (birth_at t node) (ap (birth_at t) (eqb-true n node y)))
 
 -- ## What refers to an object
 
@@ -124,14 +121,10 @@ first_of_any (suc n) p m below holds =
       | inl e ↦ or_right (any_below n p) (p n) (ap p (sym e) ∙ holds)
       | inr apart ↦ ap (λ (b : Bool). b || p n) (first_of_any n p m (omega arith) holds)
     ]
-  where
-    or_right : (a b : Bool) → b ≡ true → (a || b) ≡ true
-    or_right true b h = refl
-    or_right false b h = h
 
 is_of_some : (o : Option object.Description) (n : ℕ) → is_of o n ≡ true → (e : object.Description) × (o ≡ Some e) × (e.object ≡ n)
 is_of_some None n h = absurd (false≢true h)
-is_of_some (Some e) n h = (e, refl, equal_nat e.object n h)
+is_of_some (Some e) n h = (e, refl, eqb-true e.object n h)
 
 -- a description of an object, in the table
 pub data HasDescription (t : TableState) (node : ℕ) : Type 0 where
@@ -153,21 +146,17 @@ object_described t s node all shows (Of key d got same) =
     let there = shows.descriptions key d got in
     let below : d.birth < s.next_description = rw shows.next_description (all.born key d got) in
     first_of_any s.next_description (λ key. is_of (fin.get s.descriptions key) (birth_at t node)) d.birth below
-    (ap (λ (o : Option object.Description). is_of o (birth_at t node)) there.1 ∙ same_nat (birth_at t d.node) (birth_at t node) (ap (birth_at t) same))
+    (ap (λ (o : Option object.Description). is_of o (birth_at t node)) there.1
+    ∙ eq-eqb (birth_at t d.node) (birth_at t node) (ap (birth_at t) same))
 
 -- where no description is of an object it is closed
 not_of_first : (t : TableState) (node : ℕ) → (HasDescription t node → ⊥) → is_closed t node ≡ true
-not_of_first t node never = both (count_by (has_first_end node) (fin.values t.descriptions.by_key) == 0) (count_by (has_second_end node) (fin.values t.descriptions.by_key) == 0) (none (has_first_end node) (λ d h. and_left (d.node == node) (is_first d.«end») h)) (none (has_second_end node) (λ d h. and_left (d.node == node) (not (is_first d.«end»)) h))
+not_of_first t node never =
+    and_from (count_by (has_first_end node) (fin.values t.descriptions.by_key) == 0)
+    (count_by (has_second_end node) (fin.values t.descriptions.by_key) == 0)
+    (none (has_first_end node) (λ d h. (and_parts (d.node == node) (is_first d.«end») h).0))
+    (none (has_second_end node) (λ d h. (and_parts (d.node == node) (not (is_first d.«end»)) h).0))
   where
-    both : (a b : Bool) → a ≡ true → b ≡ true → (a && b) ≡ true
-    both true true x y = refl
-    both true false x y = y
-    both false b x y = x
-
-    and_left : (a b : Bool) → (a && b) ≡ true → a ≡ true
-    and_left true b h = refl
-    and_left false b h = h
-
     none : (q : Description → Bool) → ((d : Description) → q d ≡ true → (d.node == node) ≡ true) → (count_by q (fin.values t.descriptions.by_key) == 0) ≡ true
     none q each = counted_none q (fin.values t.descriptions.by_key) ∙ by_any (list_any q (fin.values t.descriptions.by_key)) refl
       where
@@ -175,7 +164,7 @@ not_of_first t node never = both (count_by (has_first_end node) (fin.values t.de
         by_any false h = ap not h
         by_any true h =
             let at = standing_in nat_cmp_total (λ (e : ℕ × Description). q e.1) t.descriptions.by_key (sym (any_second q (fin.entries t.descriptions.by_key)) ∙ h) in
-            absurd (never (Of at.0 at.1 at.2 (equal_nat at.1.node node (each at.1 at.3))))
+            absurd (never (Of at.0 at.1 at.2 (eqb-true at.1.node node (each at.1 at.3))))
 
 -- an object is closed just where the state has no description of it
 pub closed_shown : (t : TableState) (s : State) (node : ℕ) → IsSound t → AreSound t.descriptions → Shows t s → is_used t node ≡ true → is_closed t node ≡ not (posix.has_description s (birth_at t node))
@@ -194,7 +183,7 @@ file_shown t (FileNode m) n is = (m, refl, cc)
 file_shown t Directory n is = cc
 
 is_file_of : (node : Node) (n : ℕ) → is_file node n ≡ true → node ≡ FileNode n
-is_file_of (FileNode m) n h = ap (λ (k : ℕ). FileNode k) (equal_nat m n h)
+is_file_of (FileNode m) n h = ap (λ (k : ℕ). FileNode k) (eqb-true m n h)
 is_file_of Directory n h = absurd (false≢true h)
 
 shown_some : (t : TableState) (o : Option Node) (n : ℕ) → option_map (shown_node t) o ≡ Some (FileNode n) → (m : ℕ) × (o ≡ Some (FileNode m)) × (birth_at t m ≡ n)
@@ -205,25 +194,25 @@ shown_some t (Some node) n is =
 
 -- a file has a name just where the state has one of it
 pub linked_shown : (t : TableState) (s : State) (node : ℕ) → IsSound t → Shows t s → is_used t node ≡ true → (links_of t.paths node == 0) ≡ not (posix.has_path s (birth_at t node))
-linked_shown t s node sound shows used = counted_none (λ (e : List (List ℕ) × Node). is_file e.1 node) (fin.entries t.paths) ∙ ap not (by_test (list_any (λ (e : List (List ℕ) × Node). is_file e.1 node) (fin.entries t.paths)) refl (posix.has_path s (birth_at t node)) refl)
+linked_shown t s node sound shows used =
+    counted_none (λ (e : List (List ℕ) × Node). is_file e.1 node) (fin.entries t.paths)
+    ∙ ap not
+    (both_ways (list_any (λ (e : List (List ℕ) × Node). is_file e.1 node) (fin.entries t.paths))
+    (posix.has_path s (birth_at t node)) to_state to_table)
   where
     to_state : list_any (λ (e : List (List ℕ) × Node). is_file e.1 node) (fin.entries t.paths) ≡ true → posix.has_path s (birth_at t node) ≡ true
     to_state any =
         let at = standing_in paths_total (λ (e : List (List ℕ) × Node). is_file e.1 node) t.paths any in
         let its : fin.get t.paths at.0 ≡ Some (FileNode node) = at.2 ∙ ap (λ (x : Node). Some x) (is_file_of at.1 node at.3) in
-        any_of path_cmp (λ x. is_file x (birth_at t node)) s.paths at.0 (FileNode (birth_at t node)) (shows.paths at.0 ∙ ap (option_map (shown_node t)) its) (same_nat (birth_at t node) (birth_at t node) refl)
+        any_of path_cmp (λ x. is_file x (birth_at t node)) s.paths at.0 (FileNode (birth_at t node))
+        (shows.paths at.0 ∙ ap (option_map (shown_node t)) its) (eq-eqb (birth_at t node) (birth_at t node) refl)
 
     to_table : posix.has_path s (birth_at t node) ≡ true → list_any (λ (e : List (List ℕ) × Node). is_file e.1 node) (fin.entries t.paths) ≡ true
     to_table any =
         let at = standing_in paths_total (λ (e : List (List ℕ) × Node). is_file e.1 (birth_at t node)) s.paths any in
         let its = shown_some t (fin.get t.paths at.0) (birth_at t node) (sym (shows.paths at.0) ∙ at.2 ∙ ap (λ (x : Node). Some x) (is_file_of at.1 (birth_at t node) at.3)) in
         let same : its.0 ≡ node = one_object t its.0 node sound (sound.named_objects at.0 its.0 its.1) used its.2 in
-        any_of path_cmp (λ x. is_file x node) t.paths at.0 (FileNode its.0) its.1 (same_nat its.0 node same)
-
-    by_test : (a : Bool) → list_any (λ (e : List (List ℕ) × Node). is_file e.1 node) (fin.entries t.paths) ≡ a → (b : Bool) → posix.has_path s (birth_at t node) ≡ b → list_any (λ (e : List (List ℕ) × Node). is_file e.1 node) (fin.entries t.paths) ≡ posix.has_path s (birth_at t node)
-    by_test true x b y = x ∙ sym (to_state x)
-    by_test false x true y = absurd (false≢true (sym x ∙ to_table y))
-    by_test false x false y = x ∙ sym y
+        any_of path_cmp (λ x. is_file x node) t.paths at.0 (FileNode its.0) its.1 (eq-eqb its.0 node same)
 
 -- ## How many objects there are
 
@@ -235,33 +224,20 @@ pub record Holds (m : FinMap nat_cmp Content) (slots : List (Option ℕ)) : Type
   pub numbered : (birth : ℕ) → is_some (fin.get m birth) ≡ true → (node : ℕ) × (slice_index_or slots node None ≡ Some birth)
   pub distinct : (node other birth : ℕ) → slice_index_or slots node None ≡ Some birth → slice_index_or slots other None ≡ Some birth → node ≡ other
 
-no_objects : (m : FinMap nat_cmp Content) → ((birth : ℕ) → is_some (fin.get m birth) ≡ true → ⊥) → fin.len m ≡ 0
-no_objects m none = ap fin.len (same_map nat_cmp_total nat_cmp-IsAntisymmetric m (fin.empty {X = Content} {R = nat_cmp}) (λ q. absent (fin.get m q) (none q) ∙ sym (get-empty nat_cmp q))) ∙ len-empty nat_cmp Content
-  where
-    absent : (o : Option Content) → (is_some o ≡ true → ⊥) → o ≡ None
-    absent None h = refl
-    absent (Some x) h = absurd (h refl)
-
-slot_none : (n : ℕ) → slice_index_or {A = Option ℕ} [] n None ≡ None
-slot_none zero = refl
-slot_none (suc n) = refl
-
-taken_cons : (o : Option ℕ) (os : List (Option ℕ)) → taken (o ∷ os) ≡ cond (is_some o) 1 0 + taken os
-taken_cons o os = sum_by-cons (λ (x : Option ℕ). cond (is_some x) 1 0) o os
-
 pub objects_counted : (slots : List (Option ℕ)) (m : FinMap nat_cmp Content) → Holds m slots → fin.len m ≡ taken slots
-objects_counted [] m holds = no_objects m (λ birth is. let at = holds.numbered birth is in none-some _ (sym (slot_none at.0) ∙ at.1))
+objects_counted [] m holds =
+    no_keys m (λ birth is. let at = holds.numbered birth is in none-some _ (sym (none_past [] at.0 (omega arith)) ∙ at.1))
 objects_counted (None ∷ os) m holds =
     let rest = objects_counted os m (record { there = λ node birth is. holds.there (suc node) birth is; numbered = λ birth is. further birth (holds.numbered birth is); distinct = λ node other birth is its. let same = holds.distinct (suc node) (suc other) birth is its in omega (arith, same) }) in
-    omega (arith, rest, taken_cons None os)
+    omega (arith, rest, open-cons None os)
   where
     further : (birth : ℕ) → (node : ℕ) × (slice_index_or (None ∷ os) node None ≡ Some birth) → (node : ℕ) × (slice_index_or os node None ≡ Some birth)
     further birth (zero, is) = absurd (none-some _ is)
     further birth (suc node, is) = (node, is)
 objects_counted (Some b ∷ os) m holds =
-    let rest = objects_counted os (fin.remove m b) (record { there = there; numbered = λ birth is. further birth is (holds.numbered birth (kept birth is)); distinct = λ node other birth is its. let same = holds.distinct (suc node) (suc other) birth is its in omega (arith, same) }) in
+    let rest = objects_counted os (fin.remove m b) left in
     let less : fin.len (fin.remove m b) ≡ fin.len m - 1 = len-remove nat_cmp_total m b ∙ ap (λ (x : Bool). cond x (fin.len m - 1) (fin.len m)) (holds.there 0 b refl) in
-    omega (arith, rest, less, some, taken_cons (Some b) os)
+    omega (arith, rest, less, some, open-cons (Some b) os)
   where
     some : 0 < fin.len m
     some = by_len (fin.len m) refl
@@ -276,15 +252,16 @@ objects_counted (Some b ∷ os) m holds =
     there : (node birth : ℕ) → slice_index_or os node None ≡ Some birth → is_some (fin.get (fin.remove m b) birth) ≡ true
     there node birth is = ap (λ (o : Option Content). is_some o) (get-remove_other m b birth (apart node birth is)) ∙ holds.there (suc node) birth is
 
-    other : (birth : ℕ) → is_some (fin.get (fin.remove m b) birth) ≡ true → birth ≢ b
-    other birth is same = false≢true (sym (ap (λ (o : Option Content). is_some o) (ap (fin.get (fin.remove m b)) same ∙ get-remove_same m b)) ∙ is)
-
-    kept : (birth : ℕ) → is_some (fin.get (fin.remove m b) birth) ≡ true → is_some (fin.get m birth) ≡ true
-    kept birth is = ap (λ (o : Option Content). is_some o) (sym (get-remove_other m b birth (other birth is))) ∙ is
-
     further : (birth : ℕ) → is_some (fin.get (fin.remove m b) birth) ≡ true → (node : ℕ) × (slice_index_or (Some b ∷ os) node None ≡ Some birth) → (node : ℕ) × (slice_index_or os node None ≡ Some birth)
-    further birth is (zero, at) = absurd (other birth is (sym (same_Some _ _ at)))
+    further birth is (zero, at) = absurd ((some_less m b birth is).0 (sym (same_Some _ _ at)))
     further birth is (suc node, at) = (node, at)
+
+    left : Holds (fin.remove m b) os
+    left = record {
+      there = there;
+      numbered = λ birth is. further birth is (holds.numbered birth (some_less m b birth is).1);
+      distinct = λ node other birth is its. let same = holds.distinct (suc node) (suc other) birth is its in omega (arith, same);
+    }
 
 pub holds_of : (t : TableState) (s : State) → IsSound t → Shows t s → Holds s.objects t.objects
 holds_of t s sound shows = record { there = shows.objects; numbered = shows.numbered; distinct = sound.distinct }

@@ -1,9 +1,7 @@
 -- The plan of each call, beside what the sequential object does.
-use Rattle.std.proofs.Common.{◌≡◌, ℕ, ◌+◌, ◌-◌, ◌==◌, ◌&&◌, ◌||◌, List, [], ◌∷◌, length, Option, Some, None, is_some, unwrap_or, zero, suc, ◌<◌, ◌≤◌, Result, Ok, Err, Bool, true, false, cond, not, if◌then◌else◌, refl, sym, ap, ◌∙◌, subst, inl, inr, arith}
-use Rattle.std.proofs.lemmas.Bool.{cases_eq, true≢false}
+use Rattle.std.proofs.Common.{◌≡◌, ℕ, ◌+◌, ◌-◌, ◌==◌, ◌&&◌, ◌||◌, List, [], ◌∷◌, length, Option, Some, None, is_some, Result, Ok, Err, Bool, true, false, cond, not, if◌then◌else◌, refl, sym, ap, ◌∙◌, arith}
+use Rattle.std.proofs.lemmas.Bool.{eq-eqb, true≢false}
 use Rattle.std.proofs.lemmas.Bool.Decides.{nat_tests}
-use Rattle.std.proofs.lemmas.List.Sums.{sum_by-cons}
-use Rattle.std.proofs.lemmas.Option.{none-some, same_Some}
 use Rattle.std.specs.FinMap as fin
 use Rattle.std.specs.FinMap.{get-remove}
 use Rattle.std.specs.Ordering.{eq_by_cmp}
@@ -11,15 +9,14 @@ use Rattle.sequential_object.specs.Object.{path_cmp, content_of, is_door}
 use Rattle.sequential_object.specs.Object as Object
 use Rattle.std.specs.Ordering.{int_eq}
 use Rattle.std.specs.Option.{option_map}
-use Rattle.std.specs.Prelude.{ℤ, ◌+ℤ◌, pos, negsuc, nat_le, slice_index_or}
-use Rattle.posix_terms.specs.Calls.{can_write}
+use Rattle.std.specs.Prelude.{ℤ, ◌+ℤ◌, pos, negsuc, nat_le}
 use Rattle.sequential_object.specs.Descriptors as posix
-use Rattle.sequential_object.specs.Descriptors.{close_result, is_file, open_result, opened, truncated, with_file, without_unused}
-use Rattle.sequential_object.specs.Doors.{NewDoor, host_open_result, host_path, listener_in, opens, port_of, tcp_accept_result, tcp_connect_result, tcp_listen_result}
+use Rattle.sequential_object.specs.Descriptors.{close_result, is_file, open_result, opened, truncated, without_unused}
+use Rattle.sequential_object.specs.Doors.{NewDoor, opens}
 use Rattle.sequential_object.specs.Duplicates as duplicates
 use Rattle.sequential_object.specs.Duplicates.{dup_result, dup_from_result, dup2_result, closed, descriptor_number, shared}
 use Rattle.posix_terms.specs.Ends.{is_end}
-use Rattle.sequential_object.specs.Effects.{Effect, Asking, Asks, Blocks, Completes, asks_of}
+use Rattle.sequential_object.specs.Effects.{Effect, Asks, Blocks, Completes, asks_of}
 use Rattle.sequential_object.specs.Locked.{closed_object, keeps_table, locked, locked_by_new, locked_object, unless_refused, unnamed_object}
 use Rattle.sequential_object.specs.Names.{PathMap, added, file_named, file_node, link_result, mkdir_result, removed, removed_dir, removed_dir_at, rmdir_result, unlink_result, has_entries, links_of, with_paths}
 use Rattle.sequential_object.specs.Object.{State, Content, Pipe, Pair, DoorTo, Node, FileNode, Directory}
@@ -42,7 +39,7 @@ use Rattle.posix_terms.specs.declared.call.OpenFlags.{OpenFlags}
 use Rattle.posix_terms.specs.declared.call.ShutdownHow.{ShutdownHow}
 use Rattle.posix_terms.specs.declared.call.Whence.{Whence}
 use Rattle.posix_terms.specs.declared.errno.Errno.{Errno}
-use Rattle.posix_terms.specs.declared.errno.Errno.TheVariants.{EBADF, EEXIST, EINVAL, EBUSY, EMFILE, ENFILE, ENOENT, ENOSPC, ENOTEMPTY}
+use Rattle.posix_terms.specs.declared.errno.Errno.TheVariants.{EBADF, EEXIST, EINVAL, EBUSY, EMFILE, ENOSPC, ENOTEMPTY}
 use Rattle.posix_terms.specs.declared.object.Door.{Door}
 use Rattle.posix_terms.specs.declared.object.Door.TheVariants as door
 use Rattle.posix_terms.specs.declared.object.End.{End}
@@ -55,19 +52,21 @@ use Rattle.posix_terms.specs.declared.reply.Reply.{Reply}
 use Rattle.posix_terms.specs.declared.reply.Reply.TheVariants as reply
 use Rattle.file_descriptions.specs.Descriptions.{AreSound}
 use Rattle.file_descriptions.specs.declared.description.Description.{Description}
-use Rattle.descriptor_table.specs.Laws.{FoundBoth}
-use Rattle.descriptor_table.specs.Laws.FoundBoth.{Open, Shut}
+use Rattle.descriptor_table.proofs.OpeningLemmas.{over_open, over_opens, over_two_ends}
+use Rattle.descriptor_table.proofs.MapLemmas.{get-insert_other, get-insert_same, got_less, paths_total}
+use Rattle.descriptor_table.proofs.DoorLemmas.{accepted_door, host_door, listener_door, over_accept, over_connect, over_host_open, over_listen, stream_door}
+use Rattle.descriptor_table.specs.Laws.{RefersAlike}
+use Rattle.descriptor_table.specs.Laws.RefersAlike.{Open, Shut}
 use Rattle.descriptor_table.proofs.ShownLemmas.{found_both, last_shown, lowest_shown}
-use Rattle.descriptor_table.proofs.EndLemmas.{Kind, IsDoor, IsFile, IsPipe, IsPair, acts_inside, asks_outside, kind_of, moves_file, moves_stream}
+use Rattle.descriptor_table.proofs.EndLemmas.{Kind, IsDoor, IsFile, IsPipe, IsPair, acts_inside, asks_outside, moves_file, moves_stream, kind_at}
 use Rattle.descriptor_table.proofs.EntryLemmas.{counted-remove}
-use Rattle.descriptor_table.proofs.KnownLemmas.{lowest_above, lowest_below, was_some}
-use Rattle.descriptor_table.proofs.PathLemmas.{closed_shown, has_entries_shown, holds_of, linked_shown, names_shown, node_shown, objects_counted, paths_apart, resolved_shown, taken}
-use Rattle.descriptor_table.proofs.SoundLemmas.{bind_ok, get-insert_other, get-insert_same, named_at, not_all_open, ok_same, paths_total, same_nat, names_without, sound-named}
+use Rattle.descriptor_table.proofs.PathLemmas.{closed_shown, has_entries_shown, linked_shown, names_shown, node_shown, paths_apart, resolved_shown}
+use Rattle.descriptor_table.proofs.SoundLemmas.{named_at, names_without, sound-named}
 use Rattle.descriptor_table.specs.Agreement as agreement
 use Rattle.descriptor_table.specs.Agreement.{AgreesOn, PlansAsStep}
-use Rattle.descriptor_table.specs.Plans.{act_or_ask, answered, close_plan, dup_plan, dup_from_plan, dup2_plan, ends_a_door, errand, fstat_plan, ftruncate_plan, getfl_plan, host_open_plan, leads_outside, locks, lseek_plan, moves, pread_plan, pwrite_plan, read_plan, replaced, setfl_plan, write_plan, addable, link_plan, mkdir_plan, not_listener, of_listener, open_new, open_node, open_plan, open_there, opens_plan, plan_of, planned, rmdir_plan, seekable, shutdown_plan, tcp_accept_plan, tcp_connect_plan, tcp_listen_plan, two_ends_plan, unlink_plan}
-use Rattle.descriptor_table.specs.Shows.{Shows, birth_at, is_of, shown, shown_node}
-use Rattle.descriptor_table.specs.Table.{TableState, IsSound, described, free_object, is_last_name, is_used, key_at, lowest_from, two_numbers}
+use Rattle.descriptor_table.specs.Plans.{act_or_ask, answered, close_plan, dup_plan, dup_from_plan, dup2_plan, ends_a_door, errand, fstat_plan, ftruncate_plan, getfl_plan, leads_outside, locks, lseek_plan, moves, pread_plan, pwrite_plan, read_plan, replaced, setfl_plan, write_plan, addable, link_plan, mkdir_plan, not_listener, open_plan, opens_plan, plan_of, planned, rmdir_plan, shutdown_plan, two_ends_plan, unlink_plan}
+use Rattle.descriptor_table.specs.Shows.{Shows, birth_at, shown, shown_node}
+use Rattle.descriptor_table.specs.Table.{TableState, IsSound, described, is_last_name, is_used, key_at, lowest_from}
 use Rattle.descriptor_table.specs.declared.plan.Op.{Op}
 use Rattle.descriptor_table.specs.declared.plan.Op.TheVariants as op
 use Rattle.descriptor_table.specs.declared.plan.Plan.{Plan}
@@ -92,17 +91,6 @@ outside_by e c (IsPipe waiting pipe is) = ap is_door is ∙ sym pipe.inside
 outside_by e c (IsPair p side its is) = ap is_door is ∙ sym (ap leads_outside its)
 outside_by e c (IsDoor d its is) = ap is_door is ∙ sym (ap leads_outside its)
 
-pub listener_by : (e : End) (c : Content) → Kind e c → listener_in c ≡ of_listener e
-listener_by e c (IsFile file its is) = ap listener_in is ∙ sym (ap of_listener its)
-listener_by e c (IsPipe waiting pipe is) = ap listener_in is ∙ sym pipe.no_listener
-listener_by e c (IsPair p side its is) = ap listener_in is ∙ sym (ap of_listener its)
-listener_by e c (IsDoor d its is) = ap listener_in is ∙ by_door d ∙ sym (ap of_listener its)
-  where
-    by_door : (d : Door) → listener_in (DoorTo d) ≡ of_listener (part.Door d)
-    by_door door.HostFile = refl
-    by_door (door.Listener port) = refl
-    by_door door.Stream = refl
-
 pub transfers_by : (e : End) (c : Content) → Kind e c → transfers.not_listener c ≡ not_listener e
 transfers_by e c (IsFile file its is) = ap transfers.not_listener is ∙ sym (ap not_listener its)
 transfers_by e c (IsPipe waiting pipe is) = ap transfers.not_listener is ∙ sym pipe.transfers
@@ -110,17 +98,6 @@ transfers_by e c (IsPair p side its is) = ap transfers.not_listener is ∙ sym (
 transfers_by e c (IsDoor d its is) = ap transfers.not_listener is ∙ by_door d ∙ sym (ap not_listener its)
   where
     by_door : (d : Door) → transfers.not_listener (DoorTo d) ≡ not_listener (part.Door d)
-    by_door door.HostFile = refl
-    by_door (door.Listener port) = refl
-    by_door door.Stream = refl
-
-pub offset_by : (e : End) (c : Content) (offset : ℤ) (whence : Whence) → Kind e c → transfers.seekable c offset whence ≡ seekable e offset whence
-offset_by e c offset whence (IsFile file its is) = ap (λ (x : Content). transfers.seekable x offset whence) is ∙ sym (ap (λ (x : End). seekable x offset whence) its)
-offset_by e c offset whence (IsPipe waiting pipe is) = ap (λ (x : Content). transfers.seekable x offset whence) is ∙ sym (pipe.no_offset offset whence)
-offset_by e c offset whence (IsPair p side its is) = ap (λ (x : Content). transfers.seekable x offset whence) is ∙ sym (ap (λ (x : End). seekable x offset whence) its)
-offset_by e c offset whence (IsDoor d its is) = ap (λ (x : Content). transfers.seekable x offset whence) is ∙ by_door d ∙ sym (ap (λ (x : End). seekable x offset whence) its)
-  where
-    by_door : (d : Door) → transfers.seekable (DoorTo d) offset whence ≡ seekable (part.Door d) offset whence
     by_door door.HostFile = refl
     by_door (door.Listener port) = refl
     by_door door.Stream = refl
@@ -136,80 +113,6 @@ pub moves_outside : (d : Description) (n : ℕ) (none : Reply) (act ask : Op) (d
 moves_outside d n none act ask door its =
     moves_stream d n none (act_or_ask d act ask) (ap (λ (e : End). is_end e part.Only) its) ∙ ap (λ (x : Op). if n == 0 then plan.Reply none else locks d.node x) (asks_outside d act ask door its)
 
--- what a call asks that opens a door at number n
-abbrev pub asking_of : State → NewDoor → ℕ → Asking
-asking_of s o n =
-    record {
-      kind = o.kind;
-      asked = o.asked;
-      succeeds = λ value bytes. (opened (Object.with_object s (DoorTo (o.door value))) n s.next_object (part.Door (o.door value)) o.access o.append false, reply.Number (pos n));
-      otherwise = s;
-      waits = o.waits;
-    }
-
--- ## The lowest number
-
-abbrev pub both : ℕ → ℕ → Result (ℕ × ℕ) Errno
-both first second = Ok (first, second)
-
-pub lowest_none : (slots : List (Option ℕ)) (left from n : ℕ) → lowest_from slots left from ≡ Some n → slice_index_or slots n None ≡ None
-unfolding lowest_from
-lowest_none slots zero from n is = cc
-lowest_none slots (suc left) from n is = by_slot (slice_index_or slots from None) refl (λ later. lowest_none slots left (from + 1) n later)
-  where
-    by_slot : (o : Option ℕ) → slice_index_or slots from None ≡ o → (lowest_from slots left (from + 1) ≡ Some n → slice_index_or slots n None ≡ None) → slice_index_or slots n None ≡ None
-    by_slot (Some x) taken later = later (sym (ap (λ (o : Option ℕ). if is_some o then lowest_from slots left (from + 1) else Some from) taken) ∙ is)
-    by_slot None free later =
-        let same : from ≡ n = same_Some _ _ (sym (ap (λ (o : Option ℕ). if is_some o then lowest_from slots left (from + 1) else Some from) free) ∙ is) in
-        ap (λ (k : ℕ). slice_index_or slots k None) (sym same) ∙ free
-
--- two descriptors that are free
-pub record AreFree (slots : List (Option ℕ)) (first second : ℕ) : Type 0 where
-  pub low : first < 32
-  pub high : second < 32
-  pub order : first < second
-  pub first_free : slice_index_or slots first None ≡ None
-  pub second_free : slice_index_or slots second None ≡ None
-
-pub two_free : (t : TableState) (two : ℕ × ℕ) → two_numbers t ≡ Ok two → AreFree t.descriptors two.0 two.1
-two_free t two is =
-    let first = bind_ok (some_or (lowest_from t.descriptors 32 0) EMFILE) (λ first. some_or (lowest_from t.descriptors (32 - (first + 1)) (first + 1)) EMFILE >>= (λ second. both first second)) two is in
-    let second = bind_ok (some_or (lowest_from t.descriptors (32 - (first.0 + 1)) (first.0 + 1)) EMFILE) (λ second. both first.0 second) two first.1.1 in
-    by_numbers first.0 second.0 (ok_same (first.0, second.0) two second.1.1) (was_some (lowest_from t.descriptors 32 0) EMFILE first.0 first.1.0) (was_some (lowest_from t.descriptors (32 - (first.0 + 1)) (first.0 + 1)) EMFILE second.0 second.1.0)
-  where
-    by_numbers : (a b : ℕ) → (a, b) ≡ two → lowest_from t.descriptors 32 0 ≡ Some a → lowest_from t.descriptors (32 - (a + 1)) (a + 1) ≡ Some b → AreFree t.descriptors two.0 two.1
-    by_numbers a b same is its =
-        let low : a < 0 + 32 = lowest_below t.descriptors 32 0 a is in
-        let high : b < a + 1 + (32 - (a + 1)) = lowest_below t.descriptors (32 - (a + 1)) (a + 1) b its in
-        let above : a + 1 ≤ b = lowest_above t.descriptors (32 - (a + 1)) (a + 1) b its in
-        subst (λ (p : ℕ × ℕ). AreFree t.descriptors p.0 p.1) same (record {
-          low = omega arith;
-          high = omega arith;
-          order = omega arith;
-          first_free = lowest_none t.descriptors 32 0 a is;
-          second_free = lowest_none t.descriptors (32 - (a + 1)) (a + 1) b its;
-        })
-
-none_lowest : (slots : List (Option ℕ)) (left from : ℕ) → lowest_from slots left from ≡ None → (i : ℕ) → from ≤ i → i < from + left → is_some (slice_index_or slots i None) ≡ true
-unfolding lowest_from
-none_lowest slots zero from is i above inside = absurd (omega arith)
-none_lowest slots (suc left) from is i above inside = by_test (is_some (slice_index_or slots from None)) refl (λ later. none_lowest slots left (from + 1) later)
-  where
-    by_test : (b : Bool) → is_some (slice_index_or slots from None) ≡ b → (lowest_from slots left (from + 1) ≡ None → (i : ℕ) → from + 1 ≤ i → i < from + 1 + left → is_some (slice_index_or slots i None) ≡ true) → is_some (slice_index_or slots i None) ≡ true
-    by_test false free later = absurd (none-some _ (sym is ∙ ap (λ (b : Bool). if b then lowest_from slots left (from + 1) else Some from) free))
-    by_test true taken later =
-        elim (cases_eq i from) [
-          | inl e ↦ ap (λ (k : ℕ). is_some (slice_index_or slots k None)) e ∙ taken
-          | inr apart ↦ later (sym (ap (λ (b : Bool). if b then lowest_from slots left (from + 1) else Some from) taken) ∙ is) i (omega arith) (omega arith)
-        ]
-
-all_taken : (slots : List (Option ℕ)) → ((i : ℕ) → i < length slots → is_some (slice_index_or slots i None) ≡ true) → taken slots ≡ length slots
-all_taken [] each = refl
-all_taken (o ∷ os) each =
-    let rest = all_taken os (λ i inside. each (suc i) (omega arith)) in
-    let one : ◌≡◌ {A = ℕ} (cond (is_some o) 1 0) 1 = ap (λ (b : Bool). cond b 1 0) (each 0 (omega arith)) in
-    omega (arith, rest, one, sum_by-cons (λ (x : Option ℕ). cond (is_some x) 1 0) o os)
-
 -- ## A name less
 
 pub shows-without_name : (t : TableState) (s : State) (path : List (List ℕ)) → Shows t s → Shows (record t { paths = fin.remove t.paths path }) (with_paths s (fin.remove s.paths path))
@@ -222,37 +125,30 @@ shows-without_name t s path shows =
       objects = shows.objects;
       numbered = shows.numbered;
       ends = shows.ends;
-      files = λ q n is. by_tie q n is (eq_by_cmp path_cmp q path) refl;
+      files = λ q n is. shows.files q n (got_less paths_total t.paths path q (FileNode n) is);
       next_description = shows.next_description;
       next_object = shows.next_object;
     }
   where
-    by_tie : (q : List (List ℕ)) (n : ℕ) → fin.get (fin.remove t.paths path) q ≡ Some (FileNode n) → (b : Bool) → eq_by_cmp path_cmp q path ≡ b → is_of part.Only (content_of s (birth_at t n)) ≡ true
-    by_tie q n is true tied = absurd (none-some _ (sym (get-remove paths_total t.paths path q ∙ ap (λ (b : Bool). cond b None (fin.get t.paths q)) tied) ∙ is))
-    by_tie q n is false tied = shows.files q n (sym (get-remove paths_total t.paths path q ∙ ap (λ (b : Bool). cond b None (fin.get t.paths q)) tied) ∙ is)
-
     moved : (b : Bool) (o : Option Node) → cond b None (option_map (shown_node t) o) ≡ option_map (shown_node t) (cond b None o)
     moved true o = refl
     moved false o = refl
 
 module _ (t : TableState) (s : State) (sound : IsSound t) (all : AreSound t.descriptions) (shows : Shows t s) where
-  ties-getfl : (descriptor : ℤ) → FoundBoth t s descriptor → Ties t (call.Getfl descriptor) (getfl_plan t descriptor) (locked s (call.Getfl descriptor) nothing_carried) (getfl_result s descriptor)
+  ties-getfl : (descriptor : ℤ) → RefersAlike t s descriptor → Ties t (call.Getfl descriptor) (getfl_plan t descriptor) (locked s (call.Getfl descriptor) nothing_carried) (getfl_result s descriptor)
   unfolding getfl_plan getfl_result
   ties-getfl descriptor (Shut table state) = rw (table, state) (refl, (refl, refl))
   ties-getfl descriptor (Open key d offset at got there table state) = rw (table, state) (refl, (refl, refl))
 
-  ties-setfl : (descriptor : ℤ) (append nonblock : Bool) → FoundBoth t s descriptor → Ties t (call.Setfl descriptor append nonblock) (setfl_plan t descriptor) (locked s (call.Setfl descriptor append nonblock) nothing_carried) (setfl_result s descriptor append nonblock)
+  ties-setfl : (descriptor : ℤ) (append nonblock : Bool) → RefersAlike t s descriptor → Ties t (call.Setfl descriptor append nonblock) (setfl_plan t descriptor) (locked s (call.Setfl descriptor append nonblock) nothing_carried) (setfl_result s descriptor append nonblock)
   unfolding setfl_plan setfl_result
   ties-setfl descriptor append nonblock (Shut table state) = rw (table, state) (refl, (refl, refl))
   ties-setfl descriptor append nonblock (Open key d offset at got there table state) = rw (table, state) (refl, (refl, refl))
 
-  kind_at : (key : ℕ) (d : Description) → fin.get t.descriptions.by_key key ≡ Some d → Kind d.«end» (content_of s (birth_at t d.node))
-  kind_at key d got = kind_of d.«end» (content_of s (birth_at t d.node)) (shows.ends key d got)
-
-  ties-lseek : (descriptor offset : ℤ) (whence : Whence) → FoundBoth t s descriptor → Ties t (call.Lseek descriptor offset whence) (lseek_plan t descriptor offset whence) (locked s (call.Lseek descriptor offset whence) nothing_carried) (lseek_result s descriptor offset whence)
+  ties-lseek : (descriptor offset : ℤ) (whence : Whence) → RefersAlike t s descriptor → Ties t (call.Lseek descriptor offset whence) (lseek_plan t descriptor offset whence) (locked s (call.Lseek descriptor offset whence) nothing_carried) (lseek_result s descriptor offset whence)
   unfolding lseek_plan lseek_result
   ties-lseek descriptor offset whence (Shut table state) = rw (table, state) (refl, (refl, refl))
-  ties-lseek descriptor offset whence (Open key d at_offset at got there table state) = by_kind (kind_at key d got)
+  ties-lseek descriptor offset whence (Open key d at_offset at got there table state) = by_kind (kind_at t s shows key d got)
     where
       by_file : (r : Result ℕ Errno) → request_of (call.Lseek descriptor offset whence) (r >>= (λ to. Ok (Completes (transfers.with_offset s d.birth (record { object = birth_at t d.node; «end» = part.Only; access = d.access; offset = at_offset; append = d.flags.append; nonblock = d.flags.nonblock }) to) (reply.Number (pos to))))) ≡ None
       by_file (Ok to) = refl
@@ -273,10 +169,10 @@ module _ (t : TableState) (s : State) (sound : IsSound t) (all : AreSound t.desc
       by_kind (IsPair p side its is) = rw (table, state, its, is) (refl, (refl, refl))
       by_kind (IsDoor d its is) = by_door d its is
 
-  ties-fstat : (descriptor : ℤ) → FoundBoth t s descriptor → Ties t (call.Fstat descriptor) (fstat_plan t descriptor) (locked s (call.Fstat descriptor) nothing_carried) (fstat_result s descriptor)
+  ties-fstat : (descriptor : ℤ) → RefersAlike t s descriptor → Ties t (call.Fstat descriptor) (fstat_plan t descriptor) (locked s (call.Fstat descriptor) nothing_carried) (fstat_result s descriptor)
   unfolding fstat_plan fstat_result
   ties-fstat descriptor (Shut table state) = rw (table, state) (refl, (refl, refl))
-  ties-fstat descriptor (Open key d at_offset at got there table state) = by_kind (kind_at key d got)
+  ties-fstat descriptor (Open key d at_offset at got there table state) = by_kind (kind_at t s shows key d got)
     where
       by_door : (door : Door) → d.«end» ≡ part.Door door → content_of s (birth_at t d.node) ≡ DoorTo door → Ties t (call.Fstat descriptor) (fstat_plan t descriptor) (locked s (call.Fstat descriptor) nothing_carried) (fstat_result s descriptor)
       by_door door.HostFile its is = grind (arith, table, state, its, is)
@@ -289,10 +185,10 @@ module _ (t : TableState) (s : State) (sound : IsSound t) (all : AreSound t.desc
       by_kind (IsPair p side its is) = grind (arith, table, state, its, is)
       by_kind (IsDoor d its is) = by_door d its is
 
-  ties-read : (descriptor count : ℤ) → FoundBoth t s descriptor → Ties t (call.Read descriptor count) (read_plan t descriptor count) (locked s (call.Read descriptor count) nothing_carried) (read_result s descriptor count)
+  ties-read : (descriptor count : ℤ) → RefersAlike t s descriptor → Ties t (call.Read descriptor count) (read_plan t descriptor count) (locked s (call.Read descriptor count) nothing_carried) (read_result s descriptor count)
   unfolding read_plan read_result
   ties-read descriptor count (Shut table state) = rw (table, state) (refl, (refl, refl))
-  ties-read descriptor count (Open key d at_offset at got there table state) = by_kind (kind_at key d got)
+  ties-read descriptor count (Open key d at_offset at got there table state) = by_kind (kind_at t s shows key d got)
     where
       by_door : (door : Door) → d.«end» ≡ part.Door door → content_of s (birth_at t d.node) ≡ DoorTo door → Ties t (call.Read descriptor count) (read_plan t descriptor count) (locked s (call.Read descriptor count) nothing_carried) (read_result s descriptor count)
       by_door door.HostFile its is = grind (arith, table, state, its, is)
@@ -305,10 +201,10 @@ module _ (t : TableState) (s : State) (sound : IsSound t) (all : AreSound t.desc
       by_kind (IsPair p side its is) = grind (arith, table, state, its, is)
       by_kind (IsDoor d its is) = by_door d its is
 
-  ties-write : (descriptor : ℤ) (bytes : List ℕ) → FoundBoth t s descriptor → Ties t (call.Write descriptor bytes) (write_plan t descriptor (length bytes)) (locked s (call.Write descriptor bytes) nothing_carried) (write_result s descriptor bytes)
+  ties-write : (descriptor : ℤ) (bytes : List ℕ) → RefersAlike t s descriptor → Ties t (call.Write descriptor bytes) (write_plan t descriptor (length bytes)) (locked s (call.Write descriptor bytes) nothing_carried) (write_result s descriptor bytes)
   unfolding write_plan write_result
   ties-write descriptor bytes (Shut table state) = rw (table, state) (refl, (refl, refl))
-  ties-write descriptor bytes (Open key d at_offset at got there table state) = by_kind (kind_at key d got)
+  ties-write descriptor bytes (Open key d at_offset at got there table state) = by_kind (kind_at t s shows key d got)
     where
       by_door : (door : Door) → d.«end» ≡ part.Door door → content_of s (birth_at t d.node) ≡ DoorTo door → Ties t (call.Write descriptor bytes) (write_plan t descriptor (length bytes)) (locked s (call.Write descriptor bytes) nothing_carried) (write_result s descriptor bytes)
       by_door door.HostFile its is = grind (arith, table, state, its, is)
@@ -321,10 +217,10 @@ module _ (t : TableState) (s : State) (sound : IsSound t) (all : AreSound t.desc
       by_kind (IsPair p side its is) = grind (arith, table, state, its, is)
       by_kind (IsDoor d its is) = by_door d its is
 
-  ties-pread : (descriptor count position : ℤ) → FoundBoth t s descriptor → Ties t (call.Pread descriptor count position) (pread_plan t descriptor count position) (locked s (call.Pread descriptor count position) nothing_carried) (pread_result s descriptor count position)
+  ties-pread : (descriptor count position : ℤ) → RefersAlike t s descriptor → Ties t (call.Pread descriptor count position) (pread_plan t descriptor count position) (locked s (call.Pread descriptor count position) nothing_carried) (pread_result s descriptor count position)
   unfolding pread_plan pread_result
   ties-pread descriptor count position (Shut table state) = rw (table, state) (refl, (refl, refl))
-  ties-pread descriptor count position (Open key d at_offset at got there table state) = by_kind (kind_at key d got)
+  ties-pread descriptor count position (Open key d at_offset at got there table state) = by_kind (kind_at t s shows key d got)
     where
       by_kind : Kind d.«end» (content_of s (birth_at t d.node)) → Ties t (call.Pread descriptor count position) (pread_plan t descriptor count position) (locked s (call.Pread descriptor count position) nothing_carried) (pread_result s descriptor count position)
       by_kind (IsFile file its is) = grind (arith, table, state, its, is)
@@ -332,10 +228,10 @@ module _ (t : TableState) (s : State) (sound : IsSound t) (all : AreSound t.desc
       by_kind (IsPair p side its is) = grind (arith, table, state, its, is)
       by_kind (IsDoor d its is) = grind (arith, table, state, its, is)
 
-  ties-pwrite : (descriptor : ℤ) (bytes : List ℕ) (position : ℤ) → FoundBoth t s descriptor → Ties t (call.Pwrite descriptor bytes position) (pwrite_plan t descriptor (length bytes) position) (locked s (call.Pwrite descriptor bytes position) nothing_carried) (pwrite_result s descriptor bytes position)
+  ties-pwrite : (descriptor : ℤ) (bytes : List ℕ) (position : ℤ) → RefersAlike t s descriptor → Ties t (call.Pwrite descriptor bytes position) (pwrite_plan t descriptor (length bytes) position) (locked s (call.Pwrite descriptor bytes position) nothing_carried) (pwrite_result s descriptor bytes position)
   unfolding pwrite_plan pwrite_result
   ties-pwrite descriptor bytes position (Shut table state) = rw (table, state) (refl, (refl, refl))
-  ties-pwrite descriptor bytes position (Open key d at_offset at got there table state) = by_kind (kind_at key d got)
+  ties-pwrite descriptor bytes position (Open key d at_offset at got there table state) = by_kind (kind_at t s shows key d got)
     where
       by_kind : Kind d.«end» (content_of s (birth_at t d.node)) → Ties t (call.Pwrite descriptor bytes position) (pwrite_plan t descriptor (length bytes) position) (locked s (call.Pwrite descriptor bytes position) nothing_carried) (pwrite_result s descriptor bytes position)
       by_kind (IsFile file its is) = grind (arith, table, state, its, is)
@@ -343,10 +239,10 @@ module _ (t : TableState) (s : State) (sound : IsSound t) (all : AreSound t.desc
       by_kind (IsPair p side its is) = grind (arith, table, state, its, is)
       by_kind (IsDoor d its is) = grind (arith, table, state, its, is)
 
-  ties-ftruncate : (descriptor size : ℤ) → FoundBoth t s descriptor → Ties t (call.Ftruncate descriptor size) (ftruncate_plan t descriptor size) (locked s (call.Ftruncate descriptor size) nothing_carried) (ftruncate_result s descriptor size)
+  ties-ftruncate : (descriptor size : ℤ) → RefersAlike t s descriptor → Ties t (call.Ftruncate descriptor size) (ftruncate_plan t descriptor size) (locked s (call.Ftruncate descriptor size) nothing_carried) (ftruncate_result s descriptor size)
   unfolding ftruncate_plan ftruncate_result
   ties-ftruncate descriptor size (Shut table state) = rw (table, state) (refl, (refl, refl))
-  ties-ftruncate descriptor size (Open key d at_offset at got there table state) = by_kind (kind_at key d got)
+  ties-ftruncate descriptor size (Open key d at_offset at got there table state) = by_kind (kind_at t s shows key d got)
     where
       by_kind : Kind d.«end» (content_of s (birth_at t d.node)) → Ties t (call.Ftruncate descriptor size) (ftruncate_plan t descriptor size) (locked s (call.Ftruncate descriptor size) nothing_carried) (ftruncate_result s descriptor size)
       by_kind (IsFile file its is) = grind (arith, table, state, its, is)
@@ -354,10 +250,10 @@ module _ (t : TableState) (s : State) (sound : IsSound t) (all : AreSound t.desc
       by_kind (IsPair p side its is) = grind (arith, table, state, its, is)
       by_kind (IsDoor d its is) = grind (arith, table, state, its, is)
 
-  ties-shutdown : (descriptor : ℤ) (how : ShutdownHow) → FoundBoth t s descriptor → Ties t (call.Shutdown descriptor how) (shutdown_plan t descriptor how) (locked s (call.Shutdown descriptor how) nothing_carried) (shutdown_result s descriptor how)
+  ties-shutdown : (descriptor : ℤ) (how : ShutdownHow) → RefersAlike t s descriptor → Ties t (call.Shutdown descriptor how) (shutdown_plan t descriptor how) (locked s (call.Shutdown descriptor how) nothing_carried) (shutdown_result s descriptor how)
   unfolding shutdown_plan shutdown_result
   ties-shutdown descriptor how (Shut table state) = rw (table, state) (refl, (refl, refl))
-  ties-shutdown descriptor how (Open key d at_offset at got there table state) = by_kind (kind_at key d got)
+  ties-shutdown descriptor how (Open key d at_offset at got there table state) = by_kind (kind_at t s shows key d got)
     where
       by_door : (door : Door) → d.«end» ≡ part.Door door → content_of s (birth_at t d.node) ≡ DoorTo door → Ties t (call.Shutdown descriptor how) (shutdown_plan t descriptor how) (locked s (call.Shutdown descriptor how) nothing_carried) (shutdown_result s descriptor how)
       by_door door.HostFile its is = grind (arith, table, state, its, is)
@@ -370,7 +266,7 @@ module _ (t : TableState) (s : State) (sound : IsSound t) (all : AreSound t.desc
       by_kind (IsPair p side its is) = grind (arith, table, state, its, is)
       by_kind (IsDoor d its is) = by_door d its is
 
-  ties-dup : (descriptor : ℤ) → FoundBoth t s descriptor → Ties t (call.Dup descriptor) (dup_plan t descriptor) (locked s (call.Dup descriptor) nothing_carried) (dup_result s descriptor)
+  ties-dup : (descriptor : ℤ) → RefersAlike t s descriptor → Ties t (call.Dup descriptor) (dup_plan t descriptor) (locked s (call.Dup descriptor) nothing_carried) (dup_result s descriptor)
   unfolding dup_plan dup_result
   ties-dup descriptor (Shut table state) = rw (table, state) (refl, (refl, refl))
   ties-dup descriptor (Open key d offset at got there table state) = rw (table, state, lowest_shown t s 32 0 shows) (by_number (lowest_from t.descriptors 32 0))
@@ -379,7 +275,7 @@ module _ (t : TableState) (s : State) (sound : IsSound t) (all : AreSound t.desc
       by_number None = (refl, (refl, refl))
       by_number (Some n) = (refl, (refl, refl))
 
-  ties-dup_from : (descriptor least : ℤ) → FoundBoth t s descriptor → Ties t (call.DupFrom descriptor least) (dup_from_plan t descriptor least) (locked s (call.DupFrom descriptor least) nothing_carried) (dup_from_result s descriptor least)
+  ties-dup_from : (descriptor least : ℤ) → RefersAlike t s descriptor → Ties t (call.DupFrom descriptor least) (dup_from_plan t descriptor least) (locked s (call.DupFrom descriptor least) nothing_carried) (dup_from_result s descriptor least)
   unfolding dup_from_plan dup_from_result
   ties-dup_from descriptor least (Shut table state) = rw (table, state) (refl, (refl, refl))
   ties-dup_from descriptor least (Open key d offset at got there table state) = rw (table, state) (by_first (descriptor_number least EINVAL))
@@ -392,20 +288,15 @@ module _ (t : TableState) (s : State) (sound : IsSound t) (all : AreSound t.desc
       by_first (Ok first) = rw (lowest_shown t s (32 - first) first shows) (by_number (lowest_from t.descriptors (32 - first) first))
       by_first (Err e) = (refl, (refl, refl))
 
-  -- the number of a descriptor that is open
-  open_number : (descriptor : ℤ) (key : ℕ) → key_at t descriptor ≡ Some key → (n : ℕ) × (descriptor ≡ pos n) × (slice_index_or t.descriptors n None ≡ Some key)
-  open_number (pos n) key at = (n, refl, at)
-  open_number (negsuc n) key at = cc
-
   -- whether a description ends with this descriptor
   pub last_open : (descriptor : ℤ) (key : ℕ) (d : Description) → key_at t descriptor ≡ Some key → fin.get t.descriptions.by_key key ≡ Some d → posix.has_descriptor (posix.freed s descriptor) d.birth ≡ not (d.holders == 1)
   last_open (pos n) key d at got = last_shown t s n key d sound all shows at got
   last_open (negsuc n) key d at got = cc
 
   pub outside_at : (key : ℕ) (d : Description) → fin.get t.descriptions.by_key key ≡ Some d → is_door (content_of s (birth_at t d.node)) ≡ leads_outside d.«end»
-  outside_at key d got = outside_by d.«end» (content_of s (birth_at t d.node)) (kind_at key d got)
+  outside_at key d got = outside_by d.«end» (content_of s (birth_at t d.node)) (kind_at t s shows key d got)
 
-  ties-close : (descriptor : ℤ) → FoundBoth t s descriptor → Ties t (call.Close descriptor) (close_plan t descriptor) (locked s (call.Close descriptor) nothing_carried) (close_result s descriptor)
+  ties-close : (descriptor : ℤ) → RefersAlike t s descriptor → Ties t (call.Close descriptor) (close_plan t descriptor) (locked s (call.Close descriptor) nothing_carried) (close_result s descriptor)
   unfolding close_plan close_result
   ties-close descriptor (Shut table state) = rw (table, state) (refl, (refl, refl))
   ties-close descriptor (Open key d offset at got there table state) =
@@ -422,7 +313,7 @@ module _ (t : TableState) (s : State) (sound : IsSound t) (all : AreSound t.desc
       by_tests after other is_of_door false true one both_are = rw (one, both_are) (refl, (refl, refl))
       by_tests after other is_of_door false false one both_are = rw (one, both_are) (refl, (refl, refl))
 
-  pub ends_shown : (target : ℤ) → FoundBoth t s target → duplicates.ends_a_door s target (posix.described s target) ≡ ends_a_door (described t target)
+  pub ends_shown : (target : ℤ) → RefersAlike t s target → duplicates.ends_a_door s target (posix.described s target) ≡ ends_a_door (described t target)
   ends_shown target (Shut table state) = rw (table, state) refl
   ends_shown target (Open key d offset at got there table state) =
       rw (table, state) (ap (λ (b : Bool). b && not (posix.has_descriptor (posix.freed s target) d.birth)) (outside_at key d got) ∙ ap (λ (b : Bool). leads_outside d.«end» && not b) (last_open target key d at got) ∙ by_last (d.holders == 1))
@@ -431,7 +322,7 @@ module _ (t : TableState) (s : State) (sound : IsSound t) (all : AreSound t.desc
       by_last true = refl
       by_last false = refl
 
-  ties-dup2 : (descriptor target : ℤ) → FoundBoth t s descriptor → FoundBoth t s target → Ties t (call.Dup2 descriptor target) (dup2_plan t descriptor target) (locked s (call.Dup2 descriptor target) nothing_carried) (dup2_result s descriptor target)
+  ties-dup2 : (descriptor target : ℤ) → RefersAlike t s descriptor → RefersAlike t s target → Ties t (call.Dup2 descriptor target) (dup2_plan t descriptor target) (locked s (call.Dup2 descriptor target) nothing_carried) (dup2_result s descriptor target)
   unfolding dup2_plan dup2_result
   ties-dup2 descriptor target (Shut table state) other = rw (table, state) (refl, (refl, refl))
   ties-dup2 descriptor target (Open key d offset at got there table state) other = rw (table, state, ends_shown target other) (by_number (descriptor_number target EBADF))
@@ -445,7 +336,7 @@ module _ (t : TableState) (s : State) (sound : IsSound t) (all : AreSound t.desc
       by_tests e after has false true one no_door = rw one (refl, (refl, refl))
       by_tests e after has false false one no_door = rw one (refl, (refl, refl))
 
-      by_target : (after : State) → FoundBoth t s target → ends_a_door (described t target) ≡ false → Ties t (call.Dup2 descriptor target) (Ok (replaced (described t target) (reply.Number target))) (Ok (closed_object s target (posix.described s target))) (Ok (Completes after (reply.Number target)))
+      by_target : (after : State) → RefersAlike t s target → ends_a_door (described t target) ≡ false → Ties t (call.Dup2 descriptor target) (Ok (replaced (described t target) (reply.Number target))) (Ok (closed_object s target (posix.described s target))) (Ok (Completes after (reply.Number target)))
       by_target after (Shut none nothing) ends = rw (none, nothing) (refl, (refl, refl))
       by_target after (Open k e o its is there found shown_is) ends =
           rw (found, shown_is) (by_tests e after (posix.has_descriptor (posix.freed s target) e.birth) (e.holders == 1) (leads_outside e.«end») (last_open target k e its is) (sym (ap ends_a_door found) ∙ ends))
@@ -555,7 +446,9 @@ module _ (t : TableState) (s : State) (sound : IsSound t) (all : AreSound t.desc
       shown_after = shows-without_name t s (name ∷ names) shows
 
       counted : links_of t.paths node ≡ 1 + links_of after.paths node
-      counted = counted-remove paths_total paths_apart (λ (e : List (List ℕ) × Node). is_file e.1 node) t.paths (name ∷ names) (FileNode node) at ∙ ap (λ (b : Bool). cond b 1 0 + links_of after.paths node) (same_nat node node refl)
+      counted =
+          counted-remove paths_total paths_apart (λ (e : List (List ℕ) × Node). is_file e.1 node) t.paths (name ∷ names) (FileNode node) at
+          ∙ ap (λ (b : Bool). cond b 1 0 + links_of after.paths node) (eq-eqb node node refl)
 
       by_rest : (a b : Bool) → AgreesOn t (call.Unlink path) (if not a && not b then locks node op.Release else plan.Reply reply.Done) (if a || b then None else Some (birth_at t node)) None (answer.Reply reply.Done)
       by_rest true b = (refl, (refl, refl))
@@ -592,89 +485,37 @@ module _ (t : TableState) (s : State) (sound : IsSound t) (all : AreSound t.desc
   made_here object n which access append nonblock true = ap (option_map (λ (d : Object.Description). d.object)) (get-insert_same s.descriptions s.next_description (record { object = object; «end» = which; access = access; offset = 0; append = append; nonblock = nonblock }))
   made_here object n which access append nonblock false = ap (option_map (λ (d : Object.Description). d.object)) (get-insert_same s.descriptions s.next_description (record { object = object; «end» = which; access = access; offset = 0; append = append; nonblock = nonblock }))
 
-  ties-there : (path : List ℕ) (node : Node) (access : Access) (flags : OpenFlags) → TiesOpen (call.Open path access flags) (open_there t node flags) (posix.open_there s (shown_node t node) access flags)
-  ties-there path Directory access flags = (refl, (refl, refl))
-  ties-there path (FileNode node) access flags = rw (lowest_shown t s 32 0 shows) (by_number (lowest_from t.descriptors 32 0))
-    where
-      by_number : (o : Option ℕ) → TiesOpen (call.Open path access flags) (some_or o EMFILE >>= (λ n. Ok (locks node (op.Open flags.truncate)))) (some_or o EMFILE >>= (λ n. Ok (Completes (opened (truncated s (birth_at t node) flags.truncate) n (birth_at t node) part.Only access flags.append flags.nonblock) (reply.Number (pos n)))))
-      by_number None = (refl, (refl, refl))
-      by_number (Some n) = (made_here (birth_at t node) n part.Only access flags.append flags.nonblock flags.truncate, (refl, refl))
-
-  -- there is a number for a new object just where there are not as many as there may be
-  pub full_shown : nat_le 48 (fin.len s.objects) ≡ not (is_some (free_object t))
-  full_shown = ap (nat_le 48) (objects_counted t.objects s.objects (holds_of t s sound shows)) ∙ by_free (free_object t) refl
-    where
-      long : length t.objects ≡ 48
-      long = sound.object_numbers
-
-      at_most : (n : ℕ) → n ≡ 48 → nat_le 48 n ≡ true
-      at_most n e = grind (arith, nat_tests)
-
-      below : (n : ℕ) → n < 48 → nat_le 48 n ≡ false
-      below n e = grind (arith, nat_tests)
-
-      by_free : (o : Option ℕ) → free_object t ≡ o → nat_le 48 (taken t.objects) ≡ not (is_some o)
-      by_free None is = at_most (taken t.objects) (all_taken t.objects (λ i inside. none_lowest t.objects 48 0 is i (omega arith) (omega (arith, long))) ∙ long)
-      by_free (Some n) is =
-          let inside : n < 0 + 48 = lowest_below t.objects 48 0 n is in
-          let fewer : taken t.objects < length t.objects = not_all_open t.objects n (omega (arith, long)) (lowest_none t.objects 48 0 n is) in
-          below (taken t.objects) (omega (arith, long))
-
-  ties-new : (path : List ℕ) (components : List (List ℕ)) (access : Access) (flags : OpenFlags) → TiesOpen (call.Open path access flags) (open_new t flags) (posix.open_new s components access flags)
-  ties-new path components access flags = rw (names_shown t s shows, full_shown, lowest_shown t s 32 0 shows) (by_rest (not flags.create) (nat_le 64 (fin.len t.paths)) (free_object t) (lowest_from t.descriptors 32 0) (λ node is. lowest_none t.objects 48 0 node is))
-    where
-      by_rest : (a b : Bool) (o number : Option ℕ) → ((node : ℕ) → o ≡ Some node → slice_index_or t.objects node None ≡ None)
-          → TiesOpen (call.Open path access flags) (refuse_if a ENOENT >>= (λ _. refuse_if b ENOSPC >>= (λ _. some_or o ENOSPC >>= (λ node. some_or number EMFILE >>= (λ _. Ok (locks node (op.Open true)))))))
-          (refuse_if a ENOENT >>= (λ _. refuse_if (b || not (is_some o)) ENOSPC >>= (λ _. some_or number EMFILE >>= (λ n. Ok (Completes (opened (with_file s components) n s.next_object part.Only access flags.append flags.nonblock) (reply.Number (pos n)))))))
-      by_rest true b o number free = (refl, (refl, refl))
-      by_rest false true o number free = (refl, (refl, refl))
-      by_rest false false None number free = (refl, (refl, refl))
-      by_rest false false (Some node) None free = (refl, (refl, refl))
-      by_rest false false (Some node) (Some n) free = (
-        ap (option_map (λ (d : Object.Description). d.object)) (get-insert_same s.descriptions s.next_description (record { object = s.next_object; «end» = part.Only; access = access; offset = 0; append = flags.append; nonblock = flags.nonblock }))
-            ∙ ap (λ (b : ℕ). Some b) shows.next_object ∙ ap (λ (o : Option ℕ). Some (unwrap_or o t.made_objects)) (sym (free node refl)),
+  ties-open : (path : List ℕ) (access : Access) (flags : OpenFlags)
+      → TiesOpen (call.Open path access flags) (open_plan t path access flags) (open_result s path access flags)
+  ties-open path access flags =
+      over_open t s sound all shows (TiesOpen (call.Open path access flags)) (λ e. (refl, (refl, refl))) path access flags
+      (λ n node. (made_here (birth_at t node) n part.Only access flags.append flags.nonblock flags.truncate, (refl, refl)))
+      (λ components n node at. (
+        ap (option_map (λ (d : Object.Description). d.object)) (get-insert_same s.descriptions s.next_description new)
+            ∙ ap (λ (b : ℕ). Some b) (sym at),
         (refl, refl),
-      )
-
-  ties-node : (path : List ℕ) (components : List (List ℕ)) (node : Option Node) (access : Access) (flags : OpenFlags) → TiesOpen (call.Open path access flags) (open_node t node flags) (posix.open_node s components (option_map (shown_node t) node) access flags)
-  ties-node path components None access flags = ties-new path components access flags
-  ties-node path components (Some node) access flags = by_refusal (flags.create && flags.exclusive)
+      ))
     where
-      by_refusal : (b : Bool) → TiesOpen (call.Open path access flags) (refuse_if b EEXIST >>= (λ _. open_there t node flags)) (refuse_if b EEXIST >>= (λ _. posix.open_there s (shown_node t node) access flags))
-      by_refusal true = (refl, (refl, refl))
-      by_refusal false = ties-there path node access flags
-
-  ties-open : (path : List ℕ) (access : Access) (flags : OpenFlags) → Ties t (call.Open path access flags) (open_plan t path access flags) (locked s (call.Open path access flags) nothing_carried) (open_result s path access flags)
-  unfolding open_plan open_result
-  ties-open path access flags = rw (resolved_shown t s path shows) (by_rest (flags.truncate && not (can_write access)) (resolved t.paths path))
-    where
-      by_rest : (b : Bool) (r : Result (List (List ℕ)) Errno) → TiesOpen (call.Open path access flags) (refuse_if b EINVAL >>= (λ _. r >>= (λ components. open_node t (node_at t.paths components) flags))) (refuse_if b EINVAL >>= (λ _. r >>= (λ components. posix.open_node s components (node_at s.paths components) access flags)))
-      by_rest true r = (refl, (refl, refl))
-      by_rest false (Err e) = (refl, (refl, refl))
-      by_rest false (Ok components) = rw (node_shown t s components shows) (ties-node path components (node_at t.paths components) access flags)
-
-  pub two_shown : sockets.two_numbers s ≡ two_numbers t
-  two_shown = ap (λ (o : Option ℕ). some_or o EMFILE >>= (λ first. some_or (posix.lowest_from s (32 - (first + 1)) (first + 1)) EMFILE >>= (λ second. both first second))) (lowest_shown t s 32 0 shows) ∙ by_first (lowest_from t.descriptors 32 0)
-    where
-      by_first : (o : Option ℕ) → (some_or o EMFILE >>= (λ first. some_or (posix.lowest_from s (32 - (first + 1)) (first + 1)) EMFILE >>= (λ second. both first second))) ≡ (some_or o EMFILE >>= (λ first. some_or (lowest_from t.descriptors (32 - (first + 1)) (first + 1)) EMFILE >>= (λ second. both first second)))
-      by_first None = refl
-      by_first (Some first) = ap (λ (o : Option ℕ). some_or o EMFILE >>= (λ second. both first second)) (lowest_shown t s (32 - (first + 1)) (first + 1) shows)
+      new : Object.Description
+      new = record {
+        object = s.next_object;
+        «end» = part.Only;
+        access = access;
+        offset = 0;
+        append = flags.append;
+        nonblock = flags.nonblock;
+      }
 
   ties-two_ends : (c : Call) (act : Op) (content : Content) (one other : NewEnd) → keeps_table c ≡ false → agreement.request_of c act ≡ None → TiesOpen c (two_ends_plan t act) (sockets.two_ends s content one other)
-  ties-two_ends c act content one other frees alone = rw (two_shown, full_shown) (by_rest (two_numbers t) (free_object t) (λ node is. lowest_none t.objects 48 0 node is))
+  ties-two_ends c act content one other frees alone =
+      over_two_ends t s sound all shows (TiesOpen c) (λ e. (refl, (refl, refl))) act content one other
+      (λ two node is at. (first_made two ∙ ap (λ (b : ℕ). Some b) (sym at), (sym alone, sym frees)))
     where
       first_made : (two : ℕ × ℕ) → option_map (λ (d : Object.Description). d.object) (fin.get (opened (opened (Object.with_object s content) two.0 s.next_object one.which one.access false false) two.1 s.next_object other.which other.access false false).descriptions s.next_description) ≡ Some s.next_object
       first_made two =
           let first : Object.Description = record { object = s.next_object; «end» = one.which; access = one.access; offset = 0; append = false; nonblock = false } in
           let second : Object.Description = record { object = s.next_object; «end» = other.which; access = other.access; offset = 0; append = false; nonblock = false } in
           ap (option_map (λ (d : Object.Description). d.object)) (get-insert_other (fin.insert s.descriptions s.next_description first) (s.next_description + 1) second s.next_description (λ same. absurd (omega (arith, same))) ∙ get-insert_same s.descriptions s.next_description first)
-
-      by_rest : (r : Result (ℕ × ℕ) Errno) (o : Option ℕ) → ((node : ℕ) → o ≡ Some node → slice_index_or t.objects node None ≡ None)
-          → TiesOpen c (r >>= (λ _. some_or o ENFILE >>= (λ node. Ok (locks node act))))
-          (r >>= (λ numbers. refuse_if (not (is_some o)) ENFILE >>= (λ _. Ok (Completes (opened (opened (Object.with_object s content) numbers.0 s.next_object one.which one.access false false) numbers.1 s.next_object other.which other.access false false) (reply.Pair (pos numbers.0) (pos numbers.1))))))
-      by_rest (Err e) o free = (refl, (refl, refl))
-      by_rest (Ok two) None free = (refl, (refl, refl))
-      by_rest (Ok two) (Some node) free = (first_made two ∙ ap (λ (b : ℕ). Some b) shows.next_object ∙ ap (λ (o : Option ℕ). Some (unwrap_or o t.made_objects)) (sym (free node refl)), (sym alone, sym frees))
 
   ties-pipe : Ties t call.Pipe (two_ends_plan t op.Pipe) (locked s call.Pipe nothing_carried) (pipe_result s)
   unfolding pipe_result
@@ -687,61 +528,9 @@ module _ (t : TableState) (s : State) (sound : IsSound t) (all : AreSound t.desc
   -- ## Opening a door
 
   ties-opens : (c : Call) (o : NewDoor) (listener : Option ℕ) → keeps_table c ≡ true → TiesOpen c (opens_plan t o.kind o.asked o.waits listener) (opens s o)
-  ties-opens c o listener keeps = rw (lowest_shown t s 32 0 shows, full_shown) (by_rest (lowest_from t.descriptors 32 0) (free_object t) (λ node is. lowest_none t.objects 48 0 node is))
-    where
-      by_rest : (number free : Option ℕ) → ((node : ℕ) → free ≡ Some node → slice_index_or t.objects node None ≡ None)
-          → TiesOpen c (some_or number EMFILE >>= (λ _. some_or free ENFILE >>= (λ node. Ok (plan.Node node (op.Ask (record { kind = o.kind; asked = o.asked; waits = o.waits; door = listener })) true))))
-          (some_or number EMFILE >>= (λ n. refuse_if (not (is_some free)) ENFILE >>= (λ _. Ok (Asks (asking_of s o n)))))
-      by_rest None free unused = (refl, (refl, refl))
-      by_rest (Some n) None unused = (refl, (refl, refl))
-      by_rest (Some n) (Some node) unused = (ap (λ (b : ℕ). Some b) shows.next_object ∙ ap (λ (o : Option ℕ). Some (unwrap_or o t.made_objects)) (sym (unused node refl)), (refl, sym keeps))
-
-  ties-host_open : (path : List ℕ) (access : Access) (flags : OpenFlags) → TiesOpen (call.HostOpen path access flags) (host_open_plan t path access flags) (host_open_result s path access flags)
-  unfolding host_open_plan host_open_result
-  ties-host_open path access flags = by_refusals (flags.truncate && not (can_write access)) (host_path path)
-    where
-      opening : NewDoor
-      opening = record { kind = out.Open; asked = 0; door = λ value. door.HostFile; access = access; append = flags.append; waits = false }
-
-      by_refusals : (b : Bool) (r : Result (Unit {0}) Errno) → TiesOpen (call.HostOpen path access flags) (refuse_if b EINVAL >>= (λ _. r >>= (λ _. opens_plan t out.Open 0 false None))) (refuse_if b EINVAL >>= (λ _. r >>= (λ _. opens s opening)))
-      by_refusals true r = (refl, (refl, refl))
-      by_refusals false (Err e) = (refl, (refl, refl))
-      by_refusals false (Ok u) = ties-opens (call.HostOpen path access flags) opening None refl
-
-  ties-listen : (port : ℤ) → TiesOpen (call.TcpListen port) (tcp_listen_plan t port) (tcp_listen_result s port)
-  unfolding tcp_listen_plan tcp_listen_result
-  ties-listen port = by_port (port_of 0 port)
-    where
-      opening : ℕ → NewDoor
-      opening asked = record { kind = out.Listen; asked = asked; door = λ value. door.Listener value; access = ReadWrite; append = false; waits = false }
-
-      by_port : (r : Result ℕ Errno) → TiesOpen (call.TcpListen port) (r >>= (λ asked. opens_plan t out.Listen asked false None)) (r >>= (λ asked. opens s (opening asked)))
-      by_port (Ok asked) = ties-opens (call.TcpListen port) (opening asked) None refl
-      by_port (Err e) = (refl, (refl, refl))
-
-  ties-connect : (port : ℤ) → TiesOpen (call.TcpConnect port) (tcp_connect_plan t port) (tcp_connect_result s port)
-  unfolding tcp_connect_plan tcp_connect_result
-  ties-connect port = by_port (port_of 1 port)
-    where
-      opening : ℕ → NewDoor
-      opening asked = record { kind = out.Connect; asked = asked; door = λ value. door.Stream; access = ReadWrite; append = false; waits = false }
-
-      by_port : (r : Result ℕ Errno) → TiesOpen (call.TcpConnect port) (r >>= (λ asked. opens_plan t out.Connect asked false None)) (r >>= (λ asked. opens s (opening asked)))
-      by_port (Ok asked) = ties-opens (call.TcpConnect port) (opening asked) None refl
-      by_port (Err e) = (refl, (refl, refl))
-
-  ties-accept : (descriptor : ℤ) → FoundBoth t s descriptor → TiesOpen (call.TcpAccept descriptor) (tcp_accept_plan t descriptor) (tcp_accept_result s descriptor)
-  unfolding tcp_accept_plan tcp_accept_result
-  ties-accept descriptor (Shut table state) = rw (table, state) (refl, (refl, refl))
-  ties-accept descriptor (Open key d offset at got there table state) =
-      rw (table, state, listener_by d.«end» (content_of s (birth_at t d.node)) (kind_at key d got)) (by_listener (of_listener d.«end»))
-    where
-      opening : NewDoor
-      opening = record { kind = out.Accept; asked = 0; door = λ value. door.Stream; access = ReadWrite; append = false; waits = not d.flags.nonblock }
-
-      by_listener : (r : Result (Unit {0}) Errno) → TiesOpen (call.TcpAccept descriptor) (r >>= (λ _. opens_plan t out.Accept 0 (not d.flags.nonblock) (Some d.node))) (r >>= (λ _. opens s opening))
-      by_listener (Ok u) = ties-opens (call.TcpAccept descriptor) opening (Some d.node) refl
-      by_listener (Err e) = (refl, (refl, refl))
+  ties-opens c o listener keeps =
+      over_opens t s sound all shows (TiesOpen c) (λ e. (refl, (refl, refl))) o listener
+      (λ n node at. (ap (λ (b : ℕ). Some b) (sym at), (refl, sym keeps)))
 
   ties-call : (c : Call) (carried : Carried) → Ties t c (plan_of t c) (locked s c carried) (effect_of s c carried)
   ties-call (call.Open path access flags) carried = ties-open path access flags
@@ -765,10 +554,18 @@ module _ (t : TableState) (s : State) (sound : IsSound t) (all : AreSound t.desc
   ties-call call.Pipe carried = ties-pipe
   ties-call call.Socketpair carried = ties-socketpair
   ties-call (call.Shutdown descriptor how) carried = ties-shutdown descriptor how (found_both t s descriptor sound shows)
-  ties-call (call.HostOpen path access flags) carried = ties-host_open path access flags
-  ties-call (call.TcpListen port) carried = ties-listen port
-  ties-call (call.TcpConnect port) carried = ties-connect port
-  ties-call (call.TcpAccept descriptor) carried = ties-accept descriptor (found_both t s descriptor sound shows)
+  ties-call (call.HostOpen path access flags) carried =
+      over_host_open t s (TiesOpen (call.HostOpen path access flags)) (λ e. (refl, (refl, refl))) path access flags
+      (ties-opens (call.HostOpen path access flags) (host_door access flags) None refl)
+  ties-call (call.TcpListen port) carried =
+      over_listen t s (TiesOpen (call.TcpListen port)) (λ e. (refl, (refl, refl))) port
+      (λ asked. ties-opens (call.TcpListen port) (listener_door asked) None refl)
+  ties-call (call.TcpConnect port) carried =
+      over_connect t s (TiesOpen (call.TcpConnect port)) (λ e. (refl, (refl, refl))) port
+      (λ asked. ties-opens (call.TcpConnect port) (stream_door asked) None refl)
+  ties-call (call.TcpAccept descriptor) carried =
+      over_accept t s (TiesOpen (call.TcpAccept descriptor)) (λ e. (refl, (refl, refl))) descriptor shows
+      (found_both t s descriptor sound shows) (λ d. ties-opens (call.TcpAccept descriptor) (accepted_door d) (Some d.node) refl)
 
 -- what has to wait, or goes outside, is not answered by the table
 concluded_agrees : (t : TableState) (settings : Settings) (s : State) (c : Call) (outcome : Option Outcome) (carried : Carried) (p : Plan) (object : Option ℕ) (does : Result Effect Errno) → AgreesOn t c p object (request_of c does) (answer_of does) → AgreesOn t c p object (request_of c does) (concluded settings s outcome carried does).answer

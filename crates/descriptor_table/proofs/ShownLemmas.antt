@@ -1,6 +1,6 @@
 -- What a table shows of a state: descriptors and their descriptions.
-use Rattle.std.proofs.Common.{◌≡◌, ℕ, zero, suc, ◌+◌, ◌<◌, ◌==◌, ◌||◌, List, [], ◌∷◌, length, Option, Some, None, is_some, unwrap_or, Bool, true, false, cond, not, if◌then◌else◌, refl, sym, ap, ◌∙◌, inl, inr, arith}
-use Rattle.std.proofs.lemmas.Bool.{cases_eq, false≢true}
+use Rattle.std.proofs.Common.{◌≡◌, ℕ, zero, suc, ◌+◌, ◌<◌, ◌==◌, ◌||◌, List, [], ◌∷◌, length, Option, Some, None, is_some, Bool, true, false, cond, not, if◌then◌else◌, refl, sym, ap, ◌∙◌, inl, inr, arith}
+use Rattle.std.proofs.lemmas.Bool.{cases_eq, eq-eqb, eqb-true, false≢true}
 use Rattle.std.proofs.lemmas.Bool.Decides.{nat_tests}
 use Rattle.std.proofs.lemmas.List.{length-set, get_or-set_same, get_or-set_other}
 use Rattle.std.proofs.lemmas.List.Sums.{sum_by-cons}
@@ -13,14 +13,15 @@ use Rattle.std.specs.Prelude.{ℤ, pos, negsuc, slice_index_or, slice_set}
 use Rattle.sequential_object.specs.Descriptors as posix
 use Rattle.sequential_object.specs.Descriptors.{is_key}
 use Rattle.sequential_object.specs.Object.{State, Content, Description as ADescription, any_below, empty_state, path_cmp}
-use Rattle.file_descriptions.specs.Descriptions.{AreSound, description_at, no_description}
+use Rattle.file_descriptions.specs.Descriptions.{AreSound, description_at}
 use Rattle.file_descriptions.specs.declared.description.Description.{Description}
-use Rattle.descriptor_table.proofs.SoundLemmas.{get-remove_other, get-remove_same, held-set, held_by, itself, known_at, known_of, none_past, same_nat, slot_replicate}
-use Rattle.descriptor_table.proofs.KnownLemmas.{equal_nat, some_inside}
-use Rattle.descriptor_table.specs.Laws.{FoundBoth}
-use Rattle.descriptor_table.specs.Laws.FoundBoth.{Open, Shut}
+use Rattle.std.specs.Cmp.{both_ways}
+use Rattle.descriptor_table.proofs.MapLemmas.{get-remove_other, get-remove_same}
+use Rattle.descriptor_table.proofs.SoundLemmas.{description_got, held-set, held_by, key_inside, known_at, known_of, slot_replicate}
+use Rattle.descriptor_table.specs.Laws.{RefersAlike}
+use Rattle.descriptor_table.specs.Laws.RefersAlike.{Open, Shut}
 use Rattle.descriptor_table.specs.Shows.{Shows, birth_of, shown_node}
-use Rattle.descriptor_table.specs.Table.{TableState, IsSound, described, empty_table, key_at, lowest_from}
+use Rattle.descriptor_table.specs.Table.{TableState, IsSound, empty_table, key_at, lowest_from}
 
 pub key_shown : (t : TableState) (s : State) (descriptor : ℤ) → Shows t s → posix.key_at s descriptor ≡ option_map (birth_of t) (key_at t descriptor)
 key_shown t s (pos n) shows = shows.descriptors n
@@ -30,10 +31,10 @@ pub key_known : (t : TableState) (descriptor : ℤ) (key : ℕ) → IsSound t �
 key_known t (pos n) key sound is = known_at t.descriptions key (known_of t n key sound is)
 key_known t (negsuc n) key sound is = cc
 
-pub found_both : (t : TableState) (s : State) (descriptor : ℤ) → IsSound t → Shows t s → FoundBoth t s descriptor
+pub found_both : (t : TableState) (s : State) (descriptor : ℤ) → IsSound t → Shows t s → RefersAlike t s descriptor
 found_both t s descriptor sound shows = by_key (key_at t descriptor) refl
   where
-    by_key : (o : Option ℕ) → key_at t descriptor ≡ o → FoundBoth t s descriptor
+    by_key : (o : Option ℕ) → key_at t descriptor ≡ o → RefersAlike t s descriptor
     by_key None at =
         let none : posix.key_at s descriptor ≡ None = key_shown t s descriptor shows ∙ ap (option_map (birth_of t)) at in
         Shut (rw at refl) (rw none refl)
@@ -62,19 +63,13 @@ lowest_shown t s (suc left) n shows =
 
 -- ## The last descriptor of a description
 
--- no two descriptions have one birth
-pub one_birth : (t : TableState) (key other : ℕ) (d e : Description) → AreSound t.descriptions → fin.get t.descriptions.by_key key ≡ Some d → fin.get t.descriptions.by_key other ≡ Some e → d.birth ≡ e.birth → key ≡ other
-one_birth t key other d e all got its same = all.distinct key other d e got its same
-
 -- a descriptor that is open refers to this key just where the state has its birth there
 key_by_birth : (t : TableState) (o : Option ℕ) (key : ℕ) → ((q : ℕ) → o ≡ Some q → birth_of t q ≡ birth_of t key → q ≡ key) → is_key (option_map (birth_of t) o) (birth_of t key) ≡ is_key o key
 key_by_birth t None key apart = refl
-key_by_birth t (Some q) key apart = by_test (birth_of t q == birth_of t key) refl (q == key) refl
-  where
-    by_test : (a : Bool) → (birth_of t q == birth_of t key) ≡ a → (b : Bool) → (q == key) ≡ b → (birth_of t q == birth_of t key) ≡ (q == key)
-    by_test true x b y = x ∙ sym (same_nat q key (apart q refl (equal_nat (birth_of t q) (birth_of t key) x)))
-    by_test false x true y = absurd (false≢true (sym x ∙ same_nat (birth_of t q) (birth_of t key) (ap (birth_of t) (equal_nat q key y))))
-    by_test false x false y = x ∙ sym y
+key_by_birth t (Some q) key apart =
+    both_ways (birth_of t q == birth_of t key) (q == key)
+    (λ x. eq-eqb q key (apart q refl (eqb-true (birth_of t q) (birth_of t key) x)))
+    (λ y. eq-eqb (birth_of t q) (birth_of t key) (ap (birth_of t) (eqb-true q key y)))
 
 -- whether one of the first n slots has a key
 abbrev keyed : List (Option ℕ) → ℕ → ℕ → Bool
@@ -152,13 +147,13 @@ last_shown t s n key d sound all shows at got =
     left = slice_set t.descriptors n None
 
     within : n < length t.descriptors
-    within = some_inside t.descriptors n (ap (λ (o : Option ℕ). is_some o) at) (none_past t.descriptors n)
+    within = key_inside t.descriptors n key at
 
     long : length left ≡ 32
     long = length-set t.descriptors n None ∙ sound.numbers
 
     here : description_at t.descriptions key ≡ d
-    here = ap (λ (o : Option Description). unwrap_or o no_description) got
+    here = description_got t.descriptions key d got
 
     each : (m : ℕ) → is_key (fin.get (fin.remove s.descriptors n) m) d.birth ≡ is_key (slice_index_or left m None) key
     each m =
@@ -169,7 +164,8 @@ last_shown t s n key d sound all shows at got =
     fewer : d.holders ≡ held_by left key + 1
     fewer =
         let set : held_by left key + cond (is_key (slice_index_or t.descriptors n None) key) 1 0 ≡ held_by t.descriptors key + 0 = held-set t.descriptors n key None within in
-        let was : ◌≡◌ {A = ℕ} (cond (is_key (slice_index_or t.descriptors n None) key) 1 0) 1 = ap (λ (o : Option ℕ). cond (is_key o key) 1 0) at ∙ ap (λ (b : Bool). cond b 1 0) (itself key) in
+        let was : ◌≡◌ {A = ℕ} (cond (is_key (slice_index_or t.descriptors n None) key) 1 0) 1 = ap
+        (λ (o : Option ℕ). cond (is_key o key) 1 0) at ∙ ap (λ (b : Bool). cond b 1 0) (eq-eqb key key refl) in
         let count : (description_at t.descriptions key).holders ≡ held_by t.descriptors key = sound.held key in
         omega (arith, set, was, count, ap (λ (x : Description). x.holders) here)
 

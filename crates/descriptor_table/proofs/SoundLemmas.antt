@@ -1,18 +1,16 @@
 -- Changes that keep a table sound.
 use Rattle.std.proofs.Common.{replicate, not, ◌&&◌, Result, Ok, Err, ◌≡◌, ◌≢◌, ℕ, zero, suc, ◌+◌, ◌-◌, ◌<◌, ◌≤◌, ◌==◌, List, [], ◌∷◌, length, Option, Some, None, is_some, IsTrue, Bool, true, false, cond, count_by, unwrap_or, refl, sym, ap, ◌∙◌, subst, inl, inr, arith}
-use Rattle.std.proofs.lemmas.Bool.{cases_eq, false≢true}
+use Rattle.std.proofs.lemmas.Bool.{and_parts, cases_eq, eq-eqb, eqb-true, false≢true}
 use Rattle.std.proofs.lemmas.Bool.Decides.{nat_tests}
 use Rattle.std.proofs.lemmas.List.{length-set, get_or-set_same, get_or-set_other}
 use Rattle.std.proofs.lemmas.List.Sums.{sum_by-set, sum_by-cons, count_by-le-length}
-use Rattle.std.proofs.lemmas.Option.{none-some, same_Some}
-use Rattle.std.proofs.lemmas.Cmp.{lists_total}
-use Rattle.std.specs.Cmp.{IsTotalOrder, nat_cmp_is, nat_cmp_total, unsigned_tied}
+use Rattle.std.proofs.lemmas.Option.{none-some}
+use Rattle.std.specs.Cmp.{nat_cmp_total}
 use Rattle.std.specs.FinMap as fin
-use Rattle.std.specs.FinMap.{FinMap, get-insert, get-remove, len-remove, len-empty, get-empty, same_map, nat_cmp-IsAntisymmetric}
-use Rattle.std.specs.Ordering.{nat_cmp, eq_by_cmp}
+use Rattle.std.specs.FinMap.{FinMap, len-remove, get-empty}
+use Rattle.std.specs.Ordering.{nat_cmp}
 use Rattle.directories.specs.Lookup.{looked_up}
 use Rattle.std.specs.Prelude.{nat_le, IfOk, IfErr, ℤ, pos, negsuc, slice_index_or, slice_set}
-use Rattle.std.specs.declared.cmp.Ordering.TheVariants.{Equal}
 use Rattle.sequential_object.specs.Descriptors.{is_file, is_key}
 use Rattle.sequential_object.specs.Names.{PathMap, added, file_named, file_node, has_entries, links_of, removed, removed_dir, removed_dir_at}
 use Rattle.sequential_object.specs.Object.{Node, FileNode, Directory, path_cmp}
@@ -23,8 +21,10 @@ use Rattle.posix_terms.specs.declared.errno.Errno.TheVariants.{EBUSY, EEXIST, EN
 use Rattle.posix_terms.specs.Ends.{is_first}
 use Rattle.file_descriptions.specs.Descriptions.{AreSound, ContainsKey, DescriptionMap, description_at, has_first_end, has_second_end, is_last_held, no_description, with_description, with_holder, with_new, without, without_holder}
 use Rattle.file_descriptions.specs.declared.description.Description.{Description}
+use Rattle.descriptor_table.proofs.Closing.{over_closed}
+use Rattle.descriptor_table.proofs.MapLemmas.{each_put, get-insert_other, get-insert_same, get-remove_other, get-remove_same, got_less, got_put, no_keys, paths_total, some_less}
 use Rattle.descriptor_table.proofs.ObjectLemmas.{Taken, IsNew, IsOld, freed_slot, slot, taken_slot, uncounted, uncounted_value}
-use Rattle.descriptor_table.specs.Changes.{closed, let_go, shared, with_object, without_gone}
+use Rattle.descriptor_table.specs.Changes.{closed, let_go, shared, with_object}
 use Rattle.descriptor_table.specs.Table.{TableState, IsSound, empty_table, is_closed, is_gone, is_used, key_at}
 
 pub numbers_of : (t : TableState) → IsSound t → length t.descriptors ≡ 32
@@ -34,28 +34,6 @@ pub object_numbers_of : (t : TableState) → IsSound t → length t.objects ≡ 
 object_numbers_of t sound = sound.object_numbers
 
 -- ## A description under a key
-
-pub tied_not : (x y : ℕ) → x ≢ y → eq_by_cmp nat_cmp x y ≡ false
-tied_not x y apart = unsigned_tied x y ∙ grind (arith, nat_tests)
-
-pub paths_total : IsTotalOrder path_cmp
-paths_total = lists_total (lists_total nat_cmp_total)
-
-tied_same : (x : ℕ) → nat_cmp x x ≡ Equal
-tied_same x = sym (nat_cmp_is x x Equal refl)
-
-module _ {X : Type 0} where
-  pub get-insert_same : (m : FinMap nat_cmp X) (key : ℕ) (x : X) → fin.get (fin.insert m key x) key ≡ Some x
-  get-insert_same m key x = get-insert nat_cmp_total m key x key ∙ rw (tied_same key) refl
-
-  pub get-insert_other : (m : FinMap nat_cmp X) (key : ℕ) (x : X) (q : ℕ) → q ≢ key → fin.get (fin.insert m key x) q ≡ fin.get m q
-  get-insert_other m key x q apart = get-insert nat_cmp_total m key x q ∙ rw (tied_not q key apart) refl
-
-  pub get-remove_same : (m : FinMap nat_cmp X) (key : ℕ) → fin.get (fin.remove m key) key ≡ None
-  get-remove_same m key = get-remove nat_cmp_total m key key ∙ rw (tied_same key) refl
-
-  pub get-remove_other : (m : FinMap nat_cmp X) (key : ℕ) (q : ℕ) → q ≢ key → fin.get (fin.remove m key) q ≡ fin.get m q
-  get-remove_other m key q apart = get-remove nat_cmp_total m key q ∙ rw (tied_not q key apart) refl
 
 abbrev or_none : Option Description → Description
 or_none o = unwrap_or o no_description
@@ -83,9 +61,6 @@ held_by descriptors key = count_by (λ (o : Option ℕ). is_key o key) descripto
 abbrev holders_at : DescriptionMap → ℕ → ℕ
 holders_at m key = (description_at m key).holders
 
-pub itself : (key : ℕ) → (key == key) ≡ true
-itself key = grind (arith, nat_tests)
-
 pub another : (x y : ℕ) → x ≢ y → (x == y) ≡ false
 another x y apart = grind (arith, nat_tests)
 
@@ -105,25 +80,22 @@ known_at m key there = by_found (fin.get m.by_key key) refl
     by_found None is = absurd (false≢true (sym (ap (λ (o : Option Description). is_some o) is) ∙ there))
     by_found (Some d) is = rw is refl
 
+pub description_got : (m : DescriptionMap) (key : ℕ) (d : Description) → fin.get m.by_key key ≡ Some d → description_at m key ≡ d
+description_got m key d got = ap or_none got
+
 pub used_of : (t : TableState) (key : ℕ) → IsSound t → ContainsKey t.descriptions key → is_used t (description_at t.descriptions key).node ≡ true
 used_of t key sound known = sound.described_objects key (description_at t.descriptions key) (known_at t.descriptions key known)
 
-of_objects_put : (t : TableState) (m : FinMap nat_cmp Description) (key : ℕ) (d : Description) → ((q : ℕ) (e : Description) → fin.get m q ≡ Some e → is_used t e.node ≡ true) → is_used t d.node ≡ true → (q : ℕ) (e : Description) → fin.get (fin.insert m key d) q ≡ Some e → is_used t e.node ≡ true
-of_objects_put t m key d each used q e is =
-    elim (cases_eq q key) [
-      | inl here ↦ (let same : d ≡ e = same_Some _ _ (sym (ap (fin.get (fin.insert m key d)) here ∙ get-insert_same m key d) ∙ is) in subst (λ (x : Description). is_used t x.node ≡ true) same used)
-      | inr apart ↦ each q e (sym (get-insert_other m key d q apart) ∙ is)
-    ]
+of_objects_put : (t : TableState) (m : FinMap nat_cmp Description) (key : ℕ) (d : Description)
+    → ((q : ℕ) (e : Description) → fin.get m q ≡ Some e → is_used t e.node ≡ true) → is_used t d.node ≡ true
+    → (q : ℕ) (e : Description) → fin.get (fin.insert m key d) q ≡ Some e → is_used t e.node ≡ true
+of_objects_put t m key d each used = each_put nat_cmp_total (λ (e : Description). is_used t e.node ≡ true) m key d each used
 
 of_objects_with : (t : TableState) (key : ℕ) (d : Description) → IsSound t → is_used t d.node ≡ true → AreOfObjects t (with_description t.descriptions key d)
 of_objects_with t key d sound used = of_objects_put t t.descriptions.by_key key d sound.described_objects used
 
 of_objects_without : (t : TableState) (key : ℕ) → IsSound t → AreOfObjects t (without t.descriptions key)
-of_objects_without t key sound q e is =
-    elim (cases_eq q key) [
-      | inl here ↦ absurd (none-some _ (sym (ap (fin.get (fin.remove t.descriptions.by_key key)) here ∙ get-remove_same t.descriptions.by_key key) ∙ is))
-      | inr apart ↦ sound.described_objects q e (sym (get-remove_other t.descriptions.by_key key q apart) ∙ is)
-    ]
+of_objects_without t key sound q e is = sound.described_objects q e (got_less nat_cmp_total t.descriptions.by_key key q e is)
 
 -- ## Changes
 
@@ -171,12 +143,22 @@ none_past [] (suc n) h = refl
 none_past (o ∷ os) zero h = absurd (omega arith)
 none_past (o ∷ os) (suc n) h = none_past os n (omega arith)
 
+-- what stands somewhere stands before the end
+pub some_inside : (slots : List (Option ℕ)) (n : ℕ) → is_some (slice_index_or slots n None) ≡ true → n < length slots
+some_inside slots n used = by_end (none_past slots n)
+  where
+    by_end : (length slots ≤ n → slice_index_or slots n None ≡ None) → n < length slots
+    by_end past = grind (arith, nat_tests)
+
+pub key_inside : (slots : List (Option ℕ)) (n key : ℕ) → slice_index_or slots n None ≡ Some key → n < length slots
+key_inside slots n key at = some_inside slots n (ap (λ (o : Option ℕ). is_some o) at)
+
 -- a descriptor refers to a description that is there
 held-some : (descriptors : List (Option ℕ)) (n key : ℕ) → slice_index_or descriptors n None ≡ Some key → 0 < held_by descriptors key
 held-some [] zero key is = absurd (none-some _ is)
 held-some [] (suc n) key is = absurd (none-some _ is)
 held-some (o ∷ os) zero key is =
-    let here : is_key o key ≡ true = ap (λ (x : Option ℕ). is_key x key) is ∙ itself key in
+    let here : is_key o key ≡ true = ap (λ (x : Option ℕ). is_key x key) is ∙ eq-eqb key key refl in
     let one : ◌≡◌ {A = ℕ} (cond (is_key o key) 1 0) 1 = ap (λ (b : Bool). cond b 1 0) here in
     omega (arith, sum_by-cons (λ (x : Option ℕ). cond (is_key x key) 1 0) o os, one)
 held-some (o ∷ os) (suc n) key is = omega (arith, sum_by-cons (λ (x : Option ℕ). cond (is_key x key) 1 0) o os, held-some os n key is)
@@ -207,7 +189,7 @@ sound-named t paths sound there =
 -- ## One descriptor more, or less
 
 cond_self : (key : ℕ) → ◌≡◌ {A = ℕ} (cond (key == key) 1 0) 1
-cond_self key = ap (λ (b : Bool). cond b 1 0) (itself key)
+cond_self key = ap (λ (b : Bool). cond b 1 0) (eq-eqb key key refl)
 
 cond_other : (key q : ℕ) → q ≢ key → ◌≡◌ {A = ℕ} (cond (key == q) 1 0) 0
 cond_other key q apart = ap (λ (b : Bool). cond b 1 0) (another key q (λ e. apart (sym e)))
@@ -280,17 +262,10 @@ sound-let_go t n key sound inside is = sound-changed t (without_holder t.descrip
 
 -- ## There are no more descriptions than open descriptors
 
-no_keys : (m : FinMap nat_cmp Description) → ((q : ℕ) → fin.get m q ≡ None) → fin.len m ≡ 0
-no_keys m none = ap fin.len (same_map nat_cmp_total nat_cmp-IsAntisymmetric m (fin.empty {X = Description} {R = nat_cmp}) (λ q. none q ∙ sym (get-empty nat_cmp q))) ∙ len-empty nat_cmp Description
-
-abbrev is_open : Option ℕ → Bool
+abbrev pub is_open : Option ℕ → Bool
 is_open o = is_some o
 
-absent : (o : Option Description) → (IsTrue (is_some o) → ⊥) → o ≡ None
-absent None h = refl
-absent (Some d) h = absurd (h refl)
-
-open-cons : (o : Option ℕ) (os : List (Option ℕ)) → count_by is_open (o ∷ os) ≡ cond (is_open o) 1 0 + count_by is_open os
+pub open-cons : (o : Option ℕ) (os : List (Option ℕ)) → count_by is_open (o ∷ os) ≡ cond (is_open o) 1 0 + count_by is_open os
 open-cons o os = sum_by-cons (λ (x : Option ℕ). cond (is_open x) 1 0) o os
 
 held-cons : (o : Option ℕ) (os : List (Option ℕ)) (q : ℕ) → held_by (o ∷ os) q ≡ cond (is_key o q) 1 0 + held_by os q
@@ -301,7 +276,7 @@ cond_less true n k h = omega arith
 cond_less false n k h = omega arith
 
 few-keys : (descriptors : List (Option ℕ)) (m : FinMap nat_cmp Description) → ((q : ℕ) → IsTrue (is_some (fin.get m q)) → 0 < held_by descriptors q) → fin.len m ≤ count_by is_open descriptors
-few-keys [] m each = rw (no_keys m (λ q. absent (fin.get m q) (λ there. let h : 0 < held_by [] q = each q there in absurd (omega arith)))) (omega arith)
+few-keys [] m each = rw (no_keys m (λ q there. let h : 0 < held_by [] q = each q there in absurd (omega arith))) (omega arith)
 few-keys (None ∷ os) m each =
     let rest = few-keys os m (λ q there. let h : 0 < held_by (None ∷ os) q = each q there in omega (arith, held-cons None os q)) in
     omega (arith, rest, open-cons None os)
@@ -311,10 +286,7 @@ few-keys (Some key ∷ os) m each =
     omega (arith, cond_less (fin.contains_key m key) (fin.len m) (count_by is_open os) less, open-cons (Some key) os)
   where
     others : (q : ℕ) → IsTrue (is_some (fin.get (fin.remove m key) q)) → 0 < held_by os q
-    others q there = elim (cases_eq q key) [
-      | inl e ↦ absurd (false≢true (sym (ap (λ (o : Option Description). is_some o) (ap (fin.get (fin.remove m key)) e ∙ get-remove_same m key)) ∙ there))
-      | inr apart ↦ later q apart (each q (subst (λ (o : Option Description). IsTrue (is_some o)) (get-remove_other m key q apart) there))
-    ]
+    others q there = let old = some_less m key q there in later q old.0 (each q old.1)
       where
         later : (q : ℕ) → q ≢ key → 0 < held_by (Some key ∷ os) q → 0 < held_by os q
         later q apart h = omega (arith, h, held-cons (Some key) os q, cond_other key q apart)
@@ -346,19 +318,17 @@ room_of t n sound all inside free =
 -- ## Names
 
 -- what names lead to after one more, or one less
-names_put : (t : TableState) (path : List (List ℕ)) (node : Node) → IsSound t → ((n : ℕ) → node ≡ FileNode n → is_used t n ≡ true) → (q : List (List ℕ)) (n : ℕ) → fin.get (fin.insert t.paths path node) q ≡ Some (FileNode n) → is_used t n ≡ true
-names_put t path node sound used q n is = by_tie (eq_by_cmp path_cmp q path) refl
-  where
-    by_tie : (b : Bool) → eq_by_cmp path_cmp q path ≡ b → is_used t n ≡ true
-    by_tie true tied = used n (same_Some _ _ (sym (get-insert paths_total t.paths path node q ∙ ap (λ (b : Bool). cond b (Some node) (fin.get t.paths q)) tied) ∙ is))
-    by_tie false tied = sound.named_objects q n (sym (get-insert paths_total t.paths path node q ∙ ap (λ (b : Bool). cond b (Some node) (fin.get t.paths q)) tied) ∙ is)
+names_put : (t : TableState) (path : List (List ℕ)) (node : Node) → IsSound t → ((n : ℕ) → node ≡ FileNode n → is_used t n ≡ true)
+    → (q : List (List ℕ)) (n : ℕ) → fin.get (fin.insert t.paths path node) q ≡ Some (FileNode n) → is_used t n ≡ true
+names_put t path node sound used q n is =
+    elim (got_put paths_total t.paths path node q (FileNode n) is) [
+      | inl same ↦ used n same
+      | inr old ↦ sound.named_objects q n old
+    ]
 
-pub names_without : (t : TableState) (path : List (List ℕ)) → IsSound t → (q : List (List ℕ)) (n : ℕ) → fin.get (fin.remove t.paths path) q ≡ Some (FileNode n) → is_used t n ≡ true
-names_without t path sound q n is = by_tie (eq_by_cmp path_cmp q path) refl
-  where
-    by_tie : (b : Bool) → eq_by_cmp path_cmp q path ≡ b → is_used t n ≡ true
-    by_tie true tied = absurd (none-some _ (sym (get-remove paths_total t.paths path q ∙ ap (λ (b : Bool). cond b None (fin.get t.paths q)) tied) ∙ is))
-    by_tie false tied = sound.named_objects q n (sym (get-remove paths_total t.paths path q ∙ ap (λ (b : Bool). cond b None (fin.get t.paths q)) tied) ∙ is)
+pub names_without : (t : TableState) (path : List (List ℕ)) → IsSound t
+    → (q : List (List ℕ)) (n : ℕ) → fin.get (fin.remove t.paths path) q ≡ Some (FileNode n) → is_used t n ≡ true
+names_without t path sound q n is = sound.named_objects q n (got_less paths_total t.paths path q (FileNode n) is)
 
 -- a chain that comes through came through its first link
 pub bind_ok : {A B : Type 0} (r : Result A Errno) (f : A → Result B Errno) (y : B) → (r >>= f) ≡ Ok y → (x : A) × ((r ≡ Ok x) × (f x ≡ Ok y))
@@ -367,6 +337,9 @@ bind_ok (Err e) f y is = cc
 
 pub ok_same : {A : Type 0} (x y : A) → ◌≡◌ {A = Result A Errno} (Ok x) (Ok y) → x ≡ y
 ok_same x y is = cc
+
+pub same_file : (n m : ℕ) → FileNode n ≡ FileNode m → n ≡ m
+same_file n m e = cc
 
 -- a new name is one entry more, and a name taken away one less
 pub added_as : (paths : PathMap) (path : List ℕ) (node : Node) (after : PathMap) → added paths path node ≡ Ok after → (components : List (List ℕ)) × (after ≡ fin.insert paths components node)
@@ -478,41 +451,41 @@ more_some objects node n new inside there =
       | inr apart ↦ kept_some objects node n (Some new) apart there
     ]
 
-both_none : (a b : Bool) → (a && b) ≡ true → (a ≡ true) × (b ≡ true)
-both_none true true e = (refl, refl)
-both_none true false e = absurd (false≢true e)
-both_none false b e = absurd (false≢true e)
-
-pub is_zero : (n : ℕ) → (n == 0) ≡ true → n ≡ 0
-is_zero n e = grind (arith, nat_tests)
-
-pub same_nat : (n m : ℕ) → n ≡ m → (n == m) ≡ true
-same_nat n m e = grind (arith, nat_tests)
-
 either_end : (d : Description) (node : ℕ) (first : Bool) → d.node ≡ node → ((d.node == node) && first) ≡ false → ((d.node == node) && not first) ≡ false → ⊥
-either_end d node true same first second = false≢true (sym first ∙ ap (λ (b : Bool). b && true) (same_nat d.node node same))
-either_end d node false same first second = false≢true (sym second ∙ ap (λ (b : Bool). b && true) (same_nat d.node node same))
+either_end d node true same first second = false≢true (sym first ∙ ap (λ (b : Bool). b && true) (eq-eqb d.node node same))
+either_end d node false same first second = false≢true (sym second ∙ ap (λ (b : Bool). b && true) (eq-eqb d.node node same))
 
 -- no description is of an object that has no ends
 pub not_described : (t : TableState) (node : ℕ) → is_closed t node ≡ true → (key : ℕ) (d : Description) → fin.get t.descriptions.by_key key ≡ Some d → d.node ≢ node
 not_described t node shut key d is same =
-    let none = both_none (count_by (has_first_end node) (fin.values t.descriptions.by_key) == 0) (count_by (has_second_end node) (fin.values t.descriptions.by_key) == 0) shut in
+    let none = and_parts (count_by (has_first_end node) (fin.values t.descriptions.by_key) == 0)
+    (count_by (has_second_end node) (fin.values t.descriptions.by_key) == 0) shut in
     either_end d node (is_first d.«end») same
-    (uncounted_value nat_cmp (has_first_end node) t.descriptions.by_key key d is (is_zero _ none.0))
-    (uncounted_value nat_cmp (has_second_end node) t.descriptions.by_key key d is (is_zero _ none.1))
+    (uncounted_value nat_cmp (has_first_end node) t.descriptions.by_key key d is (eqb-true _ 0 none.0))
+    (uncounted_value nat_cmp (has_second_end node) t.descriptions.by_key key d is (eqb-true _ 0 none.1))
 
 pub not_named : (t : TableState) (node : ℕ) → links_of t.paths node ≡ 0 → (path : List (List ℕ)) (n : ℕ) → fin.get t.paths path ≡ Some (FileNode n) → n ≢ node
 not_named t node none path n is same =
-    false≢true (sym (uncounted path_cmp (λ x. is_file x node) t.paths path (FileNode n) is none) ∙ same_nat n node same)
+    false≢true (sym (uncounted path_cmp (λ x. is_file x node) t.paths path (FileNode n) is none) ∙ eq-eqb n node same)
 
 pub sound-freed : (t : TableState) (node : ℕ) → is_gone t node ≡ true → IsSound t → IsSound (record t { objects = slice_set t.objects node None })
 sound-freed t node gone sound =
-    let none = both_none (is_closed t node) (links_of t.paths node == 0) gone in
+    let none = and_parts (is_closed t node) (links_of t.paths node == 0) gone in
     sound-numbers t t.paths (slice_set t.objects node None) t.made_objects sound (length-set t.objects node None ∙ sound.object_numbers)
     (λ key d is. kept_some t.objects node d.node None (not_described t node none.0 key d is) (sound.described_objects key d is))
-    (λ path n is. kept_some t.objects node n None (not_named t node (is_zero _ none.1) path n is) (sound.named_objects path n is))
+    (λ path n is. kept_some t.objects node n None (not_named t node (eqb-true _ 0 none.1) path n is) (sound.named_objects path n is))
     (λ n birth is. sound.born n birth (freed_slot t.objects node n birth is).0)
     (λ n m birth is its. sound.distinct n m birth (freed_slot t.objects node n birth is).0 (freed_slot t.objects node m birth its).0)
+
+-- what remains when a descriptor is closed
+pub sound-closed : (t : TableState) (n key : ℕ) → IsSound t → slice_index_or t.descriptors n None ≡ Some key → IsSound (closed t n key)
+sound-closed t n key sound at = over_closed IsSound t n key left (λ node gone. sound-freed (let_go t n key) node gone left)
+  where
+    inside : n < 32
+    inside = let below : n < length t.descriptors = key_inside t.descriptors n key at in omega (arith, below, sound.numbers)
+
+    left : IsSound (let_go t n key)
+    left = sound-let_go t n key sound inside at
 
 born_made : (t : TableState) (node n birth : ℕ) → IsSound t → Taken t.objects node t.made_objects n birth → birth < t.made_objects + 1
 born_made t node n birth sound (IsNew here is) = omega (arith, is)
@@ -538,19 +511,20 @@ pub sound-with_file : (t : TableState) (components : List (List ℕ)) (node : �
 sound-with_file t components node within free sound =
     sound-numbers t (fin.insert t.paths components (FileNode node)) (slice_set t.objects node (Some t.made_objects)) (t.made_objects + 1) sound (length-set t.objects node (Some t.made_objects) ∙ sound.object_numbers)
     (λ key d is. more_some t.objects node d.node t.made_objects within (sound.described_objects key d is))
-    (λ q n h. named_made t components node within sound q n h)
+    (λ q n h. named_made q n h)
     (λ n birth is. born_made t node n birth sound (taken_slot t.objects node t.made_objects n birth within is))
     (λ n m birth is its. distinct_made t node n m birth sound (taken_slot t.objects node t.made_objects n birth within is) (taken_slot t.objects node t.made_objects m birth within its))
   where
-    named_made : (t : TableState) (components : List (List ℕ)) (node : ℕ) → node < length t.objects → IsSound t → (q : List (List ℕ)) (n : ℕ) → fin.get (fin.insert t.paths components (FileNode node)) q ≡ Some (FileNode n) → is_some (slot (slice_set t.objects node (Some t.made_objects)) n) ≡ true
-    named_made t components node within sound q n is = by_tie (eq_by_cmp path_cmp q components) refl
-      where
-        by_tie : (b : Bool) → eq_by_cmp path_cmp q components ≡ b → is_some (slot (slice_set t.objects node (Some t.made_objects)) n) ≡ true
-        by_tie true tied =
-            let same : Some (FileNode node) ≡ Some (FileNode n) = sym (get-insert paths_total t.paths components (FileNode node) q ∙ ap (λ (b : Bool). cond b (Some (FileNode node)) (fin.get t.paths q)) tied) ∙ is in
-            let number : node ≡ n = cc in
-            ap (λ (x : Option ℕ). is_some x) (ap (slot (slice_set t.objects node (Some t.made_objects))) (sym number) ∙ get_or-set_same t.objects node (Some t.made_objects) None within)
-        by_tie false tied = more_some t.objects node n t.made_objects within (sound.named_objects q n (sym (get-insert paths_total t.paths components (FileNode node) q ∙ ap (λ (b : Bool). cond b (Some (FileNode node)) (fin.get t.paths q)) tied) ∙ is))
+    named_made : (q : List (List ℕ)) (n : ℕ) → fin.get (fin.insert t.paths components (FileNode node)) q ≡ Some (FileNode n)
+        → is_some (slot (slice_set t.objects node (Some t.made_objects)) n) ≡ true
+    named_made q n is =
+        elim (got_put paths_total t.paths components (FileNode node) q (FileNode n) is) [
+          | inl same ↦ (
+              ap (λ (x : Option ℕ). is_some x)
+              (ap (slot (slice_set t.objects node (Some t.made_objects))) (sym (same_file node n same))
+              ∙ get_or-set_same t.objects node (Some t.made_objects) None within))
+          | inr old ↦ more_some t.objects node n t.made_objects within (sound.named_objects q n old)
+        ]
 
 pub sound-made : (t : TableState) (path : List ℕ) (node : ℕ) (after : PathMap) → added t.paths path (FileNode node) ≡ Ok after → node < 48 → slot t.objects node ≡ None → IsSound t → IsSound (record t { paths = after; objects = slice_set t.objects node (Some t.made_objects); made_objects = t.made_objects + 1 })
 sound-made t path node after is inside free sound =
@@ -580,23 +554,19 @@ pub ruleset sound = (numbers_of, object_numbers_of, known_of, none_past)
 
 -- ## What a descriptor refers to after a change
 
-gone_kept : (b : Bool) (t u : TableState) → t.descriptors ≡ u.descriptors → (cond b t u).descriptors ≡ u.descriptors
-gone_kept true t u same = same
-gone_kept false t u same = refl
-
-descriptors-closed : (last : Bool) (left : TableState) (node : ℕ) → (cond last (without_gone left node) left).descriptors ≡ left.descriptors
-descriptors-closed true left node = gone_kept (is_gone left node) (record left { objects = slice_set left.objects node None }) left refl
-descriptors-closed false left node = refl
+descriptors-closed : (t : TableState) (n key : ℕ) → (closed t n key).descriptors ≡ slice_set t.descriptors n None
+descriptors-closed t n key =
+    over_closed (λ (u : TableState). u.descriptors ≡ slice_set t.descriptors n None) t n key refl (λ node gone. refl)
 
 -- a closed number refers to nothing
 pub closed_same : (t : TableState) (n key : ℕ) → n < length t.descriptors → key_at (closed t n key) (pos n) ≡ None
 closed_same t n key h =
-    ap (λ (ds : List (Option ℕ)). slice_index_or ds n None) (descriptors-closed (is_last_held t.descriptions key) (let_go t n key) (description_at t.descriptions key).node)
+    ap (λ (ds : List (Option ℕ)). slice_index_or ds n None) (descriptors-closed t n key)
     ∙ get_or-set_same t.descriptors n None None h
 
 apart_at : (t : TableState) (n key m : ℕ) → m ≢ n → slice_index_or (closed t n key).descriptors m None ≡ slice_index_or t.descriptors m None
 apart_at t n key m apart =
-    ap (λ (ds : List (Option ℕ)). slice_index_or ds m None) (descriptors-closed (is_last_held t.descriptions key) (let_go t n key) (description_at t.descriptions key).node)
+    ap (λ (ds : List (Option ℕ)). slice_index_or ds m None) (descriptors-closed t n key)
     ∙ get_or-set_other t.descriptors n m None None apart
 
 -- and another one to what it referred to

@@ -26,27 +26,37 @@ pub record FollowsStep (t : TableState) (c : Call) : Type 0 where
   -- where it changes no table, the table as it is shows the state after it
   pub unchanged : Changes t c None t → ChangesAsStep t c None t
 
--- what a descriptor refers to, in the table and in the state
-pub data FoundBoth (t : TableState) (s : State) (descriptor : ℤ) : Type 0 where
-  Shut : (table : described t descriptor ≡ Err EBADF) → (state : posix.described s descriptor ≡ Err EBADF) → FoundBoth t s descriptor
+-- a descriptor refers to the same in the table and in the state: to nothing, or to a description that each has
+pub data RefersAlike (t : TableState) (s : State) (descriptor : ℤ) : Type 0 where
+  Shut : (table : described t descriptor ≡ Err EBADF) → (state : posix.described s descriptor ≡ Err EBADF) → RefersAlike t s descriptor
   Open : (key : ℕ) (d : Description) (offset : ℕ)
-      → (at : key_at t descriptor ≡ Some key) → (got : map.get t.descriptions.by_key key ≡ Some d) → (there : map.get s.descriptions d.birth ≡ Some (shown t d offset))
-      → (table : described t descriptor ≡ Ok (key, d)) → (state : posix.described s descriptor ≡ Ok (d.birth, shown t d offset)) → FoundBoth t s descriptor
+      → (at : key_at t descriptor ≡ Some key)
+      → (got : map.get t.descriptions.by_key key ≡ Some d)
+      → (there : map.get s.descriptions d.birth ≡ Some (shown t d offset))
+      → (table : described t descriptor ≡ Ok (key, d))
+      → (state : posix.described s descriptor ≡ Ok (d.birth, shown t d offset))
+      → RefersAlike t s descriptor
 
-abbrev pub at_offset : TableState → ℕ → ℕ → TableState
-at_offset t key offset = record t { descriptions = with_offset t.descriptions key offset }
+-- the table with another offset of one description
+abbrev pub with_offset_at : TableState → ℕ → ℕ → TableState
+with_offset_at t key offset = record t { descriptions = with_offset t.descriptions key offset }
 
--- what a table shows is no matter of offsets
+-- a table with another offset is sound, and shows what it showed
 pub record OffsetIsFree (t : TableState) (key offset : ℕ) : Type 0 where
-  pub sound : IsSound (at_offset t key offset)
-  pub described : AreSound (at_offset t key offset).descriptions
-  pub shows : (s : State) → Shows t s → Shows (at_offset t key offset) s
+  pub sound : IsSound (with_offset_at t key offset)
+  pub described : AreSound (with_offset_at t key offset).descriptions
+  pub shows : (s : State) → Shows t s → Shows (with_offset_at t key offset) s
 
 pub record TableFollows : Type 0 where
+  -- what is planned of a call is what its step does
   pub calls : (t : TableState) (c : Call) → IsSound t → AreSound t.descriptions → FollowsStep t c
-  pub found : (t : TableState) (s : State) (descriptor : ℤ) → IsSound t → Shows t s → FoundBoth t s descriptor
-  -- the file of a path is there
-  pub named : (t : TableState) (path : List ℕ) (node : ℕ) → IsSound t → file_named t.paths path ≡ Ok node → is_used t node ≡ true
-  -- doors of one kind, and listeners of one port, are the same
+  -- a descriptor refers to what it refers to in the state that the table shows
+  pub found : (t : TableState) (s : State) (descriptor : ℤ) → IsSound t → Shows t s → RefersAlike t s descriptor
+  -- the file that a path names is one of the objects in use
+  pub named : (t : TableState) (path : List ℕ) (node : ℕ) → IsSound t
+      → file_named t.paths path ≡ Ok node → is_used t node ≡ true
+  -- two doors of one kind, or listeners of one port, are the same
   pub doors : (one other : Door) → same_door one other ≡ true → other ≡ one
-  pub offsets : (t : TableState) (key offset : ℕ) → IsSound t → AreSound t.descriptions → ContainsKey t.descriptions key → OffsetIsFree t key offset
+  -- no description's offset matters
+  pub offsets : (t : TableState) (key offset : ℕ) → IsSound t → AreSound t.descriptions
+      → ContainsKey t.descriptions key → OffsetIsFree t key offset

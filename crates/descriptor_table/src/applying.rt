@@ -1,6 +1,5 @@
 ghost use Rattle.std.specs.Prelude.{◌≡◌, ◌≢◌, ◌<◌, ◌^◌, ℤ, pos, IfOk, IfErr, Ok, Err, Some, None, IsTrue, true, false, if◌then◌else◌, option_copied};
-ghost use Rattle.std.specs.FinMap as map;
-ghost use Rattle.descriptor_table.specs.Changes.{Changes, IsOpened, close_change, closed, closed_if_open, IsAtPort, OpensDoor, door_given, door_flags, new_door, dup_change, dup_from_change, dup2_change, found_or_made, AreOpened, is_refused, kept_or, link_change, mkdir_change, numbers_given, two_ends, two_given, opened_number, opening, shared, rmdir_change, setfl_change, unlink_change};
+ghost use Rattle.descriptor_table.specs.Changes.{Changes, IsOpened, close_change, closed, closed_if_open, IsAtPort, OpensDoor, door_given, new_door, dup_change, dup_from_change, dup2_change, found_or_made, AreOpened, is_refused, kept_or, link_change, mkdir_change, numbers_given, two_ends, two_given, opened_number, opening, shared, rmdir_change, setfl_change, unlink_change};
 ghost use Rattle.descriptor_table.specs.Agreement.{ChangesAsStep, NumbersStay, OffsetsStay, TellsAsStep};
 ghost use Rattle.descriptor_table.specs.Plans.{planned};
 ghost use Rattle.descriptor_table.specs.declared.plan.NewNumbers.TheVariants as numbers;

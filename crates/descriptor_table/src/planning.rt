@@ -3,7 +3,7 @@ ghost use Rattle.descriptor_table.specs.Acts.{ActsAsStep, StaysAsStep};
 ghost use Rattle.descriptor_table.specs.Agreement.{PlansAsStep};
 ghost use Rattle.descriptor_table.specs.Table.{is_used};
 ghost use Rattle.sequential_object.specs.Names.{file_named};
-ghost use Rattle.descriptor_table.specs.Plans.{LocksKnown, addable, open_plan, close_plan, read_count, read_plan, write_plan, pread_plan, pwrite_plan, lseek_plan, ftruncate_plan, fstat_plan, dup_plan, dup_from_plan, dup2_plan, status_number, getfl_plan, setfl_plan, shutdown_plan, stat_by, two_ends_plan, act_or_ask, errand, host_open_plan, leads_outside, not_listener, of_listener, opens_plan, seekable, shut_act, tcp_accept_plan, tcp_connect_plan, tcp_listen_plan, link_plan, unlink_plan, mkdir_plan, rmdir_plan, plan_of, planned, locks, seen, release, open_there, open_new, open_node};
+ghost use Rattle.descriptor_table.specs.Plans.{LocksKnown, addable, open_plan, close_plan, read_count, read_plan, write_plan, pread_plan, pwrite_plan, lseek_plan, ftruncate_plan, fstat_plan, dup_plan, dup_from_plan, dup2_plan, status_number, getfl_plan, setfl_plan, shutdown_plan, stat_by, two_ends_plan, act_or_ask, errand, host_open_plan, leads_outside, not_listener, of_listener, opens_plan, seekable, shut_act, tcp_accept_plan, tcp_connect_plan, tcp_listen_plan, link_plan, unlink_plan, mkdir_plan, rmdir_plan, plan_of, planned, locks, seen, release, open_there, open_new};
 ghost use Rattle.directories.specs.Entries.{node_of};
 ghost use Rattle.std.specs.Prelude.{not};
 ghost use Rattle.posix_terms.specs.Ends.{is_end};

@@ -1,11 +1,11 @@
-ghost use Rattle.std.specs.Prelude.{◌≡◌, ◌<◌, ◌≤◌, [], pos, length, ◌^◌, option_map, slice_index_or, slice_set, true, IfOk, IfErr, IfSome, Some, None, Ok, Err, if◌then◌else◌};
+ghost use Rattle.std.specs.Prelude.{◌≡◌, ◌<◌, ◌≤◌, [], pos, ◌^◌, option_map, slice_index_or, slice_set, true, IfOk, IfErr, IfSome, Some, None, Ok, Err, if◌then◌else◌};
 ghost use Rattle.std.specs.FinMap as map;
 ghost use Rattle.file_descriptions.specs.Descriptions.{AreSound, ContainsKey, description_at, is_last_held, with_flags, with_offset, ends_of};
-ghost use Rattle.sequential_object.specs.Names.{added, file_named, removed, removed_dir};
+ghost use Rattle.sequential_object.specs.Names.{added, removed, removed_dir};
 ghost use Rattle.descriptor_table.specs.Shows.{Shows};
 ghost use Rattle.sequential_object.specs.Object.{State, FileNode, empty_state, Directory as a_directory};
 ghost use Rattle.descriptor_table.specs.Changes.{file_at, let_go, opened, paths_or, shared, with_object, with_paths, without_gone};
-ghost use Rattle.descriptor_table.specs.Table.{IsSound, empty_table, key_at, described, lowest_free, free_object, is_closed, is_gone, is_last_name, is_used, two_numbers};
+ghost use Rattle.descriptor_table.specs.Table.{IsSound, empty_table, key_at, described, lowest_free, free_object, is_closed, is_gone, is_used, two_numbers};
 
 use crate::slots::lowest_from;
 use directories::Names;

@@ -1,4 +1,5 @@
 pub mod Counting
+pub mod Giving
 pub mod OutcomeList
 pub mod Host
 pub mod Opening

@@ -1,5 +1,6 @@
-ghost use Rattle.std.specs.Prelude.{◌≡◌, ◌-◌, ◌^◌, ◌<◌};
+ghost use Rattle.std.specs.Prelude.{◌≡◌};
 ghost use Rattle.host_doors.specs.Counting.{counted};
+ghost use Rattle.host_doors.specs.Giving.{CanCount};
 
 use posix_terms::Outcome;
 
@@ -18,8 +19,7 @@ impl Counts {
 
     /// Counts one more outcome.
     pub(crate) fn count(&mut self, outcome: &Outcome)
-        requires room { self.old.given < 2 ^ 64 - 1 }
-        requires few { self.old.failures < 2 ^ 64 - 1 }
+        requires count { CanCount self.old.given self.old.failures }
         ensures { self.new ≡ counted self.old outcome.now }
     {
         self.given += 1;

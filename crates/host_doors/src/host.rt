@@ -1,4 +1,4 @@
-ghost use Rattle.std.specs.Prelude.{◌≡◌, ◌-◌, ◌^◌, ◌<◌, true, [], Ok, None, Some, IfErr, IfOk, IfSome, IsOk, OnErr};
+ghost use Rattle.std.specs.Prelude.{◌≡◌, true, [], Ok, None, Some, IfErr, IfOk, IfSome, IsOk, OnErr};
 ghost use Rattle.std.specs.IoError.{error_kind};
 ghost use Rattle.posix_terms.specs.Outcomes.{fits};
 ghost use Rattle.posix_terms.specs.declared.errno.Errno.TheVariants as errno;
@@ -8,6 +8,7 @@ ghost use Rattle.host_doors.specs.declared.counts.Counts.{Counts};
 ghost use Rattle.host_doors.specs.Asked.{bytes_of};
 ghost use Rattle.host_doors.specs.Channels.{TellsRead, TellsWrite};
 ghost use Rattle.host_doors.specs.Counting.{counted};
+ghost use Rattle.host_doors.specs.Giving.{CanCount};
 ghost use Rattle.host_doors.specs.Host.{GivesAny, error_of};
 ghost use Rattle.host_doors.specs.Opening.{outcome_of, HasDoor};
 
@@ -61,8 +62,7 @@ impl<R> HostDoors<R> {
 
     /// Counts a failure.
     fn fail(&mut self, error: Errno) -> Outcome
-        requires room { self.old.given < 2 ^ 64 - 1 }
-        requires few { self.old.failures < 2 ^ 64 - 1 }
+        requires count { CanCount self.old.given self.old.failures }
         ensures outcome { result ≡ outcome.Fail error }
         ensures counted { self.new ≡ counted self.old result }
     {
@@ -74,8 +74,7 @@ impl<R> HostDoors<R> {
     /// Counts a success, or `EIO` where what the host gave does not answer the request.
     #[tactic(auto, unfolding(posix_terms::specs::Outcomes::fits))]
     fn succeed(&mut self, request: &Request, value: u64, bytes: Bytes) -> Outcome
-        requires room { self.old.given < 2 ^ 64 - 1 }
-        requires few { self.old.failures < 2 ^ 64 - 1 }
+        requires count { CanCount self.old.given self.old.failures }
         ensures fits { fits request.now.kind request.now.asked result ≡ true }
         ensures value { fits request.now.kind request.now.asked (outcome.Ok value bytes) ≡ true → result ≡ outcome.Ok value bytes }
         ensures counted { self.new ≡ counted self.old result }
@@ -91,8 +90,7 @@ impl<R> HostDoors<R> {
     /// The outcome of what the host gave, where it has no bytes.
     #[tactic(auto, unfolding(posix_terms::specs::Outcomes::fits))]
     fn answer(&mut self, request: &Request, found: io::Result<u64>) -> Outcome
-        requires room { self.old.given < 2 ^ 64 - 1 }
-        requires few { self.old.failures < 2 ^ 64 - 1 }
+        requires count { CanCount self.old.given self.old.failures }
         ensures fits { fits request.now.kind request.now.asked result ≡ true }
         ensures value { IfOk found (λ value. fits request.now.kind request.now.asked (outcome.Ok value []) ≡ true → result ≡ outcome.Ok value []) }
         ensures error { IfErr found (λ error. result ≡ outcome.Fail (error_of (error_kind error))) }
@@ -111,8 +109,7 @@ impl<R> HostDoors<R> {
         request: &Request,
         channel: &mut C,
     ) -> Result<Outcome, DoorStop>
-        requires room { self.old.given < 2 ^ 64 - 1 }
-        requires few { self.old.failures < 2 ^ 64 - 1 }
+        requires count { CanCount self.old.given self.old.failures }
         ensures gives { GivesAny request.now self.old self.new result }
         ensures read { IfOk result (TellsRead C.gave channel.old channel.new request.now) }
         ensures same { OnErr result (channel.new ≡ channel.old) }
@@ -129,8 +126,7 @@ impl<R> HostDoors<R> {
     /// What comes of one write to the channel, of as many of the call's bytes as were asked.
     #[tactic(auto, unfolding(posix_terms::specs::Outcomes::fits))]
     fn write_to<C: Channel>(&mut self, request: &Request, channel: &mut C) -> Outcome
-        requires room { self.old.given < 2 ^ 64 - 1 }
-        requires few { self.old.failures < 2 ^ 64 - 1 }
+        requires count { CanCount self.old.given self.old.failures }
         ensures fits { fits request.now.kind request.now.asked result ≡ true }
         ensures counted { self.new ≡ counted self.old result }
         ensures wrote { IfSome (bytes_of request.now.call) (λ bytes. TellsWrite C.took channel.old channel.new request.now bytes result) }
@@ -148,8 +144,7 @@ impl<R> HostDoors<R> {
         request: &Request,
         found: io::Result<(HostDoor, u64)>,
     ) -> Opened<HostDoor>
-        requires room { self.old.given < 2 ^ 64 - 1 }
-        requires few { self.old.failures < 2 ^ 64 - 1 }
+        requires count { CanCount self.old.given self.old.failures }
         ensures fits { fits request.now.kind request.now.asked result.outcome ≡ true }
         ensures value { IfOk found (λ opened. fits request.now.kind request.now.asked (outcome.Ok opened.1 []) ≡ true → (result.outcome ≡ outcome.Ok opened.1 []) × (result.door ≡ Some opened.0)) }
         ensures error { IfErr found (λ error. result.outcome ≡ outcome.Fail (error_of (error_kind error))) }
@@ -190,8 +185,7 @@ impl<R: Files<File = File> + Net<Listener = TcpListener, Stream = TcpStream>> Ou
         _number: u64,
         request: &Request,
     ) -> Result<Opened<HostDoor>, DoorStop>
-        requires room { self.old.given < 2 ^ 64 - 1 }
-        requires few { self.old.failures < 2 ^ 64 - 1 }
+        requires count { CanCount self.old.given self.old.failures }
         ensures gives { GivesAny request.now self.old self.new (outcome_of result) }
         ensures ok { IsOk result }
         ensures door { IfOk result (λ o. HasDoor o.outcome o.door) }
@@ -207,8 +201,7 @@ impl<R: Files<File = File> + Net<Listener = TcpListener, Stream = TcpStream>> Ou
         request: &Request,
         door: &mut HostDoor,
     ) -> Result<Outcome, DoorStop>
-        requires room { self.old.given < 2 ^ 64 - 1 }
-        requires few { self.old.failures < 2 ^ 64 - 1 }
+        requires count { CanCount self.old.given self.old.failures }
         ensures { GivesAny request.now self.old self.new result }
     {
         self.read_from(request, door)
@@ -221,8 +214,7 @@ impl<R: Files<File = File> + Net<Listener = TcpListener, Stream = TcpStream>> Ou
         request: &Request,
         door: &mut HostDoor,
     ) -> Result<Outcome, DoorStop>
-        requires room { self.old.given < 2 ^ 64 - 1 }
-        requires few { self.old.failures < 2 ^ 64 - 1 }
+        requires count { CanCount self.old.given self.old.failures }
         ensures gives { GivesAny request.now self.old self.new result }
         ensures ok { IsOk result }
     {
@@ -236,8 +228,7 @@ impl<R: Files<File = File> + Net<Listener = TcpListener, Stream = TcpStream>> Ou
         request: &Request,
         door: &mut HostDoor,
     ) -> Result<Outcome, DoorStop>
-        requires room { self.old.given < 2 ^ 64 - 1 }
-        requires few { self.old.failures < 2 ^ 64 - 1 }
+        requires count { CanCount self.old.given self.old.failures }
         ensures gives { GivesAny request.now self.old self.new result }
         ensures ok { IsOk result }
     {
@@ -250,8 +241,7 @@ impl<R: Files<File = File> + Net<Listener = TcpListener, Stream = TcpStream>> Ou
         _number: u64,
         request: &Request,
     ) -> Result<Opened<HostDoor>, DoorStop>
-        requires room { self.old.given < 2 ^ 64 - 1 }
-        requires few { self.old.failures < 2 ^ 64 - 1 }
+        requires count { CanCount self.old.given self.old.failures }
         ensures gives { GivesAny request.now self.old self.new (outcome_of result) }
         ensures ok { IsOk result }
         ensures door { IfOk result (λ o. HasDoor o.outcome o.door) }
@@ -267,8 +257,7 @@ impl<R: Files<File = File> + Net<Listener = TcpListener, Stream = TcpStream>> Ou
         _number: u64,
         request: &Request,
     ) -> Result<Opened<HostDoor>, DoorStop>
-        requires room { self.old.given < 2 ^ 64 - 1 }
-        requires few { self.old.failures < 2 ^ 64 - 1 }
+        requires count { CanCount self.old.given self.old.failures }
         ensures gives { GivesAny request.now self.old self.new (outcome_of result) }
         ensures ok { IsOk result }
         ensures door { IfOk result (λ o. HasDoor o.outcome o.door) }
@@ -284,8 +273,7 @@ impl<R: Files<File = File> + Net<Listener = TcpListener, Stream = TcpStream>> Ou
         request: &Request,
         door: &mut HostDoor,
     ) -> Result<Opened<HostDoor>, DoorStop>
-        requires room { self.old.given < 2 ^ 64 - 1 }
-        requires few { self.old.failures < 2 ^ 64 - 1 }
+        requires count { CanCount self.old.given self.old.failures }
         ensures gives { GivesAny request.now self.old self.new (outcome_of result) }
         ensures ok { IsOk result }
         ensures door { IfOk result (λ o. HasDoor o.outcome o.door) }
@@ -301,8 +289,7 @@ impl<R: Files<File = File> + Net<Listener = TcpListener, Stream = TcpStream>> Ou
         request: &Request,
         door: &mut HostDoor,
     ) -> Result<Outcome, DoorStop>
-        requires room { self.old.given < 2 ^ 64 - 1 }
-        requires few { self.old.failures < 2 ^ 64 - 1 }
+        requires count { CanCount self.old.given self.old.failures }
         ensures gives { GivesAny request.now self.old self.new result }
         ensures ok { IsOk result }
     {
@@ -318,8 +305,7 @@ impl<R: Files<File = File> + Net<Listener = TcpListener, Stream = TcpStream>> Ou
         request: &Request,
         door: HostDoor,
     ) -> Result<Outcome, DoorStop>
-        requires room { self.old.given < 2 ^ 64 - 1 }
-        requires few { self.old.failures < 2 ^ 64 - 1 }
+        requires count { CanCount self.old.given self.old.failures }
         ensures gives { GivesAny request.now self.old self.new result }
         ensures ok { IsOk result }
         ensures closed { request.now.kind ≡ kind.Close → result ≡ Ok (outcome.Ok 0 []) }

@@ -1,8 +1,7 @@
-ghost use Rattle.std.specs.Prelude.{◌≡◌, ◌+◌, ◌-◌, ◌^◌, ◌<◌, ℕ, true, IfOk, OnOk, OnErr};
-ghost use Rattle.posix_terms.specs.Outcomes.{fits};
+ghost use Rattle.std.specs.Prelude.{◌≡◌, ℕ, IfOk, OnErr};
 ghost use Rattle.posix_terms.specs.declared.outcome.Outcome.{Outcome};
 ghost use Rattle.posix_terms.specs.declared.request.Request.{Request};
-ghost use Rattle.host_doors.specs.Counting.{failures_after};
+ghost use Rattle.host_doors.specs.Giving.{CanCount, GivesOne};
 ghost use Rattle.host_doors.specs.Opening.{HasDoor};
 
 use crate::opened::Opened;
@@ -31,13 +30,9 @@ pub trait Outside {
         number: u64,
         request: &Request,
     ) -> Result<Opened<Self::Door>, DoorStop>
-        requires room { given self.old < 2 ^ 64 - 1 }
-        requires few { failures self.old < 2 ^ 64 - 1 }
-        ensures fits { IfOk result (λ o. fits request.now.kind request.now.asked o.outcome ≡ true) }
+        requires count { CanCount (given self.old) (failures self.old) }
+        ensures gives { IfOk result (λ o. GivesOne given failures gives self.old number request.now o.outcome self.new) }
         ensures door { IfOk result (λ o. HasDoor o.outcome o.door) }
-        ensures gives { IfOk result (λ o. gives self.old number request.now o.outcome self.new) }
-        ensures counted { OnOk result (given self.new ≡ given self.old + 1) }
-        ensures failed { IfOk result (λ o. failures self.new ≡ failures_after o.outcome (failures self.old)) }
         ensures same { OnErr result (self.new ≡ self.old) };
 
     /// Reads at most the bytes asked for from a host file or a stream (`read`). On a stream it may wait
@@ -49,12 +44,8 @@ pub trait Outside {
         request: &Request,
         door: &mut Self::Door,
     ) -> Result<Outcome, DoorStop>
-        requires room { given self.old < 2 ^ 64 - 1 }
-        requires few { failures self.old < 2 ^ 64 - 1 }
-        ensures fits { IfOk result (λ o. fits request.now.kind request.now.asked o ≡ true) }
-        ensures gives { IfOk result (λ o. gives self.old number request.now o self.new) }
-        ensures counted { OnOk result (given self.new ≡ given self.old + 1) }
-        ensures failed { IfOk result (λ o. failures self.new ≡ failures_after o (failures self.old)) }
+        requires count { CanCount (given self.old) (failures self.old) }
+        ensures gives { IfOk result (λ o. GivesOne given failures gives self.old number request.now o self.new) }
         ensures same { OnErr result (self.new ≡ self.old) };
 
     /// Writes the call's bytes, or the first of them, to a host file or a stream (`write`). On a stream it may
@@ -66,12 +57,8 @@ pub trait Outside {
         request: &Request,
         door: &mut Self::Door,
     ) -> Result<Outcome, DoorStop>
-        requires room { given self.old < 2 ^ 64 - 1 }
-        requires few { failures self.old < 2 ^ 64 - 1 }
-        ensures fits { IfOk result (λ o. fits request.now.kind request.now.asked o ≡ true) }
-        ensures gives { IfOk result (λ o. gives self.old number request.now o self.new) }
-        ensures counted { OnOk result (given self.new ≡ given self.old + 1) }
-        ensures failed { IfOk result (λ o. failures self.new ≡ failures_after o (failures self.old)) }
+        requires count { CanCount (given self.old) (failures self.old) }
+        ensures gives { IfOk result (λ o. GivesOne given failures gives self.old number request.now o self.new) }
         ensures same { OnErr result (self.new ≡ self.old) };
 
     /// Moves the offset of a host file (`lseek`). The value is the new offset.
@@ -82,12 +69,8 @@ pub trait Outside {
         request: &Request,
         door: &mut Self::Door,
     ) -> Result<Outcome, DoorStop>
-        requires room { given self.old < 2 ^ 64 - 1 }
-        requires few { failures self.old < 2 ^ 64 - 1 }
-        ensures fits { IfOk result (λ o. fits request.now.kind request.now.asked o ≡ true) }
-        ensures gives { IfOk result (λ o. gives self.old number request.now o self.new) }
-        ensures counted { OnOk result (given self.new ≡ given self.old + 1) }
-        ensures failed { IfOk result (λ o. failures self.new ≡ failures_after o (failures self.old)) }
+        requires count { CanCount (given self.old) (failures self.old) }
+        ensures gives { IfOk result (λ o. GivesOne given failures gives self.old number request.now o self.new) }
         ensures same { OnErr result (self.new ≡ self.old) };
 
     /// Makes a listener on the loopback address (`socket`, `bind`, `listen`). The value is its port.
@@ -97,13 +80,9 @@ pub trait Outside {
         number: u64,
         request: &Request,
     ) -> Result<Opened<Self::Door>, DoorStop>
-        requires room { given self.old < 2 ^ 64 - 1 }
-        requires few { failures self.old < 2 ^ 64 - 1 }
-        ensures fits { IfOk result (λ o. fits request.now.kind request.now.asked o.outcome ≡ true) }
+        requires count { CanCount (given self.old) (failures self.old) }
+        ensures gives { IfOk result (λ o. GivesOne given failures gives self.old number request.now o.outcome self.new) }
         ensures door { IfOk result (λ o. HasDoor o.outcome o.door) }
-        ensures gives { IfOk result (λ o. gives self.old number request.now o.outcome self.new) }
-        ensures counted { OnOk result (given self.new ≡ given self.old + 1) }
-        ensures failed { IfOk result (λ o. failures self.new ≡ failures_after o.outcome (failures self.old)) }
         ensures same { OnErr result (self.new ≡ self.old) };
 
     /// Makes a stream to a port of the loopback address (`connect`). It may wait for the peer.
@@ -113,13 +92,9 @@ pub trait Outside {
         number: u64,
         request: &Request,
     ) -> Result<Opened<Self::Door>, DoorStop>
-        requires room { given self.old < 2 ^ 64 - 1 }
-        requires few { failures self.old < 2 ^ 64 - 1 }
-        ensures fits { IfOk result (λ o. fits request.now.kind request.now.asked o.outcome ≡ true) }
+        requires count { CanCount (given self.old) (failures self.old) }
+        ensures gives { IfOk result (λ o. GivesOne given failures gives self.old number request.now o.outcome self.new) }
         ensures door { IfOk result (λ o. HasDoor o.outcome o.door) }
-        ensures gives { IfOk result (λ o. gives self.old number request.now o.outcome self.new) }
-        ensures counted { OnOk result (given self.new ≡ given self.old + 1) }
-        ensures failed { IfOk result (λ o. failures self.new ≡ failures_after o.outcome (failures self.old)) }
         ensures same { OnErr result (self.new ≡ self.old) };
 
     /// Takes a connection of a listener (`accept`). It never waits: where there is none, it answers `EAGAIN`.
@@ -130,13 +105,9 @@ pub trait Outside {
         request: &Request,
         door: &mut Self::Door,
     ) -> Result<Opened<Self::Door>, DoorStop>
-        requires room { given self.old < 2 ^ 64 - 1 }
-        requires few { failures self.old < 2 ^ 64 - 1 }
-        ensures fits { IfOk result (λ o. fits request.now.kind request.now.asked o.outcome ≡ true) }
+        requires count { CanCount (given self.old) (failures self.old) }
+        ensures gives { IfOk result (λ o. GivesOne given failures gives self.old number request.now o.outcome self.new) }
         ensures door { IfOk result (λ o. HasDoor o.outcome o.door) }
-        ensures gives { IfOk result (λ o. gives self.old number request.now o.outcome self.new) }
-        ensures counted { OnOk result (given self.new ≡ given self.old + 1) }
-        ensures failed { IfOk result (λ o. failures self.new ≡ failures_after o.outcome (failures self.old)) }
         ensures same { OnErr result (self.new ≡ self.old) };
 
     /// Ends one direction of a stream or both (`shutdown`).
@@ -147,12 +118,8 @@ pub trait Outside {
         request: &Request,
         door: &mut Self::Door,
     ) -> Result<Outcome, DoorStop>
-        requires room { given self.old < 2 ^ 64 - 1 }
-        requires few { failures self.old < 2 ^ 64 - 1 }
-        ensures fits { IfOk result (λ o. fits request.now.kind request.now.asked o ≡ true) }
-        ensures gives { IfOk result (λ o. gives self.old number request.now o self.new) }
-        ensures counted { OnOk result (given self.new ≡ given self.old + 1) }
-        ensures failed { IfOk result (λ o. failures self.new ≡ failures_after o (failures self.old)) }
+        requires count { CanCount (given self.old) (failures self.old) }
+        ensures gives { IfOk result (λ o. GivesOne given failures gives self.old number request.now o self.new) }
         ensures same { OnErr result (self.new ≡ self.old) };
 
     /// Closes a door (`close`). The door is gone in any case, also where no outcome is given. The host's own
@@ -164,11 +131,7 @@ pub trait Outside {
         request: &Request,
         door: Self::Door,
     ) -> Result<Outcome, DoorStop>
-        requires room { given self.old < 2 ^ 64 - 1 }
-        requires few { failures self.old < 2 ^ 64 - 1 }
-        ensures fits { IfOk result (λ o. fits request.now.kind request.now.asked o ≡ true) }
-        ensures gives { IfOk result (λ o. gives self.old number request.now o self.new) }
-        ensures counted { OnOk result (given self.new ≡ given self.old + 1) }
-        ensures failed { IfOk result (λ o. failures self.new ≡ failures_after o (failures self.old)) }
+        requires count { CanCount (given self.old) (failures self.old) }
+        ensures gives { IfOk result (λ o. GivesOne given failures gives self.old number request.now o self.new) }
         ensures same { OnErr result (self.new ≡ self.old) };
 }

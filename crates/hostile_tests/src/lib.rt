@@ -1,4 +1,4 @@
-//! The tests of runs in which everything goes wrong: what comes from outside fails, the log's sink fails, memory is refused, the log is cut or
+//! The tests of runs in which something goes wrong: what comes from outside fails, the log's sink fails, memory is refused, the log is cut or
 //! changed, and a machine is stopped after each event.
 #![tactic(auto)]
 

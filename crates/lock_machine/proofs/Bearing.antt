@@ -40,14 +40,6 @@ few_born cs t few within born =
     below : (n time made : ℕ) → n ≤ 8 → time ≤ n * 2 ^ 62 → made ≤ 2 * time → made ≤ 2 ^ 126
     below n time made few most born = omega arith
 
--- what takes 1 or more makes two at most
-pub bears_paid : (start now cost : ℕ) (old new : Stored) → now ≡ start + cost → 1 ≤ cost → BearsInTime 0 old 1 new → BearsInTime start old now new
-bears_paid start now cost old new is paid h =
-    record { descriptions = by_cost start now cost old.table.descriptions.made new.table.descriptions.made is paid h.descriptions; objects = by_cost start now cost old.table.made_objects new.table.made_objects is paid h.objects }
-  where
-    by_cost : (start now cost m n : ℕ) → now ≡ start + cost → 1 ≤ cost → n + 2 * 0 ≤ m + 2 * 1 → n + 2 * start ≤ m + 2 * now
-    by_cost start now cost m n is paid h = omega arith
-
 -- nothing is made
 pub bears_none : (before after : ℕ) (t : Stored) → before ≤ after → BearsInTime before t after t
 bears_none before after t forward = record { descriptions = none t.table.descriptions.made before after forward; objects = none t.table.made_objects before after forward }

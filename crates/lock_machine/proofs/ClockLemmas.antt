@@ -1,7 +1,7 @@
 -- An event of a thread changes no clock but its own.
-use Rattle.std.proofs.Common.{◌≡◌, ℕ, ◌<◌, ◌≤◌, List, true, length, set, sym, ap, ◌∙◌, subst, arith}
+use Rattle.std.proofs.Common.{◌≡◌, ℕ, ◌<◌, ◌≤◌, List, length, set, sym, ap, ◌∙◌, subst, arith}
 use Rattle.std.proofs.lemmas.List.{get_or-set_same, set-get_or}
-use Rattle.logical_clocks.specs.ThreadClocks.{clock_at, no_thread, thread_at, with_clock}
+use Rattle.logical_clocks.specs.ThreadClocks.{clock_at, no_thread, thread_at}
 use Rattle.logical_clocks.specs.declared.clocks.ThreadClock.{ThreadClock}
 use Rattle.lock_machine.specs.Lives.{is_live}
 use Rattle.lock_machine.specs.Threads.{KeepsOthers}
@@ -16,10 +16,6 @@ kept_by i t u cs ds c inside is forward live =
       forward = subst (λ (x : ThreadClock). clock_at cs i ≤ x.clock) (sym own) forward;
       live = λ h. ap (λ (x : ThreadClock). x.live) own ∙ live h;
     }
-
--- its clock is this now, and it is live as before
-pub kept_clock : (i n : ℕ) (t u : Thread) (cs ds : List ThreadClock) → i < length cs → ds ≡ with_clock cs i n → clock_at cs i ≤ n → is_live t.phase ≡ true → is_live u.phase ≡ true → KeepsOthers i t cs u ds
-kept_clock i n t u cs ds inside is forward before after = kept_by i t u cs ds (record (thread_at cs i) { clock = n }) inside is forward (λ h. h ∙ before ∙ sym after)
 
 -- nothing has changed in its clock
 pub kept_still : (i : ℕ) (t u : Thread) (cs ds : List ThreadClock) → i < length cs → ds ≡ cs → is_live t.phase ≡ is_live u.phase → KeepsOthers i t cs u ds

@@ -244,15 +244,8 @@ turn_shown ts cs i b agree h = ap (λ (l : List (Option ℕ)). has_turn l i) (sy
 
 -- ## Where nothing is done
 
--- the item that is changed is the one that was looked at
-pub same_phase : (ts : List declared.Thread) (i : ℕ) (x y : declared.Thread) (p : Phase) → i < length ts → x ≡ get_or ts i x → y ≡ get_or ts i y → y.phase ≡ p → x.phase ≡ p
-same_phase ts i x y p inside at_x at_y is = ap (λ (t : declared.Thread). t.phase) (sym (item_is ts i x inside at_x) ∙ item_is ts i y inside at_y) ∙ is
-
 pub phase_at : (ts : List declared.Thread) (i : ℕ) (x : declared.Thread) (p : Phase) → i < length ts → x ≡ get_or ts i x → (let t : declared.Thread = item_at ts i in t.phase) ≡ p → x.phase ≡ p
 phase_at ts i x p inside at is = ap (λ (t : declared.Thread). t.phase) (sym (item_is ts i x inside at)) ∙ is
-
-pub at_phase : (ts : List declared.Thread) (i : ℕ) (x : declared.Thread) (p : Phase) → i < length ts → x ≡ get_or ts i x → x.phase ≡ p → (let t : declared.Thread = item_at ts i in t.phase) ≡ p
-at_phase ts i x p inside at is = ap (λ (t : declared.Thread). t.phase) (item_is ts i x inside at) ∙ is
 
 pub wants_at : (ts : List declared.Thread) (i n : ℕ) (x : declared.Thread) → i < length ts → x ≡ get_or ts i x → (let t : declared.Thread = item_at ts i in WantsIn t.phase n) → WantsIn x.phase n
 wants_at ts i n x inside at h = let P : declared.Thread → Type 0 = λ t. WantsIn t.phase n in subst P (item_is ts i x inside at) h

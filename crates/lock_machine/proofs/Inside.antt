@@ -63,17 +63,6 @@ granted_lives phase.Ended place object h = absurd h
 pub phase_in : (P : Phase → Type 0) (ts : List declared.Thread) (i : ℕ) (x : declared.Thread) → i < length ts → x ≡ get_or ts i x → P (let t : declared.Thread = item_at ts i in t.phase) → P x.phase
 phase_in P ts i x inside at h = subst (λ (t : declared.Thread). P t.phase) (item_is ts i x inside at) h
 
--- and those of the clocks are what contracts see
-pub turn_seen : (ts : List declared.Thread) (cs : List ThreadClock) (v w : Whole) (i : ℕ) → Agree ts cs → v.threads ≡ joined ts cs → v ≡ w → has_turn (live_clocks cs) i ≡ true → has_turn (clocks_of w.threads) i ≡ true
-turn_seen ts cs v w i agree is view turn = sym (ap (λ (l : List (Option ℕ)). has_turn l i) (live-joined ts cs agree ∙ ap clocks_of (sym is) ∙ ap (λ (x : Whole). clocks_of x.threads) view)) ∙ turn
-
--- what holds of the phase of an item that was looked at does so of the one that contracts see
-pub phase_seen : (P : Phase → Type 0) (ts : List declared.Thread) (cs : List ThreadClock) (v w : Whole) (i : ℕ) (x : declared.Thread) → v.threads ≡ joined ts cs → v ≡ w → i < length ts → x ≡ get_or ts i x → P x.phase → P (thread_at w i).phase
-phase_seen P ts cs v w i x is view inside at h =
-    let item = ap (λ (t : declared.Thread). t.phase) (item_is ts i x inside at) in
-    let seen = ap (λ (t : Whole). (thread_at t i).phase) (sym view) ∙ ap (λ (l : List Thread). (thread_at (record v { threads = l }) i).phase) is ∙ ap (λ (t : Thread). t.phase) (get-joined ts cs i inside) in
-    subst P (sym (seen ∙ item)) h
-
 -- an item that was looked at is the thread that contracts see
 pub thread_seen : (ts : List declared.Thread) (cs : List ThreadClock) (v w : Whole) (i : ℕ) (x : declared.Thread) → v.threads ≡ joined ts cs → v ≡ w → i < length ts → x ≡ get_or ts i x → thread_at w i ≡ timed x (clock_at cs i)
 thread_seen ts cs v w i x is view inside at =

@@ -27,7 +27,6 @@ use Rattle.sequential_object.specs.declared.turn_end.TurnEnd.TheVariants as end
 use Rattle.descriptor_table.specs.Acts as acts
 use Rattle.descriptor_table.specs.Agreement.{request_of}
 use Rattle.descriptor_table.specs.declared.plan.NewNumbers.TheVariants as numbers
-use Rattle.descriptor_table.specs.declared.plan.Errand.{Errand}
 use Rattle.descriptor_table.specs.declared.plan.Op.TheVariants as op
 use Rattle.posix_terms.specs.Outcomes.{fits, is_kind}
 use Rattle.sequential_object.specs.Locked as posix_locked
@@ -123,10 +122,6 @@ begin_moves terms i rows moved t v u o is h begins =
         still (moves_begin terms i u job at ∙ ap (within (2 ^ 62)) (begin_no terms u job (few_shown false few))) moved_is v_is
 
 -- ## `record`
-
--- what was given answers the errand just where it answers the request
-errand_request : (e : Errand) (c : Call) (g : Given) → (let r : posix.Request = record { kind = e.kind; asked = e.asked; call = c } in answers_request (Some r) g) ≡ (is_kind g.kind e.kind && fits e.kind e.asked g.outcome)
-errand_request e c g = refl
 
 errand_fits : (terms : Conditions) (s : State) (i : ℕ) (o : Outing) (job : Job) (g : Given) → IsOut terms i s.rows o job → answers_errand o.errand g ≡ fits_job (real_calls terms.settings) job g
 errand_fits terms s i o job g out =

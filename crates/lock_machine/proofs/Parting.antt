@@ -1,10 +1,9 @@
 -- What the events of a call say of its parts, by what was found there.
-use Rattle.std.proofs.Common.{◌≡◌, ℕ, ◌+◌, ◌<◌, ◌^◌, List, Option, Some, None, Bool, true, false, ◌&&◌, ◌||◌, not, sym, refl, ap, ap₂, ◌∙◌, subst, length, arith}
+use Rattle.std.proofs.Common.{◌≡◌, ℕ, ◌+◌, ◌^◌, List, Option, Some, None, Bool, true, false, ◌&&◌, ◌||◌, not, sym, refl, ap, ap₂, ◌∙◌, subst}
 use Rattle.std.proofs.lemmas.Bool.{and_parts, eqb-true}
-use Rattle.std.proofs.lemmas.Bool.Decides.{nat_tests}
 use Rattle.std.proofs.lemmas.List.{set-get_or}
-use Rattle.std.proofs.lemmas.Option.{get_or_from_slice_get, slice_get_read}
-use Rattle.std.proofs.Math.ListN.{get_or, set}
+use Rattle.std.proofs.lemmas.Option.{get_or_from_slice_get}
+use Rattle.std.proofs.Math.ListN.{set}
 use Rattle.std.specs.Prelude.{nat_le, nat_lt, slice_get}
 use Rattle.lock_model.specs.Machine.{is_number}
 use Rattle.sequential_object.specs.declared.turn_end.TurnEnd.{TurnEnd}
@@ -21,13 +20,6 @@ use Rattle.lock_machine.specs.declared.thread.Outing.{Outing}
 -- an element that is written back
 pub got_set : {A : Type 0} (xs : List A) (i : ℕ) (x : A) → slice_get xs i ≡ Some x → set xs i x ≡ xs
 got_set xs i x got = ap (λ (y : _). set xs i y) (sym (get_or_from_slice_get xs i x x got)) ∙ set-get_or xs i x
-
--- an element that was found
-pub got_at : {A : Type 0} (xs : List A) (i : ℕ) (x : A) → true ≡ nat_lt i (length xs) → x ≡ get_or xs i x → slice_get xs i ≡ Some x
-got_at xs i x inside is = slice_get_read xs (length xs) i x refl (lt-true inside) is
-  where
-    lt-true : true ≡ nat_lt i (length xs) → i < length xs
-    lt-true h = grind (arith, nat_tests)
 
 pub same_some : (n m : ℕ) → Some n ≡ Some m → n ≡ m
 same_some n m is = ap number is
@@ -98,11 +90,3 @@ concludes_pending patience i o old q held there none =
     let Q : Option HistoryRow → Type 0 = λ y. ConcludesRow y patience None o old old in
     let R : Option Outcome → Type 0 = λ y. ConcludesWith y q patience None o old old in
     subst P (sym held) (subst Q (sym there) (subst R (sym none) (refl, refl)))
-
-pub concludes_full : (patience i : ℕ) (o : Outing) (old : OutsideParts) (q : HistoryRow) (x : Outcome) → holds_locks i o old ≡ true → slice_get old.rows o.row ≡ Some q → q.outcome ≡ Some x → nat_le (old.thread.clock + answer_cost o.keeps_table) (2 ^ 62) ≡ false → AnswersOutside patience None i o old old
-concludes_full patience i o old q x held there came room =
-    let P : Bool → Type 0 = λ b. ConcludesHeld b patience None o old old in
-    let Q : Option HistoryRow → Type 0 = λ y. ConcludesRow y patience None o old old in
-    let R : Option Outcome → Type 0 = λ y. ConcludesWith y q patience None o old old in
-    let S : Bool → Type 0 = λ b. ConcludesIf b patience None o q x old old in
-    subst P (sym held) (subst Q (sym there) (subst R (sym came) (subst S (sym room) (refl, refl))))

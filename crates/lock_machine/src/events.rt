@@ -1,4 +1,4 @@
-ghost use Rattle.std.specs.Prelude.{◌≡◌, ◌++◌, ◌∷◌, [], ◌*◌, ◌<◌, ◌≤◌, ◌^◌, ◌&&◌, ℕ, true, IfOk, IfSome, length};
+ghost use Rattle.std.specs.Prelude.{◌≡◌, ◌++◌, ◌∷◌, [], ◌*◌, ◌<◌, ◌≤◌, ◌^◌, ◌&&◌, ℕ, true, length};
 ghost use Rattle.det_mutex.specs.Attempt.{takes};
 ghost use Rattle.lock_model.specs.Machine.{is_number};
 ghost use Rattle.logical_clocks.specs.ThreadClocks.{clock_at};

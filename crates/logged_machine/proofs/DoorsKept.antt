@@ -19,7 +19,7 @@ use Rattle.lock_model.specs.RealCalls.{plan_of, real_calls, way_of}
 use Rattle.sequential_object.specs.Answers.{numbered, outcome_in}
 use Rattle.lock_model.specs.Runs.{own}
 use Rattle.lock_model.specs.State as lock
-use Rattle.lock_model.specs.State.{Job, nobody, object_of, thread_of}
+use Rattle.lock_model.specs.State.{Job, nobody, thread_of}
 use Rattle.lock_model.specs.State.Phase.{Blocked, Ended, Granted, Outside, Recorded, ToOutside, WantsObject, WantsTable, Working}
 use Rattle.sequential_object.specs.Worlds.{World}
 use Rattle.object_store.specs.Errands.{door_taken}

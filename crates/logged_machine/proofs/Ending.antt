@@ -1,6 +1,6 @@
 -- The runs that lead to a machine, whatever comes next.
 use Rattle.std.proofs.Common.{◌≡◌, ℕ, length, List, Option, Some, None, true, false, sym, refl, subst}
-use Rattle.lock_machine.specs.Conditions.{Conditions, setup_under, start_under}
+use Rattle.lock_machine.specs.Conditions.{setup_under, start_under}
 use Rattle.lock_machine.specs.Shows.{AdvancesQuietly, AsksFor, Attempts as TriesLock, IsGranted, IsOut, MayAdvance, MayAsk, PhaseShows, Shows, StandsAt, Tells}
 use Rattle.lock_machine.specs.Threads.{Thread}
 use Rattle.lock_machine.specs.Whole.{Whole, settings_in, thread_at}
@@ -24,9 +24,6 @@ use Rattle.logged_machine.specs.Runs.Coming.{Asks, Nothing}
 use Rattle.posix_terms.specs.declared.reply.Answer.{Answer}
 
 -- ## What a machine shows is by its settings alone
-
-terms_by : ℕ → Settings → Supply → Conditions
-terms_by threads settings supply = record { threads = threads; settings = settings; supply = supply }
 
 granted_with : (settings : Settings) (n m : ℕ) (p q : Supply) (i : ℕ) (rows : List Row) (place : ℕ) (object : Option ℕ) (ends : TurnEnd) (job : Job) → IsGranted (record { threads = n; settings = settings; supply = p }) i rows place object ends job
     → IsGranted (record { threads = m; settings = settings; supply = q }) i rows place object ends job

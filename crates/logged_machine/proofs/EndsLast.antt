@@ -20,7 +20,7 @@ use Rattle.lock_model.specs.Machine.Event.{Advances, Attempts}
 use Rattle.sequential_object.specs.Numbers.{first_world}
 use Rattle.lock_model.specs.Runs.{Arises, own, run, supplied}
 use Rattle.lock_model.specs.State as lock
-use Rattle.lock_model.specs.State.{Job, Row, State, nobody, start, thread_of}
+use Rattle.lock_model.specs.State.{State, nobody, start, thread_of}
 use Rattle.lock_model.specs.State.Phase.{Blocked, Ended, Granted, Outside, Recorded, ToOutside, WantsObject, WantsTable, Working}
 use Rattle.sequential_object.specs.Worlds.{World}
 use Rattle.posix_terms.specs.declared.call.Call.{Call}

@@ -14,7 +14,7 @@ use Rattle.lock_model.specs.Machine.{Event, happens}
 use Rattle.lock_model.specs.Machine.Event.{Advances, Attempts}
 use Rattle.lock_model.specs.Runs.{own}
 use Rattle.lock_model.specs.State as lock
-use Rattle.lock_model.specs.State.{Job, Row, State, thread_of}
+use Rattle.lock_model.specs.State.{Job, State, thread_of}
 use Rattle.lock_model.specs.State.Phase.{Blocked, Ended, Granted, Outside, Recorded, ToOutside, WantsObject, WantsTable, Working}
 use Rattle.logged_machine.specs.DoorsThere.{DoorsThere}
 use Rattle.logged_machine.specs.Kept.{IsKept, header_of}

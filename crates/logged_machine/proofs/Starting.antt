@@ -14,7 +14,7 @@ use Rattle.sequential_object.specs.Numbers.{first_world}
 use Rattle.lock_model.specs.RealLaws.{real_start}
 use Rattle.lock_model.specs.Runs.{own}
 use Rattle.lock_model.specs.State as lock
-use Rattle.lock_model.specs.State.{State, nobody, thread_of}
+use Rattle.lock_model.specs.State.{nobody}
 use Rattle.lock_model.specs.State.Phase.{Working}
 use Rattle.posix_terms.specs.declared.limits.TheConstants.Limits as limit
 use Rattle.posix_terms.specs.declared.transcript.Settings.{Settings}

@@ -398,14 +398,6 @@ same_kept (Pipe bytes) k = refl
 same_kept (Pair p) k = refl
 same_kept (DoorTo door) k = refl
 
--- what an end finds is what is kept there
-pub held_kept : (e : End) (k : Kept) → held_by e k ≡ kept_as (held_by e k) k
-held_kept part.Only k = refl
-held_kept part.Read k = refl
-held_kept part.Write k = refl
-held_kept (part.Socket side) k = refl
-held_kept (part.Door door) k = refl
-
 pub bodies_same : (h : Stored) (node : ℕ) (content : Content) → content ≡ kept_as content (kept_at h node) → Rewrites h node content h.bodies
 bodies_same h node content is = record { here = is; others = λ k apart. refl }
 

@@ -23,8 +23,8 @@ use Rattle.posix_terms.specs.declared.outcome.OutKind.TheVariants as out
 use Rattle.posix_terms.specs.declared.reply.Reply.TheVariants as reply
 use Rattle.file_descriptions.specs.declared.description.Description.{Description}
 use Rattle.descriptor_table.specs.Agreement.{object_of}
-use Rattle.descriptor_table.specs.Laws.{FoundBoth, TableFollows}
-use Rattle.descriptor_table.specs.Laws.FoundBoth.{Open, Shut}
+use Rattle.descriptor_table.specs.Laws.{RefersAlike, TableFollows}
+use Rattle.descriptor_table.specs.Laws.RefersAlike.{Open, Shut}
 use Rattle.descriptor_table.specs.Plans.{act_or_ask, answered, close_plan, errand, host_open_plan, leads_outside, locks, lseek_plan, not_listener, of_listener, opens_plan, plan_of, planned, read_plan, seekable, seen, shut_act, shutdown_plan, tcp_accept_plan, tcp_connect_plan, tcp_listen_plan, write_plan}
 use Rattle.descriptor_table.specs.Table.{TableState, described, free_object, lowest_free}
 use Rattle.descriptor_table.specs.declared.plan.Errand.{Errand}
@@ -141,7 +141,7 @@ door_is_planned t c node errand keep is = subst (TakesDoor t c) is (takes_answer
 -- ## In the world
 
 -- the object of an open descriptor has the number that the table says
-number_found : (h : Stored) (w : World) (descriptor : ℤ) → Stands h w → FoundBoth h.table w.object descriptor → node_found (described h.table descriptor) ≡ numbered w (object_found (posix.described w.object descriptor))
+number_found : (h : Stored) (w : World) (descriptor : ℤ) → Stands h w → RefersAlike h.table w.object descriptor → node_found (described h.table descriptor) ≡ numbered w (object_found (posix.described w.object descriptor))
 number_found h w descriptor st (Shut table state) = rw (table, state) refl
 number_found h w descriptor st (Open key d offset at got there table state) =
     rw (table, state) (sym (ap (λ (n : ℕ). Some n) (used_number h w d.node st (st.sound.described_objects key d got))))

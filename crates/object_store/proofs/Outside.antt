@@ -24,7 +24,6 @@ use Rattle.posix_terms.specs.declared.reply.Reply.{Reply}
 use Rattle.posix_terms.specs.declared.reply.Reply.TheVariants as reply
 use Rattle.posix_terms.specs.declared.request.Request.{Request}
 use Rattle.posix_terms.specs.declared.transcript.Settings.{Settings}
-use Rattle.descriptor_table.specs.Acts as acts
 use Rattle.descriptor_table.specs.Acts.{ActsAsStep, Holds, IsActed, acted, ended, held_after, outside_ending, told_outside}
 use Rattle.descriptor_table.specs.Agreement.{TellsAsStep, numbers_told}
 use Rattle.descriptor_table.specs.Laws.{TableFollows}
@@ -48,7 +47,7 @@ use Rattle.object_store.specs.declared.patience.TurnStart.TheVariants as start
 use Rattle.object_store.specs.Store.{LeavesTable, Makes, Opens, Stands, Stored, TableMade, at_port, kept_at, opens_door}
 use Rattle.object_store.proofs.Errands.{door_known}
 use Rattle.object_store.proofs.Doing.{bodies_same, known_of, made_leaves, there_is}
-use Rattle.object_store.proofs.Making.{AsksNothing, changed_is, plan_asks, plan_keeps}
+use Rattle.object_store.proofs.Making.{changed_is, plan_asks, plan_keeps}
 use Rattle.object_store.proofs.Numbering.{lowest_is_free, next_is_new}
 use Rattle.object_store.proofs.Shapes.{HasAct, finds, planned_fits}
 use Rattle.object_store.proofs.Shapes.HasAct.{Accepts, ClosesOut, Connects, Listens, OpensOut, ReadsOut, SeeksOut, ShutsOut, WritesOut}
@@ -247,23 +246,7 @@ read_fits asked value bytes fit =
     let value_fit = both_first (value == length bytes && nat_le value asked) (bytes_fit out.Read (length bytes)) fit in
     at_most asked value (length bytes) (both_first (value == length bytes) (nat_le value asked) value_fit) (both_second (value == length bytes) (nat_le value asked) value_fit)
 
--- what opens a door tells its numbers
-pub told_numbers : (k : OutKind) (given : NewNumbers) (value : ℕ) (bytes : List ℕ) → opens_door k ≡ true → acts.numbers_reply given ≡ told_outside k given value bytes
-told_numbers out.Open given value bytes opens = refl
-told_numbers out.Read given value bytes opens = absurd (false≢true opens)
-told_numbers out.Write given value bytes opens = absurd (false≢true opens)
-told_numbers out.Seek given value bytes opens = absurd (false≢true opens)
-told_numbers out.Listen given value bytes opens = refl
-told_numbers out.Connect given value bytes opens = refl
-told_numbers out.Accept given value bytes opens = refl
-told_numbers out.Shutdown given value bytes opens = absurd (false≢true opens)
-told_numbers out.Close given value bytes opens = absurd (false≢true opens)
-
 -- ## Opening a door
-
--- a call that asks nothing outside opens none
-pub opens_none : (h new : Stored) (c : Call) (o : Outcome) (e : TurnEnd) (patience turns : ℕ) → AsksNothing h c → Opens patience turns h c o e new
-opens_none h new c o e patience turns alone settings w r same st keeps asked fit = absurd (none-some r (sym (alone w turns st) ∙ asked))
 
 -- nor does an outcome that does not fit
 pub off_port : (law : TableFollows) (h new : Stored) (c : Call) (node : ℕ) (errand : Errand) (keep : Bool) (o : Outcome) (e : TurnEnd) (patience turns : ℕ) → planned h.table c ≡ plan.Node node (op.Ask errand) keep → at_port c o ≡ false → Opens patience turns h c o e new

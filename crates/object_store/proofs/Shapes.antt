@@ -37,8 +37,8 @@ use Rattle.file_descriptions.specs.declared.description.Description.{Description
 use Rattle.descriptor_table.specs.Plans.{act_or_ask, addable, answered, close_plan, dup2_plan, dup_from_plan, dup_plan, ends_a_door, errand, fstat_plan, ftruncate_plan, getfl_plan, host_open_plan, leads_outside, link_plan, lseek_plan, mkdir_plan, not_listener, of_listener, open_node, open_plan, open_there, opens_plan, plan_of, planned, pread_plan, pwrite_plan, read_plan, release, replaced, rmdir_plan, seekable, setfl_plan, shut_act, unlink_plan, write_plan, locks, of_file, seen, shutdown_plan, stat_by, stat_plan, tcp_accept_plan, tcp_connect_plan, tcp_listen_plan, two_ends_plan}
 use Rattle.descriptor_table.specs.Shows.{Shows, birth_at, is_of}
 use Rattle.descriptor_table.specs.Table.{IsSound, TableState, described, free_object, is_last_name, is_used, lowest_free, two_numbers}
-use Rattle.descriptor_table.specs.Laws.{FoundBoth, TableFollows}
-use Rattle.descriptor_table.specs.Laws.FoundBoth.{Open, Shut}
+use Rattle.descriptor_table.specs.Laws.{RefersAlike, TableFollows}
+use Rattle.descriptor_table.specs.Laws.RefersAlike.{Open, Shut}
 use Rattle.object_store.proofs.Numbering.{lowest_is_free}
 use Rattle.descriptor_table.specs.declared.plan.Op.{Op}
 use Rattle.descriptor_table.specs.declared.plan.Op.TheVariants as op
@@ -98,7 +98,7 @@ finds law t s sound shows =
       named = λ path node is. law.named t path node sound is;
     }
   where
-    by_both : (descriptor : ℤ) (found : ℕ × Description) → FoundBoth t s descriptor → described t descriptor ≡ Ok found → fin.get t.descriptions.by_key found.0 ≡ Some found.1
+    by_both : (descriptor : ℤ) (found : ℕ × Description) → RefersAlike t s descriptor → described t descriptor ≡ Ok found → fin.get t.descriptions.by_key found.0 ≡ Some found.1
     by_both descriptor found (Shut table state) is = cc
     by_both descriptor found (Open key d offset at got there table state) is =
         let same : (key, d) ≡ found = cc in

@@ -8,7 +8,6 @@ use Rattle.sequential_object.specs.Streams.{Half, PairState, Reading, Writing, s
 use Rattle.posix_terms.specs.Ends.{peer_of}
 use Rattle.posix_terms.specs.declared.object.Side.{Side}
 use Rattle.posix_terms.specs.declared.reply.Reply.TheVariants as reply
-use Rattle.descriptor_table.specs.Acts as acts
 use Rattle.descriptor_table.specs.Acts.{Acted, has_read, has_written}
 use Rattle.descriptor_table.specs.declared.plan.Opened.{Opened}
 use Rattle.pipes.specs.Pipe.{read_answer, write_answer}

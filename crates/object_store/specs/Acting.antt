@@ -18,7 +18,6 @@ use Rattle.posix_terms.specs.declared.object.End.TheVariants as part
 use Rattle.pipes.specs.declared.body.PipeAnswer.{PipeAnswer}
 use Rattle.pipes.specs.declared.body.PipeAnswer.TheVariants as pipe
 use Rattle.posix_terms.specs.declared.errno.Errno.TheVariants.{EPIPE}
-use Rattle.descriptor_table.specs.Acts as acts
 use Rattle.descriptor_table.specs.Acts.{Acted, read_acted, write_acted}
 use Rattle.object_store.specs.Bodies.{Kept, keeping}
 use Rattle.object_store.specs.Patience.{stopped_ending}

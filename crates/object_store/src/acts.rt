@@ -1,4 +1,4 @@
-ghost use Rattle.std.specs.Prelude.{◌≡◌, ℕ, ◌^◌, ◌+◌, ◌-◌, ◌<◌, ◌≤◌, ◌==◌, ◌+ℤ◌, pos, length, true, false, IfOk};
+ghost use Rattle.std.specs.Prelude.{◌≡◌, ◌^◌, ◌+◌, ◌-◌, ◌<◌, ◌≤◌, ◌==◌, ◌+ℤ◌, pos, length, false, IfOk};
 ghost use Rattle.sequential_object.specs.Files.{bytes_at, resized, written};
 ghost use Rattle.sequential_object.specs.Transfers.{base_of, offset_of};
 ghost use Rattle.posix_terms.specs.declared.limits.TheConstants.Limits as limit;

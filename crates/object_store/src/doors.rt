@@ -1,5 +1,4 @@
 ghost use Rattle.std.specs.Prelude.{◌≡◌, ◌+◌, ◌^◌, ◌<◌, ◌≤◌, IsTrue, Some, true};
-ghost use Rattle.posix_terms.specs.declared.limits.TheConstants.Limits as limit;
 ghost use Rattle.descriptor_table.specs.Changes.{IsAtPort};
 ghost use Rattle.descriptor_table.specs.Plans.{planned};
 ghost use Rattle.descriptor_table.specs.declared.plan.NewNumbers.{NewNumbers};

@@ -1,5 +1,5 @@
-ghost use Rattle.std.specs.Prelude.{◌≡◌, ◌+◌, ◌≤◌, ◌<◌, ◌^◌, Ok, None, IfOk, true, unwrap_or};
-ghost use Rattle.descriptor_table.specs.Plans.{bytes_asked, reply_bytes};
+ghost use Rattle.std.specs.Prelude.{◌≡◌, ◌+◌, ◌≤◌, ◌<◌, ◌^◌, Ok, None, IfOk, IfSome, true, unwrap_or};
+ghost use Rattle.descriptor_table.specs.Plans.{bytes_asked, read_count, reply_bytes};
 ghost use Rattle.descriptor_table.specs.declared.plan.NewNumbers.TheVariants as numbers;
 ghost use Rattle.posix_terms.specs.Outcomes.{fits};
 ghost use Rattle.object_store.specs.Patience.{EndsOutside, turn_bytes};
@@ -42,10 +42,11 @@ impl Room {
         }
     }
 
-    /// Another, for as many bytes as a call may read; none where there is room for them here.
+    /// Another, for just as many bytes as a call may read; none where there is room for them here.
     pub fn for_call(&self, call: &Call) -> Result<Option<Room>, AllocError>
         ensures room { IfOk result (λ other. HasSpaceFor call.now (unwrap_or other self.now)) }
         ensures none { HasSpaceFor call.now self.now → result ≡ Ok None }
+        ensures other { IfOk result (λ other. IfSome other (λ r. r ≡ record { told = read_count call.now; row = read_count call.now })) }
     {
         let count = read_count(call);
         if count <= self.told.len() && self.told.len() <= self.row.len() {

@@ -10,9 +10,21 @@ use std::sync::Wait;
 use std::test::Fail;
 use std::thread::Threads;
 
-// How many lines a text has.
-fn count_lines(text: &[u8]) -> usize {
+// A command that prints its lines did not end with status 0, but so.
+#[derive(Debug, Drop)]
+struct EndedWith(u8);
+
+// How many lines a command printed.
+fn lines_printed(text: &[u8]) -> usize {
     text.iter().filter(|byte| **byte == b'\n').count()
+}
+
+// The same, where it ended with status 0.
+fn lines_told(status: u8, text: &[u8]) -> Result<usize, EndedWith> {
+    if status != 0 {
+        return Err(EndedWith(status));
+    }
+    Ok(lines_printed(text))
 }
 
 // Opens a file and closes it 1,600 times.
@@ -29,32 +41,26 @@ label done
 // Room for the logs of these runs.
 const ROOM: usize = 1_000_000;
 
-// Whether a recorded run of these scripts comes to its end and prints so many lines.
-fn prints_lines<T: Threads + Wait + Sync, O: Outside + Send + Drop, N: NewOutsides<O>>(
+// How many lines a recorded run of these scripts prints, which comes to its end.
+fn lines_recorded<T: Threads + Wait + Sync, O: Outside + Send + Drop, N: NewOutsides<O>>(
     rt: &T,
     host: &HostRuntime,
     outsides: &N,
     path: &str,
     scripts: &[&str],
-    count: usize,
-) -> Result<bool, Fail> {
+) -> Result<usize, Fail> {
     let told = recorded_by_host(rt, host, outsides, SETTINGS, path, ROOM, scripts)?;
-    Ok(told.status == 0 && count_lines(told.output.as_slice()) == count)
+    Ok(lines_told(told.status, told.output.as_slice())?)
 }
 
 #[test]
 fn six_thousand_descriptions_are_made(rt: HostRuntime) -> Result<(), Fail> {
     let path = free_path(rt, "openers")?;
     let scripts: &[&str] = &[OPENER, OPENER, OPENER, OPENER];
-    assert!(rt;
-        prints_lines(
-            &rt,
-            &rt,
-            &HostOutsides { rt },
-            path.as_str(),
-            scripts,
-            4 * 3200 + 1
-        )?
+    assert_eq!(rt;
+        lines_recorded(&rt, &rt, &HostOutsides { rt }, path.as_str(), scripts)?,
+        4 * 3200 + 1,
+        "a line for each open and each close, and the end"
     );
     remove_file(&rt, path.as_str())?;
     Ok(())
@@ -86,15 +92,20 @@ fn a_log_has_more_than_four_thousand_records(rt: HostRuntime) -> Result<(), Fail
             path.as_str(),
             ROOM,
             scripts
-        )?
+        )?,
+        "the replay prints what the run printed"
     );
-    assert!(rt; shows_lines(&rt, path.as_str(), 1 + 3 * 1502 + 1)?);
+    assert_eq!(rt;
+        lines_shown(&rt, path.as_str())?,
+        1 + 3 * 1502 + 1,
+        "a line for the header, for each record, and for the end"
+    );
     remove_file(&rt, path.as_str())?;
     Ok(())
 }
 
-// Whether `show` prints so many lines of the log at this path: a header, the records and an end.
-fn shows_lines(rt: &HostRuntime, path: &str, count: usize) -> Result<bool, Fail> {
+// How many lines `show` prints of the log at this path.
+fn lines_shown(rt: &HostRuntime, path: &str) -> Result<usize, Fail> {
     let text = fs::read(rt, path)?;
     let log = Source {
         path: "a.log",
@@ -103,7 +114,7 @@ fn shows_lines(rt: &HostRuntime, path: &str, count: usize) -> Result<bool, Fail>
     let mut output: Vec<u8> = Vec::new(rt.alloc());
     let mut errors: Vec<u8> = Vec::new(rt.alloc());
     let status = show_over(rt.alloc(), log, &mut output, &mut errors)?;
-    Ok(status == 0 && count_lines(output.as_slice()) == count)
+    Ok(lines_told(status, output.as_slice())?)
 }
 
 // So many empty lines.

@@ -1,5 +1,5 @@
 -- Outsides over the host that gave nothing.
-use Rattle.std.proofs.Common.{◌≡◌, ℕ, List, length, replicate, refl, sym, subst, ap, ◌∙◌}
+use Rattle.std.proofs.Common.{◌≡◌, ℕ, List, replicate, refl, sym, subst}
 use Rattle.std.specs.Prelude.{All, IfOk, Result, Ok, Err}
 use Rattle.std.proofs.lemmas.List.Elements.{All-replicate}
 use Rattle.host_doors.specs.declared.counts.Counts.{Counts}

@@ -1,6 +1,6 @@
 -- Believed: a contract of the headline stands on it.
 -- Which runs are started, and what they are given back that are not.
-use Rattle.std.specs.Prelude.{◌≡◌, ◌⊎◌, ℕ, Bool, ◌&&◌, ◌==◌, nat_le, nat_lt, if◌then◌else◌, List, Option, Some, None}
+use Rattle.std.specs.Prelude.{◌≡◌, ◌⊎◌, ℕ, ◌&&◌, ◌==◌, nat_lt, if◌then◌else◌, List, Option, Some, None}
 use Rattle.input_log.specs.Format.{header_text}
 use Rattle.logged_machine.specs.Starting.{are_settings, header_for}
 use Rattle.posix_terms.specs.declared.limits.TheConstants.Limits as limit

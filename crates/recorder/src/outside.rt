@@ -1,5 +1,5 @@
-ghost use Rattle.std.specs.Prelude.{◌≡◌, ◌+◌, ◌-◌, ◌^◌, ◌<◌, ◌≤◌, IfOk, OnErr};
-ghost use Rattle.host_doors.specs.Counting.{failures_after};
+ghost use Rattle.std.specs.Prelude.{◌≡◌, ◌+◌, ◌≤◌, IfOk, OnErr};
+ghost use Rattle.host_doors.specs.Giving.{CanCount};
 
 use crate::leave::Leave;
 use host_doors::{DoorStop, Opened, Outside};
@@ -21,8 +21,7 @@ pub fn reach<O: Outside>(
     request: &Request,
     door: Option<O::Door>,
 ) -> Result<Reached<O::Door>, Leave>
-    requires room { O.given outside.old < 2 ^ 64 - 1 }
-    requires few { O.failures outside.old < 2 ^ 64 - 1 }
+    requires count { CanCount (O.given outside.old) (O.failures outside.old) }
     ensures gives { IfOk result (λ r. O.gives outside.old number request.now r.outcome outside.new) }
     ensures given { O.given outside.new ≤ O.given outside.old + 1 }
     ensures failures { O.failures outside.new ≤ O.failures outside.old + 1 }
@@ -42,8 +41,7 @@ fn open<O: Outside>(
     number: u32,
     request: &Request,
 ) -> Result<Reached<O::Door>, Leave>
-    requires room { O.given outside.old < 2 ^ 64 - 1 }
-    requires few { O.failures outside.old < 2 ^ 64 - 1 }
+    requires count { CanCount (O.given outside.old) (O.failures outside.old) }
     ensures gives { IfOk result (λ r. O.gives outside.old number request.now r.outcome outside.new) }
     ensures given { O.given outside.new ≤ O.given outside.old + 1 }
     ensures failures { O.failures outside.new ≤ O.failures outside.old + 1 }
@@ -74,8 +72,7 @@ fn pass<O: Outside>(
     request: &Request,
     door: O::Door,
 ) -> Result<Reached<O::Door>, Leave>
-    requires room { O.given outside.old < 2 ^ 64 - 1 }
-    requires few { O.failures outside.old < 2 ^ 64 - 1 }
+    requires count { CanCount (O.given outside.old) (O.failures outside.old) }
     ensures gives { IfOk result (λ r. O.gives outside.old number request.now r.outcome outside.new) }
     ensures given { O.given outside.new ≤ O.given outside.old + 1 }
     ensures failures { O.failures outside.new ≤ O.failures outside.old + 1 }
@@ -103,8 +100,7 @@ fn accept<O: Outside>(
     request: &Request,
     door: O::Door,
 ) -> Result<Reached<O::Door>, Leave>
-    requires room { O.given outside.old < 2 ^ 64 - 1 }
-    requires few { O.failures outside.old < 2 ^ 64 - 1 }
+    requires count { CanCount (O.given outside.old) (O.failures outside.old) }
     ensures gives { IfOk result (λ r. O.gives outside.old number request.now r.outcome outside.new) }
     ensures given { O.given outside.new ≤ O.given outside.old + 1 }
     ensures failures { O.failures outside.new ≤ O.failures outside.old + 1 }
@@ -129,8 +125,7 @@ fn lend<O: Outside>(
     request: &Request,
     door: O::Door,
 ) -> Result<Reached<O::Door>, Leave>
-    requires room { O.given outside.old < 2 ^ 64 - 1 }
-    requires few { O.failures outside.old < 2 ^ 64 - 1 }
+    requires count { CanCount (O.given outside.old) (O.failures outside.old) }
     ensures gives { IfOk result (λ r. O.gives outside.old number request.now r.outcome outside.new) }
     ensures given { O.given outside.new ≤ O.given outside.old + 1 }
     ensures failures { O.failures outside.new ≤ O.failures outside.old + 1 }

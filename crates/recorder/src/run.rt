@@ -1,7 +1,7 @@
-ghost use Rattle.std.specs.Prelude.{◌≡◌, ◌≤◌, ◌⊎◌, true, false, [], All, IfOk, IfErr, OnOk, None, Some, is_some, vec_len, vec_capacity};
+ghost use Rattle.std.specs.Prelude.{◌≡◌, ◌≤◌, ◌⊎◌, true, [], All, IfOk, IfErr, OnOk, None, Some, is_some, vec_len, vec_capacity};
 ghost use Rattle.input_log.specs.Format.{header_text};
 ghost use Rattle.input_log.specs.Grammar.{in_range};
-ghost use Rattle.logged_machine.specs.Starting.{first_shown, header_for};
+ghost use Rattle.logged_machine.specs.Starting.{header_for};
 ghost use Rattle.logged_machine.specs.declared.stop.Stop.TheVariants as stop;
 ghost use Rattle.posix_terms.specs.declared.limits.TheConstants.Limits as limit;
 ghost use Rattle.recorder.specs.Each.{AreLedFrom, ArePlayedFrom, AreTrue, IsUnused};

@@ -1,4 +1,4 @@
-ghost use Rattle.std.specs.Prelude.{◌≡◌, ◌≤◌, All, IfOk, IfErr, [], length, vec_len, vec_capacity};
+ghost use Rattle.std.specs.Prelude.{◌≡◌, ◌≤◌, All, IfOk, IfErr, [], vec_len, vec_capacity};
 ghost use Rattle.recorder.specs.Each.{AreTrue, IsUnused};
 ghost use Rattle.recorder.specs.Seats.{IsTrueTo};
 

@@ -36,18 +36,20 @@ fn one_actor(alloc: Global, script: Script) -> Result<Vec<BoxedActor>, AllocErro
     Ok(actors)
 }
 
-// The line that works so long, and then those that make a pipe and read from one.
+// The line that works so long.
 fn work(alloc: Global, time: u64) -> Result<Vec<Line>, AllocError> {
     let mut lines = Vec::new(alloc);
     lines.push(Line::Work(time))?;
     Ok(lines)
 }
 
+// Adds the line that makes a pipe.
 fn push_pipe(lines: &mut Vec<Line>) -> Result<(), AllocError> {
     lines.push(Line::Call(CallLine::Stream(StreamLine::Pipe)))?;
     Ok(())
 }
 
+// Adds the line that reads a byte at descriptor 0.
 fn push_read(lines: &mut Vec<Line>) -> Result<(), AllocError> {
     lines.push(Line::Call(CallLine::Transfer(TransferLine::Read {
         descriptor: Number::Value(0),
@@ -79,7 +81,7 @@ fn reader(alloc: Global, time: u64) -> Result<Vec<Line>, AllocError> {
     Ok(lines)
 }
 
-// Eight actors with these lines. None where the lines are no script.
+// Eight actors with the lines of a reader that works so long. None where the lines are no script.
 fn eight_readers(alloc: Global, time: u64) -> Result<Vec<BoxedActor>, AllocError> {
     let mut actors: Vec<BoxedActor> = Vec::new(alloc);
     for _ in 0..8 {
@@ -118,8 +120,8 @@ fn stops_at_a_full_clock<R: Threads + Wait + Sync>(
     }
 }
 
-// A clock is full when a step is asked, at the first attempt of a call, and at a later one of a call that is blocked; the seven others wait for their
-// turns meanwhile, and leave.
+// A clock is full when a step is asked, at the first attempt of a call, and at a later one of a call that is blocked; the seven others
+// leave, which in the last two may be waiting for their turns.
 #[test]
 fn seven_wait_for_one_whose_clock_is_full(rt: HostRuntime) -> Result<(), Fail> {
     assert!(rt; stops_at_a_full_clock(&rt, rt.alloc(), TOO_LONG)?);

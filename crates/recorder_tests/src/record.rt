@@ -168,7 +168,7 @@ fn tell(
     })
 }
 
-// Why a recorded run of these scripts stopped, where it was started and this came; another stop where it was not.
+// Why a recorded run of these scripts stopped, for which this came; `Strayed` where it was not started.
 pub(crate) fn stop_of<R: Threads + Wait + Sync>(
     rt: &R,
     alloc: Global,
@@ -181,8 +181,8 @@ pub(crate) fn stop_of<R: Threads + Wait + Sync>(
     }
 }
 
-// Whether each of so many recorded runs of these scripts tells the same as the plain run: transcripts, turns, rows and log, and that nothing
-// stopped it.
+// Whether each of so many recorded runs of these scripts tells the same as the plain run: transcripts, rows with their turns, and log; and
+// nothing stopped it, and all its actors gave their end.
 pub(crate) fn are_as_plain<R: Threads + Wait + Sync>(
     rt: &R,
     alloc: Global,

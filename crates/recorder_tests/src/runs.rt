@@ -123,9 +123,9 @@ fn reader_waits_for_writer(rt: HostRuntime) -> Result<(), Fail> {
 }
 
 const APPENDER: &[u8] =
-    b"open /a rw create append\nset r0 10\nlabel more\nwrite 0 x61\nadd r0 -1\njzero r0 done\njump more\nlabel done\npread 0 99 0\nclose 0\n";
+    b"open /a rw create append\nset r2 10\nlabel more\nwrite 0 x61\nadd r2 -1\njzero r2 done\njump more\nlabel done\npread 0 99 0\nclose 0\n";
 
-// Each thread appends to one file, again and again, so that all contend at each turn.
+// Each thread opens one file, appends ten bytes at descriptor 0, reads what is there and closes it, so that all contend.
 #[test]
 fn eight_that_contend(rt: HostRuntime) -> Result<(), Fail> {
     assert!(rt; are_as_plain(&rt, rt.alloc(), &[APPENDER; 8], &[], SETTINGS, 1000)?);

@@ -46,7 +46,7 @@ fn outcomes_end(rt: HostRuntime) -> Result<(), Fail> {
     Ok(())
 }
 
-// Of an outcome of another kind, and of one that answers more than was asked, no record is made.
+// An outcome of another kind, and one that answers more than was asked, stop the run, as its thread's second.
 #[test]
 fn outcomes_diverge(rt: HostRuntime) -> Result<(), Fail> {
     let scripts: &[&[u8]] = &[READER, WAITER];
@@ -58,7 +58,7 @@ fn outcomes_diverge(rt: HostRuntime) -> Result<(), Fail> {
     Ok(())
 }
 
-// What comes for a short write, and for one that fails.
+// What comes for an open, for a short write, and for one that fails.
 const WRITTEN: &[Came] = &[
     Came::Ok(OutKind::Open, 0, b""),
     Came::Ok(OutKind::Write, 3, b""),
@@ -110,7 +110,8 @@ fn log_room_runs_out(rt: HostRuntime) -> Result<(), Fail> {
     Ok(())
 }
 
-// Whether the run of a reader and a waiter stops where its log has so much room, and nobody was started if that is less than the header.
+// Whether the run of a reader and a waiter stops where its log has so much room, and its first thread asked nothing just if that is less than
+// the header.
 fn stops_at_the_first<R: Threads + Wait + Sync>(
     rt: &R,
     alloc: Global,
@@ -126,7 +127,8 @@ fn stops_at_the_first<R: Threads + Wait + Sync>(
     }
 }
 
-// The log's room runs out at the header, and nobody is started; and inside the first record, and the thread that waits leaves too.
+// The log's room runs out inside the header, and the first thread asks nothing; and behind the header and inside the first record, and the
+// thread that waits leaves too.
 #[test]
 fn sink_fails(rt: HostRuntime) -> Result<(), Fail> {
     for room in &[0, 15, 16, 34] {

@@ -22,7 +22,7 @@ use Rattle.lock_model.specs.Rows.{shown}
 use Rattle.lock_model.specs.Schedule.{EndsIn, IsOver, plain_run}
 use Rattle.thread_scripts.specs.ScriptPrograms.{scripted}
 use Rattle.lock_model.specs.State as lock
-use Rattle.lock_model.specs.State.{Job, Phase, Row, State, live_clocks, thread_of}
+use Rattle.lock_model.specs.State.{Phase, State, live_clocks, thread_of}
 use Rattle.lock_model.specs.State.Phase.{Outside}
 use Rattle.lock_model.specs.Transcripts.{transcript}
 use Rattle.logical_clocks.specs.TurnOrder.{turn_holder}

@@ -1,4 +1,4 @@
-ghost use Rattle.std.specs.Prelude.{◌≡◌, length};
+ghost use Rattle.std.specs.Prelude.{◌≡◌};
 ghost use Rattle.input_log.specs.Grammar.{IsLog};
 ghost use Rattle.replayer.specs.Outcomes.{settings_of};
 ghost use Rattle.replayer.specs.Replay.{IsRunOf, Replays, Tells};

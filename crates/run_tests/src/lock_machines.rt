@@ -32,13 +32,14 @@ enum Event {
 }
 
 // What came of an event.
-#[derive(Clone, Copy, PartialEq, Eq)]
+#[derive(Clone, Copy, Debug, PartialEq, Eq)]
 enum Came {
     Made,
     Got,
     Failed,
     WrongPhase,
     ClockFull,
+    NoThread,
 }
 
 fn made<T: Drop>(told: Result<T, Refused>) -> Result<Came, AllocError> {
@@ -89,7 +90,7 @@ fn thread(event: Event) -> usize {
 fn make(alloc: Global, machine: &mut LockMachine, event: Event) -> Result<Came, AllocError> {
     let i = thread(event);
     if i >= machine.len() {
-        return Err(AllocError);
+        return Ok(Came::NoThread);
     }
     match event {
         Event::AskOpen(_) => made(machine.ask(i, open(alloc)?)),
@@ -104,50 +105,61 @@ fn make(alloc: Global, machine: &mut LockMachine, event: Event) -> Result<Came, 
     }
 }
 
-// Whether this comes of these events of two threads.
-fn comes(alloc: Global, rows: &[(Event, Came)]) -> Result<bool, AllocError> {
+// The number of the first of these events of two threads of which something else comes, and what comes.
+fn first_other(alloc: Global, rows: &[(Event, Came)]) -> Result<Option<(usize, Came)>, AllocError> {
     let mut machine = LockMachine::new(alloc, 2, SETTINGS)?;
-    for (event, wanted) in rows.iter() {
-        if make(alloc, &mut machine, *event)? != *wanted {
-            return Ok(false);
+    for (number, (event, wanted)) in rows.iter().enumerate() {
+        let came = make(alloc, &mut machine, *event)?;
+        if came != *wanted {
+            return Ok(Some((number, came)));
         }
     }
-    Ok(true)
+    Ok(None)
 }
+
+const AT_OTHER_PHASES: &[(Event, Came)] = &[
+    (Event::Answer(0), Came::WrongPhase),
+    (Event::AskEnd(0), Came::WrongPhase),
+    (Event::BeginOutside(0), Came::WrongPhase),
+    (Event::Again(0), Came::WrongPhase),
+    (Event::AskOpen(0), Came::Made),
+    (Event::AskOpen(1), Came::Made),
+    (Event::AskOpen(1), Came::WrongPhase),
+    (Event::End(1), Came::WrongPhase),
+    (Event::TryTable(1), Came::WrongPhase),
+    (Event::TryNode(0), Came::WrongPhase),
+    (Event::TryTable(0), Came::Got),
+    (Event::TryTable(1), Came::Failed),
+    (Event::TryNode(0), Came::Got),
+    (Event::Answer(0), Came::Made),
+    (Event::End(0), Came::Made),
+    (Event::End(0), Came::WrongPhase),
+];
 
 #[test]
 fn refuses_events_at_other_phases(rt: HostRuntime) -> Result<(), Fail> {
-    let rows = &[
-        (Event::Answer(0), Came::WrongPhase),
-        (Event::AskEnd(0), Came::WrongPhase),
-        (Event::BeginOutside(0), Came::WrongPhase),
-        (Event::Again(0), Came::WrongPhase),
-        (Event::AskOpen(0), Came::Made),
-        (Event::AskOpen(1), Came::Made),
-        (Event::AskOpen(1), Came::WrongPhase),
-        (Event::End(1), Came::WrongPhase),
-        (Event::TryTable(1), Came::WrongPhase),
-        (Event::TryNode(0), Came::WrongPhase),
-        (Event::TryTable(0), Came::Got),
-        (Event::TryTable(1), Came::Failed),
-        (Event::TryNode(0), Came::Got),
-        (Event::Answer(0), Came::Made),
-        (Event::End(0), Came::Made),
-        (Event::End(0), Came::WrongPhase),
-    ];
-    assert!(rt; comes(rt.alloc(), rows)?);
+    assert_eq!(rt;
+        first_other(rt.alloc(), AT_OTHER_PHASES)?,
+        None,
+        "each event comes out as in its row"
+    );
     Ok(())
 }
 
+const PAST_THE_LIMIT: &[(Event, Came)] = &[
+    (Event::AskWork(0, 1 << 62), Came::ClockFull),
+    (Event::AskWork(0, (1 << 62) - 1), Came::Made),
+    (Event::AskOpen(0), Came::Made),
+    (Event::End(1), Came::Made),
+    (Event::TryTable(0), Came::ClockFull),
+];
+
 #[test]
 fn refuses_events_past_the_clocks_limit(rt: HostRuntime) -> Result<(), Fail> {
-    let rows = &[
-        (Event::AskWork(0, 1 << 62), Came::ClockFull),
-        (Event::AskWork(0, (1 << 62) - 1), Came::Made),
-        (Event::AskOpen(0), Came::Made),
-        (Event::End(1), Came::Made),
-        (Event::TryTable(0), Came::ClockFull),
-    ];
-    assert!(rt; comes(rt.alloc(), rows)?);
+    assert_eq!(rt;
+        first_other(rt.alloc(), PAST_THE_LIMIT)?,
+        None,
+        "each event comes out as in its row"
+    );
     Ok(())
 }

@@ -1,4 +1,4 @@
-use crate::plain_runs::{Came, plain};
+use crate::plain_runs::{Came, NotRun, plain};
 use crate::seen::{Seen, replied, was_blocked};
 use call_machine::{History, Plain, PlainFault, Stop};
 use posix_terms::{Errno, HistoryRow, OutKind, Outcome, Settings, Step, Transcripts};
@@ -18,19 +18,12 @@ fn patience(patience: u32) -> Settings {
     }
 }
 
-// Whether there is no run, with this fault. Where memory is wanted, any fault is as good.
-fn faults(
-    alloc: Global,
-    texts: &[&str],
-    came: &[&[Came]],
-    settings: Settings,
-    wanted: PlainFault,
-) -> bool {
-    match plain(alloc, texts, came, settings) {
-        Ok(_) => false,
-        Err(fault) => fault == wanted || fault == PlainFault::Memory,
-    }
+// Why there is no run of these scripts, for which this comes; none where there is one.
+fn refusal(alloc: Global, texts: &[&str], came: &[&[Came]], settings: Settings) -> Option<NotRun> {
+    plain(alloc, texts, came, settings).err()
 }
+
+const THREADS: Option<NotRun> = Some(NotRun::Plain(PlainFault::Threads));
 
 const NOTHING: &[Came] = &[];
 
@@ -45,7 +38,13 @@ const WRONG_NUMBERS: &[(&[&str], &[&[Came]])] = &[
 #[test]
 fn refuses_wrong_numbers(rt: HostRuntime) {
     for (texts, came) in WRONG_NUMBERS {
-        assert!(rt; faults(rt.alloc(), texts, came, DEFAULTS, PlainFault::Threads));
+        assert_eq!(rt;
+            refusal(rt.alloc(), texts, came, DEFAULTS),
+            THREADS,
+            "{} scripts, {} lists",
+            texts.len(),
+            came.len()
+        );
     }
 }
 
@@ -57,8 +56,16 @@ fn refuses_wrong_settings(rt: HostRuntime) {
             patience: *patience,
             door_cost: *door_cost,
         };
-        assert!(rt; faults(rt.alloc(), &[""], &[&[]], settings, PlainFault::Settings));
-        assert!(rt; faults(rt.alloc(), &[], &[], settings, PlainFault::Threads));
+        assert_eq!(rt;
+            refusal(rt.alloc(), &[""], &[&[]], settings),
+            Some(NotRun::Plain(PlainFault::Settings)),
+            "patience {patience}, door cost {door_cost}"
+        );
+        assert_eq!(rt;
+            refusal(rt.alloc(), &[], &[], settings),
+            THREADS,
+            "no scripts, patience {patience}, door cost {door_cost}"
+        );
     }
 }
 
@@ -92,35 +99,7 @@ fn is_met(plain: &Plain, wanted: Wanted) -> bool {
     plain.stop == wanted.stop && are_rows(plain.history.rows(), wanted.rows)
 }
 
-// Whether a run gives what is wanted.
-fn gives(run: Result<Plain, PlainFault>, wanted: Wanted) -> Result<bool, PlainFault> {
-    match run {
-        Ok(plain) => Ok(is_met(&plain, wanted)),
-        Err(fault) => Err(fault),
-    }
-}
-
-// Whether it writes this log.
-fn writes(run: Result<Plain, PlainFault>, log: &[u8]) -> Result<bool, PlainFault> {
-    match run {
-        Ok(plain) => Ok(plain.log.as_slice() == log),
-        Err(fault) => Err(fault),
-    }
-}
-
-// Whether it stops so, with so many rows, and its threads saw so many each.
-fn stops(
-    run: Result<Plain, PlainFault>,
-    stop: Option<Stop>,
-    rows: usize,
-    seen: &[usize],
-) -> Result<bool, PlainFault> {
-    match run {
-        Ok(plain) => Ok(is_stopped(&plain, stop, rows, seen)),
-        Err(fault) => Err(fault),
-    }
-}
-
+// Whether a run stops so, with so many rows, and its threads saw so many each.
 fn is_stopped(plain: &Plain, stop: Option<Stop>, rows: usize, seen: &[usize]) -> bool {
     plain.stop == stop && plain.history.rows().len() == rows && saw(&plain.transcripts, seen)
 }
@@ -153,13 +132,6 @@ fn is_inside(history: &History, steps: usize) -> bool {
     stayed_inside(history.rows()) && asked.len() == 1 && has_steps(asked.steps(0), steps)
 }
 
-fn has_asked(run: Result<Plain, PlainFault>, steps: usize) -> Result<bool, PlainFault> {
-    match run {
-        Ok(plain) => Ok(is_inside(&plain.history, steps)),
-        Err(fault) => Err(fault),
-    }
-}
-
 const KEPT: Wanted = Wanted {
     stop: None,
     rows: &[
@@ -172,24 +144,55 @@ const KEPT: Wanted = Wanted {
 #[test]
 fn keeps_the_history(rt: HostRuntime) -> Result<(), Fail> {
     let texts: &[&str] = &["open /a rw create\nwrite 0 x68656c6c6f\nclose 7"];
-    assert!(rt; gives(plain(rt.alloc(), texts, &[&[]], DEFAULTS), KEPT)?);
-    assert!(rt; has_asked(plain(rt.alloc(), texts, &[&[]], DEFAULTS), 4)?);
-    assert!(rt; stops(plain(rt.alloc(), texts, &[&[]], DEFAULTS), None, 3, &[3])?);
+    let plain = plain(rt.alloc(), texts, &[&[]], DEFAULTS)?;
+    assert!(rt;
+        is_met(&plain, KEPT),
+        "an open, a write and a failed close, at 1, 5 and 9"
+    );
+    assert!(rt;
+        is_inside(&plain.history, 4),
+        "four steps, and nothing from outside"
+    );
+    assert!(rt;
+        is_stopped(&plain, None, 3, &[3]),
+        "three rows, which the thread saw"
+    );
     Ok(())
 }
 
-// A header with the number of threads and the settings, and an end without records.
+const SEVEN: Settings = Settings {
+    patience: 7,
+    door_cost: 1_000_000,
+};
+
+// Scripts for which nothing comes, the settings, and the log of their run: a header with the number of threads and the settings, and an end
+// without records.
+const LOGS: &[(&[&str], &[&[Came]], Settings, &[u8])] = &[
+    (
+        &[""],
+        &[NOTHING],
+        DEFAULTS,
+        b"DIOL\0\x01\0\x01\0\0\x03\xe8\0\0\0\x64E\0\0\0\0",
+    ),
+    (
+        &["open /a rw create", "", "close 0"],
+        &[NOTHING; 3],
+        SEVEN,
+        b"DIOL\0\x01\0\x03\0\0\0\x07\0\x0f\x42\x40E\0\0\0\0",
+    ),
+];
+
 #[test]
 fn writes_the_log(rt: HostRuntime) -> Result<(), Fail> {
-    let alone = b"DIOL\0\x01\0\x01\0\0\x03\xe8\0\0\0\x64E\0\0\0\0";
-    assert!(rt; writes(plain(rt.alloc(), &[""], &[&[]], DEFAULTS), alone)?);
-    let three = b"DIOL\0\x01\0\x03\0\0\0\x07\0\x0f\x42\x40E\0\0\0\0";
-    let settings = Settings {
-        patience: 7,
-        door_cost: 1_000_000,
-    };
-    let texts: &[&str] = &["open /a rw create", "", "close 0"];
-    assert!(rt; writes(plain(rt.alloc(), texts, &[&[], &[], &[]], settings), three)?);
+    for (texts, came, settings, log) in LOGS {
+        let plain = plain(rt.alloc(), texts, came, *settings)?;
+        assert_eq!(rt;
+            plain.log.as_slice(),
+            *log,
+            "the log of {} threads",
+            texts.len()
+        );
+    }
     Ok(())
 }
 
@@ -202,8 +205,11 @@ const IN_ORDER: Wanted = Wanted {
 fn rows_stand_in_the_order_of_their_turns(rt: HostRuntime) -> Result<(), Fail> {
     let late = "work 3\nopen /a rw create";
     let early = "open /b rw create\nwork 1000000";
-    let run = plain(rt.alloc(), &[late, early], &[&[], &[]], DEFAULTS);
-    assert!(rt; gives(run, IN_ORDER)?);
+    let plain = plain(rt.alloc(), &[late, early], &[&[], &[]], DEFAULTS)?;
+    assert!(rt;
+        is_met(&plain, IN_ORDER),
+        "the early one at 1, and the late one at 4"
+    );
     Ok(())
 }
 
@@ -220,20 +226,18 @@ const BLOCKED: Wanted = Wanted {
 // A call has a row for each turn at which it is blocked, and one for its last.
 #[test]
 fn blocked_turns_have_rows(rt: HostRuntime) -> Result<(), Fail> {
-    let run = plain(rt.alloc(), &["pipe\nread 0 4"], &[&[]], patience(3));
-    assert!(rt; gives(run, BLOCKED)?);
+    let plain = plain(rt.alloc(), &["pipe\nread 0 4"], &[&[]], patience(3))?;
+    assert!(rt;
+        is_met(&plain, BLOCKED),
+        "blocked at 5 and 9, interrupted at 13"
+    );
     Ok(())
 }
 
 // ## Runs that go outside
 
 // The run of one script with one list.
-fn run_one(
-    alloc: Global,
-    text: &str,
-    all: &[Came],
-    settings: Settings,
-) -> Result<Plain, PlainFault> {
+fn run_one(alloc: Global, text: &str, all: &[Came], settings: Settings) -> Result<Plain, NotRun> {
     plain(alloc, &[text], &[all], settings)
 }
 
@@ -262,14 +266,22 @@ const SHORT_WRITE_LOG: &[u8] = b"DIOL\0\x01\0\x01\0\0\x03\xe8\0\0\0\x64\
     E\0\0\0\x03";
 
 // The run of the short write, for which this comes.
-fn short_write(alloc: Global, came: &[Came]) -> Result<Plain, PlainFault> {
+fn short_write(alloc: Global, came: &[Came]) -> Result<Plain, NotRun> {
     run_one(alloc, SHORT_WRITE, came, DEFAULTS)
 }
 
 #[test]
 fn a_short_host_write(rt: HostRuntime) -> Result<(), Fail> {
-    assert!(rt; gives(short_write(rt.alloc(), SHORT_WRITE_CAME), SHORT_WRITE_SEEN)?);
-    assert!(rt; writes(short_write(rt.alloc(), SHORT_WRITE_CAME), SHORT_WRITE_LOG)?);
+    let plain = short_write(rt.alloc(), SHORT_WRITE_CAME)?;
+    assert!(rt;
+        is_met(&plain, SHORT_WRITE_SEEN),
+        "an open, 3 bytes written, and EIO"
+    );
+    assert_eq!(rt;
+        plain.log.as_slice(),
+        SHORT_WRITE_LOG,
+        "a log of three records"
+    );
     Ok(())
 }
 
@@ -295,8 +307,12 @@ const UNANSWERED: &[(&[Came], Stop, usize, usize)] = &[
 #[test]
 fn stops_where_an_outcome_does_not_answer(rt: HostRuntime) -> Result<(), Fail> {
     for (came, stop, rows, replies) in UNANSWERED {
-        let run = short_write(rt.alloc(), came);
-        assert!(rt; stops(run, Some(*stop), *rows, &[*replies])?);
+        let plain = short_write(rt.alloc(), came)?;
+        assert!(rt;
+            is_stopped(&plain, Some(*stop), *rows, &[*replies]),
+            "{stop:?} behind {} outcomes, {rows} rows and {replies} replies",
+            came.len()
+        );
     }
     Ok(())
 }
@@ -307,8 +323,12 @@ fn one_thread_without_an_outcome(rt: HostRuntime) -> Result<(), Fail> {
     let lacking = "host_open a r\nread 0 1";
     let other = "work 300\nopen /a rw create\nwrite 1 x61";
     let came: &[&[Came]] = &[&[(OutKind::Open, Ok(0))], &[]];
-    let run = plain(rt.alloc(), &[lacking, other], came, DEFAULTS);
-    assert!(rt; stops(run, Some(Stop::EndOfLog(0)), 2, &[1, 0])?);
+    let plain = plain(rt.alloc(), &[lacking, other], came, DEFAULTS)?;
+    let stop = Some(Stop::EndOfLog(0));
+    assert!(rt;
+        is_stopped(&plain, stop, 2, &[1, 0]),
+        "thread 0 stops it, behind its open"
+    );
     Ok(())
 }
 
@@ -333,8 +353,11 @@ const NOT_READY_SEEN: Wanted = Wanted {
 // EAGAIN makes a door call wait, up to its patience.
 #[test]
 fn a_door_that_is_not_ready(rt: HostRuntime) -> Result<(), Fail> {
-    let run = run_one(rt.alloc(), WRITE_A, NOT_READY, patience(2));
-    assert!(rt; gives(run, NOT_READY_SEEN)?);
+    let plain = run_one(rt.alloc(), WRITE_A, NOT_READY, patience(2))?;
+    assert!(rt;
+        is_met(&plain, NOT_READY_SEEN),
+        "blocked at 105, interrupted at 209"
+    );
     Ok(())
 }
 
@@ -357,14 +380,17 @@ const REFUSED: Wanted = Wanted {
     ],
 };
 
+const WRITE_NONBLOCKING: &str = "host_open out w\nsetfl 0 nonblock\nwrite 0 x61";
+
+const ENDS_OF_PATIENCE: &[(&str, Wanted)] = &[(WRITE_A, INTERRUPTED), (WRITE_NONBLOCKING, REFUSED)];
+
 // At the end of its patience it fails, and at once where its description is not to block.
 #[test]
 fn a_door_that_is_never_ready(rt: HostRuntime) -> Result<(), Fail> {
-    let nonblocking = "host_open out w\nsetfl 0 nonblock\nwrite 0 x61";
-    let run = run_one(rt.alloc(), WRITE_A, NEVER_READY, patience(1));
-    assert!(rt; gives(run, INTERRUPTED)?);
-    let run = run_one(rt.alloc(), nonblocking, NEVER_READY, patience(1));
-    assert!(rt; gives(run, REFUSED)?);
+    for (text, wanted) in ENDS_OF_PATIENCE {
+        let plain = run_one(rt.alloc(), text, NEVER_READY, patience(1))?;
+        assert!(rt; is_met(&plain, *wanted), "{text:?}");
+    }
     Ok(())
 }
 
@@ -383,15 +409,23 @@ const READY_AT_LAST_LOG: &[u8] = b"DIOL\0\x01\0\x01\0\0\0\x03\0\0\0\x64\
     R\0\0\0\0\0\x03\x03\0\0\0\0\0\0\0\0\x01\0\0\
     E\0\0\0\x04";
 
-fn ready_at_last(alloc: Global) -> Result<Plain, PlainFault> {
+fn ready_at_last(alloc: Global) -> Result<Plain, NotRun> {
     run_one(alloc, WRITE_A, READY_AT_LAST, patience(3))
 }
 
 // Each turn of a call that is made again has a record.
 #[test]
 fn each_blocked_turn_outside_has_a_record(rt: HostRuntime) -> Result<(), Fail> {
-    assert!(rt; writes(ready_at_last(rt.alloc()), READY_AT_LAST_LOG)?);
-    assert!(rt; stops(ready_at_last(rt.alloc()), None, 4, &[2])?);
+    let plain = ready_at_last(rt.alloc())?;
+    assert_eq!(rt;
+        plain.log.as_slice(),
+        READY_AT_LAST_LOG,
+        "a log of four records"
+    );
+    assert!(rt;
+        is_stopped(&plain, None, 4, &[2]),
+        "four rows, of which two have replies"
+    );
     Ok(())
 }
 
@@ -405,19 +439,8 @@ const READY_AT_LAST_SEEN: Wanted = Wanted {
     ],
 };
 
-// Whether this failure came from outside for the row of this number.
-fn failed_outside(
-    run: Result<Plain, PlainFault>,
-    number: usize,
-    error: Errno,
-) -> Result<bool, PlainFault> {
-    match run {
-        Ok(plain) => Ok(came_for(plain.history.rows().get(number), error)),
-        Err(fault) => Err(fault),
-    }
-}
-
-fn came_for(row: Option<&HistoryRow>, error: Errno) -> bool {
+// Whether this failure came from outside for a row.
+fn failed_outside(row: Option<&HistoryRow>, error: Errno) -> bool {
     match row {
         Some(row) => row.outcome == Some(Outcome::Fail(error)),
         None => false,
@@ -427,7 +450,15 @@ fn came_for(row: Option<&HistoryRow>, error: Errno) -> bool {
 // And it is in the history with its outcome.
 #[test]
 fn each_blocked_turn_outside_has_a_row(rt: HostRuntime) -> Result<(), Fail> {
-    assert!(rt; gives(ready_at_last(rt.alloc()), READY_AT_LAST_SEEN)?);
-    assert!(rt; failed_outside(ready_at_last(rt.alloc()), 2, Errno::EAGAIN)?);
+    let plain = ready_at_last(rt.alloc())?;
+    assert!(rt;
+        is_met(&plain, READY_AT_LAST_SEEN),
+        "blocked at 105 and 209, written at 313"
+    );
+    let last_blocked = plain.history.rows().get(2);
+    assert!(rt;
+        failed_outside(last_blocked, Errno::EAGAIN),
+        "EAGAIN for the row at 209"
+    );
     Ok(())
 }

@@ -14,7 +14,7 @@ fn two_threads(alloc: Global, room: usize) -> Result<Driven, AllocError> {
 // ## Close and reopen, in whatever order
 
 // Which thread comes first, of those that can make an event.
-#[derive(Clone, Copy)]
+#[derive(Clone, Copy, Debug)]
 enum First {
     Least,
     Greatest,
@@ -58,24 +58,30 @@ fn advance(alloc: Global, machine: &mut Driven, i: usize) -> Result<bool, AllocE
 }
 
 // The order in which the two threads are tried in this round.
-fn order(first: First, round: usize) -> [usize; 2] {
+fn order(first: First, round: usize) -> &'static [usize] {
     match first {
-        First::Least => [0, 1],
-        First::Greatest => [1, 0],
-        First::InTurns => [round % 2, 1 - round % 2],
+        First::Greatest => &[1, 0],
+        First::InTurns if round % 2 == 1 => &[1, 0],
+        _ => &[0, 1],
     }
 }
 
-// Both threads, to their ends.
-fn driven(alloc: Global, first: First) -> Result<Driven, AllocError> {
-    let mut machine = two_threads(alloc, 21)?;
-    for round in 0..200_usize {
-        let [one, other] = order(first, round);
-        if !advance(alloc, &mut machine, one)? {
-            advance(alloc, &mut machine, other)?;
+// The first of these threads that can makes its event.
+fn advance_one(alloc: Global, machine: &mut Driven, threads: &[usize]) -> Result<(), AllocError> {
+    for i in threads {
+        if advance(alloc, machine, *i)? {
+            return Ok(());
         }
     }
-    Ok(machine)
+    Ok(())
+}
+
+// Both threads go on to their ends.
+fn drive(alloc: Global, machine: &mut Driven, first: First) -> Result<(), AllocError> {
+    for round in 0..200_usize {
+        advance_one(alloc, machine, order(first, round))?;
+    }
+    Ok(())
 }
 
 fn is_reopened(rows: &[HistoryRow]) -> bool {
@@ -93,7 +99,8 @@ fn is_reopened(rows: &[HistoryRow]) -> bool {
 
 // Whether the history of both threads in this order is that, and their log has no record.
 fn gives_it(alloc: Global, first: First) -> Result<bool, AllocError> {
-    let machine = driven(alloc, first)?;
+    let mut machine = two_threads(alloc, 21)?;
+    drive(alloc, &mut machine, first)?;
     let is_reopened = is_reopened(machine.history());
     let left = machine.finish();
     Ok(is_reopened && left.stop.is_none() && left.sink.bytes().len() == 21)
@@ -102,7 +109,7 @@ fn gives_it(alloc: Global, first: First) -> Result<bool, AllocError> {
 #[test]
 fn gives_the_same_history_in_whatever_order(rt: HostRuntime) -> Result<(), Fail> {
     for first in &[First::Least, First::Greatest, First::InTurns] {
-        assert!(rt; gives_it(rt.alloc(), *first)?);
+        assert!(rt; gives_it(rt.alloc(), *first)?, "{first:?} first");
     }
     Ok(())
 }
@@ -141,7 +148,10 @@ fn refuses_all_once_stopped(alloc: Global) -> Result<bool, AllocError> {
 
 #[test]
 fn refuses_all_events_once_it_is_stopped(rt: HostRuntime) -> Result<(), Fail> {
-    assert!(rt; refuses_all_once_stopped(rt.alloc())?);
+    assert!(rt;
+        refuses_all_once_stopped(rt.alloc())?,
+        "each event is refused as stopped"
+    );
     Ok(())
 }
 
@@ -159,16 +169,13 @@ fn asks_outside(alloc: Global, asked: usize) -> Result<Step, AllocError> {
     }
 }
 
-// Thread 0 asks its next call and is granted the table and the object.
-fn asks_next(alloc: Global, machine: &mut Driven) -> Result<(), AllocError> {
+// Thread 0 asks its next call; whether it is granted the table and the object.
+fn asks_next(alloc: Global, machine: &mut Driven) -> Result<bool, AllocError> {
     if machine.len() == 0 {
-        return Err(AllocError);
+        return Ok(false);
     }
     let step = asks_outside(alloc, machine.asked(0).len())?;
-    let is_granted = machine.ask(0, step).is_ok()
-        && advance(alloc, machine, 0)?
-        && advance(alloc, machine, 0)?;
-    if is_granted { Ok(()) } else { Err(AllocError) }
+    Ok(machine.ask(0, step).is_ok() && advance(alloc, machine, 0)? && advance(alloc, machine, 0)?)
 }
 
 // Whether thread 0 shows a request.
@@ -178,8 +185,12 @@ fn shows_request(machine: &Driven) -> Result<bool, AllocError> {
 
 // Whether it goes outside with its next call, and with this door.
 fn goes_outside(alloc: Global, machine: &mut Driven, door: Option<u8>) -> Result<bool, AllocError> {
-    asks_next(alloc, machine)?;
-    Ok(shows_request(machine)? && machine.len() > 0 && machine.begin_outside(0) == Ok(door))
+    Ok(
+        asks_next(alloc, machine)?
+            && shows_request(machine)?
+            && machine.len() > 0
+            && machine.begin_outside(0) == Ok(door),
+    )
 }
 
 // This outcome comes for thread 0, where it goes with what was asked.
@@ -251,17 +262,28 @@ fn has_it_back(told: Option<Result<(), NotRecorded<u8>>>) -> bool {
     }
 }
 
+// Whether the outcome of its write is handed back behind an open, and it is stopped then.
+fn stops_at_its_sink(alloc: Global, machine: &mut Driven) -> Result<bool, AllocError> {
+    Ok(
+        opens_outside(alloc, machine)?
+            && is_handed_back(alloc, machine)?
+            && ended(machine, 1) == Some(Err(Refused::Stopped(Stop::Sink))),
+    )
+}
+
 // A machine with room for the header, one record and 7 bytes of another.
 fn hands_back(alloc: Global) -> Result<bool, AllocError> {
     let mut machine = two_threads(alloc, 42)?;
-    let is_handed_back = opens_outside(alloc, &mut machine)?
-        && is_handed_back(alloc, &mut machine)?;
-    let is_stopped = ended(&mut machine, 1) == Some(Err(Refused::Stopped(Stop::Sink)));
-    Ok(is_handed_back && is_stopped && machine.finish().sink.bytes().len() == 42)
+    let is_stopped = stops_at_its_sink(alloc, &mut machine)?;
+    let taken = machine.finish().sink.bytes().len();
+    Ok(is_stopped && taken == 42)
 }
 
 #[test]
 fn hands_back_what_its_sink_did_not_take(rt: HostRuntime) -> Result<(), Fail> {
-    assert!(rt; hands_back(rt.alloc())?);
+    assert!(rt;
+        hands_back(rt.alloc())?,
+        "the outcome and its door, and 42 bytes in the log"
+    );
     Ok(())
 }

@@ -3,6 +3,26 @@ use posix_terms::{Bytes, Errno, Given, OutKind, Outcome, Outcomes, Settings};
 use std::alloc::{AllocError, Global};
 use thread_scripts::{Script, ScriptFault, parse};
 
+// Why there is no plain run of some texts.
+#[derive(Clone, Copy, Debug, PartialEq, Eq)]
+pub(crate) enum NotRun {
+    // a text is no script, or there was no memory for one
+    Script(ScriptFault),
+    Plain(PlainFault),
+}
+
+impl From<ScriptFault> for NotRun {
+    fn from(fault: ScriptFault) -> NotRun {
+        NotRun::Script(fault)
+    }
+}
+
+impl From<PlainFault> for NotRun {
+    fn from(fault: PlainFault) -> NotRun {
+        NotRun::Plain(fault)
+    }
+}
+
 // What comes from outside: a kind, with a value or a failure.
 pub(crate) type Came = (OutKind, Result<u64, Errno>);
 
@@ -27,21 +47,12 @@ fn list(alloc: Global, all: &[Came]) -> Result<Outcomes, AllocError> {
 }
 
 // What comes for each thread.
-fn lists(alloc: Global, all: &[&[Came]]) -> Result<Vec<Outcomes>, AllocError> {
+fn lists(alloc: Global, all: &[&[Came]]) -> Result<Vec<Outcomes>, PlainFault> {
     let mut lists = Vec::new(alloc);
     for came in all {
         lists.push(list(alloc, came)?)?;
     }
     Ok(lists)
-}
-
-// These scripts. One that is bad counts as a wrong number of them.
-fn plain_scripts(alloc: Global, texts: &[&str]) -> Result<Vec<Script>, PlainFault> {
-    match scripts(alloc, texts) {
-        Ok(scripts) => Ok(scripts),
-        Err(ScriptFault::Memory) => Err(PlainFault::Memory),
-        Err(_) => Err(PlainFault::Threads),
-    }
 }
 
 pub(crate) fn scripts(alloc: Global, texts: &[&str]) -> Result<Vec<Script>, ScriptFault> {
@@ -58,7 +69,7 @@ pub(crate) fn plain(
     texts: &[&str],
     came: &[&[Came]],
     settings: Settings,
-) -> Result<Plain, PlainFault> {
-    let scripts = plain_scripts(alloc, texts)?;
-    plain_run(alloc, scripts, lists(alloc, came)?, settings)
+) -> Result<Plain, NotRun> {
+    let scripts = scripts(alloc, texts)?;
+    Ok(plain_run(alloc, scripts, lists(alloc, came)?, settings)?)
 }

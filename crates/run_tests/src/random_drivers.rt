@@ -9,7 +9,7 @@ use posix_terms::{
     Answer, Given, HistoryRow, OutKind, Outcome, Outcomes, Reply, Request, Row, Settings,
     Transcript,
 };
-use replayer::replay;
+use replayer::{ReplayFault, replay};
 use std::alloc::{AllocError, Global};
 use std::mem::replace;
 use std::process::Abort;
@@ -437,7 +437,8 @@ impl Run {
     fn is_replayed(self, alloc: Global) -> Result<bool, Fault> {
         let are_ended = self.machine.turn_holder().is_none();
         let Run { texts, machine, .. } = self;
-        Ok(are_ended && is_replayed(alloc, texts.as_slice(), &machine.finish())?)
+        let is_replayed = is_replayed(alloc, texts.as_slice(), &machine.finish())?;
+        Ok(are_ended && is_replayed)
     }
 }
 
@@ -460,6 +461,7 @@ fn is_replayed(
         Ok(replayed) => Ok(
             left.stop.is_none() && all_saw(replayed.transcripts.threads(), texts.len(), rows),
         ),
+        Err(ReplayFault::Memory) => Err(Fault::Memory),
         Err(_) => Ok(false),
     }
 }
@@ -508,7 +510,9 @@ fn is_the_plain_run(
     let mut run = Run::new(alloc, &mut dice)?;
     run.drive(alloc, choice, &mut dice)?;
     met.count(run.machine.history(), run.players.as_slice());
-    Ok(run.is_plain(alloc)? && run.is_replayed(alloc)?)
+    let is_plain = run.is_plain(alloc)?;
+    let is_replayed = run.is_replayed(alloc)?;
+    Ok(is_plain && is_replayed)
 }
 
 // The runs of these seeds, from the first one on. Enough of them met what makes threads wait for one another.
@@ -521,7 +525,7 @@ fn are_the_plain_runs(
     let mut met = Met::default();
     for seed in first..first.saturating_add(RUNS) {
         match is_the_plain_run(alloc, choice, seed, &mut met) {
-            Ok(same) => assert!(rt; same, "seed {seed}"),
+            Ok(same) => assert!(rt; same, "what the plain run gives, at seed {seed}"),
             Err(fault) => {
                 let _ = eprintln!(rt; "seed {seed}");
                 return Err(fault.into());
@@ -530,7 +534,7 @@ fn are_the_plain_runs(
     }
     assert!(rt;
         met.outside >= 150 && met.blocked >= 50 && met.contended >= 100,
-        "{met:?}"
+        "at least 150, 50 and 100 runs: {met:?}"
     );
     Ok(())
 }

@@ -91,19 +91,30 @@ const LINES: &[&str] = &[
 ];
 
 // The words that a letter stands for: few, so that calls hit what other calls made.
+const OPERANDS: &[(u8, &[&str])] = &[
+    (b'P', &["/a", "/a", "/b", "/d", "/d/x"]),
+    (
+        b'A',
+        &["r", "w", "rw", "rw create", "rw create", "w create trunc"],
+    ),
+    (b'F', &["0", "0", "0", "1", "1", "2", "2", "3", "4"]),
+    (b'C', &["0", "1", "3", "9"]),
+    (b'B', &["x", "x61", "x6263", "x646566"]),
+    (b'O', &["0", "1", "5", "40"]),
+    (b'W', &["set", "cur", "end"]),
+    (b'H', &["read", "write", "both"]),
+    (b'T', &["0", "1", "80"]),
+    (b'K', &["1", "5", "12", "40"]),
+];
+
+// None for a letter that stands for nothing.
 fn operands(letter: u8) -> &'static [&'static str] {
-    match letter {
-        b'P' => &["/a", "/a", "/b", "/d", "/d/x"],
-        b'A' => &["r", "w", "rw", "rw create", "rw create", "w create trunc"],
-        b'F' => &["0", "0", "0", "1", "1", "2", "2", "3", "4"],
-        b'C' => &["0", "1", "3", "9"],
-        b'B' => &["x", "x61", "x6263", "x646566"],
-        b'O' => &["0", "1", "5", "40"],
-        b'W' => &["set", "cur", "end"],
-        b'H' => &["read", "write", "both"],
-        b'T' => &["0", "1", "80"],
-        _ => &["1", "5", "12", "40"],
+    for (name, words) in OPERANDS {
+        if *name == letter {
+            return words;
+        }
     }
+    &[]
 }
 
 // Adds one of these lines, with operands by chance.

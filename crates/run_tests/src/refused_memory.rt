@@ -208,24 +208,33 @@ fn is_whole(rows: &[HistoryRow]) -> bool {
 
 // Whether a machine has all that, and came to its end.
 fn is_over(machine: Driven) -> bool {
-    is_whole(machine.history()) && machine.finish().stop.is_none()
+    let is_whole = is_whole(machine.history());
+    let left = machine.finish();
+    is_whole && left.stop.is_none()
+}
+
+// Two machines at their start.
+fn started_twins(alloc: Global) -> Result<Twins, AllocError> {
+    Ok(Twins {
+        first: started(alloc)?,
+        second: started(alloc)?,
+    })
 }
 
 // Whether the twins are both so, once they ran.
 fn are_over(alloc: Global) -> Result<bool, Fail> {
-    let mut twins = Twins {
-        first: started(alloc)?,
-        second: started(alloc)?,
-    };
+    let mut twins = started_twins(alloc)?;
     twins.run(alloc)?;
     let Twins { first, second } = twins;
-    Ok(is_over(first) && is_over(second))
+    let is_first_over = is_over(first);
+    let is_second_over = is_over(second);
+    Ok(is_first_over && is_second_over)
 }
 
 // Whichever allocation is refused, by `rt try --test --fail-alloc`, the run is the same: `ask` and `again` say that there is no memory, change
 // nothing, and are made when they are asked again. See tools/refused-allocations.
 #[test]
 fn asks_again_where_memory_was_refused(rt: HostRuntime) -> Result<(), Fail> {
-    assert!(rt; are_over(rt.alloc())?);
+    assert!(rt; are_over(rt.alloc())?, "each has its nine rows, and ended");
     Ok(())
 }

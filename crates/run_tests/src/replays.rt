@@ -1,11 +1,11 @@
-use crate::plain_runs::{Came, plain, scripts};
+use crate::plain_runs::{Came, NotRun, plain, scripts};
 use crate::seen::{Seen, is_reply};
-use call_machine::{History, Plain, PlainFault, Stop};
+use call_machine::{History, Plain, Stop};
 use input_log::LogFault;
 use posix_terms::{Call, Errno, OutKind, Outcome, Row, Settings, Transcript, Transcripts};
-use replayer::{ReplayFault, Replayed, replay};
-use std::alloc::{AllocError, Global};
-use std::test::Fail;
+use replayer::{ReplayFault, replay};
+use std::alloc::Global;
+use std::process::Abort;
 use thread_scripts::ScriptFault;
 
 // The log of an open, a short write and a write that failed.
@@ -18,15 +18,6 @@ const SHORT_WRITE_LOG: &[u8] = b"DIOL\0\x01\0\x01\0\0\x03\xe8\0\0\0\x64\
 const SHORT_TEXT: &str = "host_open out w create\nwrite 0 x0001020304050607\nwrite 0 x0304";
 
 const SHORT_WRITE: &[&str] = &[SHORT_TEXT];
-
-// The replay of a log with these scripts; where memory is wanted it says so.
-fn replayed(alloc: Global, log: &[u8], texts: &[&str]) -> Result<Replayed, ReplayFault> {
-    match scripts(alloc, texts) {
-        Ok(scripts) => replay(alloc, log, scripts),
-        Err(ScriptFault::Memory) => Err(ReplayFault::Memory),
-        Err(_) => Err(ReplayFault::Threads),
-    }
-}
 
 // ## What threads saw
 
@@ -49,52 +40,92 @@ fn saw(transcripts: &Transcripts, wanted: &[Seens]) -> bool {
             .all(|(transcript, rows)| saw_rows(transcript.rows(), rows))
 }
 
-// How a replay ends.
-#[derive(Clone, Copy, PartialEq, Eq)]
+// ## How a replay ends
+
+#[derive(Clone, Copy, Debug, PartialEq, Eq)]
 enum End {
     Whole,
     NoLog(LogFault),
     Threads,
     OutOfRecords(usize),
     Diverged(usize, u32),
+    ClockFull,
+}
+
+// Why a replay tells nothing of a log, or what is not as it is wanted.
+#[derive(Clone, Copy, Debug, PartialEq, Eq)]
+enum NotReplayed {
+    // there was no memory for it
+    Memory,
+    // its scripts are none, or there is no run that wrote its log
+    NotRun(NotRun),
+    // the run that wrote its log is another than is wanted
+    OtherRun,
+    // it ends so, and its threads saw something else
+    Saw(End),
+}
+
+impl From<ScriptFault> for NotReplayed {
+    fn from(fault: ScriptFault) -> NotReplayed {
+        NotReplayed::NotRun(NotRun::Script(fault))
+    }
+}
+
+impl From<NotRun> for NotReplayed {
+    fn from(not: NotRun) -> NotReplayed {
+        NotReplayed::NotRun(not)
+    }
+}
+
+// This end, where the threads saw these rows.
+fn if_saw(end: End, seen: &Transcripts, rows: &[Seens]) -> Result<End, NotReplayed> {
+    if saw(seen, rows) {
+        Ok(end)
+    } else {
+        Err(NotReplayed::Saw(end))
+    }
+}
+
+// How a replay ends that has this fault, where the threads of one that was started saw these rows.
+fn early_end(fault: &ReplayFault, rows: &[Seens]) -> Result<End, NotReplayed> {
+    match fault {
+        ReplayFault::Log(fault) => Ok(End::NoLog(*fault)),
+        ReplayFault::Threads => Ok(End::Threads),
+        ReplayFault::Memory => Err(NotReplayed::Memory),
+        ReplayFault::EndOfLog(thread, seen) => if_saw(End::OutOfRecords(*thread), seen, rows),
+        ReplayFault::Diverged(thread, number, seen) => {
+            if_saw(End::Diverged(*thread, *number), seen, rows)
+        }
+        ReplayFault::ClockFull(seen) => if_saw(End::ClockFull, seen, rows),
+    }
+}
+
+// How the replay of this log with these scripts ends, where its threads saw these rows.
+fn end_of(alloc: Global, log: &[u8], texts: &[&str], rows: &[Seens]) -> Result<End, NotReplayed> {
+    match replay(alloc, log, scripts(alloc, texts)?) {
+        Ok(replayed) => if_saw(End::Whole, &replayed.transcripts, rows),
+        Err(fault) => early_end(&fault, rows),
+    }
 }
 
 // A log and its scripts, how its replay ends, and what its threads see.
 #[derive(Clone, Copy)]
 struct Case {
+    what: &'static str,
     log: &'static [u8],
     texts: &'static [&'static str],
     end: End,
     rows: &'static [Seens],
 }
 
-// Whether a replay that did not come to its end tells this, or wants memory.
-fn tells(fault: &ReplayFault, case: Case) -> bool {
-    match fault {
-        ReplayFault::Log(fault) => case.end == End::NoLog(*fault),
-        ReplayFault::Threads => case.end == End::Threads,
-        ReplayFault::Memory => true,
-        ReplayFault::EndOfLog(thread, seen) => {
-            case.end == End::OutOfRecords(*thread) && saw(seen, case.rows)
-        }
-        ReplayFault::Diverged(thread, number, seen) => {
-            case.end == End::Diverged(*thread, *number) && saw(seen, case.rows)
-        }
-        ReplayFault::ClockFull(_) => false,
-    }
-}
-
-// Whether the replay ends so.
-fn ends(alloc: Global, case: Case) -> bool {
-    match replayed(alloc, case.log, case.texts) {
-        Ok(replayed) => case.end == End::Whole && saw(&replayed.transcripts, case.rows),
-        Err(fault) => tells(&fault, case),
-    }
-}
-
-// The number of the first case whose replay ends otherwise.
-fn wrong_case(alloc: Global, cases: &[Case]) -> Option<usize> {
-    cases.iter().position(|case| !ends(alloc, *case))
+// Asserts that a replay ends so.
+fn assert_end(rt: &impl Abort, alloc: Global, case: Case) {
+    assert_eq!(rt;
+        end_of(alloc, case.log, case.texts, case.rows),
+        Ok(case.end),
+        "{}",
+        case.what
+    );
 }
 
 // ## The short write
@@ -105,20 +136,13 @@ const SHORT_ROWS: Seens = &[
     (209, Seen::Fail(Errno::EIO)),
 ];
 
-// Whether the threads of a whole replay saw this.
-fn is_whole(answer: Result<Replayed, ReplayFault>, rows: &[Seens]) -> Result<bool, AllocError> {
-    match answer {
-        Ok(replayed) => Ok(saw(&replayed.transcripts, rows)),
-        Err(ReplayFault::Memory) => Err(AllocError),
-        Err(_) => Ok(false),
-    }
-}
-
 #[test]
-fn a_short_host_write(rt: HostRuntime) -> Result<(), Fail> {
-    let answer = replayed(rt.alloc(), SHORT_WRITE_LOG, SHORT_WRITE);
-    assert!(rt; is_whole(answer, &[SHORT_ROWS])?);
-    Ok(())
+fn a_short_host_write(rt: HostRuntime) {
+    assert_eq!(rt;
+        end_of(rt.alloc(), SHORT_WRITE_LOG, SHORT_WRITE, &[SHORT_ROWS]),
+        Ok(End::Whole),
+        "an open, a write of 3 bytes and one that fails"
+    );
 }
 
 // Whether a history has three rows, from an open of a host file to a failure, and one thread asked four steps.
@@ -135,19 +159,22 @@ fn is_short_write(history: &History) -> bool {
     }
 }
 
-fn has_short_write(answer: Result<Replayed, ReplayFault>) -> Result<bool, AllocError> {
-    match answer {
+// Whether the history of the replay does.
+fn has_short_write(alloc: Global) -> Result<bool, NotReplayed> {
+    match replay(alloc, SHORT_WRITE_LOG, scripts(alloc, SHORT_WRITE)?) {
         Ok(replayed) => Ok(is_short_write(&replayed.history)),
-        Err(ReplayFault::Memory) => Err(AllocError),
+        Err(ReplayFault::Memory) => Err(NotReplayed::Memory),
         Err(_) => Ok(false),
     }
 }
 
 #[test]
-fn the_history_of_a_short_host_write(rt: HostRuntime) -> Result<(), Fail> {
-    let answer = replayed(rt.alloc(), SHORT_WRITE_LOG, SHORT_WRITE);
-    assert!(rt; has_short_write(answer)?);
-    Ok(())
+fn the_history_of_a_short_host_write(rt: HostRuntime) {
+    assert_eq!(rt;
+        has_short_write(rt.alloc()),
+        Ok(true),
+        "three rows, from an open to EIO, and four steps of one thread"
+    );
 }
 
 // ## Logs that are cut
@@ -177,11 +204,11 @@ const CUTS: &[(usize, End, &[Seens])] = &[
     (78, End::Whole, WHOLE),
 ];
 
-// So many of the first bytes of the log.
+// So many of the first bytes of the log: none where it has fewer.
 fn front(length: usize) -> &'static [u8] {
     match SHORT_WRITE_LOG.split_at_checked(length) {
         Some((front, _)) => front,
-        None => SHORT_WRITE_LOG,
+        None => &[],
     }
 }
 
@@ -189,13 +216,11 @@ fn front(length: usize) -> &'static [u8] {
 #[test]
 fn cut_logs(rt: HostRuntime) {
     for (length, end, rows) in CUTS {
-        let case = Case {
-            log: front(*length),
-            texts: SHORT_WRITE,
-            end: *end,
-            rows,
-        };
-        assert!(rt; ends(rt.alloc(), case), "{length}");
+        assert_eq!(rt;
+            end_of(rt.alloc(), front(*length), SHORT_WRITE, rows),
+            Ok(*end),
+            "the log cut at {length}"
+        );
     }
 }
 
@@ -203,32 +228,35 @@ fn cut_logs(rt: HostRuntime) {
 
 const NO_LOGS: &[Case] = &[
     Case {
+        what: "no bytes",
         log: b"",
         texts: &[],
         end: End::NoLog(LogFault::Torn(0, 0)),
         rows: &[],
     },
-    // the first 15 bytes of the log of the short write
     Case {
+        what: "the first 15 bytes of the log of the short write",
         log: b"DIOL\0\x01\0\x01\0\0\x03\xe8\0\0\0",
         texts: &[],
         end: End::NoLog(LogFault::Torn(0, 0)),
         rows: &[],
     },
     Case {
+        what: "other letters than DIOL",
         log: b"D?",
         texts: &["", ""],
         end: End::NoLog(LogFault::BadMagic),
         rows: &[],
     },
     Case {
+        what: "version 9",
         log: b"DIOL\0\x09",
         texts: &[""],
         end: End::NoLog(LogFault::BadVersion),
         rows: &[],
     },
-    // a record with another number than its first
     Case {
+        what: "a first record with number 1",
         log: b"DIOL\0\x01\0\x01\0\0\x03\xe8\0\0\0\x64R\0\0\0\0\0\x01\x01\0\0\0\0\0\0\0\0\0\0\0",
         texts: &[""],
         end: End::NoLog(LogFault::BadRecord(16)),
@@ -239,7 +267,9 @@ const NO_LOGS: &[Case] = &[
 // Bytes without a log at their front, whatever the scripts are.
 #[test]
 fn no_logs(rt: HostRuntime) {
-    assert_eq!(rt; wrong_case(rt.alloc(), NO_LOGS), None);
+    for case in NO_LOGS {
+        assert_end(&rt, rt.alloc(), *case);
+    }
 }
 
 const OTHER_NUMBERS: &[&[&str]] = &[&[], &[SHORT_TEXT, ""], &[""; 9]];
@@ -247,13 +277,12 @@ const OTHER_NUMBERS: &[&[&str]] = &[&[], &[SHORT_TEXT, ""], &[""; 9]];
 #[test]
 fn another_number_of_scripts(rt: HostRuntime) {
     for texts in OTHER_NUMBERS {
-        let case = Case {
-            log: SHORT_WRITE_LOG,
-            texts,
-            end: End::Threads,
-            rows: &[],
-        };
-        assert!(rt; ends(rt.alloc(), case));
+        assert_eq!(rt;
+            end_of(rt.alloc(), SHORT_WRITE_LOG, texts, &[]),
+            Ok(End::Threads),
+            "{} scripts for a log of one thread",
+            texts.len()
+        );
     }
 }
 
@@ -266,30 +295,31 @@ const CHANGED: &[&[&str]] = &[
 #[test]
 fn a_changed_script(rt: HostRuntime) {
     for texts in CHANGED {
-        let case = Case {
-            log: SHORT_WRITE_LOG,
-            texts,
-            end: End::Diverged(0, 1),
-            rows: OPENED,
-        };
-        assert!(rt; ends(rt.alloc(), case));
+        assert_eq!(rt;
+            end_of(rt.alloc(), SHORT_WRITE_LOG, texts, OPENED),
+            Ok(End::Diverged(0, 1)),
+            "{texts:?}"
+        );
     }
 }
 
 const UNUSED: &[Case] = &[
     Case {
+        what: "one record is left",
         log: SHORT_WRITE_LOG,
         texts: &["host_open out w create\nwrite 0 x0001020304050607"],
         end: End::Diverged(0, 2),
         rows: WRITTEN,
     },
     Case {
+        what: "all three are left",
         log: SHORT_WRITE_LOG,
         texts: &[""],
         end: End::Diverged(0, 0),
         rows: NONE,
     },
     Case {
+        what: "one of thread 2 and one of thread 1 are left",
         log: b"DIOL\0\x01\0\x03\0\0\x03\xe8\0\0\0\x64\
             R\0\x02\0\0\0\0\x01\0\0\0\0\0\0\0\0\0\0\0\
             R\0\x01\0\0\0\0\x01\x0a\0\0\0\0\0\0\0\0\0\0\
@@ -303,10 +333,13 @@ const UNUSED: &[Case] = &[
 // All threads ended, and records are left: the least thread's first is told.
 #[test]
 fn unused_records(rt: HostRuntime) {
-    assert_eq!(rt; wrong_case(rt.alloc(), UNUSED), None);
+    for case in UNUSED {
+        assert_end(&rt, rt.alloc(), *case);
+    }
 }
 
 const ONE_WITHOUT: Case = Case {
+    what: "the first thread lacks its second outcome",
     log: b"DIOL\0\x01\0\x02\0\0\x03\xe8\0\0\0\x64\
         R\0\0\0\0\0\0\x01\0\0\0\0\0\0\0\0\0\0\0",
     texts: &[
@@ -320,10 +353,11 @@ const ONE_WITHOUT: Case = Case {
 // A thread without an outcome stays where it is, and the other goes on to its end.
 #[test]
 fn one_thread_without_an_outcome(rt: HostRuntime) {
-    assert!(rt; ends(rt.alloc(), ONE_WITHOUT));
+    assert_end(&rt, rt.alloc(), ONE_WITHOUT);
 }
 
 const WITHOUT_RECORDS: Case = Case {
+    what: "a pipe, and a read that is interrupted",
     log: b"DIOL\0\x01\0\x01\0\0\0\x03\0\0\0\x64E\0\0\0\0",
     texts: &["pipe\nread 0 4"],
     end: End::Whole,
@@ -333,10 +367,11 @@ const WITHOUT_RECORDS: Case = Case {
 // A log without records, of a run that stayed in memory, and the settings of its header.
 #[test]
 fn a_log_without_records(rt: HostRuntime) {
-    assert!(rt; ends(rt.alloc(), WITHOUT_RECORDS));
+    assert_end(&rt, rt.alloc(), WITHOUT_RECORDS);
 }
 
 const READ_BYTES: Case = Case {
+    what: "an open, and a read of two bytes",
     log: b"DIOL\0\x01\0\x01\0\0\x03\xe8\0\0\0\x07\
         R\0\0\0\0\0\0\x01\0\0\0\0\0\0\0\0\0\0\0\
         R\0\0\0\0\0\x01\x02\0\0\0\0\0\0\0\0\x02\0\x02hi\
@@ -349,7 +384,7 @@ const READ_BYTES: Case = Case {
 // What a read brought is what the log has.
 #[test]
 fn bytes_that_were_read(rt: HostRuntime) {
-    assert!(rt; ends(rt.alloc(), READ_BYTES));
+    assert_end(&rt, rt.alloc(), READ_BYTES);
 }
 
 // ## Logs of plain runs
@@ -373,38 +408,34 @@ fn saw_the_same(found: &Transcripts, wanted: &Transcripts) -> bool {
             .all(|(one, other)| saw_the_same_rows(one, other))
 }
 
-// Whether a replay gives the transcripts of a plain run again, and its stop.
-fn is_again(answer: Result<Replayed, ReplayFault>, plain: &Plain) -> Result<bool, AllocError> {
-    match answer {
-        Ok(replayed) => Ok(
-            plain.stop.is_none() && saw_the_same(&replayed.transcripts, &plain.transcripts),
+// Whether a replay that has this fault stopped where a plain run did, and its threads saw the same.
+fn is_stopped_as(fault: &ReplayFault, plain: &Plain) -> Result<bool, NotReplayed> {
+    match fault {
+        ReplayFault::EndOfLog(thread, seen) => Ok(
+            plain.stop == Some(Stop::EndOfLog(*thread)) && saw_the_same(seen, &plain.transcripts),
         ),
-        Err(ReplayFault::EndOfLog(thread, seen)) => {
-            Ok(
-                plain.stop == Some(Stop::EndOfLog(thread))
-                    && saw_the_same(&seen, &plain.transcripts),
-            )
-        }
-        Err(ReplayFault::Memory) => Err(AllocError),
-        Err(_) => Ok(false),
+        ReplayFault::Memory => Err(NotReplayed::Memory),
+        _ => Ok(false),
     }
 }
 
-// Whether the log of a plain run does, which comes to its end or not.
-fn comes_again(
-    alloc: Global,
-    run: Result<Plain, PlainFault>,
-    texts: &[&str],
-    is_whole: bool,
-) -> Result<bool, AllocError> {
-    match run {
-        Ok(plain) => {
-            let again = is_again(replayed(alloc, plain.log.as_slice(), texts), &plain)?;
-            Ok(again && plain.stop.is_none() == is_whole)
-        }
-        Err(PlainFault::Memory) => Err(AllocError),
-        Err(_) => Ok(false),
+// Whether the replay of a plain run's log gives its transcripts again, and its stop.
+fn is_again(alloc: Global, plain: &Plain, texts: &[&str]) -> Result<bool, NotReplayed> {
+    match replay(alloc, plain.log.as_slice(), scripts(alloc, texts)?) {
+        Ok(replayed) => Ok(
+            plain.stop.is_none() && saw_the_same(&replayed.transcripts, &plain.transcripts),
+        ),
+        Err(fault) => is_stopped_as(&fault, plain),
     }
+}
+
+// Whether that of the run does for which this comes. The run comes to its end, or it does not.
+fn comes_again(alloc: Global, came: &[&[Came]], is_whole: bool) -> Result<bool, NotReplayed> {
+    let plain = plain(alloc, TWO_OPENS, came, SETTINGS)?;
+    if plain.stop.is_none() != is_whole {
+        return Err(NotReplayed::OtherRun);
+    }
+    is_again(alloc, &plain, TWO_OPENS)
 }
 
 const TWO_OPENS: &[&str] = &[
@@ -424,12 +455,14 @@ const FOUND: Came = (OutKind::Open, Ok(0));
 const NOT_FOUND: Came = (OutKind::Open, Err(Errno::ENOENT));
 
 #[test]
-fn logs_of_plain_runs(rt: HostRuntime) -> Result<(), Fail> {
+fn logs_of_plain_runs(rt: HostRuntime) {
     for (came, is_whole) in OPENS {
-        let run = plain(rt.alloc(), TWO_OPENS, came, SETTINGS);
-        assert!(rt; comes_again(rt.alloc(), run, TWO_OPENS, *is_whole)?);
+        assert_eq!(rt;
+            comes_again(rt.alloc(), came, *is_whole),
+            Ok(true),
+            "{came:?} comes, and whether the run is whole: {is_whole}"
+        );
     }
-    Ok(())
 }
 
 const DIVERGING: &[&str] = &[
@@ -464,42 +497,31 @@ fn diverged(plain: &Plain, number: u32, rows: &[Seens]) -> bool {
     plain.stop == Some(Stop::Diverged(0, number)) && saw(&plain.transcripts, rows)
 }
 
-// Whether a replay lacks an outcome of the first thread, and its threads see this; where memory is wanted, that is as good.
-fn goes_on(answer: Result<Replayed, ReplayFault>, rows: &[Seens]) -> bool {
-    match answer {
-        Err(ReplayFault::EndOfLog(0, seen)) => saw(&seen, rows),
-        Err(ReplayFault::Memory) => true,
-        _ => false,
-    }
-}
-
-// Whether a plain run diverges so, and the replay of its log goes on so.
-fn diverges(
+// How the replay of the log of the run ends for which this comes, where its threads saw the later rows. The run itself diverges at this outcome,
+// and its threads saw the rows.
+fn end_of_diverged(
     alloc: Global,
-    run: Result<Plain, PlainFault>,
+    came: &[&[Came]],
     number: u32,
     rows: &[Seens],
     later: &[Seens],
-) -> Result<bool, PlainFault> {
-    match run {
-        Ok(plain) => Ok(
-            diverged(&plain, number, rows)
-                && goes_on(replayed(alloc, plain.log.as_slice(), DIVERGING), later),
-        ),
-        Err(fault) => Err(fault),
+) -> Result<End, NotReplayed> {
+    let plain = plain(alloc, DIVERGING, came, SETTINGS)?;
+    if !diverged(&plain, number, rows) {
+        return Err(NotReplayed::OtherRun);
     }
+    end_of(alloc, plain.log.as_slice(), DIVERGING, later)
 }
 
 // An outcome that does not answer ends a plain run at once, and is not in its log. The replay lacks it, so the other
 // thread goes on: its open has the table at 11, behind the write that went outside and freed it at 10.
 #[test]
-fn logs_of_plain_runs_that_diverged(rt: HostRuntime) -> Result<(), Fail> {
+fn logs_of_plain_runs_that_diverged(rt: HostRuntime) {
     for (came, number, rows, later) in DIVERGED {
-        let run = plain(rt.alloc(), DIVERGING, came, SETTINGS);
-        assert!(rt;
-            diverges(rt.alloc(), run, *number, rows, later)?,
-            "{number}"
+        assert_eq!(rt;
+            end_of_diverged(rt.alloc(), came, *number, rows, later),
+            Ok(OUT),
+            "{came:?} comes, and the run diverges at {number}"
         );
     }
-    Ok(())
 }

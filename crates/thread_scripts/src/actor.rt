@@ -50,7 +50,7 @@ impl Model for ScriptActor {
 }
 
 impl ScriptActor {
-    ghost use Rattle.thread_scripts.specs.Meaning.{next_of, start_of};
+    ghost use Rattle.thread_scripts.specs.Meaning.{lines_left, next_of, start_of};
 
     /// The actor before the script's first line. It takes no memory.
     pub fn new(script: Script) -> ScriptActor
@@ -67,6 +67,8 @@ impl ScriptActor {
     pub fn next_unsaved(&mut self, last: Option<Reply>) -> Result<Step, Memory>
         ensures step { IfOk result (λ step. step ≡ (next_of last self.old).0) }
         ensures after { OnOk result (self.new ≡ (next_of last self.old).1) }
+        ensures script { OnOk result (self.new.script ≡ self.old.script) }
+        ensures ends { IfOk result (λ step. (step ≡ Step.End) ⊎ (lines_left self.new < lines_left self.old)) }
     {
         let Ok(step) = self.state.advance(last) else {
             return Err(Memory);
