@@ -2,7 +2,6 @@
 -- The plain run of scripts, by the lock machine.
 use Rattle.std.specs.Prelude.{◌≡◌, ◌<◌, ℕ, List, [], ◌∷◌, length, map, Option, Some, None, Bool, true, false, ◌&&◌, ◌==◌, nat_le, Result, Ok, Err}
 use Rattle.posix_terms.specs.declared.limits.TheConstants.Limits as limit
-use Rattle.posix_terms.specs.declared.transcript.Settings.{Settings}
 use Rattle.input_log.specs.Format.{text_of}
 use Rattle.input_log.specs.declared.log.Header.{Header}
 use Rattle.input_log.specs.declared.log.LogText.{LogText}

@@ -3,6 +3,7 @@ ghost use Rattle.call_machine.specs.Plain.{OnePlainRun};
 
 use lock_machine::requests_asked;
 use lock_model::{one_event, outcomes_that_came};
+use logged_machine::outcomes_are_recorded;
 
 /// The log of a plain run, after any number of events. By thread the outcomes of its records are those that came, in order
 /// (`came`); it is a log, which has a spelling (`spelled`); and a plain run under just those outcomes never
@@ -15,6 +16,7 @@ pub fn logs_of_plain_runs()
     one_event();
     outcomes_that_came();
     requests_asked();
+    outcomes_are_recorded();
 }
 
 /// There is one plain run of given scripts, outcomes and settings: whatever is one has the same transcripts, history,

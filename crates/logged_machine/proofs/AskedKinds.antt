@@ -31,7 +31,7 @@ use Rattle.logged_machine.specs.Records.{outcomes_of}
 use Rattle.logged_machine.specs.Runs.{terms_with}
 use Rattle.logged_machine.specs.Shown.{Shown}
 
-same_kind : (a b : OutKind) → is_kind a b ≡ true → a ≡ b
+pub same_kind : (a b : OutKind) → is_kind a b ≡ true → a ≡ b
 same_kind kind.Open kind.Open h = refl
 same_kind kind.Read kind.Read h = refl
 same_kind kind.Write kind.Write h = refl

@@ -1,6 +1,7 @@
 pub mod Shown
 pub mod Runs
 pub mod Records
+pub mod RecordLaws
 pub mod DoorsThere
 pub mod Kept
 pub mod Doors

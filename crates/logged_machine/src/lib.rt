@@ -36,6 +36,7 @@ mod doors;
 mod events;
 mod finish;
 mod history;
+mod laws;
 mod machine;
 mod outside;
 mod refused;
@@ -43,6 +44,7 @@ mod settings;
 mod stop;
 
 pub use finish::Finished;
+pub use laws::outcomes_are_recorded;
 pub use lock_machine::{Attempt, Left, Outing, Phase};
 pub use machine::Machine;
 pub use refused::{NotRecorded, Refused};

@@ -2,12 +2,12 @@ use Rattle.call_machine.proofs.Covering.{has_spelling, none_diverges, records_ca
 use Rattle.call_machine.proofs.laws.logs_of_plain_runs.Goals as goal
 
 pub returns-clause-came : goal.returns-clause-came
-returns-clause-came c = records_came c.one_event.ensures
+returns-clause-came c = records_came c.one_event.ensures c.outcomes_are_recorded.ensures
 
 pub returns-clause-spelled : goal.returns-clause-spelled
 returns-clause-spelled c =
     let came = c.outcomes_that_came.ensures in
-    has_spelling (record { events = c.one_event.ensures; little = c.requests_asked.ensures.little; arises = came.arises; count = came.count; room = came.room })
+    has_spelling (record { events = c.one_event.ensures; records = c.outcomes_are_recorded.ensures; little = c.requests_asked.ensures.little; arises = came.arises; count = came.count; room = came.room })
 
 pub returns-clause-straight : goal.returns-clause-straight
 returns-clause-straight c = let came = c.outcomes_that_came.ensures in none_diverges (record { same = came.same; stays = came.stays; grows = came.grows })

@@ -1,4 +1,4 @@
-use Rattle.std.proofs.Common.{◌≡◌, ◌∙◌, Some, None, ap, sym, refl, subst}
+use Rattle.std.proofs.Common.{◌∙◌, Some, None, ap, sym, refl, subst}
 use Rattle.std.proofs.lemmas.List.{set-get_or}
 use Rattle.std.proofs.Math.ListN.{set}
 use Rattle.std.specs.Prelude.{List, Result, Ok, Err}
@@ -7,7 +7,7 @@ use Rattle.lock_machine.specs.Refusals.{Comes, WantsNone, has_answer, phase_at}
 use Rattle.lock_machine.specs.Shows.{Tells}
 use Rattle.lock_machine.specs.declared.outside.Progress.TheVariants as progress
 use Rattle.lock_machine.specs.declared.refused.Refused.{Refused}
-use Rattle.call_machine.specs.Playing.{Makes, heard, played_of, player_at}
+use Rattle.call_machine.specs.Playing.{Makes, heard, played_of}
 use Rattle.call_machine.specs.declared.players.Player.{Player}
 use Rattle.call_machine.proofs.Coming.{answering, comes_told, refused_told}
 use Rattle.call_machine.proofs.Playing.{tells_made}
