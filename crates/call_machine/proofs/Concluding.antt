@@ -1,5 +1,6 @@
 -- What is told of a run that has come to its end, or diverged.
 use Rattle.std.proofs.Common.{◌≡◌, ℕ, length, true, Option, sym, ap, ◌∙◌, subst}
+use Rattle.input_log.specs.Headers.{header_for}
 use Rattle.input_log.specs.declared.log.Header.{Header}
 use Rattle.sequential_object.specs.Legal.{IsLegal}
 use Rattle.posix_terms.specs.declared.limits.TheConstants.Limits as limit
@@ -23,12 +24,12 @@ use Rattle.call_machine.proofs.Legality.{rising_shown}
 use Rattle.call_machine.proofs.Told.{first_begins, told_shown}
 
 -- a run at the start, whose header has as many threads as there are scripts
-pub begins_of : ShowsAtStart → (input : Inputs) (threads : ℕ) (first : Played) → threads ≡ length input.scripts
-    → first ≡ first_played (record { threads = threads; patience = input.settings.patience; door_cost = input.settings.door_cost }) input.scripts input.outcomes → Begins input first
-begins_of shows input threads first count is =
+pub begins_of : ShowsAtStart → (input : Inputs) (threads : ℕ) (header : Header) (first : Played) → threads ≡ length input.scripts
+    → header ≡ header_for input.settings threads → first ≡ first_played header input.scripts input.outcomes → Begins input first
+begins_of shows input threads header first count of_run is =
+    let same : header ≡ header_of input = of_run ∙ ap (header_for input.settings) count in
     let P : Played → Type 0 = Begins input in
-    let H : ℕ → Header = λ n. record { threads = n; patience = input.settings.patience; door_cost = input.settings.door_cost } in
-    subst P (sym (is ∙ ap (λ (n : ℕ). first_played (H n) input.scripts input.outcomes) count)) (first_begins shows input)
+    subst P (sym (is ∙ ap (λ (h : Header). first_played h input.scripts input.outcomes) same)) (first_begins shows input)
 
 plain_is : ClocksShown → (input : Inputs) (diverged : Option ℕ) (p : Played) (plain : Plain) (e : Ends input diverged p) → plain ≡ told diverged p.whole p.log → plain ≡ plain_of input e.count e.last
 plain_is clocks input diverged p plain e is = is ∙ told_shown clocks input p.whole p.log e.last e.count diverged e.plays.shows e.log e.diverges

@@ -16,19 +16,16 @@ use Rattle.logged_machine.specs.declared.stop.Stop.{Stop}
 use Rattle.logged_machine.specs.declared.stop.Stop.TheVariants as stop
 use Rattle.logical_clocks.specs.TurnOrder.{turn_holder}
 use Rattle.posix_terms.specs.declared.outcome.Given.{Given}
-use Rattle.posix_terms.specs.declared.transcript.Settings.{Settings}
 use Rattle.call_machine.specs.declared.players.Player.{Player}
 use Rattle.call_machine.specs.declared.plain.Plain.{Plain}
 use Rattle.lock_machine.specs.declared.thread.Phase.{Phase}
 use Rattle.lock_machine.specs.declared.thread.Phase.TheVariants as phase
 use Rattle.lock_machine.specs.Threads.{Thread}
+pub use Rattle.input_log.specs.Headers.{settings_of}
 
 -- a script before its first line
 abbrev pub first_player : List Line → Player
 first_player script = record { actor = start_of script; last = None; stuck = false }
-
-abbrev pub settings_of : Header → Settings
-settings_of header = record { patience = header.patience; door_cost = header.door_cost }
 
 abbrev pub first_played : Header → List (List Line) → List (List Given) → Played
 first_played header scripts outcomes =

@@ -9,7 +9,7 @@ ghost use Rattle.lock_model.specs.Events.{EventLaws};
 ghost use Rattle.lock_model.specs.Laws.{ArisesAtStart, ArisesByEvent};
 ghost use Rattle.logical_clocks.specs.TurnOrder.{LeastIsFound};
 ghost use Rattle.thread_scripts.specs.Laws.{RunsEnd};
-ghost use Rattle.call_machine.specs.Starting.{first_played, settings_of};
+ghost use Rattle.call_machine.specs.Starting.{first_played};
 ghost use Rattle.lock_machine.specs.declared.outside.Progress.TheVariants as progress;
 
 use crate::driver::Driver;
@@ -19,7 +19,7 @@ use input_log::{Header, Record};
 use lock_machine::{LockMachine, Phase, Progress, Refused, machines_show};
 use lock_model::{arising_states, one_event};
 use logical_clocks::least_is_found;
-use posix_terms::{Given, Outcomes, Settings};
+use posix_terms::Outcomes;
 use std::alloc::{AllocError, Global};
 use thread_scripts::{Script, Step, runs_end};
 
@@ -47,7 +47,7 @@ impl Driver {
         ensures { IfOk result (λ driver. played_of driver ≡ first_played header scripts.items outcomes.items) }
     {
         Ok(Driver {
-            machine: LockMachine::new(alloc, scripts.len(), settings_of(header))?,
+            machine: LockMachine::new(alloc, scripts.len(), header.settings())?,
             players: first_players(alloc, scripts)?,
             outcomes,
             log: Log::new(alloc, header)?,
@@ -163,11 +163,7 @@ impl Driver {
             outcome: given.outcome.try_clone()?,
         };
         self.log.append(alloc, &item)?;
-        let given = Given {
-            kind: item.kind,
-            outcome: item.outcome,
-        };
-        let made = told(self.machine.record(i, given))?;
+        let made = told(self.machine.record(i, item.into_given()))?;
         Ok(made.unwrap_or(Progress::Stays))
     }
 
@@ -231,16 +227,6 @@ fn progress(moved: bool) -> Progress
         Progress::Moves
     } else {
         Progress::Stays
-    }
-}
-
-// The settings that a header tells.
-fn settings_of(header: Header) -> Settings
-    ensures { result ≡ settings_of header }
-{
-    Settings {
-        patience: header.patience,
-        door_cost: header.door_cost,
     }
 }
 

@@ -52,11 +52,7 @@ pub fn plain_run(
         return Err(PlainFault::Settings);
     }
     laws();
-    let header = Header {
-        threads: scripts.len() as u16,
-        patience: settings.patience,
-        door_cost: settings.door_cost,
-    };
+    let header = Header::new(scripts.len() as u16, settings);
     let mut driver = Driver::new(alloc, scripts, outcomes, header)?;
     let diverged = driver.run(alloc)?;
     Ok(driver.finish(alloc, diverged)?)

@@ -1,5 +1,6 @@
-use super::devices::{Device, compared, texts};
-use super::logs::THREE_RECORDS;
+use crate::devices::{Device, Text, numbered, sources};
+use crate::logs::{SHORT_WRITE, THREE_RECORDS};
+use crate::told::compare;
 use std::alloc::Global;
 use std::io;
 use std::test::Fail;
@@ -14,39 +15,13 @@ struct Comparison {
     printed: &'static str,
 }
 
-// Whether `compare` says this of what is on these devices, unless memory is wanted.
-fn tells(
-    alloc: Global,
-    log: Device,
-    other: Device,
-    scripts: &[Device],
-    status: u8,
-    printed: &str,
-    errors: &str,
-) -> io::Result<bool> {
-    Ok(compared(alloc, log, other, scripts)?.may_be(status, printed, errors))
-}
-
 // Whether `compare` says this, unless memory is wanted.
 fn compares(alloc: Global, comparison: &Comparison) -> io::Result<bool> {
-    let scripts = texts(alloc, comparison.scripts)?;
-    let log = Device::Text(comparison.log);
-    let other = Device::Text(comparison.other);
-    tells(
-        alloc,
-        log,
-        other,
-        &scripts,
-        comparison.status,
-        comparison.printed,
-        "",
-    )
+    let log = Text::Script(comparison.log);
+    let other = Text::Script(comparison.other);
+    let told = compare(alloc, log, other, sources(alloc, comparison.scripts)?)?;
+    Ok(told.may_be(comparison.status, comparison.printed, ""))
 }
-
-const SHORT_WRITE: &str = "host_open out w create
-write 0 x0001020304050607
-write 0 x0304
-";
 
 // The log of three records with another outcome in its third.
 const OTHER_THIRD: &[u8] = b"DIOL\0\x01\0\x01\0\0\x03\xe8\0\0\0\x64\
@@ -229,11 +204,25 @@ const FAULTS: &[(Device, Device, &[Device], u8, &str)] = &[
     ),
 ];
 
+// Whether `compare` says this of what is on these devices, unless memory is wanted.
+fn is_fault(
+    alloc: Global,
+    log: Device,
+    other: Device,
+    scripts: &[Device],
+    status: u8,
+    line: &str,
+) -> io::Result<bool> {
+    let scripts = numbered(alloc, scripts)?;
+    let told = compare(alloc, Text::Device(log), Text::Device(other), scripts)?;
+    Ok(told.may_be(status, "", line))
+}
+
 #[test]
 fn faults_of_comparisons(rt: HostRuntime) -> Result<(), Fail> {
     for (log, other, scripts, status, line) in FAULTS {
         assert!(rt;
-            tells(rt.alloc(), *log, *other, scripts, *status, "", line)?,
+            is_fault(rt.alloc(), *log, *other, scripts, *status, line)?,
             "{line}"
         );
     }

@@ -1,14 +1,20 @@
-use super::runs::{DEFAULTS, Told};
-use commands::{Source, compare_over, plain_over, replay_over, show_over};
-use std::alloc::Global;
+ghost use Rattle.std.specs.Prelude.{◌≡◌, IfOk, length};
+
+use commands::Source;
+use std::alloc::{AllocError, Global};
+use std::fs::File;
 use std::io;
 use std::io::{Read, Write};
 
-/// A text, or a device that fails or gives bytes for ever.
+/// A text, or a device that gives no text of its own.
 #[derive(Clone, Copy, Drop)]
 pub enum Device {
     Text(&'static [u8]),
+    /// So many empty lines.
+    EmptyLines(usize),
+    /// It fails.
     Broken,
+    /// It gives bytes for ever.
     Endless,
 }
 
@@ -16,6 +22,14 @@ impl Read for Device {
     fn read(&mut self, buf: &mut [u8]) -> io::Result<usize> {
         match self {
             Device::Text(text) => text.read(buf),
+            Device::EmptyLines(left) => {
+                let count = buf.len().min(*left);
+                for byte in buf.iter_mut().take(count) {
+                    *byte = b'\n';
+                }
+                *left -= count;
+                Ok(count)
+            }
             Device::Broken => Err(io::Error::from(io::ErrorKind::Other)),
             Device::Endless => {
                 for byte in buf.iter_mut() {
@@ -37,112 +51,51 @@ impl Write for Device {
     }
 }
 
-/// These scripts as devices.
-pub(crate) fn texts(alloc: Global, scripts: &[&'static str]) -> io::Result<Vec<Device>> {
-    let mut texts = Vec::new(alloc);
-    for script in scripts {
-        texts.push(Device::Text(script.as_bytes()))?;
-    }
-    Ok(texts)
+/// Where a text comes from.
+#[derive(Drop)]
+pub enum Text<'a> {
+    Script(&'a [u8]),
+    File(File),
+    Device(Device),
 }
 
-const PATHS: &[&str] = &["0", "1", "2", "3", "4", "5", "6", "7", "8"];
+impl Read for Text<'_> {
+    fn read(&mut self, buf: &mut [u8]) -> io::Result<usize> {
+        match self {
+            Text::Script(script) => script.read(buf),
+            Text::File(file) => file.read(buf),
+            Text::Device(device) => device.read(buf),
+        }
+    }
+}
 
-// These devices as the sources "0", "1" and so on.
-fn sources(alloc: Global, devices: &[Device]) -> io::Result<Vec<Source<'static, Device>>> {
+/// The scripts that a command reads.
+pub type Sources<'a> = Vec<Source<'static, Text<'a>>>;
+
+/// These scripts as sources.
+pub(crate) fn sources<'a>(alloc: Global, scripts: &[&'a str]) -> Result<Sources<'a>, AllocError>
+    ensures one_each { IfOk result (λ sources. length sources.items ≡ length scripts.now) }
+{
     let mut sources = Vec::new(alloc);
-    for (path, device) in PATHS.iter().zip(devices.iter()) {
+    for i in 0..scripts.len() {
         sources.push(Source {
-            path: *path,
-            reader: *device,
+            path: "a.script",
+            reader: Text::Script(scripts[i].as_bytes()),
         })?;
     }
     Ok(sources)
 }
 
-/// What `plain` tells of scripts on these devices.
-fn run(alloc: Global, devices: &[Device]) -> io::Result<Told> {
-    let sources = sources(alloc, devices)?;
-    let mut output: Vec<u8> = Vec::new(alloc);
-    let mut errors: Vec<u8> = Vec::new(alloc);
-    let status = plain_over(alloc, DEFAULTS, false, sources, &mut output, &mut errors)?;
-    Ok(Told {
-        status,
-        output,
-        errors,
-    })
-}
+const PATHS: &[&str] = &["0", "1", "2", "3", "4", "5", "6", "7", "8"];
 
-/// Whether `plain` tells just this of scripts on these devices, and prints nothing.
-pub(crate) fn refuses(
-    alloc: Global,
-    devices: &[Device],
-    status: u8,
-    line: &str,
-) -> io::Result<bool> {
-    Ok(run(alloc, devices)?.is(status, "", line))
-}
-
-/// What `replay` tells of a log, which is "a.log", and of scripts.
-pub(crate) fn replayed(
-    alloc: Global,
-    turns: bool,
-    log: Device,
-    scripts: &[Device],
-) -> io::Result<Told> {
-    let sources = sources(alloc, scripts)?;
-    let log = Source {
-        path: "a.log",
-        reader: log,
-    };
-    let mut output: Vec<u8> = Vec::new(alloc);
-    let mut errors: Vec<u8> = Vec::new(alloc);
-    let status = replay_over(alloc, turns, log, sources, &mut output, &mut errors)?;
-    Ok(Told {
-        status,
-        output,
-        errors,
-    })
-}
-
-/// What `compare` tells of two logs, which are "a.log" and "b.log", and of scripts.
-pub(crate) fn compared(
-    alloc: Global,
-    log: Device,
-    other: Device,
-    scripts: &[Device],
-) -> io::Result<Told> {
-    let sources = sources(alloc, scripts)?;
-    let log = Source {
-        path: "a.log",
-        reader: log,
-    };
-    let other = Source {
-        path: "b.log",
-        reader: other,
-    };
-    let mut output: Vec<u8> = Vec::new(alloc);
-    let mut errors: Vec<u8> = Vec::new(alloc);
-    let status = compare_over(alloc, log, other, sources, &mut output, &mut errors)?;
-    Ok(Told {
-        status,
-        output,
-        errors,
-    })
-}
-
-/// What `show` tells of a log, which is "a.log".
-pub(crate) fn shown(alloc: Global, log: Device) -> io::Result<Told> {
-    let source = Source {
-        path: "a.log",
-        reader: log,
-    };
-    let mut output: Vec<u8> = Vec::new(alloc);
-    let mut errors: Vec<u8> = Vec::new(alloc);
-    let status = show_over(alloc, source, &mut output, &mut errors)?;
-    Ok(Told {
-        status,
-        output,
-        errors,
-    })
+/// These devices as the sources "0", "1" and so on.
+pub(crate) fn numbered(alloc: Global, devices: &[Device]) -> Result<Sources<'static>, AllocError> {
+    let mut sources = Vec::new(alloc);
+    for (path, device) in PATHS.iter().zip(devices.iter()) {
+        sources.push(Source {
+            path: *path,
+            reader: Text::Device(*device),
+        })?;
+    }
+    Ok(sources)
 }

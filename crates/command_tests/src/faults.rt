@@ -1,6 +1,7 @@
-use super::devices::{Device, refuses};
-use super::runs::{DEFAULTS, end_well, refuse, sources};
-use commands::{cannot_write, no_memory, plain_over};
+use crate::devices::{Device, numbered, sources};
+use crate::runs::{end_well, refuse};
+use crate::told::{Told, plain};
+use commands::{DEFAULTS, cannot_write, no_memory, plain_over};
 use posix_terms::Settings;
 use std::alloc::Global;
 use std::io;
@@ -112,6 +113,11 @@ const UNREADABLE: &[(&[Device], u8, &str)] = &[
     (&[Device::Endless, Device::Broken], 4, "cannot read 0\n"),
 ];
 
+// Whether `plain` tells just this of scripts on these devices, and prints nothing.
+fn refuses(alloc: Global, devices: &[Device], status: u8, line: &str) -> io::Result<bool> {
+    Ok(plain(alloc, DEFAULTS, false, numbered(alloc, devices)?)?.is(status, "", line))
+}
+
 #[test]
 fn failing_readers(rt: HostRuntime) -> Result<(), Fail> {
     for (devices, status, wanted) in UNREADABLE {
@@ -120,18 +126,32 @@ fn failing_readers(rt: HostRuntime) -> Result<(), Fail> {
     Ok(())
 }
 
-// Whether `plain` says that its output cannot be written.
-fn plain_cannot_write(alloc: Global) -> io::Result<bool> {
-    let sources = sources(alloc, &["close 0"])?;
-    let mut errors: Vec<u8> = Vec::new(alloc);
+// What `plain` tells where its output cannot be written.
+fn plain_to_full_device(alloc: Global) -> io::Result<Told> {
+    let scripts = sources(alloc, &["close 0"])?;
     let mut full = Device::Broken;
-    let status = plain_over(alloc, DEFAULTS, false, sources, &mut full, &mut errors)?;
-    Ok(status == 4 && errors.as_slice() == b"cannot write -\n".as_slice())
+    let mut errors: Vec<u8> = Vec::new(alloc);
+    let status = plain_over(alloc, DEFAULTS, false, scripts, &mut full, &mut errors);
+    Told::new(status, Vec::new(alloc), errors)
 }
 
 #[test]
 fn full_device(rt: HostRuntime) -> Result<(), Fail> {
-    assert!(rt; plain_cannot_write(rt.alloc())?);
+    assert!(rt; plain_to_full_device(rt.alloc())?.is(4, "", "cannot write -\n"));
+    Ok(())
+}
+
+const GREATEST: &[(usize, u8, &str)] = &[
+    (16_777_216, 3, "script 0: too long\n"),
+    (16_777_217, 4, "cannot read 0\n"),
+];
+
+#[test]
+fn a_file_is_read_up_to_its_greatest_size(rt: HostRuntime) -> Result<(), Fail> {
+    for (lines, status, wanted) in GREATEST {
+        let devices = [Device::EmptyLines(*lines)];
+        assert!(rt; refuses(rt.alloc(), &devices, *status, wanted)?, "{lines}");
+    }
     Ok(())
 }
 

@@ -1,5 +1,6 @@
-use super::devices::{Device, shown};
-use commands::{Source, show_over};
+use crate::devices::{Device, Text};
+use crate::told::{Told, log_at, show};
+use commands::show_over;
 use std::alloc::Global;
 use std::io;
 use std::test::Fail;
@@ -12,10 +13,16 @@ fn shows(
     output: &str,
     errors: &str,
 ) -> io::Result<bool> {
-    Ok(shown(alloc, Device::Text(log))?.may_be(status, output, errors))
+    Ok(show(alloc, Text::Script(log))?.may_be(status, output, errors))
 }
 
-// A header and three records: a file is opened, three bytes are written, a second write fails.
+/// Opens a host file, writes 3 of 8 bytes, and can write no more.
+pub const SHORT_WRITE: &str = "host_open out w create
+write 0 x0001020304050607
+write 0 x0304
+";
+
+/// The log of that: a header and three records.
 pub const THREE_RECORDS: &[u8] = b"DIOL\0\x01\0\x01\0\0\x03\xe8\0\0\0\x64\
     R\0\0\0\0\0\0\x01\0\0\0\0\0\0\0\0\0\0\0\
     R\0\0\0\0\0\x01\x03\0\0\0\0\0\0\0\0\x03\0\0\
@@ -145,7 +152,7 @@ fn faults_of_logs(rt: HostRuntime) -> Result<(), Fail> {
 
 // Whether `show` says that this log cannot be read.
 fn is_unreadable(alloc: Global, log: Device) -> io::Result<bool> {
-    Ok(shown(alloc, log)?.is(4, "", "cannot read a.log\n"))
+    Ok(show(alloc, Text::Device(log))?.is(4, "", "cannot read a.log\n"))
 }
 
 #[test]
@@ -155,19 +162,17 @@ fn unreadable_logs(rt: HostRuntime) -> Result<(), Fail> {
     Ok(())
 }
 
-// Whether `show` says that its output cannot be written.
-fn show_cannot_write(alloc: Global) -> io::Result<bool> {
-    let source = Source {
-        path: "a.log",
-        reader: THREE_RECORDS,
-    };
+// What `show` tells where its output cannot be written.
+fn shown_to_full_device(alloc: Global) -> io::Result<Told> {
+    let log = log_at("a.log", Text::Script(THREE_RECORDS));
+    let mut full = Device::Broken;
     let mut errors: Vec<u8> = Vec::new(alloc);
-    let status = show_over(alloc, source, &mut Device::Broken, &mut errors)?;
-    Ok(status == 4 && errors.as_slice() == b"cannot write -\n".as_slice())
+    let status = show_over(alloc, log, &mut full, &mut errors);
+    Told::new(status, Vec::new(alloc), errors)
 }
 
 #[test]
 fn full_device(rt: HostRuntime) -> Result<(), Fail> {
-    assert!(rt; show_cannot_write(rt.alloc())?);
+    assert!(rt; shown_to_full_device(rt.alloc())?.is(4, "", "cannot write -\n"));
     Ok(())
 }

@@ -1,4 +1,4 @@
-use super::runs::{answers, assert_answers, assert_each_answers};
+use crate::runs::{answers, assert_answers, assert_each_answers};
 use std::alloc::Global;
 use std::io;
 use std::process::Abort;

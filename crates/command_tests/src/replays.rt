@@ -1,32 +1,27 @@
-use super::devices::{Device, replayed, texts};
-use super::logs::THREE_RECORDS;
-use super::runs::sources;
-use commands::{Source, replay_over};
+use crate::devices::{Device, Text, numbered, sources};
+use crate::logs::{SHORT_WRITE, THREE_RECORDS};
+use crate::told::{Told, log_at, replay};
+use commands::replay_over;
 use std::alloc::Global;
 use std::io;
 use std::test::Fail;
 
 // Whether `replay` says this, unless memory is wanted.
-fn replays(alloc: Global, replay: &Replay, errors: &str) -> io::Result<bool> {
-    let scripts = texts(alloc, replay.scripts)?;
-    let told = replayed(alloc, replay.turns, Device::Text(replay.log), &scripts)?;
-    Ok(told.may_be(replay.status, replay.printed, errors))
+fn replays(alloc: Global, wanted: &Replay, errors: &str) -> io::Result<bool> {
+    let log = Text::Script(wanted.log);
+    let told = replay(alloc, wanted.turns, log, sources(alloc, wanted.scripts)?)?;
+    Ok(told.may_be(wanted.status, wanted.printed, errors))
 }
 
 // A log with scripts, and what a replay of it prints on standard output, with turns or without, and its exit status.
 #[derive(Drop)]
-struct Replay {
-    log: &'static [u8],
-    turns: bool,
-    scripts: &'static [&'static str],
-    status: u8,
-    printed: &'static str,
+pub struct Replay {
+    pub log: &'static [u8],
+    pub turns: bool,
+    pub scripts: &'static [&'static str],
+    pub status: u8,
+    pub printed: &'static str,
 }
-
-const SHORT_WRITE: &str = "host_open out w create
-write 0 x0001020304050607
-write 0 x0304
-";
 
 const WORKED: &[Replay] = &[
     // A short write on a host file, and one that fails.
@@ -130,8 +125,8 @@ end
 
 #[test]
 fn worked_replays(rt: HostRuntime) -> Result<(), Fail> {
-    for replay in WORKED {
-        assert!(rt; replays(rt.alloc(), replay, "")?, "{}", replay.printed);
+    for wanted in WORKED {
+        assert!(rt; replays(rt.alloc(), wanted, "")?, "{}", wanted.printed);
     }
     Ok(())
 }
@@ -278,8 +273,8 @@ end
 
 #[test]
 fn doors(rt: HostRuntime) -> Result<(), Fail> {
-    for replay in DOORS {
-        assert!(rt; replays(rt.alloc(), replay, "")?, "{}", replay.printed);
+    for wanted in DOORS {
+        assert!(rt; replays(rt.alloc(), wanted, "")?, "{}", wanted.printed);
     }
     Ok(())
 }
@@ -318,14 +313,14 @@ fn cut_replays(
     printed: &'static str,
     errors: &str,
 ) -> io::Result<bool> {
-    let replay = Replay {
+    let wanted = Replay {
         log,
         turns: true,
         scripts: &[SHORT_WRITE],
         status,
         printed,
     };
-    replays(alloc, &replay, errors)
+    replays(alloc, &wanted, errors)
 }
 
 #[test]
@@ -355,14 +350,14 @@ const CHANGED: &[&[&str]] = &[
 #[test]
 fn changed_scripts(rt: HostRuntime) -> Result<(), Fail> {
     for scripts in CHANGED {
-        let replay = Replay {
+        let wanted = Replay {
             log: THREE_RECORDS,
             turns: true,
             scripts,
             status: 1,
             printed: "0 0 1 host_open number 0\nstop diverged 0 1\n",
         };
-        assert!(rt; replays(rt.alloc(), &replay, "")?, "{}", scripts[0]);
+        assert!(rt; replays(rt.alloc(), &wanted, "")?, "{}", scripts[0]);
     }
     Ok(())
 }
@@ -395,14 +390,14 @@ fn is_fault(
     scripts: &'static [&'static str],
     line: &str,
 ) -> io::Result<bool> {
-    let replay = Replay {
+    let wanted = Replay {
         log,
         turns: true,
         scripts,
         status: 3,
         printed: "",
     };
-    replays(alloc, &replay, line)
+    replays(alloc, &wanted, line)
 }
 
 #[test]
@@ -442,7 +437,8 @@ fn tells(
     status: u8,
     line: &str,
 ) -> io::Result<bool> {
-    Ok(replayed(alloc, false, log, scripts)?.may_be(status, "", line))
+    let scripts = numbered(alloc, scripts)?;
+    Ok(replay(alloc, false, Text::Device(log), scripts)?.may_be(status, "", line))
 }
 
 #[test]
@@ -453,21 +449,18 @@ fn devices_of_replays(rt: HostRuntime) -> Result<(), Fail> {
     Ok(())
 }
 
-// Whether `replay` says that its output cannot be written.
-fn replay_cannot_write(alloc: Global) -> io::Result<bool> {
-    let sources = sources(alloc, &[SHORT_WRITE])?;
-    let log = Source {
-        path: "a.log",
-        reader: THREE_RECORDS,
-    };
-    let mut errors: Vec<u8> = Vec::new(alloc);
+// What `replay` tells where its output cannot be written.
+fn replay_to_full_device(alloc: Global) -> io::Result<Told> {
+    let scripts = sources(alloc, &[SHORT_WRITE])?;
+    let log = log_at("a.log", Text::Script(THREE_RECORDS));
     let mut full = Device::Broken;
-    let status = replay_over(alloc, true, log, sources, &mut full, &mut errors)?;
-    Ok(status == 4 && errors.as_slice() == b"cannot write -\n".as_slice())
+    let mut errors: Vec<u8> = Vec::new(alloc);
+    let status = replay_over(alloc, true, log, scripts, &mut full, &mut errors);
+    Told::new(status, Vec::new(alloc), errors)
 }
 
 #[test]
 fn full_device_of_a_replay(rt: HostRuntime) -> Result<(), Fail> {
-    assert!(rt; replay_cannot_write(rt.alloc())?);
+    assert!(rt; replay_to_full_device(rt.alloc())?.is(4, "", "cannot write -\n"));
     Ok(())
 }

@@ -1,14 +1,11 @@
-use commands::{Source, plain_over};
+use crate::devices::sources;
+use crate::told::{Told, plain};
+use commands::DEFAULTS;
 use posix_terms::Settings;
 use std::alloc::Global;
 use std::io;
 use std::process::Abort;
 use std::test::Fail;
-
-pub const DEFAULTS: Settings = Settings {
-    patience: 1000,
-    door_cost: 100,
-};
 
 // With these a call is interrupted at the first turn at which it is blocked.
 pub const NO_PATIENCE: Settings = Settings {
@@ -16,54 +13,9 @@ pub const NO_PATIENCE: Settings = Settings {
     door_cost: 100,
 };
 
-/// What a command prints on standard output and on standard error, and its exit status.
-#[derive(Drop)]
-pub struct Told {
-    pub status: u8,
-    pub output: Vec<u8>,
-    pub errors: Vec<u8>,
-}
-
-impl Told {
-    /// Whether just this was told.
-    pub(crate) fn is(&self, status: u8, output: &str, errors: &str) -> bool {
-        self.status == status
-            && self.output.as_slice() == output.as_bytes()
-            && self.errors.as_slice() == errors.as_bytes()
-    }
-
-    /// The same, or that memory is wanted.
-    pub(crate) fn may_be(&self, status: u8, output: &str, errors: &str) -> bool {
-        self.is(status, output, errors) || self.is(4, "", "no memory\n")
-    }
-}
-
-/// These scripts as sources.
-pub(crate) fn sources<'a>(
-    alloc: Global,
-    scripts: &[&'a str],
-) -> io::Result<Vec<Source<'static, &'a [u8]>>> {
-    let mut sources = Vec::new(alloc);
-    for script in scripts {
-        sources.push(Source {
-            path: "a.script",
-            reader: script.as_bytes(),
-        })?;
-    }
-    Ok(sources)
-}
-
 // What `plain` tells of scripts.
 fn run(alloc: Global, settings: Settings, turns: bool, scripts: &[&str]) -> io::Result<Told> {
-    let sources = sources(alloc, scripts)?;
-    let mut output: Vec<u8> = Vec::new(alloc);
-    let mut errors: Vec<u8> = Vec::new(alloc);
-    let status = plain_over(alloc, settings, turns, sources, &mut output, &mut errors)?;
-    Ok(Told {
-        status,
-        output,
-        errors,
-    })
+    plain(alloc, settings, turns, sources(alloc, scripts)?)
 }
 
 /// Whether scripts print this and end with this status. Where memory is wanted they may say so.
@@ -133,12 +85,17 @@ pub(crate) fn prints(alloc: Global, script: &str, wanted: &str) -> io::Result<bo
     print(alloc, DEFAULTS, false, &[script], 0, wanted)
 }
 
+// Whether such a script prints its replies.
+fn prints_replies(alloc: Global, calls: &str) -> io::Result<bool> {
+    let script = script_of(alloc, calls)?;
+    let printed = printed_of(alloc, calls)?;
+    prints(alloc, script.as_str(), printed.as_str())
+}
+
 /// Whether the calls of one script, a call a line with its reply behind ` = `, are printed with these replies.
 pub(crate) fn answers(alloc: Global, calls: &str) -> io::Result<bool> {
     let calls = spelled(alloc, calls)?;
-    let script = script_of(alloc, calls.as_str())?;
-    let printed = printed_of(alloc, calls.as_str())?;
-    prints(alloc, script.as_str(), printed.as_str())
+    prints_replies(alloc, calls.as_str())
 }
 
 // Whether these calls are answered so behind those before them.

@@ -1,4 +1,4 @@
-use super::runs::prints;
+use crate::runs::prints;
 use std::test::Fail;
 
 // Scripts of one thread, and what they print.

@@ -1,4 +1,5 @@
-use super::runs::{DEFAULTS, NO_PATIENCE, assert_answers, print, spelled};
+use crate::runs::{NO_PATIENCE, assert_answers, print, spelled};
+use commands::DEFAULTS;
 use std::alloc::Global;
 use std::io;
 use std::test::Fail;

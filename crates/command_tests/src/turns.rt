@@ -1,4 +1,5 @@
-use super::runs::{DEFAULTS, print};
+use crate::runs::print;
+use commands::DEFAULTS;
 use std::alloc::Global;
 use std::io;
 use std::test::Fail;

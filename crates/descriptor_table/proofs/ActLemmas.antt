@@ -23,7 +23,7 @@ use Rattle.posix_terms.specs.Ends.{is_end, side_of, peer_of}
 use Rattle.sequential_object.specs.Sockets as sockets
 use Rattle.sequential_object.specs.Sockets.{NewEnd, pipe_result, shut_content, shuttable, shutdown_result, socketpair_result}
 use Rattle.sequential_object.specs.Status.{fstat_result, stat_of}
-use Rattle.sequential_object.specs.Streams.{PairState, Reading, Reads, Ends, NothingYet, Writing, Writes, Breaks, NoRoom, new_pair, pair_read, pair_write, shut, stream_read, stream_write, with_waiting}
+use Rattle.sequential_object.specs.Streams.{PairState, Reading, Reads, Ends, NothingYet, Writing, Writes, Breaks, NoRoom, new_pair, pair_read, pair_write, pipe_write, shut, stream_read, with_waiting}
 use Rattle.sequential_object.specs.Step.{Carried, Stepped, concluded, failed, is_again, outside, step, waited}
 use Rattle.sequential_object.specs.Transfers.{base_of, file_in, has_peer, host_offset, offset_of, read_content, read_done, seek_content, write_at, write_content, write_done, read_result, write_result, pread_result, pwrite_result, lseek_result, ftruncate_result, size_of, start_of}
 use Rattle.posix_terms.specs.declared.call.Access.{Access}
@@ -281,9 +281,9 @@ module _ (t : TableState) (s : State) (settings : Settings) (outcome : Option Ou
       by_writing holds was other NoRoom is stands = stopped_as d.node act (seen key d) was other is stands d.flags.nonblock
 
       by_pipe : (waiting : List ℕ) (content : Content) (other : ℕ) → content_of s (birth_at t d.node) ≡ Pipe waiting → content ≡ Pipe waiting → offset_at s (birth_of t key) ≡ Some other
-          → Ended d.node act (write_acted t d.node (seen key d) bytes content other) (write_done s (shown t d offset) (length bytes) (λ left. Pipe left) (stream_write waiting bytes (posix.has_end s (birth_at t d.node) part.Read)))
+          → Ended d.node act (write_acted t d.node (seen key d) bytes content other) (write_done s (shown t d offset) (length bytes) (λ left. Pipe left) (pipe_write waiting bytes (posix.has_end s (birth_at t d.node) part.Read)))
       by_pipe waiting content other is its stands =
-          rw (its, open_at key d part.Read got (ap (is_of part.Read) is)) (by_writing (λ left. Pipe left) (Pipe waiting) other (stream_write waiting bytes (is_open t d.node part.Read)) is stands)
+          rw (its, open_at key d part.Read got (ap (is_of part.Read) is)) (by_writing (λ left. Pipe left) (Pipe waiting) other (pipe_write waiting bytes (is_open t d.node part.Read)) is stands)
 
       by_pair : (p : PairState) (content : Content) (other : ℕ) → content_of s (birth_at t d.node) ≡ Pair p → content ≡ Pair p → offset_at s (birth_of t key) ≡ Some other
           → Ended d.node act (write_acted t d.node (seen key d) bytes content other) (write_done s (shown t d offset) (length bytes) (λ left. Pair (with_waiting p (peer_of (side_of d.«end»)) left)) (pair_write p (side_of d.«end») bytes (posix.has_end s (birth_at t d.node) (part.Socket (peer_of (side_of d.«end»))))))
@@ -306,7 +306,7 @@ module _ (t : TableState) (s : State) (settings : Settings) (outcome : Option Ou
           (λ content other holds stands. by_file file content other is (sym holds ∙ is) (offset_same key offset other d got there stands))
       by_kind (IsPipe waiting pipe is) =
           does_as (call.Write descriptor bytes) _ (if length bytes == 0 then plan.Reply (reply.Count 0) else locks d.node act) _ (Pipe waiting) (λ c. if length bytes == 0 then Ok (Completes s (reply.Count 0)) else write_content s d.birth (shown t d offset) bytes c) (moves_inside d (length bytes) (reply.Count 0) act ask pipe.stream pipe.inside) is
-          (by_zero (length bytes == 0) (write_done s (shown t d offset) (length bytes) (λ left. Pipe left) (stream_write waiting bytes (posix.has_end s (birth_at t d.node) part.Read))) (λ content other holds stands. by_pipe waiting content other is (sym holds ∙ is) stands))
+          (by_zero (length bytes == 0) (write_done s (shown t d offset) (length bytes) (λ left. Pipe left) (pipe_write waiting bytes (posix.has_end s (birth_at t d.node) part.Read))) (λ content other holds stands. by_pipe waiting content other is (sym holds ∙ is) stands))
       by_kind (IsPair p side its is) =
           does_as (call.Write descriptor bytes) _ (if length bytes == 0 then plan.Reply (reply.Count 0) else locks d.node act) _ (Pair p) (λ c. if length bytes == 0 then Ok (Completes s (reply.Count 0)) else write_content s d.birth (shown t d offset) bytes c) (moves_inside d (length bytes) (reply.Count 0) act ask (socket_stream d.«end» side its) (ap leads_outside its)) is
           (by_zero (length bytes == 0) (write_done s (shown t d offset) (length bytes) (λ left. Pair (with_waiting p (peer_of (side_of d.«end»)) left)) (pair_write p (side_of d.«end») bytes (has_peer s (birth_at t d.node) (side_of d.«end»)))) (λ content other holds stands. by_pair p content other is (sym holds ∙ is) stands))

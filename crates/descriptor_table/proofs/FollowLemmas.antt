@@ -26,7 +26,7 @@ use Rattle.sequential_object.specs.Status.{fstat_result, getfl_result, setfl_res
 use Rattle.posix_terms.specs.Ends.{side_of, peer_of}
 use Rattle.sequential_object.specs.Sockets.{shut_content, shutdown_result, shuttable}
 use Rattle.sequential_object.specs.Step.{Carried, concluded, failed, is_again, waited, Stepped, outside}
-use Rattle.sequential_object.specs.Streams.{Reading, Reads, Ends, NothingYet, Writing, Writes, Breaks, NoRoom, pair_read, pair_write, shut, stream_read, stream_write, with_waiting}
+use Rattle.sequential_object.specs.Streams.{Reading, Reads, Ends, NothingYet, Writing, Writes, Breaks, NoRoom, pair_read, pair_write, pipe_write, shut, stream_read, with_waiting}
 use Rattle.sequential_object.specs.Transfers.{base_of, file_in, has_peer, host_offset, not_listener, offset_of, read_content, read_done, seek_content, write_at, write_content, write_done, read_result, write_result, pread_result, pwrite_result, lseek_result, ftruncate_result, size_of, start_of}
 use Rattle.posix_terms.specs.declared.call.Access.{Access}
 use Rattle.posix_terms.specs.declared.call.OpenFlags.{OpenFlags}
@@ -219,7 +219,7 @@ module _ (t : TableState) (s : State) (sound : IsSound t) (all : AreSound t.desc
           (record s { descriptions = fin.insert s.descriptions d.birth (shown t d (start_of (shown t d offset) file + w.1)) })
           (birth_at t d.node) (File w.0)
           (shows-offset t s key (start_of (shown t d offset) file + w.1) d all shows got) (object_there key d got) (alike_file (content_of s (birth_at t d.node)) w.0 file is))
-      by_content (Pipe waiting) is = by_writing (λ left. Pipe left) (stream_write waiting bytes (posix.has_end s (birth_at t d.node) part.Read)) (λ left. alike_pipe (content_of s (birth_at t d.node)) left waiting is)
+      by_content (Pipe waiting) is = by_writing (λ left. Pipe left) (pipe_write waiting bytes (posix.has_end s (birth_at t d.node) part.Read)) (λ left. alike_pipe (content_of s (birth_at t d.node)) left waiting is)
       by_content (Pair p) is = by_writing (λ left. Pair (with_waiting p (peer_of (side_of d.«end»)) left)) (pair_write p (side_of d.«end») bytes (has_peer s (birth_at t d.node) (side_of d.«end»))) (λ left. alike_pair (content_of s (birth_at t d.node)) (with_waiting p (peer_of (side_of d.«end»)) left) p is)
       by_content (DoorTo door) is = (shows, λ value sent. shows)
 

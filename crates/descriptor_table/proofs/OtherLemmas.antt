@@ -24,7 +24,7 @@ use Rattle.sequential_object.specs.Refusals.{◌>>=◌, count_of, position_of, r
 use Rattle.sequential_object.specs.Status.{fstat_result, getfl_result, setfl_result}
 use Rattle.sequential_object.specs.Sockets as sockets
 use Rattle.sequential_object.specs.Sockets.{NewEnd, pipe_result, shut_content, shuttable, shutdown_result, socketpair_result}
-use Rattle.sequential_object.specs.Streams.{Reading, Reads, Ends, NothingYet, Writing, Writes, Breaks, NoRoom, new_pair, pair_read, pair_write, shut, stream_read, stream_write, with_waiting}
+use Rattle.sequential_object.specs.Streams.{Reading, Reads, Ends, NothingYet, Writing, Writes, Breaks, NoRoom, new_pair, pair_read, pair_write, pipe_write, shut, stream_read, with_waiting}
 use Rattle.sequential_object.specs.Step.{Carried, concluded, effect_of, waited, Stepped}
 use Rattle.sequential_object.specs.Transfers.{base_of, file_in, has_peer, host_offset, offset_of, read_content, read_done, seek_content, write_at, write_content, write_done, read_result, write_result, pread_result, pwrite_result, lseek_result, ftruncate_result, size_of, start_of}
 use Rattle.posix_terms.specs.declared.call.Access.{Access}
@@ -349,7 +349,7 @@ module _ (t : TableState) (s : State) (sound : IsSound t) (all : AreSound t.desc
           (by_file file (length bytes == 0))
       by_kind (IsPipe waiting pipe is) =
           others_as _ (if length bytes == 0 then plan.Reply (reply.Count 0) else locks d.node act) _ (Pipe waiting) (λ c. if length bytes == 0 then Ok (Completes s (reply.Count 0)) else write_content s d.birth (shown t d offset) bytes c) (moves_inside d (length bytes) (reply.Count 0) act ask pipe.stream pipe.inside) is
-          (by_writing (length bytes == 0) (λ left. Pipe left) (stream_write waiting bytes (posix.has_end s (birth_at t d.node) part.Read)))
+          (by_writing (length bytes == 0) (λ left. Pipe left) (pipe_write waiting bytes (posix.has_end s (birth_at t d.node) part.Read)))
       by_kind (IsPair p side its is) =
           others_as _ (if length bytes == 0 then plan.Reply (reply.Count 0) else locks d.node act) _ (Pair p) (λ c. if length bytes == 0 then Ok (Completes s (reply.Count 0)) else write_content s d.birth (shown t d offset) bytes c) (moves_inside d (length bytes) (reply.Count 0) act ask (socket_stream d.«end» side its) (ap leads_outside its)) is
           (by_writing (length bytes == 0) (λ left. Pair (with_waiting p (peer_of (side_of d.«end»)) left)) (pair_write p (side_of d.«end») bytes (has_peer s (birth_at t d.node) (side_of d.«end»))))

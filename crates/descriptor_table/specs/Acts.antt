@@ -8,7 +8,7 @@ use Rattle.sequential_object.specs.Object as posix
 use Rattle.posix_terms.specs.Ends.{is_first, side_of, peer_of}
 use Rattle.sequential_object.specs.Object.{State, Content, File, Pipe, Pair, DoorTo, content_of}
 use Rattle.sequential_object.specs.Step.{Carried, Stepped, is_again, nothing_carried, step, waited}
-use Rattle.sequential_object.specs.Streams.{Reading, Reads, Ends, NothingYet, Writing, Writes, Breaks, NoRoom, new_pair, pair_read, pair_write, shut, stream_read, stream_write, with_waiting}
+use Rattle.sequential_object.specs.Streams.{Reading, Reads, Ends, NothingYet, Writing, Writes, Breaks, NoRoom, new_pair, pair_read, pair_write, pipe_write, shut, stream_read, with_waiting}
 use Rattle.sequential_object.specs.Transfers.{base_of, offset_of}
 use Rattle.posix_terms.specs.declared.call.Call.{Call}
 use Rattle.posix_terms.specs.declared.call.Call.TheVariants as call
@@ -134,7 +134,7 @@ abbrev pub write_acted : TableState → ℕ → Opened → List ℕ → Content 
 write_acted t node to bytes (File file) offset =
     let start = if to.flags.append then length file else offset in
     if length bytes == 0 then replied (reply.Count 0) (File file) offset else wrote (written file start bytes) file offset (λ count. start + count)
-write_acted t node to bytes (Pipe waiting) offset = has_written to Pipe (Pipe waiting) offset (length bytes) (stream_write waiting bytes (is_open t node part.Read))
+write_acted t node to bytes (Pipe waiting) offset = has_written to Pipe (Pipe waiting) offset (length bytes) (pipe_write waiting bytes (is_open t node part.Read))
 write_acted t node to bytes (Pair p) offset =
     let side = side_of to.«end» in
     has_written to (λ left. Pair (with_waiting p (peer_of side) left)) (Pair p) offset (length bytes) (pair_write p side bytes (is_open t node (part.Socket (peer_of side))))

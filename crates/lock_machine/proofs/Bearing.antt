@@ -37,7 +37,7 @@ few_born cs t few within born =
       objects = below (length cs) (time_of cs) t.table.made_objects few most born.objects;
     }
   where
-    below : (n time made : ℕ) → n ≤ 8 → time ≤ n * 2 ^ 62 → made ≤ 2 * time → made ≤ 2 ^ 126
+    below : (n time made : ℕ) → n ≤ limit.THREADS → time ≤ n * 2 ^ 62 → made ≤ 2 * time → made ≤ 2 ^ 126
     below n time made few most born = omega arith
 
 -- nothing is made

@@ -2,19 +2,15 @@
 -- A machine at its start.
 use Rattle.std.specs.Prelude.{ℕ, Bool, ◌&&◌, nat_le, replicate, None}
 use Rattle.input_log.specs.Writing.{begun}
-use Rattle.input_log.specs.declared.log.Header.{Header}
 use Rattle.lock_machine.specs.Starting.{first_whole}
 use Rattle.posix_terms.specs.declared.limits.TheConstants.Limits as limit
 use Rattle.posix_terms.specs.declared.transcript.Settings.{Settings}
 use Rattle.logged_machine.specs.Shown.{Shown}
+pub use Rattle.input_log.specs.Headers.{header_for}
 
 -- patience and door cost are within their limits
 abbrev pub are_settings : Settings → Bool
 are_settings s = nat_le 1 s.patience && nat_le s.patience limit.PATIENCE && (nat_le 1 s.door_cost && nat_le s.door_cost limit.DOOR_COST)
-
--- the header of a run of so many threads
-abbrev pub header_for : Settings → ℕ → Header
-header_for settings threads = record { threads = threads; patience = settings.patience; door_cost = settings.door_cost }
 
 -- nothing was asked, and there is no door
 abbrev pub first_shown : {D : Type 0} → Settings → ℕ → Shown D

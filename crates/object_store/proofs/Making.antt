@@ -6,7 +6,7 @@ use Rattle.posix_terms.specs.Ends.{is_end, side_of, peer_of}
 use Rattle.sequential_object.specs.Files.{bytes_at, resized, written}
 use Rattle.sequential_object.specs.Object.{Content, DoorTo, File, Pair, Pipe}
 use Rattle.sequential_object.specs.Streams as stream
-use Rattle.sequential_object.specs.Streams.{Reading, Writing, new_pair, pair_read, pair_write, shut, stream_read, stream_write, with_waiting}
+use Rattle.sequential_object.specs.Streams.{Reading, Writing, new_pair, pair_read, pair_write, pipe_write, shut, stream_read, with_waiting}
 use Rattle.sequential_object.specs.Transfers.{base_of, offset_of}
 use Rattle.posix_terms.specs.declared.call.Call.{Call}
 use Rattle.posix_terms.specs.declared.call.Call.TheVariants as call
@@ -181,8 +181,8 @@ written_offset to holds content offset count stream.NoRoom = refl
 
 stream_written_offset : (t : TableState) (node : ℕ) (to : Opened) (bytes : List ℕ) (which : End) (k : Kept) (offset : ℕ) → is_end which part.Only ≡ false → (let done : Acted = write_acted t node to bytes (held_by which k) offset in done.offset) ≡ offset
 stream_written_offset t node to bytes part.Only k offset its = absurd (true≢false its)
-stream_written_offset t node to bytes part.Read k offset its = written_offset to Pipe (Pipe k.pipe) offset (length bytes) (stream_write k.pipe bytes (is_open t node part.Read))
-stream_written_offset t node to bytes part.Write k offset its = written_offset to Pipe (Pipe k.pipe) offset (length bytes) (stream_write k.pipe bytes (is_open t node part.Read))
+stream_written_offset t node to bytes part.Read k offset its = written_offset to Pipe (Pipe k.pipe) offset (length bytes) (pipe_write k.pipe bytes (is_open t node part.Read))
+stream_written_offset t node to bytes part.Write k offset its = written_offset to Pipe (Pipe k.pipe) offset (length bytes) (pipe_write k.pipe bytes (is_open t node part.Read))
 stream_written_offset t node to bytes (part.Socket side) k offset its =
     let own = side_of to.«end» in written_offset to (λ left. Pair (with_waiting k.pair (peer_of own) left)) (Pair k.pair) offset (length bytes) (pair_write k.pair own bytes (is_open t node (part.Socket (peer_of own))))
 stream_written_offset t node to bytes (part.Door door) k offset its = refl

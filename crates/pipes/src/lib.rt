@@ -1,12 +1,13 @@
-//! The bytes that wait in a pipe in memory, for the store of objects and for pairs of sockets.
+//! The bytes that wait in a stream in memory, for the store of objects and for pairs of sockets.
 //!
-//! A [`PipeBody`] takes the room for all its bytes, `Limits::PIPE_BYTES`, when it is made, and no
-//! later call takes memory. The bytes stand in a ring, a `HeapCircularBuffer`, so a call costs what
-//! it reads or writes, however many bytes wait. `put` writes all bytes or none: where they do not
-//! fit it blocks, and where no read end is open the pipe is broken. `take` reads the oldest bytes
-//! first; without bytes it ends where no write end is open, and otherwise blocks. The caller says
-//! which ends are open, and the [`PipeAnswer`] tells what came of it; where nothing was read or
-//! written nothing changes. Contracts see the list of the bytes that wait.
+//! A [`StreamBody`] takes the room for all its bytes, as many as its type says, when it is made, and
+//! no later call takes memory; a [`PipeBody`] is one of `Limits::PIPE_BYTES`. The bytes stand in a
+//! ring, a `HeapCircularBuffer`, so a call costs what it reads or writes, however many bytes wait.
+//! `put` writes all bytes or none: where they do not fit it blocks, and where nobody reads any more
+//! the stream is broken. `take` reads the oldest bytes first; without bytes it ends where nobody
+//! writes any more, and otherwise blocks. The caller says whether somebody does, and the
+//! [`PipeAnswer`] tells what came of it; where nothing was read or written nothing changes.
+//! Contracts see the list of the bytes that wait.
 //!
 //! ```rust
 //! use pipes::{PipeAnswer, PipeBody};
@@ -24,4 +25,4 @@
 
 mod body;
 
-pub use body::{PipeAnswer, PipeBody};
+pub use body::{PipeAnswer, PipeBody, StreamBody};

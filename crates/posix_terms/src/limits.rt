@@ -18,8 +18,10 @@ impl Limits {
     pub const PATH_BYTES: usize = 255;
     /// The greatest count of one read or write (`SSIZE_MAX`).
     pub const COUNT: usize = 32_767;
-    /// Bytes of a pipe, and of one direction of a socket pair; also `PIPE_BUF`.
+    /// Bytes of a pipe; also `PIPE_BUF`.
     pub const PIPE_BYTES: usize = 32_768;
+    /// Bytes of one direction of a socket pair.
+    pub const PAIR_BYTES: usize = 32_768;
     /// The greatest port of a listener or a connection.
     pub const PORT: u64 = 65_535;
     /// No logical clock passes this.

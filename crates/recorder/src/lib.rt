@@ -41,6 +41,7 @@ mod ended;
 mod events;
 mod history;
 mod leave;
+mod noting;
 mod outside;
 mod outsides;
 mod room;

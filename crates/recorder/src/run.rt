@@ -180,11 +180,7 @@ fn start<
     ensures fault { IfErr result (λ n. IsRefusal n.fault (vec_len actors) (vec_len outsides) settings) }
     ensures sink { IfErr result (λ n. IsBack S.taken S.failures n.fault (vec_len actors) settings sink n.sink) }
 {
-    let header = Header {
-        threads: actors.len() as u16,
-        patience: settings.patience,
-        door_cost: settings.door_cost,
-    };
+    let header = Header::new(actors.len() as u16, settings);
     let log = match LogWriter::begin(sink, header) {
         Ok(log) => log,
         Err((_, sink)) => return Ok(without_log(alloc, header, room, actors, outsides, sink)),

@@ -1,10 +1,10 @@
 ghost use Rattle.std.specs.Prelude.{◌≡◌, IfOk};
 ghost use Rattle.recorder.specs.Seats.{IsCalling, IsReady, IsTrueTo, StandsBehind};
 
-use crate::asked::{Asked, copied, is_end, kind};
-use crate::events::{Next, ask, go_on, leave, record};
+use crate::asked::{Asked, is_end, kind};
+use crate::events::{Next, go_on, leave};
 use crate::leave::Leave;
-use crate::outside::reach;
+use crate::noting::{ask_next, bring};
 use crate::shared::Shared;
 use host_doors::Outside;
 use input_log::LogSink;
@@ -14,10 +14,10 @@ use std::marker::Model;
 use std::snapshot::Snapshot;
 use std::sync::Wait;
 use thread_scripts::Actor;
-use worker_notes::{Brought, Noted, Own, last_reply, note_reply};
+use worker_notes::{Own, note_reply};
 
-// A worker at its thread: its actor, its outside, and what it notes. A note is made just where the machine took the event; the copies and the
-// room for it are made before.
+// A worker at its thread: its actor, its outside, and what it notes. A note is made just where the machine took the event; its copies and its
+// room are made before.
 pub struct Seat<A: Actor, O: Outside> {
     actor: A,
     outside: O,
@@ -124,19 +124,10 @@ impl<A: Actor, O: Outside> Seat<A, O> {
         ensures behind { IfOk result (λ kind. StandsBehind kind self.new) }
     {
         self.ahead = true;
-        let step = self.actor.next(last_reply(self.own.steps.as_slice()))?;
-        let copy = copied(&step)?;
-        self.own.steps.reserve(1)?;
-        ask(rt, shared, i, step)?;
-        let kind = kind(&copy);
-        let ended = is_end(&copy);
-        let noted = Noted {
-            step: copy,
-            reply: None,
-        };
-        let Ok(()) = self.own.steps.push(noted) else {
-            unreachable!()
-        };
+        let note = ask_next(rt, shared, i, &mut self.actor, &mut self.own.steps)?;
+        let kind = kind(&note.step);
+        let ended = is_end(&note.step);
+        self.own.steps.push_reserved(note);
         self.own.ended = ended;
         self.ahead = false;
         Ok(kind)
@@ -197,12 +188,8 @@ impl<A: Actor, O: Outside> Seat<A, O> {
         self.own.outcomes.reserve(1)?;
         self.ahead = true;
         self.number = number + 1;
-        let reached = reach(&mut self.outside, i, number, &request, door)?;
-        let outcome = reached.outcome.try_clone()?;
-        record(rt, shared, i, number, reached)?;
-        let Ok(()) = self.own.outcomes.push(Brought { request, outcome }) else {
-            unreachable!()
-        };
+        let note = bring(rt, shared, i, &mut self.outside, number, request, door)?;
+        self.own.outcomes.push_reserved(note);
         self.ahead = false;
         Ok(())
     }

@@ -1,6 +1,8 @@
-use crate::record::{SETTINGS, doors, push_actor};
+use crate::outcomes::{doors, outcomes};
+use crate::record::{Over, push_actor};
 use input_log::MemorySink;
 use logged_machine::Stop;
+use posix_terms::Settings;
 use recorder::{BoxedActor, run_recorded};
 use std::alloc::{AllocError, Global};
 use std::sync::Wait;
@@ -11,121 +13,115 @@ use thread_scripts::{CallLine, Line, Number, Script, StreamLine, TransferLine};
 // Longer than a script's text can spell: a clock has room for one less.
 const TOO_LONG: u64 = 4_611_686_018_427_387_904;
 
-// Whether a recorded run of one actor, which has these lines, stops for its full clock, with no row.
-fn fills_its_clock<R: Threads + Wait + Sync>(
-    rt: &R,
-    alloc: Global,
-    lines: Vec<Line>,
-) -> Result<bool, Fail> {
-    if !Script::accepts(&lines) {
-        return Ok(false);
-    }
-    let actors = one_actor(alloc, Script::of(lines))?;
-    let doors = doors(alloc, 1, &[])?;
-    let sink = MemorySink::new(alloc, 100)?;
-    match run_recorded(rt, alloc, actors, doors, sink, SETTINGS) {
-        Ok(ended) => Ok(ended.stop == Some(Stop::ClockFull) && ended.history.rows().is_empty()),
-        Err(_) => Ok(false),
+const SETTINGS: Settings = Settings {
+    patience: 1000,
+    door_cost: 100,
+};
+
+// Work of this length, a pipe that is made, or a byte that is read of it, which nobody writes.
+fn line(place: usize, time: u64) -> Line {
+    match place {
+        0 => Line::Work(time),
+        1 => Line::Call(CallLine::Stream(StreamLine::Pipe)),
+        _ => Line::Call(CallLine::Transfer(TransferLine::Read {
+            descriptor: Number::Value(0),
+            count: Number::Value(1),
+        })),
     }
 }
 
-// One actor, which has this script.
-fn one_actor(alloc: Global, script: Script) -> Result<Vec<BoxedActor>, AllocError> {
-    let mut actors: Vec<BoxedActor> = Vec::new(alloc);
-    push_actor(&mut actors, alloc, script)?;
-    Ok(actors)
-}
-
-// The line that works so long.
-fn work(alloc: Global, time: u64) -> Result<Vec<Line>, AllocError> {
+// A script of the first of these lines, so many.
+fn script(alloc: Global, length: usize, time: u64) -> Result<Script, AllocError> {
     let mut lines = Vec::new(alloc);
-    lines.push(Line::Work(time))?;
-    Ok(lines)
+    for place in 0..length {
+        lines.push(line(place, time))?;
+    }
+    if Script::accepts(&lines) {
+        Ok(Script::of(lines))
+    } else {
+        Err(AllocError)
+    }
 }
 
-// Adds the line that makes a pipe.
-fn push_pipe(lines: &mut Vec<Line>) -> Result<(), AllocError> {
-    lines.push(Line::Call(CallLine::Stream(StreamLine::Pipe)))?;
-    Ok(())
+// A run of threads, so many, each of which has the first lines, so many, and works so long; and whether a row is left of it.
+#[derive(Clone, Copy)]
+struct Filled {
+    threads: usize,
+    length: usize,
+    time: u64,
+    has_rows: bool,
 }
 
-// Adds the line that reads a byte at descriptor 0.
-fn push_read(lines: &mut Vec<Line>) -> Result<(), AllocError> {
-    lines.push(Line::Call(CallLine::Transfer(TransferLine::Read {
-        descriptor: Number::Value(0),
-        count: Number::Value(1),
-    })))?;
-    Ok(())
-}
+// A clock is full when a step is asked, at the first attempt of a call, and at a later one of a call that is blocked. The seven others leave,
+// which in the last two may be waiting for their turns.
+const FILLED: &[Filled] = &[
+    Filled {
+        threads: 1,
+        length: 1,
+        time: TOO_LONG,
+        has_rows: false,
+    },
+    Filled {
+        threads: 1,
+        length: 2,
+        time: TOO_LONG - 1,
+        has_rows: false,
+    },
+    Filled {
+        threads: 8,
+        length: 3,
+        time: TOO_LONG,
+        has_rows: false,
+    },
+    Filled {
+        threads: 8,
+        length: 3,
+        time: TOO_LONG - 1,
+        has_rows: false,
+    },
+    Filled {
+        threads: 8,
+        length: 3,
+        time: TOO_LONG - 20,
+        has_rows: true,
+    },
+];
 
-#[test]
-fn too_much_work(rt: HostRuntime) -> Result<(), Fail> {
-    let lines = work(rt.alloc(), TOO_LONG)?;
-    assert!(rt; fills_its_clock(&rt, rt.alloc(), lines)?);
-    Ok(())
-}
-
-#[test]
-fn no_room_for_an_attempt(rt: HostRuntime) -> Result<(), Fail> {
-    let mut lines = work(rt.alloc(), TOO_LONG - 1)?;
-    push_pipe(&mut lines)?;
-    assert!(rt; fills_its_clock(&rt, rt.alloc(), lines)?);
-    Ok(())
-}
-
-// The lines that work so long, make a pipe and read from one that nobody writes to.
-fn reader(alloc: Global, time: u64) -> Result<Vec<Line>, AllocError> {
-    let mut lines = work(alloc, time)?;
-    push_pipe(&mut lines)?;
-    push_read(&mut lines)?;
-    Ok(lines)
-}
-
-// Eight actors with the lines of a reader that works so long. None where the lines are no script.
-fn eight_readers(alloc: Global, time: u64) -> Result<Vec<BoxedActor>, AllocError> {
+fn actors(alloc: Global, filled: Filled) -> Result<Vec<BoxedActor>, AllocError> {
     let mut actors: Vec<BoxedActor> = Vec::new(alloc);
-    for _ in 0..8 {
-        push_lines(&mut actors, alloc, reader(alloc, time)?)?;
+    for _ in 0..filled.threads {
+        push_actor(
+            &mut actors,
+            alloc,
+            script(alloc, filled.length, filled.time)?,
+        )?;
     }
     Ok(actors)
 }
 
-// Adds an actor with these lines, if they are a script.
-fn push_lines(
-    actors: &mut Vec<BoxedActor>,
-    alloc: Global,
-    lines: Vec<Line>,
-) -> Result<(), AllocError> {
-    if Script::accepts(&lines) {
-        push_actor(actors, alloc, Script::of(lines))?;
-    }
-    Ok(())
+fn has_filled(over: &Over, has_rows: bool) -> bool {
+    over.stop == Some(Stop::ClockFull) && over.history.rows().is_empty() != has_rows
 }
 
-// Whether a recorded run of eight such actors stops for a full clock.
-fn stops_at_a_full_clock<R: Threads + Wait + Sync>(
+// Whether the recorded run stops for a full clock.
+fn fills_a_clock<R: Threads + Wait + Sync>(
     rt: &R,
     alloc: Global,
-    time: u64,
-) -> Result<bool, Fail> {
-    let actors = eight_readers(alloc, time)?;
-    if actors.len() != 8 {
-        return Ok(false);
-    }
-    let doors = doors(alloc, 8, &[])?;
+    filled: Filled,
+) -> Result<bool, AllocError> {
+    let actors = actors(alloc, filled)?;
+    let doors = doors(alloc, outcomes(alloc, filled.threads, &[])?)?;
     let sink = MemorySink::new(alloc, 100)?;
     match run_recorded(rt, alloc, actors, doors, sink, SETTINGS) {
-        Ok(ended) => Ok(ended.stop == Some(Stop::ClockFull)),
+        Ok(over) => Ok(has_filled(&over, filled.has_rows)),
         Err(_) => Ok(false),
     }
 }
 
-// A clock is full when a step is asked, at the first attempt of a call, and at a later one of a call that is blocked; the seven others
-// leave, which in the last two may be waiting for their turns.
 #[test]
-fn seven_wait_for_one_whose_clock_is_full(rt: HostRuntime) -> Result<(), Fail> {
-    assert!(rt; stops_at_a_full_clock(&rt, rt.alloc(), TOO_LONG)?);
-    assert!(rt; stops_at_a_full_clock(&rt, rt.alloc(), TOO_LONG - 1)?);
-    assert!(rt; stops_at_a_full_clock(&rt, rt.alloc(), TOO_LONG - 20)?);
+fn a_clock_is_full(rt: HostRuntime) -> Result<(), Fail> {
+    for (number, filled) in FILLED.iter().enumerate() {
+        assert!(rt; fills_a_clock(&rt, rt.alloc(), *filled)?, "run {number}");
+    }
     Ok(())
 }

@@ -1,11 +1,24 @@
-//! The tests of recorded runs, over outsides that are lists of outcomes.
+//! The tests of recorded runs, over outsides that are lists of outcomes; of replays by threads, of runs that were recorded and of logs that are
+//! written down here; and of `comparator`.
 #![tactic(auto)]
 
 #[cfg(test)]
+mod comparisons;
+#[cfg(test)]
 mod full_clock;
+#[cfg(test)]
+mod generated;
+#[cfg(test)]
+mod outcomes;
 #[cfg(test)]
 mod record;
 #[cfg(test)]
+mod refused_memory;
+#[cfg(test)]
+mod replay;
+#[cfg(test)]
 mod runs;
+#[cfg(test)]
+mod short_write;
 #[cfg(test)]
 mod stops;

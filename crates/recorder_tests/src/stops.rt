@@ -1,13 +1,14 @@
-use crate::record::{Came, Refused, SETTINGS, Told, record, stop_of};
+use crate::outcomes::Came;
+use crate::record::{NoRun, Over, Run, record};
+use crate::runs::{SHORT_WRITE, WRITTEN};
+use crate::short_write::{OTHER_KIND, SHORTER, Seen, saw};
 use logged_machine::Stop;
-use posix_terms::{Errno, OutKind, Reply, Settings, Transcripts};
+use posix_terms::OutKind;
 use recorder::StartFault;
-use std::alloc::Global;
+use std::alloc::{AllocError, Global};
 use std::sync::Wait;
 use std::test::Fail;
 use std::thread::Threads;
-
-const SHORT_WRITE: &[u8] = b"host_open out w create\nwrite 0 x0001020304050607\nwrite 0 x0304\n";
 
 // Opens a file of the host, reads a byte of it, goes to its start and closes it.
 const READER: &[u8] = b"host_open /h r\nread 0 1\nlseek 0 0 set\nclose 0\n";
@@ -29,8 +30,16 @@ fn stops<R: Threads + Wait + Sync>(
     scripts: &[&[u8]],
     came: &[Came],
     wanted: Stop,
-) -> Result<bool, Fail> {
-    Ok(stop_of(rt, alloc, scripts, &[came])? == Some(wanted))
+) -> Result<bool, AllocError> {
+    let run = Run {
+        scripts,
+        came: &[came],
+        patience: 1000,
+    };
+    match record(rt, alloc, run, scripts.len(), 1000)? {
+        Ok(over) => Ok(over.stop == Some(wanted)),
+        Err(_) => Ok(false),
+    }
 }
 
 // A thread whose outside has no more outcomes stops the run, at whichever call that is, and the threads that wait at their pipes leave too.
@@ -41,137 +50,149 @@ fn outcomes_end(rt: HostRuntime) -> Result<(), Fail> {
     ];
     for count in 0..CAME.len() {
         let wanted = Stop::EndOfLog(0);
-        assert!(rt; stops(&rt, rt.alloc(), scripts, &CAME[..count], wanted)?);
+        assert!(rt;
+            stops(&rt, rt.alloc(), scripts, &CAME[..count], wanted)?,
+            "{count}"
+        );
     }
     Ok(())
 }
 
-// An outcome of another kind, and one that answers more than was asked, stop the run, as its thread's second.
-#[test]
-fn outcomes_diverge(rt: HostRuntime) -> Result<(), Fail> {
-    let scripts: &[&[u8]] = &[READER, WAITER];
-    let opened = Came::Ok(OutKind::Open, 0, b"");
-    let other_kind: &[Came] = &[opened, Came::Ok(OutKind::Seek, 0, b"")];
-    assert!(rt; stops(&rt, rt.alloc(), scripts, other_kind, Stop::Diverged(0, 1))?);
-    let too_many: &[Came] = &[opened, Came::Ok(OutKind::Read, 2, b"xx")];
-    assert!(rt; stops(&rt, rt.alloc(), scripts, too_many, Stop::Diverged(0, 1))?);
-    Ok(())
-}
-
-// What comes for an open, for a short write, and for one that fails.
-const WRITTEN: &[Came] = &[
-    Came::Ok(OutKind::Open, 0, b""),
-    Came::Ok(OutKind::Write, 3, b""),
-    Came::Fail(OutKind::Write, Errno::EIO),
+// Scripts, and outcomes for the first of them, the second of which is none of its second call.
+const DIVERGED: &[(&[&[u8]], &[Came])] = &[
+    // one of another kind, and one that answers more than was asked
+    (
+        &[READER, WAITER],
+        &[
+            Came::Ok(OutKind::Open, 0, b""),
+            Came::Ok(OutKind::Seek, 0, b""),
+        ],
+    ),
+    (
+        &[READER, WAITER],
+        &[
+            Came::Ok(OutKind::Open, 0, b""),
+            Came::Ok(OutKind::Read, 2, b"xx"),
+        ],
+    ),
+    // the script has another second line
+    (&[OTHER_KIND], WRITTEN),
+    (&[SHORTER], WRITTEN),
 ];
 
-// The outcomes are those of a script with another second line.
 #[test]
-fn changed_script(rt: HostRuntime) -> Result<(), Fail> {
-    let other_kind: &[&[u8]] = &[b"host_open out w create\nlseek 0 0 set\nwrite 0 x0304\n"];
-    assert!(rt; stops(&rt, rt.alloc(), other_kind, WRITTEN, Stop::Diverged(0, 1))?);
-    let shorter: &[&[u8]] = &[b"host_open out w create\nwrite 0 x0001\nwrite 0 x0304\n"];
-    assert!(rt; stops(&rt, rt.alloc(), shorter, WRITTEN, Stop::Diverged(0, 1))?);
-    Ok(())
-}
-
-// Whether the first thread saw one reply, and this is it.
-fn saw_one(transcripts: &Transcripts, reply: Reply) -> bool {
-    let Some(transcript) = transcripts.threads().first() else {
-        return false;
-    };
-    let rows = transcript.rows();
-    rows.len() == 1 && rows[0].reply == reply
-}
-
-// Whether a run stopped at its sink, which had taken so many bytes.
-fn filled_its_sink(told: &Told, room: usize) -> bool {
-    told.stop == Some(Stop::Sink) && told.log.as_slice().len() == room
-}
-
-// Whether the run of the short write stops where its log has so much room, and shows the first reply.
-fn stops_in_the_log<R: Threads + Wait + Sync>(
-    rt: &R,
-    alloc: Global,
-    room: usize,
-) -> Result<bool, Fail> {
-    match record(rt, alloc, &[SHORT_WRITE], 1, &[WRITTEN], room, SETTINGS)? {
-        Ok(told) => {
-            Ok(filled_its_sink(&told, room) && saw_one(&told.transcripts, Reply::Number(0)))
-        }
-        Err(_) => Ok(false),
+fn outcomes_diverge(rt: HostRuntime) -> Result<(), Fail> {
+    for (scripts, came) in DIVERGED {
+        assert!(rt; stops(&rt, rt.alloc(), scripts, came, Stop::Diverged(0, 1))?);
     }
-}
-
-// The log has room for the first record and 7 bytes of the second.
-#[test]
-fn log_room_runs_out(rt: HostRuntime) -> Result<(), Fail> {
-    assert!(rt; stops_in_the_log(&rt, rt.alloc(), 42)?);
     Ok(())
 }
 
-// Whether the run of a reader and a waiter stops where its log has so much room, and its first thread asked nothing just if that is less than
-// the header.
-fn stops_at_the_first<R: Threads + Wait + Sync>(
+// Scripts, what comes for the first of them, and what it sees where the log has so much room.
+const FILLED: &[(&[&[u8]], &[Came], usize, &[(u64, Seen)])] = &[
+    // inside the header, behind it and inside the first record
+    (&[READER, WAITER], CAME, 0, &[]),
+    (&[READER, WAITER], CAME, 15, &[]),
+    (&[READER, WAITER], CAME, 16, &[]),
+    (&[READER, WAITER], CAME, 34, &[]),
+    // the first record and 7 bytes of the second
+    (&[SHORT_WRITE], WRITTEN, 42, &[(1, Seen::Number(0))]),
+];
+
+// Whether the first thread asked nothing.
+fn asked_nothing(over: &Over) -> bool {
+    over.history.len() > 0 && over.history.steps(0).is_empty()
+}
+
+// Whether a run of so many threads stopped at its sink, which had taken so many bytes, and its first thread asked nothing just if that is less
+// than the header.
+fn filled_its_sink(over: &Over, threads: usize, room: usize) -> bool {
+    over.stop == Some(Stop::Sink)
+        && over.sink.bytes().len() == room
+        && over.history.len() == threads
+        && asked_nothing(over) == (room < 16)
+}
+
+// Whether a recorded run does that where its log has so much room, and its first thread sees this.
+fn fills_its_sink<R: Threads + Wait + Sync>(
     rt: &R,
     alloc: Global,
+    run: Run<'_>,
     room: usize,
-) -> Result<bool, Fail> {
-    match record(rt, alloc, &[READER, WAITER], 2, &[CAME], room, SETTINGS)? {
-        Ok(told) => Ok(
-            filled_its_sink(&told, room)
-                && told.history.len() == 2
-                && told.history.steps(0).is_empty() == (room < 16),
+    seen: &[(u64, Seen)],
+) -> Result<bool, AllocError> {
+    match record(rt, alloc, run, run.scripts.len(), room)? {
+        Ok(over) => Ok(
+            filled_its_sink(&over, run.scripts.len(), room) && saw(&over.transcripts, seen),
         ),
         Err(_) => Ok(false),
     }
 }
 
-// The log's room runs out inside the header, and the first thread asks nothing; and behind the header and inside the first record, and the
-// thread that waits leaves too.
+// The thread that waits leaves too.
 #[test]
-fn sink_fails(rt: HostRuntime) -> Result<(), Fail> {
-    for room in &[0, 15, 16, 34] {
-        assert!(rt; stops_at_the_first(&rt, rt.alloc(), *room)?, "{room}");
+fn the_log_has_no_more_room(rt: HostRuntime) -> Result<(), Fail> {
+    for (scripts, came, room, seen) in FILLED {
+        let run = Run {
+            scripts,
+            came: &[*came],
+            patience: 1000,
+        };
+        assert!(rt;
+            fills_its_sink(&rt, rt.alloc(), run, *room, seen)?,
+            "{room}"
+        );
     }
     Ok(())
 }
 
-// Whether a run of these scripts with so many outsides is refused so, and all come back.
+// Scripts, outsides, so many, and a patience, with which no run is started, and why.
+const REFUSED: &[(&[&[u8]], usize, u32, StartFault)] = &[
+    (&[], 1, 0, StartFault::NoThreads),
+    (
+        &[b"", b"", b"", b"", b"", b"", b"", b"", b""],
+        0,
+        0,
+        StartFault::TooManyThreads,
+    ),
+    (&[b""], 1, 0, StartFault::Settings),
+    (&[b""], 2, 1000, StartFault::Settings),
+];
+
+// Whether a run was refused so, and so many actors and outsides came back, with a sink that took nothing.
+fn hands_back(refused: &NoRun, wanted: StartFault, actors: usize, outsides: usize) -> bool {
+    refused.fault == wanted
+        && refused.actors.len() == actors
+        && refused.outsides.len() == outsides
+        && refused.sink.bytes().is_empty()
+}
+
+// Whether a run with so many outsides is refused so, and all come back.
 fn is_refused<R: Threads + Wait + Sync>(
     rt: &R,
     alloc: Global,
-    scripts: &[&[u8]],
+    run: Run<'_>,
     outsides: usize,
-    settings: Settings,
     wanted: StartFault,
-) -> Result<bool, Fail> {
-    match record(rt, alloc, scripts, outsides, &[], 1000, settings)? {
+) -> Result<bool, AllocError> {
+    match record(rt, alloc, run, outsides, 1000)? {
         Ok(_) => Ok(false),
-        Err(refused) => Ok(hands_back(&refused, wanted, scripts.len(), outsides)),
+        Err(refused) => Ok(hands_back(&refused, wanted, run.scripts.len(), outsides)),
     }
-}
-
-// Whether it was refused so, and so many actors and outsides came back, with a sink that took nothing.
-fn hands_back(refused: &Refused, wanted: StartFault, actors: usize, outsides: usize) -> bool {
-    refused.fault == wanted
-        && refused.actors == actors
-        && refused.outsides == outsides
-        && refused.taken == 0
 }
 
 #[test]
 fn refused_starts(rt: HostRuntime) -> Result<(), Fail> {
-    let none: &[&[u8]] = &[];
-    let one: &[&[u8]] = &[b""];
-    let nine: &[&[u8]] = &[b"", b"", b"", b"", b"", b"", b"", b"", b""];
-    let bad = Settings {
-        patience: 0,
-        door_cost: 100,
-    };
-    assert!(rt; is_refused(&rt, rt.alloc(), none, 1, bad, StartFault::NoThreads)?);
-    assert!(rt; is_refused(&rt, rt.alloc(), nine, 0, bad, StartFault::TooManyThreads)?);
-    assert!(rt; is_refused(&rt, rt.alloc(), one, 1, bad, StartFault::Settings)?);
-    assert!(rt; is_refused(&rt, rt.alloc(), one, 2, SETTINGS, StartFault::Settings)?);
+    for (scripts, outsides, patience, wanted) in REFUSED {
+        let run = Run {
+            scripts,
+            came: &[],
+            patience: *patience,
+        };
+        assert!(rt;
+            is_refused(&rt, rt.alloc(), run, *outsides, *wanted)?,
+            "{outsides}"
+        );
+    }
     Ok(())
 }

@@ -1,6 +1,5 @@
 ghost use Rattle.std.specs.Prelude.{◌≡◌};
 ghost use Rattle.input_log.specs.Grammar.{IsLog};
-ghost use Rattle.replayer.specs.Outcomes.{settings_of};
 ghost use Rattle.replayer.specs.Replay.{IsRunOf, Replays, Tells};
 
 use crate::fault::ReplayFault;
@@ -8,8 +7,7 @@ use crate::outcomes::outcomes_by;
 use crate::replayed::Replayed;
 use crate::unused::unused_record;
 use call_machine::{Plain, PlainFault, Stop, plain_run};
-use input_log::{Header, LogText, decode_front};
-use posix_terms::Settings;
+use input_log::{LogText, decode_front};
 use std::alloc::Global;
 use thread_scripts::Script;
 
@@ -29,22 +27,12 @@ pub fn replay(alloc: Global, log: &[u8], scripts: Vec<Script>) -> Result<Replaye
         return Err(ReplayFault::Threads);
     }
     let outcomes = outcomes_by(alloc, scripts.len(), log.records.as_slice())?;
-    match plain_run(alloc, scripts, outcomes, settings(log.header)) {
+    match plain_run(alloc, scripts, outcomes, log.header.settings()) {
         Ok(plain) => told(&log, plain),
         Err(PlainFault::Memory) => Err(ReplayFault::Memory),
         // A log has 1 to 8 threads, and settings of a run.
         Err(PlainFault::Threads) => unreachable!(),
         Err(PlainFault::Settings) => unreachable!(),
-    }
-}
-
-// The settings that a log was written under.
-pub fn settings(header: Header) -> Settings
-    ensures { result ≡ settings_of header }
-{
-    Settings {
-        patience: header.patience,
-        door_cost: header.door_cost,
     }
 }
 

@@ -7,7 +7,6 @@ ghost use Rattle.replayer.specs.declared.fault.ReplayFault.TheVariants as replay
 
 use crate::fault::ReplayFault;
 use crate::laws::runs_agree_with_replays;
-use crate::run::settings;
 use crate::unused::unused_record;
 use call_machine::Stop;
 use host_doors::LogDoors;
@@ -110,7 +109,7 @@ fn run_by<A: Actor + Send + Drop, R: Threads + Wait + Sync>(
     ensures memory { IfErr result (λ n. n.fault ≡ replay_fault.Memory) }
 {
     let Supplied { log, doors, sink } = supplied;
-    match record_actors(rt, alloc, actors, doors, sink, settings(log.header)) {
+    match record_actors(rt, alloc, actors, doors, sink, log.header.settings()) {
         Ok(ended) => Ok(told(&log, ended)),
         // A log has the settings of a run, and there are doors for each thread, so what was refused wanted memory.
         Err(refused) => Err(NotReplayed {

@@ -2,6 +2,8 @@
 #![tactic(auto)]
 
 #[cfg(test)]
+mod dice;
+#[cfg(test)]
 mod driven;
 #[cfg(test)]
 mod lock_machines;
@@ -21,3 +23,5 @@ mod refused_memory;
 mod replays;
 #[cfg(test)]
 mod seen;
+#[cfg(test)]
+mod slow_table;

@@ -1,34 +1,22 @@
+use crate::driven::{CREATE, SETTINGS, open};
 use lock_machine::{Attempt, LockMachine, Refused};
-use posix_terms::{Access, Bytes, Call, OpenFlags, Settings, Step};
+use posix_terms::{Access, Step};
 use std::alloc::{AllocError, Global};
 use std::test::Fail;
 
-const SETTINGS: Settings = Settings {
-    patience: 1000,
-    door_cost: 100,
-};
-
-const CREATE: OpenFlags = OpenFlags {
-    create: true,
-    exclusive: false,
-    truncate: false,
-    append: false,
-    nonblock: false,
-};
-
-// An event, of the thread with this number.
+// An event of a thread.
 #[derive(Clone, Copy)]
 enum Event {
     // a call of open
-    AskOpen(usize),
-    AskWork(usize, u64),
-    AskEnd(usize),
-    End(usize),
-    TryTable(usize),
-    TryNode(usize),
-    Answer(usize),
-    BeginOutside(usize),
-    Again(usize),
+    AskOpen,
+    AskWork(u64),
+    AskEnd,
+    End,
+    TryTable,
+    TryNode,
+    Answer,
+    BeginOutside,
+    Again,
 }
 
 // What came of an event.
@@ -65,51 +53,44 @@ fn refusal(refused: Refused) -> Result<Came, AllocError> {
     }
 }
 
-fn open(alloc: Global) -> Result<Step, AllocError> {
-    Ok(Step::Call(Call::Open {
-        path: Bytes::from_slice(alloc, b"/a")?,
-        access: Access::ReadWrite,
-        flags: CREATE,
-    }))
-}
-
-fn thread(event: Event) -> usize {
-    match event {
-        Event::AskOpen(i) => i,
-        Event::AskWork(i, _) => i,
-        Event::AskEnd(i) => i,
-        Event::End(i) => i,
-        Event::TryTable(i) => i,
-        Event::TryNode(i) => i,
-        Event::Answer(i) => i,
-        Event::BeginOutside(i) => i,
-        Event::Again(i) => i,
+fn ask_open(alloc: Global, machine: &mut LockMachine, i: usize) -> Result<Came, AllocError> {
+    if i >= machine.len() {
+        return Ok(Came::NoThread);
     }
+    made(machine.ask(i, open(alloc, b"/a", Access::ReadWrite, CREATE)?))
 }
 
-fn make(alloc: Global, machine: &mut LockMachine, event: Event) -> Result<Came, AllocError> {
-    let i = thread(event);
+// Thread i makes this event.
+fn make(
+    alloc: Global,
+    machine: &mut LockMachine,
+    i: usize,
+    event: Event,
+) -> Result<Came, AllocError> {
     if i >= machine.len() {
         return Ok(Came::NoThread);
     }
     match event {
-        Event::AskOpen(_) => made(machine.ask(i, open(alloc)?)),
-        Event::AskWork(_, amount) => made(machine.ask(i, Step::Work(amount))),
-        Event::AskEnd(_) => made(machine.ask(i, Step::End)),
-        Event::End(_) => made(machine.end(i)),
-        Event::TryTable(_) => tried(machine.try_table(i)),
-        Event::TryNode(_) => tried(machine.try_node(i)),
-        Event::Answer(_) => made(machine.answer(i)),
-        Event::BeginOutside(_) => made(machine.begin_outside(i)),
-        Event::Again(_) => made(machine.again(i)),
+        Event::AskOpen => ask_open(alloc, machine, i),
+        Event::AskWork(amount) => made(machine.ask(i, Step::Work(amount))),
+        Event::AskEnd => made(machine.ask(i, Step::End)),
+        Event::End => made(machine.end(i)),
+        Event::TryTable => tried(machine.try_table(i)),
+        Event::TryNode => tried(machine.try_node(i)),
+        Event::Answer => made(machine.answer(i)),
+        Event::BeginOutside => made(machine.begin_outside(i)),
+        Event::Again => made(machine.again(i)),
     }
 }
 
+// Which thread makes an event, and what comes of it.
+type EventRow = (usize, Event, Came);
+
 // The number of the first of these events of two threads of which something else comes, and what comes.
-fn first_other(alloc: Global, rows: &[(Event, Came)]) -> Result<Option<(usize, Came)>, AllocError> {
+fn first_other(alloc: Global, rows: &[EventRow]) -> Result<Option<(usize, Came)>, AllocError> {
     let mut machine = LockMachine::new(alloc, 2, SETTINGS)?;
-    for (number, (event, wanted)) in rows.iter().enumerate() {
-        let came = make(alloc, &mut machine, *event)?;
+    for (number, (thread, event, wanted)) in rows.iter().enumerate() {
+        let came = make(alloc, &mut machine, *thread, *event)?;
         if came != *wanted {
             return Ok(Some((number, came)));
         }
@@ -117,23 +98,23 @@ fn first_other(alloc: Global, rows: &[(Event, Came)]) -> Result<Option<(usize, C
     Ok(None)
 }
 
-const AT_OTHER_PHASES: &[(Event, Came)] = &[
-    (Event::Answer(0), Came::WrongPhase),
-    (Event::AskEnd(0), Came::WrongPhase),
-    (Event::BeginOutside(0), Came::WrongPhase),
-    (Event::Again(0), Came::WrongPhase),
-    (Event::AskOpen(0), Came::Made),
-    (Event::AskOpen(1), Came::Made),
-    (Event::AskOpen(1), Came::WrongPhase),
-    (Event::End(1), Came::WrongPhase),
-    (Event::TryTable(1), Came::WrongPhase),
-    (Event::TryNode(0), Came::WrongPhase),
-    (Event::TryTable(0), Came::Got),
-    (Event::TryTable(1), Came::Failed),
-    (Event::TryNode(0), Came::Got),
-    (Event::Answer(0), Came::Made),
-    (Event::End(0), Came::Made),
-    (Event::End(0), Came::WrongPhase),
+const AT_OTHER_PHASES: &[EventRow] = &[
+    (0, Event::Answer, Came::WrongPhase),
+    (0, Event::AskEnd, Came::WrongPhase),
+    (0, Event::BeginOutside, Came::WrongPhase),
+    (0, Event::Again, Came::WrongPhase),
+    (0, Event::AskOpen, Came::Made),
+    (1, Event::AskOpen, Came::Made),
+    (1, Event::AskOpen, Came::WrongPhase),
+    (1, Event::End, Came::WrongPhase),
+    (1, Event::TryTable, Came::WrongPhase),
+    (0, Event::TryNode, Came::WrongPhase),
+    (0, Event::TryTable, Came::Got),
+    (1, Event::TryTable, Came::Failed),
+    (0, Event::TryNode, Came::Got),
+    (0, Event::Answer, Came::Made),
+    (0, Event::End, Came::Made),
+    (0, Event::End, Came::WrongPhase),
 ];
 
 #[test]
@@ -146,12 +127,12 @@ fn refuses_events_at_other_phases(rt: HostRuntime) -> Result<(), Fail> {
     Ok(())
 }
 
-const PAST_THE_LIMIT: &[(Event, Came)] = &[
-    (Event::AskWork(0, 1 << 62), Came::ClockFull),
-    (Event::AskWork(0, (1 << 62) - 1), Came::Made),
-    (Event::AskOpen(0), Came::Made),
-    (Event::End(1), Came::Made),
-    (Event::TryTable(0), Came::ClockFull),
+const PAST_THE_LIMIT: &[EventRow] = &[
+    (0, Event::AskWork(1 << 62), Came::ClockFull),
+    (0, Event::AskWork((1 << 62) - 1), Came::Made),
+    (0, Event::AskOpen, Came::Made),
+    (1, Event::End, Came::Made),
+    (0, Event::TryTable, Came::ClockFull),
 ];
 
 #[test]

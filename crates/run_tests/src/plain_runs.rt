@@ -3,6 +3,17 @@ use posix_terms::{Bytes, Errno, Given, OutKind, Outcome, Outcomes, Settings};
 use std::alloc::{AllocError, Global};
 use thread_scripts::{Script, ScriptFault, parse};
 
+// An open of a host file, a write of which three bytes are taken, and one that fails.
+pub(crate) const SHORT_TEXT: &str =
+    "host_open out w create\nwrite 0 x0001020304050607\nwrite 0 x0304";
+
+// The log of its run: a header, three records and the end.
+pub(crate) const SHORT_WRITE_LOG: &[u8] = b"DIOL\0\x01\0\x01\0\0\x03\xe8\0\0\0\x64\
+    R\0\0\0\0\0\0\x01\0\0\0\0\0\0\0\0\0\0\0\
+    R\0\0\0\0\0\x01\x03\0\0\0\0\0\0\0\0\x03\0\0\
+    R\0\0\0\0\0\x02\x03\x09\0\0\0\0\0\0\0\0\0\0\
+    E\0\0\0\x03";
+
 // Why there is no plain run of some texts.
 #[derive(Clone, Copy, Debug, PartialEq, Eq)]
 pub(crate) enum NotRun {
@@ -20,6 +31,12 @@ impl From<ScriptFault> for NotRun {
 impl From<PlainFault> for NotRun {
     fn from(fault: PlainFault) -> NotRun {
         NotRun::Plain(fault)
+    }
+}
+
+impl From<AllocError> for NotRun {
+    fn from(_error: AllocError) -> NotRun {
+        NotRun::Plain(PlainFault::Memory)
     }
 }
 
@@ -59,6 +76,15 @@ pub(crate) fn scripts(alloc: Global, texts: &[&str]) -> Result<Vec<Script>, Scri
     let mut scripts = Vec::new(alloc);
     for text in texts {
         scripts.push(parse(alloc, text.as_bytes())?)?;
+    }
+    Ok(scripts)
+}
+
+// The same of texts that were made.
+pub(crate) fn parsed(alloc: Global, texts: &[Vec<u8>]) -> Result<Vec<Script>, ScriptFault> {
+    let mut scripts = Vec::new(alloc);
+    for text in texts {
+        scripts.push(parse(alloc, text.as_slice())?)?;
     }
     Ok(scripts)
 }

@@ -1,7 +1,9 @@
 ghost use Rattle.std.specs.Prelude.{◌<◌, length};
 
+use crate::dice::Dice;
 use crate::driven::{Driven, machine};
-use crate::random_scripts::{Dice, made_up, script_texts};
+use crate::plain_runs::parsed;
+use crate::random_scripts::{made_up, script_texts};
 use call_machine::{Finished, Plain, PlainFault, Refused, plain_run};
 use input_log::MemorySink;
 use lock_machine::{Attempt, Phase};
@@ -316,14 +318,6 @@ fn all_saw(transcripts: &[Transcript], threads: usize, rows: &[HistoryRow]) -> b
 
 // ## A run
 
-fn scripts(alloc: Global, texts: &[Vec<u8>]) -> Result<Vec<Script>, ScriptFault> {
-    let mut scripts = Vec::new(alloc);
-    for text in texts {
-        scripts.push(parse(alloc, text.as_slice())?)?;
-    }
-    Ok(scripts)
-}
-
 fn players(alloc: Global, texts: &[Vec<u8>], dice: &mut Dice) -> Result<Vec<Player>, ScriptFault> {
     let mut players = Vec::new(alloc);
     for text in texts {
@@ -423,7 +417,7 @@ impl Run {
 
     // The plain run of the same scripts, for which the same comes.
     fn plain(&mut self, alloc: Global) -> Result<Plain, Fault> {
-        let scripts = scripts(alloc, self.texts.as_slice())?;
+        let scripts = parsed(alloc, self.texts.as_slice())?;
         Ok(plain_run(alloc, scripts, self.outcomes(alloc)?, SETTINGS)?)
     }
 
@@ -455,7 +449,7 @@ fn is_replayed(
     texts: &[Vec<u8>],
     left: &Finished<MemorySink>,
 ) -> Result<bool, Fault> {
-    let scripts = scripts(alloc, texts)?;
+    let scripts = parsed(alloc, texts)?;
     let rows = left.history.rows.as_slice();
     match replay(alloc, left.sink.bytes(), scripts) {
         Ok(replayed) => Ok(

@@ -1,35 +1,6 @@
+use crate::dice::{Dice, Operands};
 use posix_terms::{Bytes, Errno, OutKind, Outcome, Request};
 use std::alloc::{AllocError, Global};
-
-// Numbers that look like chance and are the same for the same seed.
-#[derive(Clone, Copy)]
-pub struct Dice {
-    state: u64,
-}
-
-impl Dice {
-    pub(crate) fn new(seed: u64) -> Dice {
-        Dice { state: seed }
-    }
-
-    // The next number: the state goes up by the same each time, and its bits are mixed.
-    pub(crate) fn roll(&mut self) -> u64 {
-        self.state = self.state.wrapping_add(0x9e37_79b9_7f4a_7c15);
-        let mixed = (self.state ^ (self.state >> 30)).wrapping_mul(0xbf58_476d_1ce4_e5b9);
-        let mixed = (mixed ^ (mixed >> 27)).wrapping_mul(0x94d0_49bb_1331_11eb);
-        mixed ^ (mixed >> 31)
-    }
-
-    // A number below another; 0 below 0.
-    pub(crate) fn below(&mut self, end: u64) -> u64 {
-        self.roll().checked_rem(end).unwrap_or(0)
-    }
-
-    fn pick(&mut self, words: &[&'static str]) -> &'static str {
-        let place = self.below(words.len() as u64);
-        words.get(place as usize).copied().unwrap_or("")
-    }
-}
 
 // ## Scripts
 
@@ -90,8 +61,7 @@ const LINES: &[&str] = &[
     "tcp_accept F",
 ];
 
-// The words that a letter stands for: few, so that calls hit what other calls made.
-const OPERANDS: &[(u8, &[&str])] = &[
+const OPERANDS: Operands = &[
     (b'P', &["/a", "/a", "/b", "/d", "/d/x"]),
     (
         b'A',
@@ -107,38 +77,12 @@ const OPERANDS: &[(u8, &[&str])] = &[
     (b'K', &["1", "5", "12", "40"]),
 ];
 
-// None for a letter that stands for nothing.
-fn operands(letter: u8) -> &'static [&'static str] {
-    for (name, words) in OPERANDS {
-        if *name == letter {
-            return words;
-        }
-    }
-    &[]
-}
-
-// Adds one of these lines, with operands by chance.
-fn add_line(text: &mut Vec<u8>, dice: &mut Dice, lines: &[&'static str]) -> Result<(), AllocError> {
-    for letter in dice.pick(lines).as_bytes() {
-        if letter.is_ascii_uppercase() {
-            text.extend_from_slice(dice.pick(operands(*letter)).as_bytes())?;
-        } else {
-            text.push(*letter)?;
-        }
-    }
-    text.push(b'\n')?;
-    Ok(())
-}
-
 // A script of 4 to 10 lines.
 fn script_text(alloc: Global, dice: &mut Dice) -> Result<Vec<u8>, AllocError> {
     let mut text = Vec::new(alloc);
-    for _ in 0..2 {
-        add_line(&mut text, dice, FIRST_LINES)?;
-    }
-    for _ in 0..dice.below(7).saturating_add(2) {
-        add_line(&mut text, dice, LINES)?;
-    }
+    dice.add_lines(&mut text, 2, FIRST_LINES, OPERANDS)?;
+    let count = dice.below(7).saturating_add(2);
+    dice.add_lines(&mut text, count, LINES, OPERANDS)?;
     Ok(text)
 }
 
@@ -181,7 +125,7 @@ pub(crate) fn made_up(
     let mut bytes = Vec::new(alloc);
     if request.kind == OutKind::Read {
         for _ in 0..value {
-            bytes.push((dice.roll() >> 56) as u8)?;
+            bytes.push((dice.roll() % 256) as u8)?;
         }
     }
     Ok(Outcome::Ok {

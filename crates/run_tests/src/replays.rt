@@ -1,4 +1,4 @@
-use crate::plain_runs::{Came, NotRun, plain, scripts};
+use crate::plain_runs::{Came, NotRun, SHORT_TEXT, SHORT_WRITE_LOG, plain, scripts};
 use crate::seen::{Seen, is_reply};
 use call_machine::{History, Plain, Stop};
 use input_log::LogFault;
@@ -7,15 +7,6 @@ use replayer::{ReplayFault, replay};
 use std::alloc::Global;
 use std::process::Abort;
 use thread_scripts::ScriptFault;
-
-// The log of an open, a short write and a write that failed.
-const SHORT_WRITE_LOG: &[u8] = b"DIOL\0\x01\0\x01\0\0\x03\xe8\0\0\0\x64\
-    R\0\0\0\0\0\0\x01\0\0\0\0\0\0\0\0\0\0\0\
-    R\0\0\0\0\0\x01\x03\0\0\0\0\0\0\0\0\x03\0\0\
-    R\0\0\0\0\0\x02\x03\x09\0\0\0\0\0\0\0\0\0\0\
-    E\0\0\0\x03";
-
-const SHORT_TEXT: &str = "host_open out w create\nwrite 0 x0001020304050607\nwrite 0 x0304";
 
 const SHORT_WRITE: &[&str] = &[SHORT_TEXT];
 

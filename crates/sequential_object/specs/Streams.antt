@@ -29,11 +29,16 @@ pub data Writing : Type 0 where
   Breaks : Writing
   NoRoom : Writing
 
--- the bytes go behind those that wait, all of them or none
-abbrev pub stream_write : List ℕ → List ℕ → Bool → Writing
-stream_write waiting bytes readers =
+-- the bytes go behind those that wait, all of them or none; no more than so many wait
+abbrev pub stream_write : ℕ → List ℕ → List ℕ → Bool → Writing
+stream_write most waiting bytes readers =
     if not readers then Breaks else
-    if nat_le (length waiting + length bytes) limit.PIPE_BYTES then Writes (waiting ++ bytes) else NoRoom
+    if nat_le (length waiting + length bytes) most then Writes (waiting ++ bytes) else NoRoom
+
+-- ## A pipe
+
+abbrev pub pipe_write : List ℕ → List ℕ → Bool → Writing
+pipe_write waiting bytes readers = stream_write limit.PIPE_BYTES waiting bytes readers
 
 -- ## A pair of sockets
 
@@ -75,7 +80,7 @@ pair_read p side count peer_open =
 abbrev pub pair_write : PairState → Side → List ℕ → Bool → Writing
 pair_write p side bytes peer_open =
     let peer = half_at p (peer_of side) in
-    stream_write peer.waiting bytes (peer_open && (not (half_at p side).writing_shut && not peer.reading_shut))
+    stream_write limit.PAIR_BYTES peer.waiting bytes (peer_open && (not (half_at p side).writing_shut && not peer.reading_shut))
 
 -- the bytes that wait where reading is shut are dropped
 abbrev pub half_shut : Half → ShutdownHow → Half

@@ -10,7 +10,7 @@ use Rattle.posix_terms.specs.Ends.{side_of, peer_of}
 use Rattle.sequential_object.specs.Files.{bytes_at, resized, written}
 use Rattle.sequential_object.specs.Object.{State, Description, Content, File, Pipe, Pair, DoorTo, content_of, with_content}
 use Rattle.sequential_object.specs.Refusals.{◌>>=◌, refuse_if, count_of, position_of}
-use Rattle.sequential_object.specs.Streams.{Reading, Reads, Ends, NothingYet, Writing, Writes, Breaks, NoRoom, pair_read, pair_write, stream_read, stream_write, with_waiting}
+use Rattle.sequential_object.specs.Streams.{Reading, Reads, Ends, NothingYet, Writing, Writes, Breaks, NoRoom, pair_read, pair_write, pipe_write, stream_read, with_waiting}
 use Rattle.posix_terms.specs.declared.call.Whence.{Whence}
 use Rattle.posix_terms.specs.declared.call.Whence.TheVariants as whence
 use Rattle.posix_terms.specs.declared.errno.Errno.{Errno}
@@ -88,7 +88,7 @@ abbrev pub write_content : State → ℕ → Description → List ℕ → Conten
 write_content s key d bytes (File file) = do
   w ← written file (start_of d file) bytes
   Ok (Completes (with_content (with_offset s key d (start_of d file + w.1)) d.object (File w.0)) (reply.Count w.1))
-write_content s key d bytes (Pipe waiting) = write_done s d (length bytes) Pipe (stream_write waiting bytes (has_end s d.object part.Read))
+write_content s key d bytes (Pipe waiting) = write_done s d (length bytes) Pipe (pipe_write waiting bytes (has_end s d.object part.Read))
 write_content s key d bytes (Pair p) =
     let side = side_of d.«end» in
     write_done s d (length bytes) (λ left. Pair (with_waiting p (peer_of side) left)) (pair_write p side bytes (has_peer s d.object side))

@@ -1,17 +1,18 @@
 ghost use Rattle.std.specs.Prelude.{◌≡◌, ◌&&◌, not, length, IfOk, if◌then◌else◌};
+ghost use Rattle.posix_terms.specs.declared.limits.TheConstants.Limits as limit;
 ghost use Rattle.sequential_object.specs.Streams.{Reading, Ends, half_shut, new_half, stream_read, stream_write};
 ghost use Rattle.pipes.specs.Pipe.{left_by_read, left_by_write, read_answer, write_answer};
 ghost use Rattle.stream_sockets.specs.Pair.{read_into};
 
-use pipes::{PipeAnswer, PipeBody};
-use posix_terms::ShutdownHow;
+use pipes::{PipeAnswer, StreamBody};
+use posix_terms::{Limits, ShutdownHow};
 use std::alloc::{AllocError, Global};
 use std::marker::Model;
 
 // One socket: the bytes that wait for it, and what is shut there.
 #[derive(Drop)]
 pub struct HalfBody {
-    waiting: PipeBody,
+    waiting: StreamBody<{ Limits::PAIR_BYTES }>,
     reading_shut: bool,
     writing_shut: bool,
 }
@@ -30,7 +31,7 @@ impl HalfBody {
         ensures { IfOk result (λ half. half ≡ new_half) }
     {
         Ok(HalfBody {
-            waiting: PipeBody::new(alloc)?,
+            waiting: StreamBody::new(alloc)?,
             reading_shut: false,
             writing_shut: false,
         })
@@ -57,8 +58,8 @@ impl HalfBody {
 
     // Takes all of the bytes behind those that wait, where they fit. `reaches` says whether the peer can write.
     pub fn put(&mut self, bytes: &[u8], reaches: bool) -> PipeAnswer
-        ensures answer { result ≡ write_answer (length bytes.now) (stream_write self.old.waiting bytes.now (reaches && not self.old.reading_shut)) }
-        ensures left { self.new ≡ record self.old { waiting = left_by_write self.old.waiting (stream_write self.old.waiting bytes.now (reaches && not self.old.reading_shut)) } }
+        ensures answer { result ≡ write_answer (length bytes.now) (stream_write limit.PAIR_BYTES self.old.waiting bytes.now (reaches && not self.old.reading_shut)) }
+        ensures left { self.new ≡ record self.old { waiting = left_by_write self.old.waiting (stream_write limit.PAIR_BYTES self.old.waiting bytes.now (reaches && not self.old.reading_shut)) } }
     {
         self.waiting.put(bytes, reaches && !self.reading_shut)
     }

@@ -1,7 +1,7 @@
 //! The bytes of a pair of connected stream sockets in memory, for the store of objects.
 //!
 //! A [`PairBody`] holds what waits in both directions, and what is shut at each side. It takes the
-//! room for all its bytes, `Limits::PIPE_BYTES` each way, when it is made, and no later call takes
+//! room for all its bytes, `Limits::PAIR_BYTES` each way, when it is made, and no later call takes
 //! memory. `put` and `take` are handed the side and whether its peer is open, and answer as those
 //! of a pipe do, with a `pipes::PipeAnswer`. `shutdown` shuts reading, writing or both at a side;
 //! the bytes that wait where reading is shut are dropped. Contracts see both sides.

@@ -9,7 +9,7 @@ use posix_terms::{ShutdownHow, Side};
 use std::alloc::{AllocError, Global};
 use std::marker::Model;
 
-/// The bytes that wait in both directions of a socket pair, each at most `Limits::PIPE_BYTES`, all of
+/// The bytes that wait in both directions of a socket pair, each at most `Limits::PAIR_BYTES`, all of
 /// whose room is taken when it is made, and what is shut at each side. Contracts see both sides.
 #[derive(Drop)]
 pub struct PairBody {

@@ -11,7 +11,7 @@ pub run-requires : goal.run-requires
 run-requires c =
     let input : Inputs = record { scripts = c.args.scripts.items; outcomes = c.args.outcomes.items; settings = c.args.settings } in
     let count : c.len-3.result ≡ length c.args.scripts.items = search rules in
-    (input, begins_of c.laws.ensures.starts input c.len-3.result (played_of c.in_ok-driver.driver) count c.in_ok-driver.ensures)
+    (input, begins_of c.laws.ensures.starts input c.len-3.result c.new-header.result (played_of c.in_ok-driver.driver) count c.new-header.ensures c.in_ok-driver.ensures)
 
 pub returns-clause-run : goal.returns-clause-run
 returns-clause-run c =
@@ -19,7 +19,7 @@ returns-clause-run c =
     let p = played_of c.run.new.self in
     let diverged = c.in_ok-diverged.diverged in
     let count : c.len-3.result ≡ length c.args.scripts.items = search rules in
-    let e : Ends input diverged p = c.in_ok-diverged.ensures input (begins_of c.laws.ensures.starts input c.len-3.result (played_of c.in_ok-driver.driver) count c.in_ok-driver.ensures) in
+    let e : Ends input diverged p = c.in_ok-diverged.ensures input (begins_of c.laws.ensures.starts input c.len-3.result c.new-header.result (played_of c.in_ok-driver.driver) count c.new-header.ensures c.in_ok-driver.ensures) in
     let plain = c.in_ok-finish.field-0 in
     let threads : are_threads input ≡ true = search rules in
     let settings : are_settings input.settings ≡ true = search rules in
@@ -31,7 +31,7 @@ returns-clause-legal c =
     let p = played_of c.run.new.self in
     let diverged = c.in_ok-diverged.diverged in
     let count : c.len-3.result ≡ length c.args.scripts.items = search rules in
-    let e : Ends input diverged p = c.in_ok-diverged.ensures input (begins_of c.laws.ensures.starts input c.len-3.result (played_of c.in_ok-driver.driver) count c.in_ok-driver.ensures) in
+    let e : Ends input diverged p = c.in_ok-diverged.ensures input (begins_of c.laws.ensures.starts input c.len-3.result c.new-header.result (played_of c.in_ok-driver.driver) count c.new-header.ensures c.in_ok-driver.ensures) in
     plain_legal c.laws.ensures.clocks c.laws.ensures.legal input diverged p c.in_ok-finish.field-0 e c.in_ok-finish.ensures
 
 pub returns-clause-rising : goal.returns-clause-rising
@@ -40,7 +40,7 @@ returns-clause-rising c =
     let p = played_of c.run.new.self in
     let diverged = c.in_ok-diverged.diverged in
     let count : c.len-3.result ≡ length c.args.scripts.items = search rules in
-    let e : Ends input diverged p = c.in_ok-diverged.ensures input (begins_of c.laws.ensures.starts input c.len-3.result (played_of c.in_ok-driver.driver) count c.in_ok-driver.ensures) in
+    let e : Ends input diverged p = c.in_ok-diverged.ensures input (begins_of c.laws.ensures.starts input c.len-3.result c.new-header.result (played_of c.in_ok-driver.driver) count c.new-header.ensures c.in_ok-driver.ensures) in
     plain_rising c.laws.ensures.clocks c.laws.ensures.rising input diverged p c.in_ok-finish.field-0 e c.in_ok-finish.ensures
 
 pub returns-clause-covered : goal.returns-clause-covered
@@ -49,7 +49,7 @@ returns-clause-covered c =
     let p = played_of c.run.new.self in
     let diverged = c.in_ok-diverged.diverged in
     let count : c.len-3.result ≡ length c.args.scripts.items = search rules in
-    let e : Ends input diverged p = c.in_ok-diverged.ensures input (begins_of c.laws.ensures.starts input c.len-3.result (played_of c.in_ok-driver.driver) count c.in_ok-driver.ensures) in
+    let e : Ends input diverged p = c.in_ok-diverged.ensures input (begins_of c.laws.ensures.starts input c.len-3.result c.new-header.result (played_of c.in_ok-driver.driver) count c.new-header.ensures c.in_ok-driver.ensures) in
     let threads : are_threads input ≡ true = search rules in
     let settings : are_settings input.settings ≡ true = search rules in
     plain_covered c.laws.ensures.clocks c.laws.ensures.came c.laws.ensures.spelled c.laws.ensures.rows input diverged p c.in_ok-finish.field-0 e c.in_ok-finish.ensures threads settings

@@ -72,8 +72,10 @@ returns-clause-event c =
     subst (λ (gs : List Given). slice_get gs c.came-number.result ≡ Some g) c.as_slice.ensures (got_at c.as_slice.result.now c.came-number.result g c.in-Some-get.ensures.lookup.0 c.in-Some-get.ensures.lookup.1) in
     let next = given_in d i c.came-number.result c.in-Some.outcomes.now (Some g) c.came-number.ensures there own got in
     let out = outside_phase (phase_at d.machine i) c.requires.outside in
-    let copy : Given = record { kind = g.kind; outcome = c.in_ok-try_clone.field-0 } in
-    let same : copy ≡ g = λ k. record { kind = g.kind; outcome = c.in_ok-try_clone.ensures k } in
+    let copy : Given = c.into_given.result in
+    let cloned : Given = record { kind = g.kind; outcome = c.in_ok-try_clone.field-0 } in
+    let same_clone : cloned ≡ g = λ k. record { kind = g.kind; outcome = c.in_ok-try_clone.ensures k } in
+    let same : copy ≡ g = c.into_given.ensures ∙ same_clone in
     let moves : outlook d.machine i g ≡ progress.Moves = sym c.outlook.ensures.value ∙ c.in-Moves.is in
     let taken : c.record.result ≡ Ok progress.Moves = c.record.ensures.value ∙ ap₂ recorded_as c.requires.outside (ap (outlook d.machine i) same ∙ moves) in
     let event : RecordsGiven progress.Moves i copy p.whole w = came_taken (is_outside (phase_at p.whole i)) c.record.result progress.Moves p.whole w (λ y. RecordsGiven (unwrap_or y progress.Stays) i copy p.whole w) taken c.record.ensures.event in

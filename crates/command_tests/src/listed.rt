@@ -1,0 +1,87 @@
+ghost use Rattle.std.specs.Prelude.{◌≡◌, All, IfOk, length};
+ghost use Rattle.recorder.specs.Each.{IsUnused};
+
+use crate::devices::sources;
+use crate::logs::{SHORT_WRITE, THREE_RECORDS};
+use crate::recording::{LogFile, file_has, record, replayed};
+use commands::DEFAULTS;
+use host_doors::{NoGate, ScriptDoors};
+use posix_terms::{Bytes, Errno, Given, OutKind, Outcome, Outcomes};
+use std::alloc::{AllocError, Global};
+use std::fs::remove_file;
+use std::io;
+use std::sync::Wait;
+use std::test::Fail;
+use std::thread::Threads;
+
+const SCRIPTS: &[&str] = &[SHORT_WRITE];
+
+pub(crate) fn success(alloc: Global, kind: OutKind, value: u64) -> Given {
+    let bytes = Bytes::from_vec(Vec::new(alloc));
+    Given {
+        kind,
+        outcome: Outcome::Ok { value, bytes },
+    }
+}
+
+// The outcomes of the short write.
+fn short_write(alloc: Global) -> Result<Outcomes, AllocError> {
+    let mut list = Vec::new(alloc);
+    list.push(success(alloc, OutKind::Open, 0))?;
+    list.push(success(alloc, OutKind::Write, 3))?;
+    list.push(Given {
+        kind: OutKind::Write,
+        outcome: Outcome::Fail(Errno::EIO),
+    })?;
+    Ok(Outcomes::from_vec(list))
+}
+
+// One outside, which has these outcomes.
+fn outside(alloc: Global, list: Outcomes) -> Result<Vec<ScriptDoors<NoGate>>, AllocError>
+    ensures one { IfOk result (λ o. length o.items ≡ 1) }
+    ensures unused { IfOk result (λ o. All (IsUnused (λ d. d.counts.given) (λ d. d.counts.failures)) o.items) }
+{
+    let mut outsides = Vec::new(alloc);
+    outsides.push(ScriptDoors::new(list, NoGate))?;
+    Ok(outsides)
+}
+
+// Whether `record` tells this of the short write.
+fn is_recorded(
+    rt: &(impl Threads + Wait + Sync),
+    log: LogFile<'_>,
+    status: u8,
+    printed: &str,
+) -> io::Result<bool> {
+    let alloc = log.host.alloc();
+    let sources = sources(alloc, SCRIPTS)?;
+    let outsides = outside(alloc, short_write(alloc)?)?;
+    Ok(record(rt, DEFAULTS, log, outsides, sources)?.is(status, printed, ""))
+}
+
+#[test]
+fn short_write_is_recorded(rt: HostRuntime) -> Result<(), Fail> {
+    let log = LogFile::at(rt, "/tmp/detio_record_short_write");
+    let printed = "0 0 1 host_open number 0\n0 1 105 write count 3\n0 2 209 write fail EIO\nend\n";
+    assert!(rt; is_recorded(&rt, log, 0, printed)?);
+    assert!(rt; file_has(rt, log.path, THREE_RECORDS)?);
+    remove_file(&rt, log.path)?;
+    Ok(())
+}
+
+// Of the second record 7 bytes are taken: its call has no reply, and a replay goes as far as the first.
+#[test]
+fn room_of_the_log_runs_out(rt: HostRuntime) -> Result<(), Fail> {
+    let log = LogFile {
+        host: rt,
+        path: "/tmp/detio_record_full_log",
+        room: 42,
+    };
+    let printed = "0 0 1 host_open number 0\nstop sink\n";
+    assert!(rt; is_recorded(&rt, log, 4, printed)?);
+    assert!(rt; file_has(rt, log.path, THREE_RECORDS.split_at(42).0)?);
+    let printed = "0 0 1 host_open number 0\nstop end of log 0\n";
+    assert!(rt; replayed(rt, log.path, SCRIPTS)?.is(1, printed, ""));
+    remove_file(&rt, log.path)?;
+    Ok(())
+}

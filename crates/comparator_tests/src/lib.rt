@@ -1,5 +1,0 @@
-//! The tests of `comparator`.
-#![tactic(auto)]
-
-#[cfg(test)]
-mod comparisons;

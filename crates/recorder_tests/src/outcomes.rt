@@ -1,0 +1,71 @@
+ghost use Rattle.std.specs.Prelude.{◌≡◌, All, IfOk};
+
+use host_doors::{NoGate, ScriptDoors};
+use posix_terms::{Bytes, Errno, Given, OutKind, Outcome, Outcomes};
+use std::alloc::{AllocError, Global};
+
+// An outcome from outside, in short.
+#[derive(Clone, Copy)]
+pub(crate) enum Came {
+    Ok(OutKind, u64, &'static [u8]),
+    Fail(OutKind, Errno),
+}
+
+fn given(alloc: Global, came: Came) -> Result<Given, AllocError> {
+    Ok(match came {
+        Came::Ok(kind, value, data) => Given {
+            kind,
+            outcome: Outcome::Ok {
+                value,
+                bytes: Bytes::from_slice(alloc, data)?,
+            },
+        },
+        Came::Fail(kind, error) => Given {
+            kind,
+            outcome: Outcome::Fail(error),
+        },
+    })
+}
+
+// Adds what came to a thread's outcomes.
+pub(crate) fn add(list: &mut Vec<Given>, alloc: Global, came: &[Came]) -> Result<(), AllocError> {
+    for one in came {
+        list.push(given(alloc, *one)?)?;
+    }
+    Ok(())
+}
+
+fn outcomes_of(alloc: Global, came: Option<&&[Came]>) -> Result<Outcomes, AllocError> {
+    let mut list = Vec::new(alloc);
+    if let Some(came) = came {
+        add(&mut list, alloc, came)?;
+    }
+    Ok(Outcomes::from_vec(list))
+}
+
+// The outcomes of each thread: none where there is no list for it.
+pub(crate) fn outcomes(
+    alloc: Global,
+    threads: usize,
+    came: &[&[Came]],
+) -> Result<Vec<Outcomes>, AllocError> {
+    let mut outcomes = Vec::new(alloc);
+    for thread in 0..threads {
+        outcomes.push(outcomes_of(alloc, came.get(thread))?)?;
+    }
+    Ok(outcomes)
+}
+
+// Outsides that have these outcomes.
+pub(crate) fn doors(
+    alloc: Global,
+    outcomes: Vec<Outcomes>,
+) -> Result<Vec<ScriptDoors<NoGate>>, AllocError>
+    ensures { IfOk result (λ doors. All (λ d. (d.counts.given ≡ 0) × (d.counts.failures ≡ 0)) doors.items) }
+{
+    let mut doors = Vec::new(alloc);
+    for list in outcomes {
+        doors.push(ScriptDoors::new(list, NoGate))?;
+    }
+    Ok(doors)
+}
