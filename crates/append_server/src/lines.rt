@@ -1,10 +1,7 @@
 ghost use Rattle.std.specs.Prelude.{◌<◌};
 
-use posix_terms::{Access, Bytes, OpenFlags, ShutdownHow};
-use thread_scripts::{
-    CallLine, Data, DescriptorLine, DoorLine, Line, Number, NumberRegister, Register, StatusLine,
-    StreamLine, TransferLine,
-};
+use posix_terms::{Access, Bytes, Call, OpenFlags, ShutdownHow};
+use thread_scripts::{Data, Line, Number, NumberRegister, Register};
 
 // The lines of this program, each under the name of its call. A descriptor is a number that the script knows, or a register that has it.
 
@@ -27,22 +24,22 @@ pub(crate) fn last_read() -> Data {
 }
 
 pub(crate) fn listen() -> Line {
-    Line::Call(CallLine::Door(DoorLine::Listen {
+    Line::Call(Call::TcpListen {
         port: Number::Value(0),
-    }))
+    })
 }
 
 pub(crate) fn accept(descriptor: Number) -> Line {
-    Line::Call(CallLine::Door(DoorLine::Accept { descriptor }))
+    Line::Call(Call::TcpAccept { descriptor })
 }
 
 pub(crate) fn connect(port: Number) -> Line {
-    Line::Call(CallLine::Door(DoorLine::Connect { port }))
+    Line::Call(Call::TcpConnect { port })
 }
 
 // Opens a host file to append to it, and makes it where it is not there.
 pub(crate) fn open_to_append(path: Bytes) -> Line {
-    Line::Call(CallLine::Door(DoorLine::HostOpen {
+    Line::Call(Call::HostOpen {
         path,
         access: Access::WriteOnly,
         flags: OpenFlags {
@@ -52,34 +49,34 @@ pub(crate) fn open_to_append(path: Bytes) -> Line {
             append: true,
             nonblock: false,
         },
-    }))
+    })
 }
 
 pub(crate) fn read(descriptor: Number, count: i64) -> Line {
-    Line::Call(CallLine::Transfer(TransferLine::Read {
+    Line::Call(Call::Read {
         descriptor,
         count: Number::Value(count),
-    }))
+    })
 }
 
 pub(crate) fn write(descriptor: Number, bytes: Data) -> Line {
-    Line::Call(CallLine::Transfer(TransferLine::Write { descriptor, bytes }))
+    Line::Call(Call::Write { descriptor, bytes })
 }
 
 pub(crate) fn fstat(descriptor: Number) -> Line {
-    Line::Call(CallLine::Status(StatusLine::Fstat { descriptor }))
+    Line::Call(Call::Fstat { descriptor })
 }
 
 // Says that no more will be written.
 pub(crate) fn end_of_writing(descriptor: Number) -> Line {
-    Line::Call(CallLine::Stream(StreamLine::Shutdown {
+    Line::Call(Call::Shutdown {
         descriptor,
         how: ShutdownHow::Write,
-    }))
+    })
 }
 
 pub(crate) fn close(descriptor: Number) -> Line {
-    Line::Call(CallLine::Descriptor(DescriptorLine::Close { descriptor }))
+    Line::Call(Call::Close { descriptor })
 }
 
 // Keeps what the last reply gave, which the script has in `r0`, in another register.

@@ -2,7 +2,7 @@
 use Rattle.std.proofs.Common.{◌≡◌, ◌⊎◌, ℕ, zero, suc, ◌+◌, ◌-◌, ◌*◌, ◌<◌, ◌≤◌, ◌^◌, List, [], ◌∷◌, length, get_or, Option, Bool, true, false, if◌then◌else◌, inl, inr, sym, refl, ap, ap₂, ◌∙◌, subst, arith}
 use Rattle.std.proofs.lemmas.Bool.{false≢true}
 use Rattle.std.specs.Prelude.{not, ◌||◌}
-use Rattle.posix_terms.specs.declared.call.Call.{Call}
+use Rattle.posix_terms.specs.Calls.{Call}
 use Rattle.posix_terms.specs.declared.reply.Reply.{Reply}
 use Rattle.thread_scripts.specs.Laws.{RunsEnd}
 use Rattle.thread_scripts.specs.Meaning.{lines_left, next_of}
@@ -51,13 +51,13 @@ weight_at u stuck lines = load u.clock (left_at u.phase stuck lines)
 
 left_shown : (terms : Conditions) (i : ℕ) (rows : List Row) (t : Thread) (u : lock.Thread) (p : Phase) (stuck : Bool) (lines : ℕ) → PhaseShows terms i rows t u p → left_in p stuck lines ≡ left_at u.phase stuck lines
 left_shown terms i rows t u phase.Working stuck lines h = sym (ap (λ (q : lock.Phase). left_at q stuck lines) h)
-left_shown terms i rows t u (phase.WantsTable call turns) stuck lines h = sym (ap (λ (q : lock.Phase). left_at q stuck lines) h)
-left_shown terms i rows t u (phase.WantsObject call turns clock object) stuck lines h = sym (ap (λ (q : lock.Phase). left_at q stuck lines) h.1.0)
+left_shown terms i rows t u (phase.WantsTable call carried) stuck lines h = sym (ap (λ (q : lock.Phase). left_at q stuck lines) h)
+left_shown terms i rows t u (phase.WantsObject call carried clock object) stuck lines h = sym (ap (λ (q : lock.Phase). left_at q stuck lines) h.1.0)
 left_shown terms i rows t u (phase.Granted place object ends) stuck lines h = sym (ap (λ (q : lock.Phase). left_at q stuck lines) h.1.0)
 left_shown terms i rows t u (phase.ToOutside outing) stuck lines h = sym (ap (λ (q : lock.Phase). left_at q stuck lines) h.1.0)
 left_shown terms i rows t u (phase.Outside outing) stuck lines h = sym (ap (λ (q : lock.Phase). left_at q stuck lines) h.1.0)
 left_shown terms i rows t u (phase.Recorded outing) stuck lines h = sym (ap (λ (q : lock.Phase). left_at q stuck lines) h.1.0)
-left_shown terms i rows t u (phase.Blocked turns) stuck lines h = sym (ap (λ (q : lock.Phase). left_at q stuck lines) h.1)
+left_shown terms i rows t u (phase.Blocked carried) stuck lines h = sym (ap (λ (q : lock.Phase). left_at q stuck lines) h.1)
 left_shown terms i rows t u phase.Ended stuck lines h = sym (ap (λ (q : lock.Phase). left_at q stuck lines) h)
 
 -- a thread weighs what the one weighs that it stands for

@@ -4,7 +4,7 @@ use Rattle.std.proofs.lemmas.Bool.{cases_eq, false≢true, true≢false}
 use Rattle.std.proofs.lemmas.List.{get_or-set_other, get_or-set_same, length-append, length-set, set-get_or}
 use Rattle.std.proofs.lemmas.Option.{same_Some}
 use Rattle.std.specs.Prelude.{slice_index_or}
-use Rattle.posix_terms.specs.declared.call.Call.{Call}
+use Rattle.posix_terms.specs.Calls.{Call}
 use Rattle.posix_terms.specs.declared.outcome.Given.{Given}
 use Rattle.posix_terms.specs.declared.reply.Answer as posix
 use Rattle.posix_terms.specs.declared.reply.Answer.TheVariants as answer
@@ -257,13 +257,13 @@ calling : (terms : Conditions) (i : ℕ) (rows : List Row) (t : Thread) (u : loc
 calling terms i rows t u phase.Working is h = absurd (false≢true is)
 calling terms i rows t u (phase.Outside outing) is h = absurd (false≢true is)
 calling terms i rows t u phase.Ended is h = absurd (false≢true is)
-calling terms i rows t u (phase.WantsTable call turns) is h = calling_by u.phase (WantsTable call turns) (phase.WantsTable call turns) h (record { inside = refl; quiet = refl; gives_is = refl })
-calling terms i rows t u (phase.WantsObject call turns clock object) is (way, h) =
-    calling_by u.phase (WantsObject call turns clock object way) (phase.WantsObject call turns clock object) h.0 (record { inside = refl; quiet = refl; gives_is = refl })
+calling terms i rows t u (phase.WantsTable call carried) is h = calling_by u.phase (WantsTable call carried) (phase.WantsTable call carried) h (record { inside = refl; quiet = refl; gives_is = refl })
+calling terms i rows t u (phase.WantsObject call carried clock object) is (way, h) =
+    calling_by u.phase (WantsObject call carried clock object way) (phase.WantsObject call carried clock object) h.0 (record { inside = refl; quiet = refl; gives_is = refl })
 calling terms i rows t u (phase.Granted row object ends) is (job, h) = calling_by u.phase (Granted job) (phase.Granted row object ends) h.0 (record { inside = refl; quiet = refl; gives_is = refl })
 calling terms i rows t u (phase.ToOutside outing) is (job, h) = calling_by u.phase (ToOutside job) (phase.ToOutside outing) h.0 (record { inside = refl; quiet = refl; gives_is = refl })
 calling terms i rows t u (phase.Recorded outing) is (job, h) = calling_by u.phase (Recorded job) (phase.Recorded outing) h.0 (record { inside = refl; quiet = refl; gives_is = refl })
-calling terms i rows t u (phase.Blocked turns) is (call, h) = calling_by u.phase (Blocked call turns) (phase.Blocked turns) h (record { inside = refl; quiet = refl; gives_is = refl })
+calling terms i rows t u (phase.Blocked carried) is (call, h) = calling_by u.phase (Blocked call carried) (phase.Blocked carried) h (record { inside = refl; quiet = refl; gives_is = refl })
 
 calling_at : (input : Inputs) (p : Played) (s : State) (i : ℕ) (q : Phase) → Shows (conditions_of input) p.whole s → (thread_at p.whole i).phase ≡ q → is_calling q ≡ true → Calling (thread_of s i).phase q
 calling_at input p s i q h is calls =
@@ -443,14 +443,14 @@ moves_none setup i u p e h = ap (λ (q : lock.Phase). within setup.limits.clock_
 
 -- threads in these phases make no event without the turn
 abbrev pub is_idle : Phase → Bool
-is_idle (phase.WantsTable call turns) = true
-is_idle (phase.WantsObject call turns clock object) = true
+is_idle (phase.WantsTable call carried) = true
+is_idle (phase.WantsObject call carried clock object) = true
 is_idle phase.Ended = true
 is_idle p = false
 
 idle_moves : (terms : Conditions) (i : ℕ) (rows : List Row) (t : Thread) (u : lock.Thread) (p : Phase) → is_idle p ≡ true → PhaseShows terms i rows t u p → (moves (setup_under terms) i u ≡ None) × (is_outside u.phase ≡ false)
-idle_moves terms i rows t u (phase.WantsTable call turns) is h = (moves_none (setup_under terms) i u (WantsTable call turns) h refl, ap is_outside h)
-idle_moves terms i rows t u (phase.WantsObject call turns clock object) is (way, h) = (moves_none (setup_under terms) i u (WantsObject call turns clock object way) h.0 refl, ap is_outside h.0)
+idle_moves terms i rows t u (phase.WantsTable call carried) is h = (moves_none (setup_under terms) i u (WantsTable call carried) h refl, ap is_outside h)
+idle_moves terms i rows t u (phase.WantsObject call carried clock object) is (way, h) = (moves_none (setup_under terms) i u (WantsObject call carried clock object way) h.0 refl, ap is_outside h.0)
 idle_moves terms i rows t u phase.Ended is h = (moves_none (setup_under terms) i u Ended h refl, ap is_outside h)
 idle_moves terms i rows t u p is h = absurd (false≢true is)
 

@@ -1,6 +1,6 @@
 -- How far a script has come after one step more, and after its reply.
 use Rattle.std.proofs.Common.{◌≡◌, ℕ, List, [], ◌∷◌, ◌++◌, length, Option, Some, None, refl}
-use Rattle.posix_terms.specs.declared.call.Call.{Call}
+use Rattle.posix_terms.specs.Calls.{Call}
 use Rattle.posix_terms.specs.declared.reply.Reply.{Reply}
 use Rattle.thread_scripts.specs.Meaning.{next_of}
 use Rattle.posix_terms.specs.declared.step.Step.{Step}

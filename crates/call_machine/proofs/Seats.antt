@@ -6,6 +6,7 @@ use Rattle.std.proofs.lemmas.Option.{slice_get_past, slice_get_read}
 use Rattle.std.specs.Prelude.{nat_lt}
 use Rattle.posix_terms.specs.declared.outcome.Given.{Given}
 use Rattle.thread_scripts.specs.Meaning.{next_of}
+use Rattle.sequential_object.specs.Step.{Carried}
 use Rattle.sequential_object.specs.declared.turn_end.TurnEnd.{TurnEnd}
 use Rattle.lock_machine.specs.Whole.{thread_at}
 use Rattle.lock_machine.specs.declared.thread.Outing.{Outing}
@@ -30,15 +31,15 @@ item_is xs i x d inside h = get_or_default xs i d x inside ∙ sym h
 -- ## The thread
 
 pub idle_else : (p : Phase) → (p ≡ phase.Working → ⊥) → ((row : ℕ) (object : Option ℕ) (ends : TurnEnd) → p ≡ phase.Granted row object ends → ⊥) → ((o : Outing) → p ≡ phase.ToOutside o → ⊥) → ((o : Outing) → p ≡ phase.Outside o → ⊥) → ((o : Outing) → p ≡ phase.Recorded o → ⊥)
-    → ((turns : ℕ) → p ≡ phase.Blocked turns → ⊥) → is_idle p ≡ true
+    → ((carried : Carried) → p ≡ phase.Blocked carried → ⊥) → is_idle p ≡ true
 idle_else phase.Working works grants goes comes records blocks = absurd (works refl)
-idle_else (phase.WantsTable call turns) works grants goes comes records blocks = refl
-idle_else (phase.WantsObject call turns clock object) works grants goes comes records blocks = refl
+idle_else (phase.WantsTable call carried) works grants goes comes records blocks = refl
+idle_else (phase.WantsObject call carried clock object) works grants goes comes records blocks = refl
 idle_else (phase.Granted row object ends) works grants goes comes records blocks = absurd (grants row object ends refl)
 idle_else (phase.ToOutside o) works grants goes comes records blocks = absurd (goes o refl)
 idle_else (phase.Outside o) works grants goes comes records blocks = absurd (comes o refl)
 idle_else (phase.Recorded o) works grants goes comes records blocks = absurd (records o refl)
-idle_else (phase.Blocked turns) works grants goes comes records blocks = absurd (blocks turns refl)
+idle_else (phase.Blocked carried) works grants goes comes records blocks = absurd (blocks carried refl)
 idle_else phase.Ended works grants goes comes records blocks = refl
 
 -- ## The script

@@ -55,13 +55,13 @@ first_begins shows input =
 
 ended_phase : (terms : Conditions) (i : ℕ) (rows : List Row) (t : Thread) (u : lock.Thread) (p : Phase) → PhaseShows terms i rows t u p → has_ended u.phase ≡ is_ended p
 ended_phase terms i rows t u phase.Working h = ap has_ended h
-ended_phase terms i rows t u (phase.WantsTable call turns) h = ap has_ended h
-ended_phase terms i rows t u (phase.WantsObject call turns clock object) h = ap has_ended h.1.0
+ended_phase terms i rows t u (phase.WantsTable call carried) h = ap has_ended h
+ended_phase terms i rows t u (phase.WantsObject call carried clock object) h = ap has_ended h.1.0
 ended_phase terms i rows t u (phase.Granted place object ends) h = ap has_ended h.1.0
 ended_phase terms i rows t u (phase.ToOutside o) h = ap has_ended h.1.0
 ended_phase terms i rows t u (phase.Outside o) h = ap has_ended h.1.0
 ended_phase terms i rows t u (phase.Recorded o) h = ap has_ended h.1.0
-ended_phase terms i rows t u (phase.Blocked turns) h = ap has_ended h.1
+ended_phase terms i rows t u (phase.Blocked carried) h = ap has_ended h.1
 ended_phase terms i rows t u phase.Ended h = ap has_ended h
 
 maps_agree : {A B C : Type 0} (f : A → C) (g : B → C) (xs : List A) (ys : List B) (d : A) (e : B) → length xs ≡ length ys → ((k : ℕ) → f (get_or xs k d) ≡ g (get_or ys k e)) → map f xs ≡ map g ys
@@ -79,13 +79,13 @@ ended_shown terms w last h =
 -- what a thread is stuck for that has the turn
 stuck_phase : (terms : Conditions) (i : ℕ) (rows : List Row) (t : Thread) (u : lock.Thread) (p : Phase) → PhaseShows terms i rows t u p → stuck_for p i ≡ stuck_in u.phase i
 stuck_phase terms i rows t u phase.Working h = sym (ap (λ (p : lock.Phase). stuck_in p i) h)
-stuck_phase terms i rows t u (phase.WantsTable call turns) h = sym (ap (λ (p : lock.Phase). stuck_in p i) h)
-stuck_phase terms i rows t u (phase.WantsObject call turns clock object) h = sym (ap (λ (p : lock.Phase). stuck_in p i) h.1.0)
+stuck_phase terms i rows t u (phase.WantsTable call carried) h = sym (ap (λ (p : lock.Phase). stuck_in p i) h)
+stuck_phase terms i rows t u (phase.WantsObject call carried clock object) h = sym (ap (λ (p : lock.Phase). stuck_in p i) h.1.0)
 stuck_phase terms i rows t u (phase.Granted place object ends) h = sym (ap (λ (p : lock.Phase). stuck_in p i) h.1.0)
 stuck_phase terms i rows t u (phase.ToOutside o) h = sym (ap (λ (p : lock.Phase). stuck_in p i) h.1.0)
 stuck_phase terms i rows t u (phase.Outside o) h = sym (ap (λ (p : lock.Phase). stuck_in p i) h.1.0)
 stuck_phase terms i rows t u (phase.Recorded o) h = sym (ap (λ (p : lock.Phase). stuck_in p i) h.1.0)
-stuck_phase terms i rows t u (phase.Blocked turns) h = sym (ap (λ (p : lock.Phase). stuck_in p i) h.1)
+stuck_phase terms i rows t u (phase.Blocked carried) h = sym (ap (λ (p : lock.Phase). stuck_in p i) h.1)
 stuck_phase terms i rows t u phase.Ended h = sym (ap (λ (p : lock.Phase). stuck_in p i) h)
 
 stop_shown : ClocksShown → (terms : Conditions) (w : Whole) (last : State) (diverged : Option ℕ) → Shows terms w last → stop_told w.threads diverged ≡ stop_of last diverged

@@ -10,13 +10,13 @@ use Rattle.lock_machine.specs.Threads.{Thread}
 -- by the lines that its script has left, of which a stuck one reads none
 abbrev pub left_in : Phase → Bool → ℕ → ℕ
 left_in phase.Working stuck lines = if stuck then 0 else 2 * lines + 1
-left_in (phase.WantsTable call turns) stuck lines = 2 * lines + 2
-left_in (phase.WantsObject call turns clock object) stuck lines = 2 * lines + 2
+left_in (phase.WantsTable call carried) stuck lines = 2 * lines + 2
+left_in (phase.WantsObject call carried clock object) stuck lines = 2 * lines + 2
 left_in (phase.Granted row object ends) stuck lines = 2 * lines + 2
 left_in (phase.ToOutside outing) stuck lines = 2 * lines + 5
 left_in (phase.Outside outing) stuck lines = 2 * lines + 4
 left_in (phase.Recorded outing) stuck lines = 2 * lines + 3
-left_in (phase.Blocked turns) stuck lines = 2 * lines + 3
+left_in (phase.Blocked carried) stuck lines = 2 * lines + 3
 left_in phase.Ended stuck lines = 0
 
 unfoldable pub weight : Thread → Player → ℕ

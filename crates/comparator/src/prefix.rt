@@ -2,7 +2,7 @@ ghost use Rattle.std.specs.Prelude.{◌↔◌, IsTrue};
 ghost use Rattle.std.specs.List.{AllZip};
 ghost use Rattle.comparator.specs.Comparison.{IsPrefixOf};
 
-use posix_terms::{Row, Transcripts};
+use posix_terms::{Row, Transcripts, equal_ones_are_the_same};
 
 /// Whether each thread's transcript in `a` is a prefix of that thread's in `b`, with as many threads in both.
 pub fn prefix_of(a: &Transcripts, b: &Transcripts) -> bool
@@ -23,5 +23,6 @@ pub fn prefix_of(a: &Transcripts, b: &Transcripts) -> bool
 fn is_prefix(front: &[Row], whole: &[Row]) -> bool
     ensures { IsTrue result ↔ IsPrefixOf front.now whole.now }
 {
+    equal_ones_are_the_same();
     whole.starts_with(front)
 }

@@ -16,12 +16,12 @@ use Rattle.sequential_object.specs.Refusals.{◌>>=◌, refuse_if, some_or}
 use Rattle.sequential_object.specs.Status.{fstat_result, getfl_result, setfl_result}
 use Rattle.sequential_object.specs.Sockets as sockets
 use Rattle.sequential_object.specs.Sockets.{pipe_result, shutdown_result, socketpair_result}
-use Rattle.sequential_object.specs.Step.{Carried, Stepped, asks, closes_door, concluded, outside, step}
+use Rattle.sequential_object.specs.Step.{Carried, Stepped, asks, closes_door, concluded, nothing_carried, outside, step}
 use Rattle.sequential_object.specs.Streams.{new_pair}
 use Rattle.sequential_object.specs.Transfers.{read_result, write_result, pread_result, pwrite_result, lseek_result, ftruncate_result}
 use Rattle.posix_terms.specs.declared.call.Access.{Access}
 use Rattle.posix_terms.specs.declared.call.Access.TheVariants.{ReadOnly, WriteOnly, ReadWrite}
-use Rattle.posix_terms.specs.declared.call.Call.{Call}
+use Rattle.posix_terms.specs.Calls.{Call}
 use Rattle.posix_terms.specs.declared.call.Call.TheVariants as call
 use Rattle.posix_terms.specs.declared.call.OpenFlags.{OpenFlags}
 use Rattle.posix_terms.specs.declared.errno.Errno.{Errno}
@@ -288,9 +288,9 @@ module _ (t : TableState) (s : State) (sound : IsSound t) (all : AreSound t.desc
   door_said settings (Some (came.Ok value bytes)) carried c (Ok p) (Ok new) (Ok (Asks a)) at opens made one none again = ap door_number at ∙ sym (ap (λ (x : Reply). numbers_told c (answer.Reply x)) (opens.door_told value bytes) ∙ one (pos new.number))
   door_said settings (Some (came.Fail e)) carried c (Ok p) (Ok new) (Ok (Asks a)) at opens made one none again =
       over_failed (λ (x : Stepped). numbers.None ≡ numbers_told c x.answer) settings s carried a e
-      (by_patience (nat_lt (carried + 1) settings.patience)) (none e)
+      (by_patience (nat_lt (carried.turns + 1) settings.patience)) (none e)
     where
-      by_patience : (b : Bool) → numbers.None ≡ numbers_told c (let stepped : Stepped = if b then record { after = s; answer = answer.Again; carried = carried + 1 } else record { after = s; answer = answer.Reply (reply.Fail EINTR); carried = 0 } in stepped.answer)
+      by_patience : (b : Bool) → numbers.None ≡ numbers_told c (let stepped : Stepped = if b then record { after = s; answer = answer.Again; carried = record { turns = carried.turns + 1 } } else record { after = s; answer = answer.Reply (reply.Fail EINTR); carried = nothing_carried } in stepped.answer)
       by_patience true = again
       by_patience false = none EINTR
   door_said settings None carried c (Ok p) (Ok new) (Ok (Asks a)) at opens made one none again = none EIO

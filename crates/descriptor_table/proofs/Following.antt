@@ -1,7 +1,7 @@
 -- What each table plans and changes is what the sequential object does.
 use Rattle.std.proofs.Common.{ℕ, None, refl}
 use Rattle.sequential_object.specs.Step.{FailChangesNothing}
-use Rattle.posix_terms.specs.declared.call.Call.{Call}
+use Rattle.posix_terms.specs.Calls.{Call}
 use Rattle.file_descriptions.specs.Descriptions.{AreSound, ContainsKey, description_at}
 use Rattle.file_descriptions.specs.declared.description.Description.{Description}
 use Rattle.file_descriptions.specs.Laws.{ChangesKeepSound}

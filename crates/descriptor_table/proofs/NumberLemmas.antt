@@ -15,7 +15,7 @@ use Rattle.posix_terms.specs.declared.object.Door.TheVariants as door
 use Rattle.posix_terms.specs.declared.object.End.{End}
 use Rattle.posix_terms.specs.declared.object.End.TheVariants as part
 use Rattle.posix_terms.specs.declared.object.Side.TheVariants.{Side0, Side1}
-use Rattle.posix_terms.specs.declared.call.Call.{Call}
+use Rattle.posix_terms.specs.Calls.{Call}
 use Rattle.posix_terms.specs.declared.call.Call.TheVariants as call
 use Rattle.posix_terms.specs.declared.call.OpenFlags.{OpenFlags}
 use Rattle.posix_terms.specs.declared.outcome.Outcome.{Outcome}

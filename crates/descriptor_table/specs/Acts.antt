@@ -10,7 +10,7 @@ use Rattle.sequential_object.specs.Object.{State, Content, File, Pipe, Pair, Doo
 use Rattle.sequential_object.specs.Step.{Carried, Stepped, is_again, nothing_carried, step, waited}
 use Rattle.sequential_object.specs.Streams.{Reading, Reads, Ends, NothingYet, Writing, Writes, Breaks, NoRoom, new_pair, pair_read, pair_write, pipe_write, shut, stream_read, with_waiting}
 use Rattle.sequential_object.specs.Transfers.{base_of, offset_of}
-use Rattle.posix_terms.specs.declared.call.Call.{Call}
+use Rattle.posix_terms.specs.Calls.{Call}
 use Rattle.posix_terms.specs.declared.call.Call.TheVariants as call
 use Rattle.posix_terms.specs.declared.errno.Errno.{Errno}
 use Rattle.posix_terms.specs.declared.errno.Errno.TheVariants.{EAGAIN, EIO, EPIPE}

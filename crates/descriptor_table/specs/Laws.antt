@@ -5,7 +5,7 @@ use Rattle.std.specs.FinMap as map
 use Rattle.sequential_object.specs.Descriptors as posix
 use Rattle.sequential_object.specs.Names.{file_named}
 use Rattle.sequential_object.specs.Object.{State}
-use Rattle.posix_terms.specs.declared.call.Call.{Call}
+use Rattle.posix_terms.specs.Calls.{Call}
 use Rattle.posix_terms.specs.declared.errno.Errno.TheVariants.{EBADF}
 use Rattle.posix_terms.specs.declared.object.Door.{Door}
 use Rattle.file_descriptions.specs.Descriptions.{AreSound, ContainsKey, with_offset}

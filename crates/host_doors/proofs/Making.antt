@@ -2,7 +2,7 @@
 use Rattle.std.proofs.Common.{◌≡◌, ℕ, List, true, inr, inl, subst, sym}
 use Rattle.std.specs.declared.io.Error.{Error}
 use Rattle.posix_terms.specs.declared.call.Access.{Access}
-use Rattle.posix_terms.specs.declared.call.Call.{Call}
+use Rattle.posix_terms.specs.Calls.{Call}
 use Rattle.posix_terms.specs.declared.call.OpenFlags.{OpenFlags}
 use Rattle.host_doors.specs.declared.options.HostOptions.{HostOptions}
 use Rattle.host_doors.specs.Asked.{Opens}

@@ -7,7 +7,7 @@ use Rattle.std.specs.declared.io.SeekFrom.TheVariants as place
 use Rattle.std.specs.declared.net.Shutdown.{Shutdown}
 use Rattle.std.specs.declared.net.Shutdown.TheVariants as part
 use Rattle.posix_terms.specs.declared.call.Access.{Access}
-use Rattle.posix_terms.specs.declared.call.Call.{Call}
+use Rattle.posix_terms.specs.Calls.{Call}
 use Rattle.posix_terms.specs.declared.call.Call.TheVariants as call
 use Rattle.posix_terms.specs.declared.call.OpenFlags.{OpenFlags}
 use Rattle.posix_terms.specs.declared.call.ShutdownHow.TheVariants as how

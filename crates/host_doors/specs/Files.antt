@@ -7,7 +7,7 @@ use Rattle.std.specs.declared.fs.options.OpenOptions.{OpenOptions}
 use Rattle.std.specs.declared.io.Error.{Error}
 use Rattle.std.specs.declared.io.ErrorKind.TheVariants as failure
 use Rattle.posix_terms.specs.declared.call.Access.{Access}
-use Rattle.posix_terms.specs.declared.call.Call.{Call}
+use Rattle.posix_terms.specs.Calls.{Call}
 use Rattle.posix_terms.specs.declared.call.OpenFlags.{OpenFlags}
 use Rattle.host_doors.specs.declared.options.HostOptions.{HostOptions}
 use Rattle.host_doors.specs.Asked.{Opens, OpensText}

@@ -5,7 +5,7 @@ use Rattle.std.proofs.lemmas.List.{get_or-set_same, map-set, set-get_or}
 use Rattle.std.proofs.lemmas.Option.{same_Some, none-some, slice_get-map}
 use Rattle.std.specs.Prelude.{is_some, option_map}
 use Rattle.sequential_object.specs.Step.{step}
-use Rattle.posix_terms.specs.declared.call.Call.{Call}
+use Rattle.posix_terms.specs.Calls.{Call}
 use Rattle.posix_terms.specs.declared.limits.TheConstants.Limits as limit
 use Rattle.posix_terms.specs.declared.outcome.Given.{Given}
 use Rattle.posix_terms.specs.declared.reply.Answer as posix
@@ -151,7 +151,7 @@ moves_granted terms i u job object a e plan gives =
 
 pub answered_clock : (u : lock.Thread) (c : Call) (n : ℕ) (a : TurnEnd) → (answered u c n a).clock ≡ n
 answered_clock u c n (end.Reply reply) = refl
-answered_clock u c n (end.Blocked turns) = refl
+answered_clock u c n (end.Blocked carried) = refl
 
 -- ## The whole
 
@@ -163,7 +163,7 @@ open_row i job e = ap (λ (b : Bool). b && true) (same_eqb job.turn.thread i e)
 
 shown_end : (x : TurnEnd) → shown_answer (Some x) ≡ Some (told_as x)
 shown_end (end.Reply reply) = refl
-shown_end (end.Blocked turns) = refl
+shown_end (end.Blocked carried) = refl
 
 shown_filled : (r : Row) (e : Effect) (x : TurnEnd) → e.outcome ≡ None → e.answer ≡ Some x → shown (filled_by e r) ≡ record (shown r) { answer = Some (told_as x) }
 shown_filled r e x out ans k = record { call = r.call; turn = r.turn; outcome = ap outcome_in (ap (first_of r.outcome) out ∙ first_kept r.outcome) k; answer = (ap shown_answer ans ∙ shown_end x) k }
@@ -234,7 +234,7 @@ next_le c h = omega arith
 thread_answered : (terms : Conditions) (i : ℕ) (rows : List Row) (t : Thread) (u : lock.Thread) (c : Call) (e : TurnEnd) → u.clock ≡ t.clock → t.clock < 2 ^ 62 → u.asked ≡ t.asked → length u.came ≡ t.came
     → ThreadShows terms i rows (record t { phase = phase_behind e; clock = t.clock + 1 }) (answered u c (u.clock + 1) e)
 thread_answered terms i rows t u c (end.Reply reply) clock room asked came = record { clock = ap (λ (n : ℕ). n + 1) clock; in_time = next_le t.clock room; asked = asked; came = came; phase = refl }
-thread_answered terms i rows t u c (end.Blocked turns) clock room asked came = record { clock = ap (λ (n : ℕ). n + 1) clock; in_time = next_le t.clock room; asked = asked; came = came; phase = (c, refl) }
+thread_answered terms i rows t u c (end.Blocked carried) clock room asked came = record { clock = ap (λ (n : ℕ). n + 1) clock; in_time = next_le t.clock room; asked = asked; came = came; phase = (c, refl) }
 
 thread_now : (terms : Conditions) (w : Whole) (s : State) (i place : ℕ) (object : Option ℕ) (e : TurnEnd) (job : Job) (a : Answering terms w s i place object e job) (rows : List Row) → (thread_at w i).clock < 2 ^ 62
     → ThreadShows terms i rows (row_answered (parts_at w i object) place e (shown (row_of job))).thread (freeing object (thread_of s i) job.call e).thread
@@ -312,7 +312,7 @@ replies_still terms s i is = ap (λ (z : State). (thread_of z i).replies) (advan
 
 pub replies_answered : (u : lock.Thread) (c : Call) (n : ℕ) (e : TurnEnd) → (answered u c n e).replies ≡ replied (Some (told_as e)) u.replies
 replies_answered u c n (end.Reply reply) = refl
-replies_answered u c n (end.Blocked turns) = refl
+replies_answered u c n (end.Blocked carried) = refl
 
 abbrev Told : Conditions → Whole → State → ℕ → Option ℕ → Option posix.Answer → Parts → Type 0
 Told terms w s i object told new = Answered terms w s i object (is_some told) new × ((thread_of (advance (setup_under terms) i s) i).replies ≡ replied told (thread_of s i).replies)

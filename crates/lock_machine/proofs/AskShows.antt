@@ -1,7 +1,7 @@
 -- The steps that a thread asks are those that it is given.
 use Rattle.std.proofs.Common.{◌≡◌, ℕ, ◌+◌, ◌<◌, ◌≤◌, ◌^◌, List, [], ◌∷◌, ◌++◌, length, Option, Some, None, Bool, true, false, is_some, sym, refl, ap, ◌∙◌, subst}
 use Rattle.std.proofs.lemmas.Bool.{cond-true, cond-false, false≢true, le-leb, lt-leb}
-use Rattle.posix_terms.specs.declared.call.Call.{Call}
+use Rattle.posix_terms.specs.Calls.{Call}
 use Rattle.posix_terms.specs.declared.step.Step.{Step}
 use Rattle.posix_terms.specs.declared.step.Step.TheVariants as step
 use Rattle.lock_model.specs.Held.{HasAsked, call_in, has_end, last_call}
@@ -20,6 +20,7 @@ use Rattle.lock_machine.specs.declared.thread.Phase.TheVariants as phase
 use Rattle.lock_machine.specs.Threads.{Thread}
 use Rattle.lock_machine.proofs.ShownThreads.{Moving}
 use Rattle.std.specs.Prelude.{OnErr, Result, Ok, Err}
+use Rattle.sequential_object.specs.Step.{Carried}
 
 pub within_yes : (limit : ℕ) (m : Moved) → m.thread.clock ≤ limit → within limit (Some m) ≡ Some m
 within_yes limit m h = cond-true _ _ _ (le-leb m.thread.clock limit h)
@@ -92,27 +93,27 @@ ask_moves terms i rows moved x t v u works h asked next asks =
     let unended : has_end t.asked ≡ false = ap has_end (sym h.asked) ∙ asked.works now in
     step_moves terms i rows moved t v u x (record { clock = h.clock; in_time = h.in_time; asked = h.asked; came = h.came; works = works; moves_is = moves_at terms i u x now next; working = now; unended = unended }) asks
 
-moves_again : (terms : Conditions) (i : ℕ) (u : lock.Thread) (call : Call) (turns : ℕ) → u.phase ≡ Blocked call turns → moves (setup_under terms) i u ≡ within (2 ^ 62) (Some (again u call turns))
+moves_again : (terms : Conditions) (i : ℕ) (u : lock.Thread) (call : Call) (carried : Carried) → u.phase ≡ Blocked call carried → moves (setup_under terms) i u ≡ within (2 ^ 62) (Some (again u call carried))
 unfolding moves
-moves_again terms i u call turns e = ap (λ (p : lock.Phase). within (2 ^ 62) (moves_in (setup_under terms) i u p)) e
+moves_again terms i u call carried e = ap (λ (p : lock.Phase). within (2 ^ 62) (moves_in (setup_under terms) i u p)) e
 
 -- a blocked call, which is the last that its thread asked, wants the table again
-pub again_moves : (terms : Conditions) (i : ℕ) (rows : List Row) (moved : Bool) (t v : Thread) (u : lock.Thread) (turns : ℕ) → t.phase ≡ phase.Blocked turns → ThreadShows terms i rows t u → HasAsked u → GoesAgain moved t v → Moving terms i rows moved v u
-again_moves terms i rows moved t v u turns is h asked goes =
+pub again_moves : (terms : Conditions) (i : ℕ) (rows : List Row) (moved : Bool) (t v : Thread) (u : lock.Thread) (carried : Carried) → t.phase ≡ phase.Blocked carried → ThreadShows terms i rows t u → HasAsked u → GoesAgain moved t v → Moving terms i rows moved v u
+again_moves terms i rows moved t v u carried is h asked goes =
     let P : Phase → Type 0 = λ p. PhaseShows terms i rows t u p in
     let (call, now) = (subst P is h.phase) in
     let last : last_call t.asked ≡ Some call = ap last_call (sym h.asked) ∙ asked.call call (ap call_in now) in
     let G : Phase → Type 0 = λ p. GoesAgainIn p moved t v in
-    let W : Option Call → Type 0 = λ o. GoesAgainWith o turns moved t v in
-    let went : (moved ≡ true) × (v ≡ record t { phase = phase.WantsTable call turns }) = subst W last (subst G is goes) in
-    let m : Moved = again u call turns in
+    let W : Option Call → Type 0 = λ o. GoesAgainWith o carried moved t v in
+    let went : (moved ≡ true) × (v ≡ record t { phase = phase.WantsTable call carried }) = subst W last (subst G is goes) in
+    let m : Moved = again u call carried in
     let fits : u.clock ≤ 2 ^ 62 = subst (λ (c : ℕ). c ≤ 2 ^ 62) (sym h.clock) h.in_time in
     let Q : Bool → Type 0 = λ b. Moving terms i rows b v u in
     let R : Thread → Type 0 = λ y. ThreadShows terms i rows y m.thread in
     subst Q (sym went.0) (
       m,
       (
-        moves_again terms i u call turns now ∙ within_yes (2 ^ 62) m fits,
+        moves_again terms i u call carried now ∙ within_yes (2 ^ 62) m fits,
         refl,
         subst R (sym went.1) (record { clock = h.clock; in_time = h.in_time; asked = h.asked; came = h.came; phase = refl }),
       ),
@@ -145,13 +146,13 @@ pub may_again : (w : Whole) (i : ℕ) → BlockedIn (thread_at w i).phase → Ma
 may_again w i blocked terms s (arises, h) = by_phase (thread_at w i).phase blocked (h.threads i).phase
   where
     by_phase : (p : Phase) → BlockedIn p → PhaseShows terms i s.rows (thread_at w i) (thread_of s i) p → is_some (moves (setup_under terms) i (thread_of s i)) ≡ true
-    by_phase (phase.Blocked turns) b (call, now) =
+    by_phase (phase.Blocked carried) b (call, now) =
         let u = thread_of s i in
         let fits : u.clock ≤ 2 ^ 62 = subst (λ (c : ℕ). c ≤ 2 ^ 62) (sym (h.threads i).clock) (h.threads i).in_time in
-        ap is_some (moves_again terms i u call turns now ∙ within_yes (2 ^ 62) (again u call turns) fits)
+        ap is_some (moves_again terms i u call carried now ∙ within_yes (2 ^ 62) (again u call carried) fits)
     by_phase phase.Working b g = absurd b
-    by_phase (phase.WantsTable call turns) b g = absurd b
-    by_phase (phase.WantsObject call turns clock n) b g = absurd b
+    by_phase (phase.WantsTable call carried) b g = absurd b
+    by_phase (phase.WantsObject call carried clock n) b g = absurd b
     by_phase (phase.Granted row n e) b g = absurd b
     by_phase (phase.ToOutside o) b g = absurd b
     by_phase (phase.Outside o) b g = absurd b

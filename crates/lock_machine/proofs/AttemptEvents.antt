@@ -3,7 +3,7 @@ use Rattle.std.proofs.Common.{◌≡◌, ℕ, ◌<◌, ◌≤◌, List, length, 
 use Rattle.std.proofs.lemmas.Result.{IfOk-weaker}
 use Rattle.std.specs.Prelude.{IfOk, Result}
 use Rattle.std.specs.declared.alloc.AllocError.{AllocError}
-use Rattle.posix_terms.specs.declared.call.Call.{Call}
+use Rattle.posix_terms.specs.Calls.{Call}
 use Rattle.posix_terms.specs.declared.limits.TheConstants.Limits as limit
 use Rattle.posix_terms.specs.declared.transcript.HistoryRow.{HistoryRow}
 use Rattle.det_mutex.specs.Attempt.{new_lock}
@@ -15,6 +15,7 @@ use Rattle.lock_model.specs.Laws.{PlansOfArisen}
 use Rattle.lock_model.specs.Machine.{wants}
 use Rattle.sequential_object.specs.Locked.{KeepsOutside, OutsideLocks}
 use Rattle.sequential_object.specs.Numbers.{first_world}
+use Rattle.sequential_object.specs.Step.{Carried}
 use Rattle.lock_model.specs.State as lock
 use Rattle.lock_model.specs.State.{Row, thread_of}
 use Rattle.object_store.specs.Store.{LocksAsStep, Stored}
@@ -36,21 +37,21 @@ use Rattle.lock_machine.proofs.Turning.{clocks_shown}
 
 -- ## On the threads with their clocks
 
-table_event : OutsideLocks → LocksAsStep → (w : Whole) (i : ℕ) (call : Call) (turns : ℕ) (made : Bool) (new : Parts) → i < length w.threads → has_turn (clocks_of w.threads) i ≡ true → (thread_at w i).phase ≡ phase.WantsTable call turns
+table_event : OutsideLocks → LocksAsStep → (w : Whole) (i : ℕ) (call : Call) (carried : Carried) (made : Bool) (new : Parts) → i < length w.threads → has_turn (clocks_of w.threads) i ≡ true → (thread_at w i).phase ≡ phase.WantsTable call carried
     → Tries w.patience made i (table_parts w i) new → Attempts made i w (table_tried w i new)
-table_event outside numbers w i call turns made new inside turn is tries terms s (arises, h) =
-    let a = attempt_whole outside numbers terms w s i call turns made new inside h (ap (λ cs. has_turn cs i) (clocks_shown terms w s h) ∙ turn) is tries in (a.0, a.1)
+table_event outside numbers w i call carried made new inside turn is tries terms s (arises, h) =
+    let a = attempt_whole outside numbers terms w s i call carried made new inside h (ap (λ cs. has_turn cs i) (clocks_shown terms w s h) ∙ turn) is tries in (a.0, a.1)
 
-object_event : KeepsOutside → PlansOfArisen → (w : Whole) (i n clock : ℕ) (call : Call) (turns : ℕ) (made : Bool) (now : DetLock) (new : Parts) → i < length w.threads → has_turn (clocks_of w.threads) i ≡ true
-    → (thread_at w i).phase ≡ phase.WantsObject call turns clock n
+object_event : KeepsOutside → PlansOfArisen → (w : Whole) (i n clock : ℕ) (call : Call) (carried : Carried) (made : Bool) (now : DetLock) (new : Parts) → i < length w.threads → has_turn (clocks_of w.threads) i ≡ true
+    → (thread_at w i).phase ≡ phase.WantsObject call carried clock n
     → Reaches w.patience made i (lock_at w n) now (table_parts w i) new → Attempts made i w (object_tried w i n now new)
-object_event outside law w i n clock call turns made now new inside turn is tries terms s (arises, h) =
+object_event outside law w i n clock call carried made now new inside turn is tries terms s (arises, h) =
     let plans = law (setup_under terms) terms.threads limit.OBJECTS first_world s arises in
-    let a = reach_whole outside terms w s i n clock call turns made now new inside h plans (ap (λ cs. has_turn cs i) (clocks_shown terms w s h) ∙ turn) is tries in (a.0, a.1)
+    let a = reach_whole outside terms w s i n clock call carried made now new inside h plans (ap (λ cs. has_turn cs i) (clocks_shown terms w s h) ∙ turn) is tries in (a.0, a.1)
 
 -- a call whose object is past the last number is in no run
-object_past : (w : Whole) (i n clock : ℕ) (call : Call) (turns : ℕ) → (thread_at w i).phase ≡ phase.WantsObject call turns clock n → length w.objects ≤ n → Attempts false i w w
-object_past w i n clock call turns is past terms s (arises, h) =
+object_past : (w : Whole) (i n clock : ℕ) (call : Call) (carried : Carried) → (thread_at w i).phase ≡ phase.WantsObject call carried clock n → length w.objects ≤ n → Attempts false i w w
+object_past w i n clock call carried is past terms s (arises, h) =
     let P : Phase → Type 0 = λ p. PhaseShows terms i s.rows (thread_at w i) (thread_of s i) p in
     let g = subst P is (h.threads i).phase in
     absurd (too_far n (length w.objects) g.1.1 h.object_count past)
@@ -64,24 +65,24 @@ no_attempt_event w i late terms s (arises, h) = let a = attempt_waits terms w s 
 -- threads in other phases want no lock
 abbrev pub Idles : Phase → Type 0
 Idles phase.Working = Unit {0}
-Idles (phase.WantsTable call turns) = ⊥
-Idles (phase.WantsObject call turns clock object) = ⊥
+Idles (phase.WantsTable call carried) = ⊥
+Idles (phase.WantsObject call carried clock object) = ⊥
 Idles (phase.Granted place object e) = Unit {0}
 Idles (phase.ToOutside o) = Unit {0}
 Idles (phase.Outside o) = Unit {0}
 Idles (phase.Recorded o) = Unit {0}
-Idles (phase.Blocked turns) = Unit {0}
+Idles (phase.Blocked carried) = Unit {0}
 Idles phase.Ended = Unit {0}
 
 idles_wants : (terms : Conditions) (i : ℕ) (rows : List Row) (t : Thread) (u : lock.Thread) (p : Phase) → Idles p → PhaseShows terms i rows t u p → wants u.phase ≡ false
 idles_wants terms i rows t u phase.Working idles h = ap wants h
-idles_wants terms i rows t u (phase.WantsTable call turns) idles h = absurd idles
-idles_wants terms i rows t u (phase.WantsObject call turns clock object) idles h = absurd idles
+idles_wants terms i rows t u (phase.WantsTable call carried) idles h = absurd idles
+idles_wants terms i rows t u (phase.WantsObject call carried clock object) idles h = absurd idles
 idles_wants terms i rows t u (phase.Granted place object e) idles h = ap wants h.1.0
 idles_wants terms i rows t u (phase.ToOutside o) idles h = ap wants h.1.0
 idles_wants terms i rows t u (phase.Outside o) idles h = ap wants h.1.0
 idles_wants terms i rows t u (phase.Recorded o) idles h = ap wants h.1.0
-idles_wants terms i rows t u (phase.Blocked turns) idles h = ap wants h.1
+idles_wants terms i rows t u (phase.Blocked carried) idles h = ap wants h.1
 idles_wants terms i rows t u phase.Ended idles h = ap wants h
 
 pub idle_event : (w : Whole) (i : ℕ) → Idles (thread_at w i).phase → Attempts false i w w
@@ -90,11 +91,11 @@ idle_event w i idles terms s (arises, h) =
 
 -- ## By the item and the clock that the code changes
 
-pub try_done : OutsideLocks → LocksAsStep → (w : Whole) (ts : List declared.Thread) (cs ds : List ThreadClock) (i : ℕ) (call : Call) (turns : ℕ) (x v : declared.Thread) (l : DetLock) (later : Stored) (rows : List HistoryRow) (r : Result Bool AllocError)
-    → Item ts cs i x v ds → Agree ts cs → has_turn (live_clocks cs) i ≡ true → x.phase ≡ phase.WantsTable call turns
+pub try_done : OutsideLocks → LocksAsStep → (w : Whole) (ts : List declared.Thread) (cs ds : List ThreadClock) (i : ℕ) (call : Call) (carried : Carried) (x v : declared.Thread) (l : DetLock) (later : Stored) (rows : List HistoryRow) (r : Result Bool AllocError)
+    → Item ts cs i x v ds → Agree ts cs → has_turn (live_clocks cs) i ≡ true → x.phase ≡ phase.WantsTable call carried
     → IfOk r (λ made. Tries w.patience made i (parts (timed x (clock_at cs i)) w.lock w.table w.rows) (parts (timed v (clock_at ds i)) l later rows))
     → IfOk r (λ made. Attempts made i (run_at w ts cs) (record w { threads = joined (set ts i v) ds; lock = l; table = later; rows = rows }))
-try_done outside numbers w ts cs ds i call turns x v l later rows r h agree turn is tried =
+try_done outside numbers w ts cs ds i call carried x v l later rows r h agree turn is tried =
     let z = run_at w ts cs in
     let new = parts (timed v (clock_at ds i)) l later rows in
     let P : Bool → Type 0 = λ made. Tries w.patience made i (parts (timed x (clock_at cs i)) w.lock w.table w.rows) new in
@@ -103,21 +104,21 @@ try_done outside numbers w ts cs ds i call turns x v l later rows r h agree turn
     let R : Thread → Type 0 = λ t. Tries w.patience made i (parts t w.lock w.table w.rows) new in
     let T : List Thread → Type 0 = λ us. Attempts made i z (record w { threads = us; lock = l; table = later; rows = rows }) in
     subst T (sym (joined-kept ts cs ds i x v h.clocked h.kept))
-    (table_event outside numbers z i call turns made new (joined_inside ts cs i h.inside) (turn_shown ts cs i true agree turn) (item_phase ts cs i x (phase.WantsTable call turns) h.inside h.item is)
+    (table_event outside numbers z i call carried made new (joined_inside ts cs i h.inside) (turn_shown ts cs i true agree turn) (item_phase ts cs i x (phase.WantsTable call carried) h.inside h.item is)
     (subst R (sym (item_thread ts cs i x h.inside h.item)) a))) tried
 
 abbrev WantsPhase : Phase → ℕ → Type 0
-WantsPhase p n = (call : Call) × (turns : ℕ) × (clock : ℕ) × (p ≡ phase.WantsObject call turns clock n)
+WantsPhase p n = (call : Call) × (carried : Carried) × (clock : ℕ) × (p ≡ phase.WantsObject call carried clock n)
 
 wants_phase : (p : Phase) (n : ℕ) → WantsIn p n → WantsPhase p n
 wants_phase phase.Working n h = absurd h
-wants_phase (phase.WantsTable call turns) n h = absurd h
-wants_phase (phase.WantsObject call turns clock object) n h = (call, turns, clock, ap (phase.WantsObject call turns clock) h)
+wants_phase (phase.WantsTable call carried) n h = absurd h
+wants_phase (phase.WantsObject call carried clock object) n h = (call, carried, clock, ap (phase.WantsObject call carried clock) h)
 wants_phase (phase.Granted place object e) n h = absurd h
 wants_phase (phase.ToOutside o) n h = absurd h
 wants_phase (phase.Outside o) n h = absurd h
 wants_phase (phase.Recorded o) n h = absurd h
-wants_phase (phase.Blocked turns) n h = absurd h
+wants_phase (phase.Blocked carried) n h = absurd h
 wants_phase phase.Ended n h = absurd h
 
 pub reach_done : KeepsOutside → PlansOfArisen → (w : Whole) (ts : List declared.Thread) (cs ds : List ThreadClock) (i n : ℕ) (x v : declared.Thread) (l before own : DetLock) (later : Stored) (rows : List HistoryRow) (r : Result Bool AllocError)

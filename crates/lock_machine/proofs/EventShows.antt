@@ -5,7 +5,7 @@ use Rattle.std.proofs.lemmas.Option.{none-some, same_Some}
 use Rattle.std.proofs.lemmas.Result.{IfOk-weaker}
 use Rattle.std.specs.Prelude.{IfOk, Result}
 use Rattle.std.specs.declared.alloc.AllocError.{AllocError}
-use Rattle.posix_terms.specs.declared.call.Call.{Call}
+use Rattle.posix_terms.specs.Calls.{Call}
 use Rattle.posix_terms.specs.declared.limits.TheConstants.Limits as limit
 use Rattle.posix_terms.specs.declared.reply.Answer as posix
 use Rattle.posix_terms.specs.declared.transcript.HistoryRow.{HistoryRow}
@@ -17,6 +17,7 @@ use Rattle.logical_clocks.specs.TurnOrder.{first_below, first_or, has_turn, turn
 use Rattle.logical_clocks.specs.declared.clocks.ThreadClock.{ThreadClock}
 use Rattle.lock_model.specs.Laws.{LocksOfArisen, PlansOfArisen, RowsOfArisen, StepsOfArisen}
 use Rattle.sequential_object.specs.Numbers.{first_world}
+use Rattle.sequential_object.specs.Step.{Carried}
 use Rattle.lock_model.specs.State.{thread_of}
 use Rattle.posix_terms.specs.declared.step.Step.{Step}
 use Rattle.posix_terms.specs.declared.step.Step.TheVariants as step
@@ -49,10 +50,10 @@ ask_event w i moved x v law inside works asks terms s (arises, h) next =
     let asked = law (setup_under terms) terms.threads limit.OBJECTS first_world s arises i in
     let a = whole_quiet terms w s i moved v inside h (ask_moves terms i s.rows moved x (thread_at w i) v (thread_of s i) works (h.threads i) asked next asks) in record { can = a.0; shows = a.1 }
 
-pub again_event : (w : Whole) (i turns : ℕ) (moved : Bool) (v : Thread) → StepsOfArisen → i < length w.threads → (thread_at w i).phase ≡ phase.Blocked turns → GoesAgain moved (thread_at w i) v → AdvancesQuietly moved i w (record w { threads = set w.threads i v })
-again_event w i turns moved v law inside is goes terms s (arises, h) =
+pub again_event : (w : Whole) (i : ℕ) (carried : Carried) (moved : Bool) (v : Thread) → StepsOfArisen → i < length w.threads → (thread_at w i).phase ≡ phase.Blocked carried → GoesAgain moved (thread_at w i) v → AdvancesQuietly moved i w (record w { threads = set w.threads i v })
+again_event w i carried moved v law inside is goes terms s (arises, h) =
     let asked = law (setup_under terms) terms.threads limit.OBJECTS first_world s arises i in
-    let a = whole_quiet terms w s i moved v inside h (again_moves terms i s.rows moved (thread_at w i) v (thread_of s i) turns is (h.threads i) asked goes) in record { can = a.0; shows = a.1 }
+    let a = whole_quiet terms w s i moved v inside h (again_moves terms i s.rows moved (thread_at w i) v (thread_of s i) carried is (h.threads i) asked goes) in record { can = a.0; shows = a.1 }
 
 pub begin_event : (w : Whole) (i : ℕ) (o : Outing) (moved : Bool) (v : Thread) → i < length w.threads → (thread_at w i).phase ≡ phase.ToOutside o → Begins w.door_cost o moved (thread_at w i) v → AdvancesQuietly moved i w (record w { threads = set w.threads i v })
 begin_event w i o moved v inside is begins terms s (arises, h) =
@@ -147,13 +148,13 @@ GrantedPhase p place object = (e : TurnEnd) × (p ≡ phase.Granted place object
 
 pub granted_phase : (p : Phase) (place : ℕ) (object : Option ℕ) → GrantedIn p place object → GrantedPhase p place object
 granted_phase phase.Working place object h = absurd h
-granted_phase (phase.WantsTable call turns) place object h = absurd h
-granted_phase (phase.WantsObject call turns clock n) place object h = absurd h
+granted_phase (phase.WantsTable call carried) place object h = absurd h
+granted_phase (phase.WantsObject call carried clock n) place object h = absurd h
 granted_phase (phase.Granted row n e) place object h = (e, ap₂ (λ (r : ℕ) (o : Option ℕ). phase.Granted r o e) h.0 h.1)
 granted_phase (phase.ToOutside o) place object h = absurd h
 granted_phase (phase.Outside o) place object h = absurd h
 granted_phase (phase.Recorded o) place object h = absurd h
-granted_phase (phase.Blocked turns) place object h = absurd h
+granted_phase (phase.Blocked carried) place object h = absurd h
 granted_phase phase.Ended place object h = absurd h
 
 pub answer_done : LocksOfArisen → RowsOfArisen → (w : Whole) (ts : List declared.Thread) (cs ds : List ThreadClock) (rows_now : List HistoryRow) (i place : ℕ) (object : Option ℕ) (x v : declared.Thread) (own l : DetLock) (told : Option posix.Answer)
@@ -174,17 +175,17 @@ pub item_still : (ts : List declared.Thread) (cs : List ThreadClock) (i : ℕ) (
 item_still ts cs i x v agree inside at live = item_of ts cs i x v cs agree inside at (kept_still i x v cs cs (subst (λ (n : ℕ). i < n) (sym (agree_length ts cs agree)) inside) refl live)
 
 abbrev pub BlockedPhase : Phase → Type 0
-BlockedPhase p = (turns : ℕ) × (p ≡ phase.Blocked turns)
+BlockedPhase p = (carried : Carried) × (p ≡ phase.Blocked carried)
 
 pub blocked_phase : (p : Phase) → BlockedIn p → BlockedPhase p
 blocked_phase phase.Working h = absurd h
-blocked_phase (phase.WantsTable call turns) h = absurd h
-blocked_phase (phase.WantsObject call turns clock n) h = absurd h
+blocked_phase (phase.WantsTable call carried) h = absurd h
+blocked_phase (phase.WantsObject call carried clock n) h = absurd h
 blocked_phase (phase.Granted row n e) h = absurd h
 blocked_phase (phase.ToOutside o) h = absurd h
 blocked_phase (phase.Outside o) h = absurd h
 blocked_phase (phase.Recorded o) h = absurd h
-blocked_phase (phase.Blocked turns) h = (turns, refl)
+blocked_phase (phase.Blocked carried) h = (carried, refl)
 blocked_phase phase.Ended h = absurd h
 
 pub again_done : (w : Whole) (ts : List declared.Thread) (cs : List ThreadClock) (i : ℕ) (x v : declared.Thread) (r : Result Bool AllocError)
@@ -193,14 +194,14 @@ pub again_done : (w : Whole) (ts : List declared.Thread) (cs : List ThreadClock)
 again_done w ts cs i x v r law h is went =
     let z = run_at w ts cs in
     let clock = clock_at cs i in
-    let (turns, at) = (blocked_phase x.phase is) in
+    let (carried, at) = (blocked_phase x.phase is) in
     let P : Bool → Type 0 = λ moved. (n : ℕ) → GoesAgain moved (timed x n) (timed v n) in
     let Q : Bool → Type 0 = λ moved. AdvancesQuietly moved i z (run_at w (set ts i v) cs) in
     IfOk-weaker r P Q (λ moved goes.
     let R : Thread → Type 0 = λ t. GoesAgain moved t (timed v clock) in
     let T : List Thread → Type 0 = λ l. AdvancesQuietly moved i z (record w { threads = l }) in
     subst T (sym (joined-kept ts cs cs i x v h.clocked h.kept))
-    (again_event z i turns moved (timed v clock) law (joined_inside ts cs i h.inside) (item_phase ts cs i x (phase.Blocked turns) h.inside h.item at) (subst R (sym (item_thread ts cs i x h.inside h.item)) (goes clock)))) went
+    (again_event z i carried moved (timed v clock) law (joined_inside ts cs i h.inside) (item_phase ts cs i x (phase.Blocked carried) h.inside h.item at) (subst R (sym (item_thread ts cs i x h.inside h.item)) (goes clock)))) went
 
 pub begin_done : (w : Whole) (ts : List declared.Thread) (cs ds : List ThreadClock) (i : ℕ) (o : Outing) (x v : declared.Thread) (moved : Bool)
     → Item ts cs i x v ds → x.phase ≡ phase.ToOutside o → Begins w.door_cost o moved (timed x (clock_at cs i)) (timed v (clock_at ds i))

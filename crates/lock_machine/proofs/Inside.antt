@@ -50,13 +50,13 @@ lives_in ts i x p inside at is live = ap (λ (t : declared.Thread). is_live t.ph
 
 pub granted_lives : (p : Phase) (place : ℕ) (object : Option ℕ) → GrantedIn p place object → is_live p ≡ true
 granted_lives phase.Working place object h = refl
-granted_lives (phase.WantsTable call turns) place object h = refl
-granted_lives (phase.WantsObject call turns clock n) place object h = refl
+granted_lives (phase.WantsTable call carried) place object h = refl
+granted_lives (phase.WantsObject call carried clock n) place object h = refl
 granted_lives (phase.Granted row n e) place object h = refl
 granted_lives (phase.ToOutside o) place object h = refl
 granted_lives (phase.Outside o) place object h = refl
 granted_lives (phase.Recorded o) place object h = refl
-granted_lives (phase.Blocked turns) place object h = refl
+granted_lives (phase.Blocked carried) place object h = refl
 granted_lives phase.Ended place object h = absurd h
 
 -- an item that was looked at, by what holds of the phase in its place

@@ -41,13 +41,13 @@ agree_parts b c t h = ap (λ (b : Bool). let o : Option ℕ = if b then Some c.c
   where
     by_phase : (p : Phase) (n : ℕ) → (let o : Option ℕ = if is_live p then Some n else None in o) ≡ live_in p n
     by_phase phase.Working n = refl
-    by_phase (phase.WantsTable call turns) n = refl
-    by_phase (phase.WantsObject call turns clock object) n = refl
+    by_phase (phase.WantsTable call carried) n = refl
+    by_phase (phase.WantsObject call carried clock object) n = refl
     by_phase (phase.Granted place object e) n = refl
     by_phase (phase.ToOutside outing) n = refl
     by_phase (phase.Outside outing) n = refl
     by_phase (phase.Recorded outing) n = refl
-    by_phase (phase.Blocked turns) n = refl
+    by_phase (phase.Blocked carried) n = refl
     by_phase phase.Ended n = refl
 
 -- what turns are about is the same

@@ -31,9 +31,9 @@ use Rattle.descriptor_table.specs.declared.plan.Op.TheVariants as op
 use Rattle.posix_terms.specs.Outcomes.{fits, is_kind}
 use Rattle.sequential_object.specs.Locked as posix_locked
 use Rattle.sequential_object.specs.Object as posix_state
-use Rattle.sequential_object.specs.Step.{Stepped, asks, step}
+use Rattle.sequential_object.specs.Step.{Carried, Stepped, asks, step}
 use Rattle.posix_terms.specs.declared.transcript.Settings.{Settings}
-use Rattle.posix_terms.specs.declared.call.Call.{Call}
+use Rattle.posix_terms.specs.Calls.{Call}
 use Rattle.posix_terms.specs.declared.limits.TheConstants.Limits as limit
 use Rattle.posix_terms.specs.declared.outcome.Given.{Given}
 use Rattle.posix_terms.specs.declared.outcome.Outcome.{Outcome}
@@ -361,9 +361,9 @@ module _ (terms : Conditions) (w : Whole) (s : State) (i : ℕ) (o : Outing) (jo
 
   ended_by : (keeps : Bool) (x : TurnEnd) (table : Stored) → o.keeps_table ≡ keeps → EndsTurn keeps terms.settings.patience o job.call g.outcome x w.table table → Ended x table
   ended_by false x table keeps (ends, same) =
-      let patience_is : (settings : Settings) (z : posix_state.State) → settings.patience ≡ terms.settings.patience → as_answer (acts.ended settings z o.turns (acts.outside_ending o.errand numbers.None (Some g.outcome))) ≡ x = ends c.good in
+      let patience_is : (settings : Settings) (z : posix_state.State) → settings.patience ≡ terms.settings.patience → as_answer (acts.ended settings z o.carried (acts.outside_ending o.errand numbers.None (Some g.outcome))) ≡ x = ends c.good in
       let at : as_answer (acts.ended terms.settings job.found.object job.carried (acts.outside_ending o.errand numbers.None (Some g.outcome))) ≡ x =
-      subst (λ (k : ℕ). as_answer (acts.ended terms.settings job.found.object k (acts.outside_ending o.errand numbers.None (Some g.outcome))) ≡ x) (sym c.out.carried) (patience_is terms.settings job.found.object refl) in
+      subst (λ (k : Carried). as_answer (acts.ended terms.settings job.found.object k (acts.outside_ending o.errand numbers.None (Some g.outcome))) ≡ x) (sym c.out.carried) (patience_is terms.settings job.found.object refl) in
       let none : late_change (real_calls terms.settings) job job.outcome o.keeps_table ≡ None = ap (late_change (real_calls terms.settings) job job.outcome) keeps ∙ late_none (real_calls terms.settings) job job.outcome in
       record {
         answer_is = ap as_answer (c.out.ends keeps g.outcome) ∙ at;
@@ -374,10 +374,10 @@ module _ (terms : Conditions) (w : Whole) (s : State) (i : ℕ) (o : Outing) (jo
       let found = c.found keeps in
       let stands : Stands w.table job.found = subst (Stands w.table) (sym found) c.shows.world in
       let keeps_call : posix_locked.keeps_table job.call ≡ true = sym c.out.keeps ∙ keeps in
-      let asked : asks job.found.object job.call o.turns ≡ Some (record { kind = o.errand.kind; asked = o.errand.asked; call = job.call }) = subst (λ (k : ℕ). asks job.found.object job.call k ≡ request_of job.call (op.Ask o.errand)) c.out.carried c.out.asks_is in
+      let asked : asks job.found.object job.call o.carried ≡ Some (record { kind = o.errand.kind; asked = o.errand.asked; call = job.call }) = subst (λ (k : Carried). asks job.found.object job.call k ≡ request_of job.call (op.Ask o.errand)) c.out.carried c.out.asks_is in
       let made = opens terms.settings job.found (record { kind = o.errand.kind; asked = o.errand.asked; call = job.call }) refl stands keeps_call asked c.good in
       let after : late_change (real_calls terms.settings) job job.outcome o.keeps_table ≡ Some (world_with job.found stepped.after) = ap₂ (late_change (real_calls terms.settings) job) c.came keeps in
-      let P : ℕ → Type 0 = λ k. let y = step terms.settings job.found.object job.call (Some g.outcome) k in (answer_in y ≡ x) × Stands table (world_with job.found y.after) in
+      let P : Carried → Type 0 = λ k. let y = step terms.settings job.found.object job.call (Some g.outcome) k in (answer_in y ≡ x) × Stands table (world_with job.found y.after) in
       let both : P job.carried = subst P (sym c.out.carried) made in
       record {
         answer_is = both.0;
@@ -392,7 +392,7 @@ module _ (terms : Conditions) (w : Whole) (s : State) (i : ℕ) (o : Outing) (jo
       → ThreadShows terms i rows (went_on x (record t { clock = t.clock + answer_cost o.keeps_table })) (answered u job.call (u.clock + answer_cost o.keeps_table) x)
   thread_concluded (end.Reply reply) rows room =
       let h = c.shows.threads i in record { clock = ap (λ (k : ℕ). k + answer_cost o.keeps_table) h.clock; in_time = room; asked = h.asked; came = h.came; phase = refl }
-  thread_concluded (end.Blocked turns) rows room =
+  thread_concluded (end.Blocked carried) rows room =
       let h = c.shows.threads i in record { clock = ap (λ (k : ℕ). k + answer_cost o.keeps_table) h.clock; in_time = room; asked = h.asked; came = h.came; phase = (job.call, refl) }
 
   table_after : (keeps : Bool) → o.keeps_table ≡ keeps → lock_after i (Some (u.clock + 1)) s.table ≡ table_freed keeps (t.clock + 1) w.lock

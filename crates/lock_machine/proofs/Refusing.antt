@@ -2,7 +2,7 @@
 use Rattle.std.proofs.Common.{◌≡◌, ◌⊎◌, ℕ, Bool, true, false, ◌&&◌, Option, Some, None, is_some, inl, inr, sym, refl, ap, subst, ⊎_elim}
 use Rattle.std.proofs.lemmas.Bool.{false≢true, true≢false}
 use Rattle.std.specs.Prelude.{Result, Ok, Err, IfErr, OnErr, is_ok, ok_or}
-use Rattle.posix_terms.specs.declared.call.Call.{Call}
+use Rattle.posix_terms.specs.Calls.{Call}
 use Rattle.logical_clocks.specs.TurnOrder.{has_turn}
 use Rattle.lock_machine.specs.Refusals.{Comes, Rests, Tried, WantsNone, phase_at, wants_object, wants_table}
 use Rattle.lock_machine.specs.Shows.{Attempts}
@@ -13,19 +13,20 @@ use Rattle.lock_machine.specs.declared.refused.Refused.TheVariants as refused
 use Rattle.lock_machine.specs.declared.thread.Phase.{Phase}
 use Rattle.lock_machine.specs.declared.thread.Phase.TheVariants as phase
 use Rattle.lock_machine.proofs.AttemptEvents.{Idles, idle_event, no_attempt_event}
+use Rattle.sequential_object.specs.Step.{Carried}
 
 -- ## Phases
 
 abbrev pub IsTable : Phase → Type 0
-IsTable p = (call : Call) × (turns : ℕ) × (p ≡ phase.WantsTable call turns)
+IsTable p = (call : Call) × (carried : Carried) × (p ≡ phase.WantsTable call carried)
 
 pub table_phase : (p : Phase) → wants_table p ≡ true → IsTable p
-table_phase (phase.WantsTable call turns) h = (call, turns, refl)
+table_phase (phase.WantsTable call carried) h = (call, carried, refl)
 table_phase p h = absurd (false≢true h)
 
 idles_by : (p : Phase) → wants_table p ≡ false → wants_object p ≡ false → Idles p
-idles_by (phase.WantsTable call turns) table object = absurd (true≢false table)
-idles_by (phase.WantsObject call turns clock n) table object = absurd (true≢false object)
+idles_by (phase.WantsTable call carried) table object = absurd (true≢false table)
+idles_by (phase.WantsObject call carried clock n) table object = absurd (true≢false object)
 idles_by p table object = tt
 
 -- ## What an event gives

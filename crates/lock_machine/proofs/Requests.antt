@@ -21,7 +21,7 @@ use Rattle.sequential_object.specs.Status.{fstat_result, getfl_result, setfl_res
 use Rattle.sequential_object.specs.Sockets.{pipe_result, socketpair_result, shutdown_result}
 use Rattle.sequential_object.specs.Transfers.{read_result, write_result, pread_result, pwrite_result, lseek_result, ftruncate_result}
 use Rattle.posix_terms.specs.declared.call.Access.{Access}
-use Rattle.posix_terms.specs.declared.call.Call.{Call}
+use Rattle.posix_terms.specs.Calls.{Call}
 use Rattle.posix_terms.specs.declared.call.Call.TheVariants as call
 use Rattle.posix_terms.specs.declared.call.OpenFlags.{OpenFlags}
 use Rattle.posix_terms.specs.declared.call.ShutdownHow.{ShutdownHow}

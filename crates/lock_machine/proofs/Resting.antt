@@ -11,7 +11,8 @@ use Rattle.logical_clocks.specs.ThreadClocks.{clock_at}
 use Rattle.logical_clocks.specs.declared.clocks.ThreadClock.{ThreadClock}
 use Rattle.object_store.specs.Store.{Stored}
 use Rattle.sequential_object.specs.declared.turn_end.TurnEnd.{TurnEnd}
-use Rattle.posix_terms.specs.declared.call.Call.{Call}
+use Rattle.sequential_object.specs.Step.{Carried}
+use Rattle.posix_terms.specs.Calls.{Call}
 use Rattle.posix_terms.specs.declared.outcome.Given.{Given}
 use Rattle.posix_terms.specs.declared.outcome.Outcome.{Outcome}
 use Rattle.posix_terms.specs.declared.reply.Answer as posix
@@ -77,12 +78,12 @@ ask_errs w ts cs ds i t v (Ok moved) h same = tt
 ask_errs w ts cs ds i t v (Err e) h same =
     same_run w ts cs ds i t v h (ap (λ (x : declared.Thread). timed x (clock_at ds i)) same.0 ∙ ap (λ (l : List ThreadClock). timed t (clock_at l i)) same.1)
 
-goes_with_rest : (call : Option Call) (turns : ℕ) (moved : Bool) (old new : Thread) → GoesAgainWith call turns moved old new → moved ≡ false → new ≡ old
-goes_with_rest (Some call) turns moved old new h stays = absurd (true≢false (sym h.0 ∙ stays))
-goes_with_rest None turns moved old new h stays = h.1
+goes_with_rest : (call : Option Call) (carried : Carried) (moved : Bool) (old new : Thread) → GoesAgainWith call carried moved old new → moved ≡ false → new ≡ old
+goes_with_rest (Some call) carried moved old new h stays = absurd (true≢false (sym h.0 ∙ stays))
+goes_with_rest None carried moved old new h stays = h.1
 
 goes_again_rest : (p : Phase) (moved : Bool) (old new : Thread) → GoesAgainIn p moved old new → moved ≡ false → new ≡ old
-goes_again_rest (phase.Blocked turns) moved old new h stays = goes_with_rest (last_call old.asked) turns moved old new h stays
+goes_again_rest (phase.Blocked carried) moved old new h stays = goes_with_rest (last_call old.asked) carried moved old new h stays
 goes_again_rest p moved old new h stays = h.1
 
 pub again_rests : (w : Whole) (ts : List declared.Thread) (cs : List ThreadClock) (i : ℕ) (x v : declared.Thread) (r : Result Bool AllocError) → Item ts cs i x v cs → IfOk r (λ moved. (clock : ℕ) → GoesAgain moved (timed x clock) (timed v clock))
@@ -233,12 +234,12 @@ conclude_rests w ts cs ds i n o x v before own l later rows told h before_is ans
 
 -- ## Attempts
 
-tries_rest_in_time : (room : Bool) (patience : ℕ) (made : Bool) (i : ℕ) (call : Call) (turns : ℕ) (old new : Parts) → TriesInTime patience room made i call turns old new → made ≡ false → new ≡ old
-tries_rest_in_time true patience made i call turns old new h stays = absurd (true≢false (sym h.0 ∙ stays))
-tries_rest_in_time false patience made i call turns old new h stays = h.1
+tries_rest_in_time : (room : Bool) (patience : ℕ) (made : Bool) (i : ℕ) (call : Call) (carried : Carried) (old new : Parts) → TriesInTime patience room made i call carried old new → made ≡ false → new ≡ old
+tries_rest_in_time true patience made i call carried old new h stays = absurd (true≢false (sym h.0 ∙ stays))
+tries_rest_in_time false patience made i call carried old new h stays = h.1
 
 tries_rest : (p : Phase) (patience : ℕ) (made : Bool) (i : ℕ) (old new : Parts) → TriesIn patience p made i old new → made ≡ false → new ≡ old
-tries_rest (phase.WantsTable call turns) patience made i old new h stays = tries_rest_in_time _ patience made i call turns old new h stays
+tries_rest (phase.WantsTable call carried) patience made i old new h stays = tries_rest_in_time _ patience made i call carried old new h stays
 tries_rest p patience made i old new h stays = h.1
 
 pub try_rests : (w : Whole) (ts : List declared.Thread) (cs ds : List ThreadClock) (i : ℕ) (x v : declared.Thread) (l : DetLock) (later : Stored) (rows : List HistoryRow) (r : Result Bool AllocError) → Item ts cs i x v ds
@@ -254,13 +255,13 @@ try_rests w ts cs ds i x v l later rows r h tried =
     ap (λ (us : List Thread). record w { threads = us; lock = l; table = later; rows = rows }) (same_threads ts cs ds i x v h (ap (λ (p : Parts). p.thread) same))
     ∙ ap (λ (p : Parts). record w { threads = joined ts cs; lock = p.lock; table = p.table; rows = p.rows }) same)) tried
 
-reaches_rest_in_time : (room taken : Bool) (patience : ℕ) (made : Bool) (i : ℕ) (turn : Turn) (call : Call) (turns object : ℕ) (lock now : DetLock) (old new : Parts)
-    → ObjectInTime patience room taken made i turn call turns object lock now old new → made ≡ false → (now ≡ lock) × (new ≡ old)
-reaches_rest_in_time true taken patience made i turn call turns object lock now old new h stays = absurd (true≢false (sym h.0 ∙ stays))
-reaches_rest_in_time false taken patience made i turn call turns object lock now old new h stays = (h.1, h.2)
+reaches_rest_in_time : (room taken : Bool) (patience : ℕ) (made : Bool) (i : ℕ) (turn : Turn) (call : Call) (carried : Carried) (object : ℕ) (lock now : DetLock) (old new : Parts)
+    → ObjectInTime patience room taken made i turn call carried object lock now old new → made ≡ false → (now ≡ lock) × (new ≡ old)
+reaches_rest_in_time true taken patience made i turn call carried object lock now old new h stays = absurd (true≢false (sym h.0 ∙ stays))
+reaches_rest_in_time false taken patience made i turn call carried object lock now old new h stays = (h.1, h.2)
 
 reaches_rest : (p : Phase) (patience : ℕ) (made : Bool) (i : ℕ) (lock now : DetLock) (old new : Parts) → ReachesIn patience p made i lock now old new → made ≡ false → (now ≡ lock) × (new ≡ old)
-reaches_rest (phase.WantsObject call turns clock object) patience made i lock now old new h stays = reaches_rest_in_time _ _ patience made i _ call turns object lock now old new h stays
+reaches_rest (phase.WantsObject call carried clock object) patience made i lock now old new h stays = reaches_rest_in_time _ _ patience made i _ call carried object lock now old new h stays
 reaches_rest p patience made i lock now old new h stays = (h.1, h.2)
 
 pub reach_rests : (w : Whole) (ts : List declared.Thread) (cs ds : List ThreadClock) (i n : ℕ) (x v : declared.Thread) (l before own : DetLock) (later : Stored) (rows : List HistoryRow) (r : Result Bool AllocError) → Item ts cs i x v ds

@@ -14,13 +14,13 @@ use Rattle.lock_machine.specs.declared.thread.Thread.{Thread}
 
 pub one_due : (p : Phase) → rows_due p ≤ 1
 one_due phase.Working = omega arith
-one_due (phase.WantsTable call turns) = omega arith
-one_due (phase.WantsObject call turns clock object) = omega arith
+one_due (phase.WantsTable call carried) = omega arith
+one_due (phase.WantsObject call carried clock object) = omega arith
 one_due (phase.Granted place object e) = omega arith
 one_due (phase.ToOutside o) = omega arith
 one_due (phase.Outside o) = omega arith
 one_due (phase.Recorded o) = omega arith
-one_due (phase.Blocked turns) = omega arith
+one_due (phase.Blocked carried) = omega arith
 one_due phase.Ended = omega arith
 
 -- room for a row of each thread is enough

@@ -35,14 +35,14 @@ out_rows terms k rows more o job keeps g =
 
 phase_rows : (terms : Conditions) (k : ℕ) (rows more : List Row) (t : Thread) (u : lock.Thread) (p : Phase) → KeepsRows k rows more → PhaseShows terms k rows t u p → PhaseShows terms k more t u p
 phase_rows terms k rows more t u phase.Working keeps h = h
-phase_rows terms k rows more t u (phase.WantsTable call turns) keeps h = h
-phase_rows terms k rows more t u (phase.WantsObject call turns clock object) keeps h = h
+phase_rows terms k rows more t u (phase.WantsTable call carried) keeps h = h
+phase_rows terms k rows more t u (phase.WantsObject call carried clock object) keeps h = h
 phase_rows terms k rows more t u (phase.Granted place object e) keeps (job, h) =
     let g : IsGranted terms k rows place object e job = h.1 in (job, (h.0, record { plan = g.plan; in_range = g.in_range; thread = g.thread; answers = g.answers; row = keeps place job g.thread g.row }))
 phase_rows terms k rows more t u (phase.ToOutside o) keeps (job, h) = (job, (h.0, out_rows terms k rows more o job keeps h.1))
 phase_rows terms k rows more t u (phase.Outside o) keeps (job, h) = (job, (h.0, out_rows terms k rows more o job keeps h.1, h.2))
 phase_rows terms k rows more t u (phase.Recorded o) keeps (job, h) = (job, (h.0, out_rows terms k rows more o job keeps h.1))
-phase_rows terms k rows more t u (phase.Blocked turns) keeps h = h
+phase_rows terms k rows more t u (phase.Blocked carried) keeps h = h
 phase_rows terms k rows more t u phase.Ended keeps h = h
 
 pub thread_rows : (terms : Conditions) (k : ℕ) (rows more : List Row) (t : Thread) (u : lock.Thread) → KeepsRows k rows more → ThreadShows terms k rows t u → ThreadShows terms k more t u

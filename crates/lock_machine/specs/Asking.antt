@@ -1,8 +1,8 @@
 -- Internal: no contract of the headline or of a command stands on it.
 -- What a thread's next step makes of it, and what comes of a blocked call.
 use Rattle.std.specs.Prelude.{◌≡◌, ℕ, ◌+◌, ◌<◌, ◌≤◌, ◌^◌, [], ◌∷◌, ◌++◌, Option, Some, None, Bool, true, false}
-use Rattle.sequential_object.specs.Step.{nothing_carried}
-use Rattle.posix_terms.specs.declared.call.Call.{Call}
+use Rattle.sequential_object.specs.Step.{Carried, nothing_carried}
+use Rattle.posix_terms.specs.Calls.{Call}
 use Rattle.posix_terms.specs.declared.step.Step.{Step}
 use Rattle.posix_terms.specs.declared.step.Step.TheVariants as step
 use Rattle.lock_model.specs.Held.{has_end, last_call}
@@ -44,12 +44,12 @@ HasTime (step.Call call) t = Unit {0}
 HasTime step.End t = Unit {0}
 
 -- a blocked call, which is the one that was asked last, wants the table again
-abbrev pub GoesAgainWith : Option Call → ℕ → Bool → Thread → Thread → Type 0
-GoesAgainWith (Some call) turns moved old new = (moved ≡ true) × (new ≡ record old { phase = phase.WantsTable call turns })
-GoesAgainWith None turns moved old new = (moved ≡ false) × (new ≡ old)
+abbrev pub GoesAgainWith : Option Call → Carried → Bool → Thread → Thread → Type 0
+GoesAgainWith (Some call) carried moved old new = (moved ≡ true) × (new ≡ record old { phase = phase.WantsTable call carried })
+GoesAgainWith None carried moved old new = (moved ≡ false) × (new ≡ old)
 
 abbrev pub GoesAgainIn : Phase → Bool → Thread → Thread → Type 0
-GoesAgainIn (phase.Blocked turns) moved old new = GoesAgainWith (last_call old.asked) turns moved old new
+GoesAgainIn (phase.Blocked carried) moved old new = GoesAgainWith (last_call old.asked) carried moved old new
 GoesAgainIn p moved old new = (moved ≡ false) × (new ≡ old)
 
 abbrev pub GoesAgain : Bool → Thread → Thread → Type 0

@@ -2,7 +2,7 @@
 -- What the events of a thread make of it and of what it shares.
 use Rattle.std.specs.Prelude.{◌≡◌, ℕ, ◌+◌, ◌<◌, ◌^◌, List, [], ◌∷◌, ◌++◌, length, Option, Some, None, Bool, true, false, ◌&&◌, nat_le, slice_get, slice_set}
 use Rattle.sequential_object.specs.Locked.{keeps_table}
-use Rattle.posix_terms.specs.declared.call.Call.{Call}
+use Rattle.posix_terms.specs.Calls.{Call}
 use Rattle.posix_terms.specs.declared.reply.Answer as posix
 use Rattle.posix_terms.specs.declared.limits.TheConstants.Limits as limit
 use Rattle.posix_terms.specs.declared.transcript.HistoryRow.{HistoryRow}
@@ -14,6 +14,7 @@ use Rattle.lock_machine.specs.Held.{end_held, turn_started, phase_behind, told_a
 use Rattle.object_store.specs.Store.{Makes, Stored, number_locked}
 use Rattle.lock_machine.specs.Threads.{Thread}
 use Rattle.sequential_object.specs.declared.turn_end.TurnEnd.{TurnEnd}
+use Rattle.sequential_object.specs.Step.{Carried}
 use Rattle.object_store.specs.declared.patience.TurnStart.{TurnStart}
 use Rattle.lock_machine.specs.declared.thread.Phase.{Phase}
 use Rattle.lock_machine.specs.declared.thread.Phase.TheVariants as phase
@@ -65,32 +66,32 @@ Answers told i row old new = AnswersIn (is_number old.lock.holder i && in_time o
 abbrev pub granted_row : Turn → Call → HistoryRow
 granted_row turn call = record { call = call; turn = turn; outcome = None; answer = None }
 
--- a turn of a call that was blocked for so many turns is made: how it ended waits for the answer, or it goes outside
-pub record Grants (patience : ℕ) (turn : Turn) (call : Call) (turns : ℕ) (object : Option ℕ) (old new : Parts) : Type 0 where
+-- a turn of a call that carries this is made: how it ended waits for the answer, or it goes outside
+pub record Grants (patience : ℕ) (turn : Turn) (call : Call) (carried : Carried) (object : Option ℕ) (old new : Parts) : Type 0 where
   pub start : TurnStart
-  pub makes : Makes patience turns old.table call start new.table
-  pub thread : new.thread ≡ turn_started (length old.rows) object call turns start old.thread
+  pub makes : Makes patience carried old.table call start new.table
+  pub thread : new.thread ≡ turn_started (length old.rows) object call carried start old.thread
   pub lock : new.lock ≡ old.lock
   pub rows : new.rows ≡ old.rows ++ granted_row turn call ∷ []
 
 -- ## `try_table`, with the lock of the table
 
 -- the call takes the lock of the object with this number, or of none
-abbrev pub PlansTo : ℕ → Option ℕ → Turn → Call → ℕ → Parts → Parts → Type 0
-PlansTo patience None turn call turns old new = Grants patience turn call turns None old new
-PlansTo patience (Some object) turn call turns old new =
-    (object < limit.OBJECTS) × (new ≡ record old { thread = record old.thread { phase = phase.WantsObject call turns turn.clock object } })
+abbrev pub PlansTo : ℕ → Option ℕ → Turn → Call → Carried → Parts → Parts → Type 0
+PlansTo patience None turn call carried old new = Grants patience turn call carried None old new
+PlansTo patience (Some object) turn call carried old new =
+    (object < limit.OBJECTS) × (new ≡ record old { thread = record old.thread { phase = phase.WantsObject call carried turn.clock object } })
 
-abbrev pub TriesLock : ℕ → Bool → ℕ → Call → ℕ → Parts → Parts → Type 0
-TriesLock patience true i call turns old new = PlansTo patience (number_locked old.table call) (record { clock = old.thread.clock; thread = i }) call turns (record (later old 1) { lock = held i old.lock }) new
-TriesLock patience false i call turns old new = new ≡ later old 1
+abbrev pub TriesLock : ℕ → Bool → ℕ → Call → Carried → Parts → Parts → Type 0
+TriesLock patience true i call carried old new = PlansTo patience (number_locked old.table call carried) (record { clock = old.thread.clock; thread = i }) call carried (record (later old 1) { lock = held i old.lock }) new
+TriesLock patience false i call carried old new = new ≡ later old 1
 
-abbrev pub TriesInTime : ℕ → Bool → Bool → ℕ → Call → ℕ → Parts → Parts → Type 0
-TriesInTime patience true made i call turns old new = (made ≡ true) × TriesLock patience (takes old.lock old.thread.clock) i call turns old new
-TriesInTime patience false made i call turns old new = (made ≡ false) × (new ≡ old)
+abbrev pub TriesInTime : ℕ → Bool → Bool → ℕ → Call → Carried → Parts → Parts → Type 0
+TriesInTime patience true made i call carried old new = (made ≡ true) × TriesLock patience (takes old.lock old.thread.clock) i call carried old new
+TriesInTime patience false made i call carried old new = (made ≡ false) × (new ≡ old)
 
 abbrev pub TriesIn : ℕ → Phase → Bool → ℕ → Parts → Parts → Type 0
-TriesIn patience (phase.WantsTable call turns) made i old new = TriesInTime patience (in_time old 1) made i call turns old new
+TriesIn patience (phase.WantsTable call carried) made i old new = TriesInTime patience (in_time old 1) made i call carried old new
 TriesIn patience p made i old new = (made ≡ false) × (new ≡ old)
 
 abbrev pub Tries : ℕ → Bool → ℕ → Parts → Parts → Type 0
@@ -109,7 +110,7 @@ object_taken false i object = None
 
 -- whether the call that wants an object keeps the table to its answer
 abbrev pub wants_to_keep : Phase → Bool
-wants_to_keep (phase.WantsObject call turns clock object) = keeps_table call
+wants_to_keep (phase.WantsObject call carried clock object) = keeps_table call
 wants_to_keep p = false
 
 -- an attempt costs 1, and freeing the table 1 more
@@ -125,20 +126,20 @@ object_reached false old = record (later old 2) { lock = freed (old.thread.clock
 
 -- a call that wants an object is granted with it
 abbrev pub GrantsObject : ℕ → Phase → ℕ → Parts → Parts → Type 0
-GrantsObject patience (phase.WantsObject call turns clock object) i old new = Grants patience (record { clock = clock; thread = i }) call turns (Some object) old new
+GrantsObject patience (phase.WantsObject call carried clock object) i old new = Grants patience (record { clock = clock; thread = i }) call carried (Some object) old new
 GrantsObject patience p i old new = new ≡ old
 
-abbrev pub TriesObject : ℕ → Bool → ℕ → Turn → Call → ℕ → ℕ → DetLock → DetLock → Parts → Parts → Type 0
-TriesObject patience true i turn call turns object lock now old new = (now ≡ held i lock) × Grants patience turn call turns (Some object) (object_reached (keeps_table call) old) new
-TriesObject patience false i turn call turns object lock now old new = (now ≡ lock) × (new ≡ later old 1)
+abbrev pub TriesObject : ℕ → Bool → ℕ → Turn → Call → Carried → ℕ → DetLock → DetLock → Parts → Parts → Type 0
+TriesObject patience true i turn call carried object lock now old new = (now ≡ held i lock) × Grants patience turn call carried (Some object) (object_reached (keeps_table call) old) new
+TriesObject patience false i turn call carried object lock now old new = (now ≡ lock) × (new ≡ later old 1)
 
-abbrev pub ObjectInTime : ℕ → Bool → Bool → Bool → ℕ → Turn → Call → ℕ → ℕ → DetLock → DetLock → Parts → Parts → Type 0
-ObjectInTime patience true takes made i turn call turns object lock now old new = (made ≡ true) × TriesObject patience takes i turn call turns object lock now old new
-ObjectInTime patience false takes made i turn call turns object lock now old new = (made ≡ false) × (now ≡ lock) × (new ≡ old)
+abbrev pub ObjectInTime : ℕ → Bool → Bool → Bool → ℕ → Turn → Call → Carried → ℕ → DetLock → DetLock → Parts → Parts → Type 0
+ObjectInTime patience true takes made i turn call carried object lock now old new = (made ≡ true) × TriesObject patience takes i turn call carried object lock now old new
+ObjectInTime patience false takes made i turn call carried object lock now old new = (made ≡ false) × (now ≡ lock) × (new ≡ old)
 
 abbrev pub ReachesIn : ℕ → Phase → Bool → ℕ → DetLock → DetLock → Parts → Parts → Type 0
-ReachesIn patience (phase.WantsObject call turns clock object) made i lock now old new =
-    let taken = takes_object i lock old in ObjectInTime patience (in_time old (object_cost taken (keeps_table call))) taken made i (record { clock = clock; thread = i }) call turns object lock now old new
+ReachesIn patience (phase.WantsObject call carried clock object) made i lock now old new =
+    let taken = takes_object i lock old in ObjectInTime patience (in_time old (object_cost taken (keeps_table call))) taken made i (record { clock = clock; thread = i }) call carried object lock now old new
 ReachesIn patience p made i lock now old new = (made ≡ false) × (now ≡ lock) × (new ≡ old)
 
 abbrev pub Reaches : ℕ → Bool → ℕ → DetLock → DetLock → Parts → Parts → Type 0

@@ -10,7 +10,7 @@ use Rattle.object_store.specs.Patience.{EndsOutside}
 use Rattle.object_store.specs.Store.{Opens, Stored}
 use Rattle.sequential_object.specs.declared.turn_end.TurnEnd.{TurnEnd}
 use Rattle.posix_terms.specs.Outcomes.{fits, is_kind}
-use Rattle.posix_terms.specs.declared.call.Call.{Call}
+use Rattle.posix_terms.specs.Calls.{Call}
 use Rattle.posix_terms.specs.declared.limits.TheConstants.Limits as limit
 use Rattle.posix_terms.specs.declared.outcome.Given.{Given}
 use Rattle.posix_terms.specs.declared.outcome.Outcome.{Outcome}
@@ -91,8 +91,8 @@ outside_parts thread object lock table rows = record { thread = thread; object =
 
 -- the turn ended so. Where it kept the table its change is made now
 abbrev pub EndsTurn : Bool → ℕ → Outing → Call → Outcome → TurnEnd → Stored → Stored → Type 0
-EndsTurn true patience o c x e old new = Opens patience o.turns old c x e new
-EndsTurn false patience o c x e old new = (fits o.errand.kind o.errand.asked x ≡ true → EndsOutside patience o.turns o.errand numbers.None x e) × (new ≡ old)
+EndsTurn true patience o c x e old new = Opens patience o.carried old c x e new
+EndsTurn false patience o c x e old new = (fits o.errand.kind o.errand.asked x ≡ true → EndsOutside patience o.carried o.errand numbers.None x e) × (new ≡ old)
 
 abbrev pub table_freed : Bool → ℕ → DetLock → DetLock
 table_freed true clock lock = freed clock

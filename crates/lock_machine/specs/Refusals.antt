@@ -29,12 +29,12 @@ works p = false
 
 -- `try_table`
 abbrev pub wants_table : Phase → Bool
-wants_table (phase.WantsTable call turns) = true
+wants_table (phase.WantsTable call carried) = true
 wants_table p = false
 
 -- `try_node`
 abbrev pub wants_object : Phase → Bool
-wants_object (phase.WantsObject call turns clock object) = true
+wants_object (phase.WantsObject call carried clock object) = true
 wants_object p = false
 
 -- `attempt`
@@ -59,7 +59,7 @@ has_answer p = false
 
 -- `again`
 abbrev pub is_blocked : Phase → Bool
-is_blocked (phase.Blocked turns) = true
+is_blocked (phase.Blocked carried) = true
 is_blocked p = false
 
 -- a thread that works asks for its end by an event of its own

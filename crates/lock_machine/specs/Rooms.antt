@@ -9,8 +9,8 @@ use Rattle.lock_machine.specs.declared.thread.Phase.TheVariants as phase
 
 -- so many bytes the reply brings that is told, at most
 abbrev pub told_needed : Phase → ℕ
-told_needed (phase.WantsTable call turns) = read_count call
-told_needed (phase.WantsObject call turns clock object) = read_count call
+told_needed (phase.WantsTable call carried) = read_count call
+told_needed (phase.WantsObject call carried clock object) = read_count call
 told_needed (phase.ToOutside o) = bytes_asked o.errand
 told_needed (phase.Outside o) = bytes_asked o.errand
 told_needed (phase.Recorded o) = bytes_asked o.errand
@@ -18,8 +18,8 @@ told_needed p = 0
 
 -- and its copy in the row, where there is room for so many in what is told
 abbrev pub row_needed : Phase → ℕ → ℕ
-row_needed (phase.WantsTable call turns) told = told
-row_needed (phase.WantsObject call turns clock object) told = told
+row_needed (phase.WantsTable call carried) told = told
+row_needed (phase.WantsObject call carried clock object) told = told
 row_needed (phase.Granted row object e) told = turn_bytes e
 row_needed (phase.ToOutside o) told = told
 row_needed (phase.Outside o) told = told

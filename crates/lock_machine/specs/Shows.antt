@@ -7,7 +7,7 @@ use Rattle.descriptor_table.specs.declared.plan.NewNumbers.TheVariants as number
 use Rattle.descriptor_table.specs.declared.plan.Op.TheVariants as op
 use Rattle.sequential_object.specs.Locked.{keeps_table}
 use Rattle.sequential_object.specs.Step.{asks, step}
-use Rattle.posix_terms.specs.declared.call.Call.{Call}
+use Rattle.posix_terms.specs.Calls.{Call}
 use Rattle.posix_terms.specs.declared.outcome.Given.{Given}
 use Rattle.posix_terms.specs.declared.outcome.Outcome.{Outcome}
 use Rattle.posix_terms.specs.declared.limits.TheConstants.Limits as limit
@@ -58,7 +58,7 @@ pub record IsOut (terms : Conditions) (i : ℕ) (rows : List Row) (o : Outing) (
   pub in_range : object < limit.OBJECTS
   pub plan : job.plan ≡ Object object (way_of true o.keeps_table)
   pub thread : job.turn.thread ≡ i
-  pub carried : job.carried ≡ o.turns
+  pub carried : job.carried ≡ o.carried
   pub asks_is : asks job.found.object job.call job.carried ≡ request_of job.call (op.Ask o.errand)
   pub door : o.errand.door ≡ numbered job.found (door_taken job.found.object job.call job.carried)
   pub waits : o.errand.waits ≡ waits_outside job.found.object job.call job.carried
@@ -70,13 +70,13 @@ pub record IsOut (terms : Conditions) (i : ℕ) (rows : List Row) (o : Outing) (
 
 abbrev pub PhaseShows : Conditions → ℕ → List Row → Thread → lock.Thread → Phase → Type 0
 PhaseShows terms i rows t u phase.Working = u.phase ≡ Working
-PhaseShows terms i rows t u (phase.WantsTable call turns) = u.phase ≡ WantsTable call turns
-PhaseShows terms i rows t u (phase.WantsObject call turns clock object) = (way : Way) × ((u.phase ≡ WantsObject call turns clock object way) × (object < limit.OBJECTS))
+PhaseShows terms i rows t u (phase.WantsTable call carried) = u.phase ≡ WantsTable call carried
+PhaseShows terms i rows t u (phase.WantsObject call carried clock object) = (way : Way) × ((u.phase ≡ WantsObject call carried clock object way) × (object < limit.OBJECTS))
 PhaseShows terms i rows t u (phase.Granted place object ends) = (job : Job) × ((u.phase ≡ Granted job) × IsGranted terms i rows place object ends job)
 PhaseShows terms i rows t u (phase.ToOutside o) = (job : Job) × ((u.phase ≡ ToOutside job) × IsOut terms i rows o job)
 PhaseShows terms i rows t u (phase.Outside o) = (job : Job) × ((u.phase ≡ Outside job) × IsOut terms i rows o job × (t.came < limit.OUTCOMES))
 PhaseShows terms i rows t u (phase.Recorded o) = (job : Job) × ((u.phase ≡ Recorded job) × IsOut terms i rows o job)
-PhaseShows terms i rows t u (phase.Blocked turns) = (call : Call) × (u.phase ≡ Blocked call turns)
+PhaseShows terms i rows t u (phase.Blocked carried) = (call : Call) × (u.phase ≡ Blocked call carried)
 PhaseShows terms i rows t u phase.Ended = u.phase ≡ Ended
 
 pub record ThreadShows (terms : Conditions) (i : ℕ) (rows : List Row) (t : Thread) (u : lock.Thread) : Type 0 where
@@ -118,7 +118,7 @@ abbrev pub IsGrantedAt : Whole → ℕ → ℕ → Option ℕ → Type 0
 IsGrantedAt w i row object = GrantedIn (thread_at w i).phase row object
 
 abbrev pub BlockedIn : Phase → Type 0
-BlockedIn (phase.Blocked turns) = Unit {0}
+BlockedIn (phase.Blocked carried) = Unit {0}
 BlockedIn p = ⊥
 
 -- thread i is in a call that is blocked
@@ -126,7 +126,7 @@ abbrev pub IsBlockedAt : Whole → ℕ → Type 0
 IsBlockedAt w i = BlockedIn (thread_at w i).phase
 
 abbrev pub WantsIn : Phase → ℕ → Type 0
-WantsIn (phase.WantsObject call turns clock object) other = object ≡ other
+WantsIn (phase.WantsObject call carried clock object) other = object ≡ other
 WantsIn p other = ⊥
 
 -- thread i wants this object

@@ -13,8 +13,8 @@ use Rattle.lock_machine.specs.declared.thread.Thread.{Thread}
 
 -- how many rows a thread gets before its call has its lock
 abbrev pub rows_due : Phase → ℕ
-rows_due (phase.WantsTable call turns) = 1
-rows_due (phase.WantsObject call turns clock object) = 1
+rows_due (phase.WantsTable call carried) = 1
+rows_due (phase.WantsObject call carried clock object) = 1
 rows_due p = 0
 
 -- how many threads wait for a lock

@@ -9,7 +9,7 @@ ghost use Rattle.lock_machine.specs.Waiting.{HasRoom, KeepsRoom, is_call, rows_d
 use crate::growth::make_room;
 use crate::thread::{Phase, Thread};
 use logical_clocks::Clocks;
-use posix_terms::{Call, HistoryRow, Limits, Step};
+use posix_terms::{Call, Carried, HistoryRow, Limits, Step};
 use std::alloc::AllocError;
 
 impl Thread {
@@ -55,7 +55,10 @@ impl Thread {
         let room = self.room.for_call(&call)?;
         self.asked.push(Step::Call(call.try_clone()?))?;
         self.room.change(room);
-        self.phase = Phase::WantsTable { call, turns: 0 };
+        self.phase = Phase::WantsTable {
+            call,
+            carried: Carried { turns: 0 },
+        };
         Ok(true)
     }
 
@@ -82,7 +85,7 @@ impl Thread {
         ensures err { OnErr result (self.new ≡ self.old) }
         ensures live { is_live self.old.phase ≡ is_live self.new.phase }
     {
-        let Phase::Blocked { turns } = self.phase else {
+        let Phase::Blocked { carried } = self.phase else {
             return Ok(false);
         };
         let Some(call) = last_call(self.asked.as_slice())? else {
@@ -90,7 +93,7 @@ impl Thread {
         };
         let other = self.room.for_call(&call)?;
         self.room.change(other);
-        self.phase = Phase::WantsTable { call, turns };
+        self.phase = Phase::WantsTable { call, carried };
         Ok(true)
     }
 }

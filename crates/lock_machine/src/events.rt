@@ -19,7 +19,7 @@ use crate::thread::{Outing, Phase, Thread};
 use det_mutex::DetLock;
 use logical_clocks::Clocks;
 use object_store::{AtTable, Room, TurnEnd, TurnStart};
-use posix_terms::{Answer, Call, HistoryRow, Turn};
+use posix_terms::{Answer, Call, Carried, HistoryRow, Turn};
 use std::mem;
 
 // `answer`: the call of thread i, which has this row, has its reply, or is to be made again where it was blocked; this is
@@ -56,7 +56,7 @@ pub fn answer(
     row.answer = Some(answer_copied(ends, &mut thread.room));
     lock.free(i, clock);
     let behind = phase_behind(ends);
-    let ends = mem::replace(ends, TurnEnd::Blocked(0));
+    let ends = mem::replace(ends, TurnEnd::Blocked(Carried { turns: 0 }));
     thread.phase = behind;
     Some(told_as(ends))
 }
@@ -80,7 +80,7 @@ pub fn phase_behind(end: &TurnEnd) -> Phase
 {
     match end {
         TurnEnd::Reply(_) => Phase::Working,
-        TurnEnd::Blocked(turns) => Phase::Blocked { turns: *turns },
+        TurnEnd::Blocked(carried) => Phase::Blocked { carried: *carried },
     }
 }
 
@@ -123,17 +123,17 @@ pub fn try_table(
     ensures room { KeepsRoom (rows_due thread.old.phase) shared.old.rows (rows_due thread.new.phase) shared.new.rows }
 {
     match mem::replace(&mut thread.phase, Phase::Working) {
-        Phase::WantsTable { call, turns } => {
+        Phase::WantsTable { call, carried } => {
             let clock = clocks.clock(i);
             if clocks.add(i, 1).is_err() {
-                thread.phase = Phase::WantsTable { call, turns };
+                thread.phase = Phase::WantsTable { call, carried };
                 return false;
             }
             if shared.lock.attempt(i, clock) {
                 let turn = Turn { clock, thread: i };
-                plan(patience, turn, call, turns, thread, shared);
+                plan(patience, turn, call, carried, thread, shared);
             } else {
-                thread.phase = Phase::WantsTable { call, turns };
+                thread.phase = Phase::WantsTable { call, carried };
             }
             true
         }
@@ -145,16 +145,23 @@ pub fn try_table(
 }
 
 // What a call takes beside the table: the lock of an object, or it is granted.
-fn plan(patience: u32, turn: Turn, call: Call, turns: u32, thread: &mut Thread, shared: &mut Shared)
+fn plan(
+    patience: u32,
+    turn: Turn,
+    call: Call,
+    carried: Carried,
+    thread: &mut Thread,
+    shared: &mut Shared,
+)
     requires born { BornWithin (2 ^ 126) shared.old.store }
     requires row { HasRoom 1 shared.old.rows }
     requires room { HasSpaceFor call thread.old.room }
-    ensures event { (clock : ℕ) → PlansTo patience (number_locked shared.old.store call) turn call turns (parts (timed thread.old clock) shared.old.lock shared.old.store shared.old.rows.items) (parts (timed thread.new clock) shared.new.lock shared.new.store shared.new.rows.items) }
+    ensures event { (clock : ℕ) → PlansTo patience (number_locked shared.old.store call carried) turn call carried (parts (timed thread.old clock) shared.old.lock shared.old.store shared.old.rows.items) (parts (timed thread.new clock) shared.new.lock shared.new.store shared.new.rows.items) }
     ensures live { is_live thread.old.phase ≡ true → is_live thread.new.phase ≡ true }
     ensures births { BearsInTime 0 shared.old.store 1 shared.new.store }
     ensures room { KeepsRoom 1 shared.old.rows (rows_due thread.new.phase) shared.new.rows }
 {
-    match shared.store.settle_or_lock(&call) {
+    match shared.store.settle_or_lock(&call, carried) {
         AtTable::Answers(reply) => {
             let row = shared.rows.len();
             shared.rows.push_reserved(granted_row(turn, call));
@@ -167,7 +174,7 @@ fn plan(patience: u32, turn: Turn, call: Call, turns: u32, thread: &mut Thread, 
         AtTable::Locks(object) => {
             thread.phase = Phase::WantsObject {
                 call,
-                turns,
+                carried,
                 clock: turn.clock,
                 object,
             };
@@ -237,14 +244,14 @@ fn grant_object(patience: u32, i: usize, thread: &mut Thread, shared: &mut Share
     match mem::replace(&mut thread.phase, Phase::Working) {
         Phase::WantsObject {
             call,
-            turns,
+            carried,
             clock,
             object,
         } => grant(
             patience,
             Turn { clock, thread: i },
             call,
-            turns,
+            carried,
             Some(object),
             thread,
             shared,
@@ -266,12 +273,12 @@ fn taken_object(table: DetLock, object: DetLock, i: usize, clock: u64) -> Option
     }
 }
 
-// A call that was blocked for so many turns gets its turn and a row of the history, and is made.
+// A call that carries this gets its turn and a row of the history, and is made.
 fn grant(
     patience: u32,
     turn: Turn,
     call: Call,
-    turns: u32,
+    carried: Carried,
     object: Option<usize>,
     thread: &mut Thread,
     shared: &mut Shared,
@@ -279,31 +286,33 @@ fn grant(
     requires born { BornWithin (2 ^ 126) shared.old.store }
     requires row { HasRoom 1 shared.old.rows }
     requires room { HasSpaceFor call thread.old.room }
-    ensures event { (clock : ℕ) → Grants patience turn call turns object (parts (timed thread.old clock) shared.old.lock shared.old.store shared.old.rows.items) (parts (timed thread.new clock) shared.new.lock shared.new.store shared.new.rows.items) }
+    ensures event { (clock : ℕ) → Grants patience turn call carried object (parts (timed thread.old clock) shared.old.lock shared.old.store shared.old.rows.items) (parts (timed thread.new clock) shared.new.lock shared.new.store shared.new.rows.items) }
     ensures live { is_live thread.old.phase ≡ true → is_live thread.new.phase ≡ true }
     ensures births { BearsInTime 0 shared.old.store 1 shared.new.store }
     ensures room { KeepsRoom 1 shared.old.rows (rows_due thread.new.phase) shared.new.rows }
 {
-    let start = thread.room.make(&mut shared.store, &call, patience, turns);
-    thread.phase = seat(turn, call, turns, object, start, &mut shared.rows);
+    let start = thread
+        .room
+        .make(&mut shared.store, &call, patience, carried);
+    thread.phase = seat(turn, call, carried, object, start, &mut shared.rows);
 }
 
 // A call whose turn started so gets a row of the history; this is the phase of its thread then.
 fn seat(
     turn: Turn,
     call: Call,
-    turns: u32,
+    carried: Carried,
     object: Option<usize>,
     start: TurnStart,
     history: &mut Vec<HistoryRow>,
 ) -> Phase
     requires row { HasRoom 1 history.old }
-    ensures phase { result ≡ phase_started (length history.old.items) object call turns start }
+    ensures phase { result ≡ phase_started (length history.old.items) object call carried start }
     ensures row { history.new.items ≡ history.old.items ++ granted_row turn call ∷ [] }
     ensures live { is_live result ≡ true }
     ensures room { KeepsRoom 1 history.old (rows_due result) history.new }
 {
-    let phase = started(history.len(), object, turns, &call, start);
+    let phase = started(history.len(), object, carried, &call, start);
     history.push_reserved(granted_row(turn, call));
     phase
 }
@@ -321,8 +330,14 @@ fn granted_row(turn: Turn, call: Call) -> HistoryRow
 }
 
 // The phase of a thread whose turn started so, which has this row.
-fn started(row: usize, object: Option<usize>, turns: u32, call: &Call, start: TurnStart) -> Phase
-    ensures phase { result ≡ phase_started row object call.now turns start }
+fn started(
+    row: usize,
+    object: Option<usize>,
+    carried: Carried,
+    call: &Call,
+    start: TurnStart,
+) -> Phase
+    ensures phase { result ≡ phase_started row object call.now carried start }
     ensures live { is_live result ≡ true }
     ensures due { rows_due result ≡ 0 }
 {
@@ -331,7 +346,7 @@ fn started(row: usize, object: Option<usize>, turns: u32, call: &Call, start: Tu
         TurnStart::GoesOut(errand) => Phase::ToOutside(Outing {
             row,
             object,
-            turns,
+            carried,
             errand,
             keeps_table: keeps_table(call),
         }),

@@ -208,7 +208,7 @@ fn end_turn(
     ensures births { BearsInTime 0 store.old 1 store.new }
 {
     if !outing.keeps_table {
-        return room.end_outside(outing.errand, outcome, patience, outing.turns);
+        return room.end_outside(outing.errand, outcome, patience, outing.carried);
     }
-    store.open_door(call, outcome, patience, outing.turns)
+    store.open_door(call, outcome, patience, outing.carried)
 }

@@ -4,15 +4,15 @@ ghost use Rattle.lock_machine.specs.Rooms.{HasSpace};
 use crate::steps::Steps;
 use descriptor_table::Errand;
 use object_store::{Room, TurnEnd};
-use posix_terms::Call;
+use posix_terms::{Call, Carried};
 
-/// A call that goes outside: the row of the history that it has, the object whose lock it holds, for how many turns it
-/// was blocked before, what it asks, and whether it keeps the table to its answer.
+/// A call that goes outside: the row of the history that it has, the object whose lock it holds, what it carries from
+/// its blocked turns, what it asks, and whether it keeps the table to its answer.
 #[derive(Clone, Copy)]
 pub struct Outing {
     pub row: usize,
     pub object: Option<usize>,
-    pub turns: u32,
+    pub carried: Carried,
     pub errand: Errand,
     pub keeps_table: bool,
 }
@@ -21,15 +21,15 @@ pub struct Outing {
 #[derive(Drop)]
 pub enum Phase {
     Working,
-    /// wants the table, for a call that was blocked for so many turns
+    /// wants the table, for a call that carries this
     WantsTable {
         call: Call,
-        turns: u32,
+        carried: Carried,
     },
     /// holds the table, which it took at this clock, and wants the lock of the object with this number
     WantsObject {
         call: Call,
-        turns: u32,
+        carried: Carried,
         clock: u64,
         object: usize,
     },
@@ -46,9 +46,9 @@ pub enum Phase {
     Outside(Outing),
     /// its outcome came and stands in the log
     Recorded(Outing),
-    /// in a call that was blocked for so many turns, which it makes again: the one that it asked last
+    /// in a call that is blocked and carries this, which it makes again: the one that it asked last
     Blocked {
-        turns: u32,
+        carried: Carried,
     },
     Ended,
 }

@@ -9,7 +9,7 @@ use Rattle.lock_model.specs.Machine.{Moved, Setup, advance, after_step, answered
 use Rattle.lock_model.specs.Machine.Event.{Advances, Attempts}
 use Rattle.lock_model.specs.State.{Job, State, Thread, thread_of}
 use Rattle.lock_model.specs.State.Phase.{Outside}
-use Rattle.posix_terms.specs.declared.call.Call.{Call}
+use Rattle.posix_terms.specs.Calls.{Call}
 use Rattle.posix_terms.specs.declared.step.Step.{Step}
 use Rattle.posix_terms.specs.declared.step.Step.TheVariants as step
 use Rattle.lock_model.proofs.Attempt.{attempt_other, move_of}

@@ -18,7 +18,7 @@ use Rattle.lock_model.specs.State.{Job, Phase, Thread, Row, State, nobody, threa
 use Rattle.lock_model.specs.State.Phase.{Working, Granted, ToOutside, Outside, Recorded}
 use Rattle.sequential_object.specs.Worlds.{World}
 use Rattle.lock_model.specs.Transcripts.{outcomes_of}
-use Rattle.posix_terms.specs.declared.call.Call.{Call}
+use Rattle.posix_terms.specs.Calls.{Call}
 use Rattle.posix_terms.specs.declared.outcome.Given.{Given}
 use Rattle.posix_terms.specs.declared.transcript.Turn.{Turn}
 use Rattle.sequential_object.specs.Step.{Carried}

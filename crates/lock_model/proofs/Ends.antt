@@ -16,7 +16,7 @@ use Rattle.lock_model.specs.Schedule.{EndsIn, next_event, plain_run}
 use Rattle.lock_model.specs.State.{Job, Phase, Thread, State, nobody, thread_of}
 use Rattle.lock_model.specs.State.Phase.{Working, WantsTable, WantsObject, Granted, ToOutside, Outside, Recorded, Blocked, Ended}
 use Rattle.sequential_object.specs.Worlds.{World}
-use Rattle.posix_terms.specs.declared.call.Call.{Call}
+use Rattle.posix_terms.specs.Calls.{Call}
 use Rattle.sequential_object.specs.Step.{Carried}
 use Rattle.posix_terms.specs.declared.transcript.Turn.{Turn}
 use Rattle.std.proofs.Common.{mul-le-mul_right}

@@ -21,7 +21,7 @@ use Rattle.lock_model.specs.Schedule.{EndsIn}
 use Rattle.lock_model.specs.State.{Job, Phase, Thread, State, nobody, thread_of, start}
 use Rattle.lock_model.specs.State.Phase.{Working, WantsObject, Ended}
 use Rattle.sequential_object.specs.Worlds.{World}
-use Rattle.posix_terms.specs.declared.call.Call.{Call}
+use Rattle.posix_terms.specs.Calls.{Call}
 use Rattle.posix_terms.specs.declared.outcome.Given.{Given}
 use Rattle.posix_terms.specs.declared.reply.Reply.{Reply}
 use Rattle.sequential_object.specs.Step.{Carried}

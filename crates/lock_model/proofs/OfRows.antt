@@ -10,7 +10,7 @@ use Rattle.lock_model.specs.Legal.{handed_on}
 use Rattle.lock_model.specs.Machine.{Setup, Effect, attempt, can_attempt, is_open, new_row, planned, reached, row_after}
 use Rattle.lock_model.specs.State.{Row, State, Thread, thread_of}
 use Rattle.sequential_object.specs.Worlds.{World}
-use Rattle.posix_terms.specs.declared.call.Call.{Call}
+use Rattle.posix_terms.specs.Calls.{Call}
 use Rattle.posix_terms.specs.declared.transcript.Turn.{Turn}
 use Rattle.sequential_object.specs.Step.{Carried}
 use Rattle.lock_model.proofs.Commute.{row_open, row_closed, row_other, row_turn}

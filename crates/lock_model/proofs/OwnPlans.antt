@@ -11,7 +11,7 @@ use Rattle.lock_model.specs.State.{Job, Phase, Row, State, start, thread_of}
 use Rattle.lock_model.specs.State.Phase.{Outside, Recorded, WantsObject}
 use Rattle.sequential_object.specs.Worlds.{World}
 use Rattle.sequential_object.specs.Step.{Carried}
-use Rattle.posix_terms.specs.declared.call.Call.{Call}
+use Rattle.posix_terms.specs.Calls.{Call}
 use Rattle.posix_terms.specs.declared.outcome.Given.{Given}
 use Rattle.lock_model.proofs.Kept.{busy_found, right_run}
 use Rattle.lock_model.proofs.OwnRows.{holding_job, job_busy}

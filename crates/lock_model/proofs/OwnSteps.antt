@@ -16,7 +16,7 @@ use Rattle.lock_model.specs.State.{Phase, State, Thread, live_clock_in, nobody, 
 use Rattle.lock_model.specs.State.Phase.{Outside, WantsObject}
 use Rattle.sequential_object.specs.Worlds.{World}
 use Rattle.sequential_object.specs.Step.{Carried}
-use Rattle.posix_terms.specs.declared.call.Call.{Call}
+use Rattle.posix_terms.specs.Calls.{Call}
 use Rattle.posix_terms.specs.declared.transcript.Turn.{Turn}
 use Rattle.posix_terms.specs.declared.step.Step.{Step}
 use Rattle.posix_terms.specs.declared.step.Step.TheVariants as step

@@ -7,7 +7,7 @@ use Rattle.sequential_object.specs.Locked as locked
 use Rattle.sequential_object.specs.Locked.{LeavesAlike, OutsideLocks, locked_object, locks_door}
 use Rattle.sequential_object.specs.Object as posix_object
 use Rattle.sequential_object.specs.Step.{Carried, Stepped, asks, step}
-use Rattle.posix_terms.specs.declared.call.Call.{Call}
+use Rattle.posix_terms.specs.Calls.{Call}
 use Rattle.posix_terms.specs.Outcomes.{fits, is_kind}
 use Rattle.posix_terms.specs.declared.outcome.Given.{Given}
 use Rattle.posix_terms.specs.declared.outcome.Outcome.{Outcome}

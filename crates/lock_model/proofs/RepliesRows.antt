@@ -14,7 +14,7 @@ use Rattle.lock_model.specs.State.{Job, Phase, Row, State, Thread, nobody, start
 use Rattle.lock_model.specs.State.Phase.{Granted, Recorded}
 use Rattle.sequential_object.specs.Worlds.{World}
 use Rattle.lock_model.specs.Transcripts.{replies_of, reply_in}
-use Rattle.posix_terms.specs.declared.call.Call.{Call}
+use Rattle.posix_terms.specs.Calls.{Call}
 use Rattle.posix_terms.specs.declared.reply.Reply.{Reply}
 use Rattle.sequential_object.specs.Step.{Carried}
 use Rattle.posix_terms.specs.declared.step.Step.{Step}

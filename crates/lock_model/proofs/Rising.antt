@@ -19,7 +19,7 @@ use Rattle.lock_model.specs.Runs.{Arises, run, supplied, own}
 use Rattle.lock_model.specs.State.{Phase, Thread, Row, State, nobody, thread_of, live_clock, start}
 use Rattle.lock_model.specs.State.Phase.{Working, WantsTable, WantsObject, Granted, ToOutside, Outside, Recorded, Blocked, Ended}
 use Rattle.sequential_object.specs.Worlds.{World}
-use Rattle.posix_terms.specs.declared.call.Call.{Call}
+use Rattle.posix_terms.specs.Calls.{Call}
 use Rattle.sequential_object.specs.Step.{Carried}
 use Rattle.logical_clocks.specs.TurnOrder.{is_before}
 use Rattle.posix_terms.specs.declared.transcript.Turn.{Turn}

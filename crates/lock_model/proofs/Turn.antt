@@ -11,7 +11,7 @@ use Rattle.posix_terms.specs.declared.step.Step.{Step}
 use Rattle.posix_terms.specs.declared.step.Step.TheVariants as step
 use Rattle.lock_model.specs.State.{Job, Phase, Thread, State, nobody, thread_of, live_clock_in, live_clock, live_clocks}
 use Rattle.lock_model.specs.State.Phase.{Working, Granted, ToOutside, Outside, Recorded, Blocked, Ended}
-use Rattle.posix_terms.specs.declared.call.Call.{Call}
+use Rattle.posix_terms.specs.Calls.{Call}
 use Rattle.posix_terms.specs.declared.outcome.Given.{Given}
 use Rattle.logical_clocks.specs.TurnOrder.{is_before, all_below, yields_at, yields, has_turn_at, has_turn}
 use Rattle.posix_terms.specs.declared.transcript.Turn.{Turn}

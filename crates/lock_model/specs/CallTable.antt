@@ -3,7 +3,7 @@
 use Rattle.std.specs.Prelude.{ℕ, Option, Bool, true, false}
 use Rattle.sequential_object.specs.Worlds.{World, Request}
 use Rattle.sequential_object.specs.declared.turn_end.TurnEnd.{TurnEnd}
-use Rattle.posix_terms.specs.declared.call.Call.{Call}
+use Rattle.posix_terms.specs.Calls.{Call}
 use Rattle.posix_terms.specs.declared.outcome.Given.{Given}
 use Rattle.sequential_object.specs.Step.{Carried}
 use Rattle.posix_terms.specs.declared.transcript.Turn.{Turn}

@@ -8,7 +8,7 @@ use Rattle.lock_model.specs.Schedule.{next_event}
 use Rattle.lock_model.specs.State.{Job, Phase, State, Thread, thread_of}
 use Rattle.lock_model.specs.State.Phase.{Blocked, Ended, Granted, Outside, Recorded, ToOutside, Working}
 use Rattle.sequential_object.specs.Step.{Carried}
-use Rattle.posix_terms.specs.declared.call.Call.{Call}
+use Rattle.posix_terms.specs.Calls.{Call}
 use Rattle.posix_terms.specs.declared.outcome.Given.{Given}
 use Rattle.posix_terms.specs.declared.step.Step.{Step}
 

@@ -6,7 +6,7 @@ use Rattle.lock_model.specs.CallTable.Plan.{No_object, Object}
 use Rattle.lock_model.specs.Machine.{fits_job, is_number, is_open}
 use Rattle.lock_model.specs.State.{Job, Phase, Row, State, Thread, thread_of, object_of}
 use Rattle.sequential_object.specs.Step.{Carried}
-use Rattle.posix_terms.specs.declared.call.Call.{Call}
+use Rattle.posix_terms.specs.Calls.{Call}
 use Rattle.posix_terms.specs.declared.outcome.Given.{Given}
 use Rattle.lock_model.specs.State.Phase.{Working, WantsTable, WantsObject, Granted, ToOutside, Outside, Recorded, Blocked, Ended}
 use Rattle.posix_terms.specs.declared.step.Step.{Step}

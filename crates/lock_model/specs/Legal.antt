@@ -7,7 +7,7 @@ use Rattle.sequential_object.specs.declared.turn_end.TurnEnd.TheVariants as turn
 use Rattle.lock_model.specs.Machine.{first_of}
 use Rattle.lock_model.specs.State.{Row}
 use Rattle.sequential_object.specs.Worlds.{World}
-use Rattle.posix_terms.specs.declared.call.Call.{Call}
+use Rattle.posix_terms.specs.Calls.{Call}
 use Rattle.posix_terms.specs.declared.outcome.Given.{Given}
 use Rattle.sequential_object.specs.Step.{Carried}
 

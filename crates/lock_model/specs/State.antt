@@ -7,7 +7,7 @@ use Rattle.lock_model.specs.CallTable.{Plan, Way}
 use Rattle.sequential_object.specs.declared.turn_end.TurnEnd.{TurnEnd}
 use Rattle.posix_terms.specs.declared.step.Step.{Step}
 use Rattle.sequential_object.specs.Worlds.{World}
-use Rattle.posix_terms.specs.declared.call.Call.{Call}
+use Rattle.posix_terms.specs.Calls.{Call}
 use Rattle.posix_terms.specs.declared.outcome.Given.{Given}
 use Rattle.posix_terms.specs.declared.reply.Reply.{Reply}
 use Rattle.sequential_object.specs.Step.{Carried}

@@ -18,7 +18,7 @@ use Rattle.sequential_object.specs.Worlds.{World}
 use Rattle.lock_model.specs.Transcripts as seen
 use Rattle.posix_terms.specs.Outcomes.{fits, is_kind}
 use Rattle.sequential_object.specs.Step.{Carried, asks}
-use Rattle.posix_terms.specs.declared.call.Call.{Call}
+use Rattle.posix_terms.specs.Calls.{Call}
 use Rattle.posix_terms.specs.declared.limits.TheConstants.Limits as limit
 use Rattle.posix_terms.specs.declared.outcome.Given.{Given}
 use Rattle.posix_terms.specs.declared.outcome.OutKind.{OutKind}

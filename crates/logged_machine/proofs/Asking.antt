@@ -13,7 +13,7 @@ use Rattle.lock_model.specs.Rows.{shown}
 use Rattle.lock_model.specs.Runs.{own}
 use Rattle.lock_model.specs.State.{Job, State, thread_of}
 use Rattle.sequential_object.specs.Step.{asks}
-use Rattle.posix_terms.specs.declared.call.Call.{Call}
+use Rattle.posix_terms.specs.Calls.{Call}
 use Rattle.posix_terms.specs.declared.transcript.HistoryRow.{HistoryRow}
 use Rattle.logged_machine.specs.Requests.{IsRequest, out_of}
 use Rattle.logged_machine.specs.Runs.{IsEnd, terms_with}
@@ -29,13 +29,13 @@ going_at w s i o h is = by_phase (phase_at w i) (h.1.threads i).phase is
   where
     by_phase : (p : Phase) → PhaseShows (terms_with w (own s)) i s.rows (thread_at w i) (thread_of s i) p → out_of p ≡ Some o → IsGoing w s i o
     by_phase phase.Working g q = absurd (none-some o q)
-    by_phase (phase.WantsTable call turns) g q = absurd (none-some o q)
-    by_phase (phase.WantsObject call turns clock object) g q = absurd (none-some o q)
+    by_phase (phase.WantsTable call carried) g q = absurd (none-some o q)
+    by_phase (phase.WantsObject call carried clock object) g q = absurd (none-some o q)
     by_phase (phase.Granted place object ends) g q = absurd (none-some o q)
     by_phase (phase.ToOutside x) g q = record { job = g.0; there = ap job_in g.1.0; out = subst (λ (y : Outing). IsOut (terms_with w (own s)) i s.rows y g.0) (same_Some x o q) g.1.1 }
     by_phase (phase.Outside x) g q = record { job = g.0; there = ap job_in g.1.0; out = subst (λ (y : Outing). IsOut (terms_with w (own s)) i s.rows y g.0) (same_Some x o q) g.1.1 }
     by_phase (phase.Recorded x) g q = absurd (none-some o q)
-    by_phase (phase.Blocked turns) g q = absurd (none-some o q)
+    by_phase (phase.Blocked carried) g q = absurd (none-some o q)
     by_phase phase.Ended g q = absurd (none-some o q)
 
 -- its row stands in the history, with its call

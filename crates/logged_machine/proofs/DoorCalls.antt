@@ -27,7 +27,7 @@ use Rattle.sequential_object.specs.Step.{Carried, Stepped, asks, concluded, is_a
 use Rattle.posix_terms.specs.declared.call.Access.TheVariants.{ReadWrite}
 use Rattle.posix_terms.specs.declared.call.ShutdownHow.{ShutdownHow}
 use Rattle.posix_terms.specs.declared.call.Whence.{Whence}
-use Rattle.posix_terms.specs.declared.call.Call.{Call}
+use Rattle.posix_terms.specs.Calls.{Call}
 use Rattle.posix_terms.specs.declared.call.Call.TheVariants as call
 use Rattle.posix_terms.specs.declared.errno.Errno.{Errno}
 use Rattle.posix_terms.specs.declared.errno.Errno.TheVariants.{EINTR, EINVAL, EMFILE, ENFILE}
@@ -313,7 +313,7 @@ opened_by settings s carried x o = chain_opened settings s carried x (some_or (l
           waits = o.waits;
         }
 
-    by_wait : (b c : Bool) (e : Errno) → (let stepped : Stepped = if b then (if c then record { after = s; answer = answer.Again; carried = carried + 1 } else record { after = s; answer = answer.Reply (reply.Fail EINTR); carried = nothing_carried }) else record { after = s; answer = answer.Reply (reply.Fail e); carried = nothing_carried } in stepped.after ≡ s)
+    by_wait : (b c : Bool) (e : Errno) → (let stepped : Stepped = if b then (if c then record { after = s; answer = answer.Again; carried = record { turns = carried.turns + 1 } } else record { after = s; answer = answer.Reply (reply.Fail EINTR); carried = nothing_carried }) else record { after = s; answer = answer.Reply (reply.Fail e); carried = nothing_carried } in stepped.after ≡ s)
     by_wait true true e = refl
     by_wait true false e = refl
     by_wait false c e = refl
@@ -332,7 +332,7 @@ opened_by settings s carried x o = chain_opened settings s carried x (some_or (l
             descriptions = refl;
           },
         )
-    by_outcome n (outcome.Fail e) = inl (by_wait (o.waits && is_again e) (nat_lt (carried + 1) settings.patience) e)
+    by_outcome n (outcome.Fail e) = inl (by_wait (o.waits && is_again e) (nat_lt (carried.turns + 1) settings.patience) e)
 
 pub opens_or_stays : (settings : Settings) (s : State) (c : Call) (carried : Carried) (x : Outcome) → keeps_table c ≡ true → (let stepped : Stepped = step settings s c (Some x) carried in Opened s x stepped.after)
 unfolding host_open_result tcp_listen_result tcp_connect_result tcp_accept_result

@@ -22,7 +22,7 @@ use Rattle.lock_model.specs.State.{Job, State, nobody, object_of, thread_of}
 use Rattle.lock_model.specs.State.Phase.{Blocked, Ended, Granted, Outside, Recorded, ToOutside, WantsObject, WantsTable, Working}
 use Rattle.sequential_object.specs.Worlds.{World}
 use Rattle.sequential_object.specs.Step.{Carried, Stepped, step}
-use Rattle.posix_terms.specs.declared.call.Call.{Call}
+use Rattle.posix_terms.specs.Calls.{Call}
 use Rattle.posix_terms.specs.declared.outcome.Given.{Given}
 use Rattle.posix_terms.specs.declared.transcript.Settings.{Settings}
 use Rattle.posix_terms.specs.declared.step.Step.{Step}

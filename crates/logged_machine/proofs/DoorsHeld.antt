@@ -27,7 +27,7 @@ use Rattle.object_store.specs.Errands.{TakesLocked, door_taken}
 use Rattle.sequential_object.specs.Locked.{OutsideLocks, keeps_table, locked_object, locks_door}
 use Rattle.sequential_object.specs.Object.{Content, DoorTo, File, Pair, Pipe, State, content_of, is_door}
 use Rattle.sequential_object.specs.Step.{Carried, Stepped, asks, step}
-use Rattle.posix_terms.specs.declared.call.Call.{Call}
+use Rattle.posix_terms.specs.Calls.{Call}
 use Rattle.posix_terms.specs.declared.call.Call.TheVariants as call
 use Rattle.posix_terms.specs.declared.limits.TheConstants.Limits as limit
 use Rattle.posix_terms.specs.declared.object.Door.{Door}
@@ -79,13 +79,13 @@ held_out Ended job h = absurd (none-some job h)
 -- that of a thread of a machine
 out_shown : (w : Whole) (s : lock.State) (i : ℕ) (p : Phase) (u : lock.Thread) (job : Job) → PhaseShows (terms_with w (own s)) i s.rows (thread_at w i) u p → job_out u.phase ≡ Some job → (o : Outing) × IsOut (terms_with w (own s)) i s.rows o job
 out_shown w s i phase.Working u job h is = absurd (none-some job (sym (ap job_out h) ∙ is))
-out_shown w s i (phase.WantsTable call turns) u job h is = absurd (none-some job (sym (ap job_out h) ∙ is))
-out_shown w s i (phase.WantsObject call turns clock object) u job h is = absurd (none-some job (sym (ap job_out h.1.0) ∙ is))
+out_shown w s i (phase.WantsTable call carried) u job h is = absurd (none-some job (sym (ap job_out h) ∙ is))
+out_shown w s i (phase.WantsObject call carried clock object) u job h is = absurd (none-some job (sym (ap job_out h.1.0) ∙ is))
 out_shown w s i (phase.Granted place object ends) u job h is = absurd (none-some job (sym (ap job_out h.1.0) ∙ is))
 out_shown w s i (phase.ToOutside o) u job h is = (o, subst (IsOut (terms_with w (own s)) i s.rows o) (same_Some h.0 job (sym (ap job_out h.1.0) ∙ is)) h.1.1)
 out_shown w s i (phase.Outside o) u job h is = (o, subst (IsOut (terms_with w (own s)) i s.rows o) (same_Some h.0 job (sym (ap job_out h.1.0) ∙ is)) h.1.1)
 out_shown w s i (phase.Recorded o) u job h is = (o, subst (IsOut (terms_with w (own s)) i s.rows o) (same_Some h.0 job (sym (ap job_out h.1.0) ∙ is)) h.1.1)
-out_shown w s i (phase.Blocked turns) u job h is = absurd (none-some job (sym (ap job_out h.1) ∙ is))
+out_shown w s i (phase.Blocked carried) u job h is = absurd (none-some job (sym (ap job_out h.1) ∙ is))
 out_shown w s i phase.Ended u job h is = absurd (none-some job (sym (ap job_out h) ∙ is))
 
 pub in_of_out : (p : lock.Phase) (job : Job) → job_out p ≡ Some job → job_in p ≡ Some job

@@ -28,7 +28,7 @@ use Rattle.std.specs.FinMap as fin
 use Rattle.std.specs.Ordering.{nat_cmp}
 use Rattle.sequential_object.specs.Object.{DoorTo, State}
 use Rattle.sequential_object.specs.Step.{Carried, Stepped, asks, step}
-use Rattle.posix_terms.specs.declared.call.Call.{Call}
+use Rattle.posix_terms.specs.Calls.{Call}
 use Rattle.posix_terms.specs.declared.call.Call.TheVariants as call
 use Rattle.posix_terms.specs.declared.limits.TheConstants.Limits as limit
 use Rattle.posix_terms.specs.declared.object.Door.{Door}
@@ -470,15 +470,15 @@ granted_shown w s i p u job h is = by_phase p h
 
     by_phase : (q : Phase) → PhaseShows (terms_with w (own s)) i s.rows (thread_at w i) u q → plan_keeps job.plan ≡ false
     by_phase phase.Working g = not_there Working g refl
-    by_phase (phase.WantsTable call turns) g = not_there (WantsTable call turns) g refl
-    by_phase (phase.WantsObject call turns clock object) g = not_there (WantsObject call turns clock object g.0) g.1.0 refl
+    by_phase (phase.WantsTable call carried) g = not_there (WantsTable call carried) g refl
+    by_phase (phase.WantsObject call carried clock object) g = not_there (WantsObject call carried clock object g.0) g.1.0 refl
     by_phase (phase.Granted place object ends) g =
         let same : g.0 ≡ job = same_Some g.0 job (ap granted (sym g.1.0 ∙ is)) in
         ap (λ (x : Job). plan_keeps x.plan) (sym same) ∙ ap plan_keeps g.1.1.plan ∙ plan_inside object
     by_phase (phase.ToOutside o) g = not_there (ToOutside g.0) g.1.0 refl
     by_phase (phase.Outside o) g = not_there (Outside g.0) g.1.0 refl
     by_phase (phase.Recorded o) g = not_there (Recorded g.0) g.1.0 refl
-    by_phase (phase.Blocked turns) g = not_there (Blocked g.0 turns) g.1 refl
+    by_phase (phase.Blocked carried) g = not_there (Blocked g.0 carried) g.1 refl
     by_phase phase.Ended g = not_there Ended g refl
 
 advanced_doors : (D : Type 0) (old : Whole) (c : Coming) (i : ℕ) (s : lock.State) (doors : List (Option D)) → DoorLaws → At old s → (let setup = setup_with old c s in can_advance setup s i ≡ true) → ((job : Job) → (thread_of s i).phase ≡ Outside job → ⊥) → ((job : Job) → (thread_of s i).phase ≡ ToOutside job → ⊥)

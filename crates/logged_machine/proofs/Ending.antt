@@ -51,13 +51,13 @@ out_with settings n m p q i rows o job h =
 phase_with : (settings : Settings) (n m : ℕ) (p q : Supply) (i : ℕ) (rows : List Row) (t : Thread) (u : lock.Thread) (x : Phase) → PhaseShows (record { threads = n; settings = settings; supply = p }) i rows t u x
     → PhaseShows (record { threads = m; settings = settings; supply = q }) i rows t u x
 phase_with settings n m p q i rows t u phase.Working h = h
-phase_with settings n m p q i rows t u (phase.WantsTable call turns) h = h
-phase_with settings n m p q i rows t u (phase.WantsObject call turns clock object) h = h
+phase_with settings n m p q i rows t u (phase.WantsTable call carried) h = h
+phase_with settings n m p q i rows t u (phase.WantsObject call carried clock object) h = h
 phase_with settings n m p q i rows t u (phase.Granted place object ends) h = (h.0, (h.1.0, granted_with settings n m p q i rows place object ends h.0 h.1.1))
 phase_with settings n m p q i rows t u (phase.ToOutside o) h = (h.0, (h.1.0, out_with settings n m p q i rows o h.0 h.1.1))
 phase_with settings n m p q i rows t u (phase.Outside o) h = (h.0, (h.1.0, out_with settings n m p q i rows o h.0 h.1.1, h.1.2))
 phase_with settings n m p q i rows t u (phase.Recorded o) h = (h.0, (h.1.0, out_with settings n m p q i rows o h.0 h.1.1))
-phase_with settings n m p q i rows t u (phase.Blocked turns) h = h
+phase_with settings n m p q i rows t u (phase.Blocked carried) h = h
 phase_with settings n m p q i rows t u phase.Ended h = h
 
 pub shows_with : (settings : Settings) (n m : ℕ) (p q : Supply) (w : Whole) (s : State) → Shows (record { threads = n; settings = settings; supply = p }) w s → Shows (record { threads = m; settings = settings; supply = q }) w s

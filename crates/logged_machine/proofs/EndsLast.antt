@@ -23,7 +23,7 @@ use Rattle.lock_model.specs.State as lock
 use Rattle.lock_model.specs.State.{State, nobody, start, thread_of}
 use Rattle.lock_model.specs.State.Phase.{Blocked, Ended, Granted, Outside, Recorded, ToOutside, WantsObject, WantsTable, Working}
 use Rattle.sequential_object.specs.Worlds.{World}
-use Rattle.posix_terms.specs.declared.call.Call.{Call}
+use Rattle.posix_terms.specs.Calls.{Call}
 use Rattle.posix_terms.specs.declared.limits.TheConstants.Limits as limit
 use Rattle.posix_terms.specs.declared.step.Step.{Step}
 use Rattle.posix_terms.specs.declared.step.Step.TheVariants as step
@@ -147,13 +147,13 @@ asked_by u Ended is h ended = ended is
 
 over_shown : (w : Whole) (s : State) (i : ℕ) (t : Thread) (u : lock.Thread) (p : Phase) → PhaseShows (terms_with w (own s)) i s.rows t u p → is_over u.phase ≡ is_ended p
 over_shown w s i t u phase.Working h = ap is_over h
-over_shown w s i t u (phase.WantsTable call turns) h = ap is_over h
-over_shown w s i t u (phase.WantsObject call turns clock object) h = ap is_over h.1.0
+over_shown w s i t u (phase.WantsTable call carried) h = ap is_over h
+over_shown w s i t u (phase.WantsObject call carried clock object) h = ap is_over h.1.0
 over_shown w s i t u (phase.Granted place object ends) h = ap is_over h.1.0
 over_shown w s i t u (phase.ToOutside o) h = ap is_over h.1.0
 over_shown w s i t u (phase.Outside o) h = ap is_over h.1.0
 over_shown w s i t u (phase.Recorded o) h = ap is_over h.1.0
-over_shown w s i t u (phase.Blocked turns) h = ap is_over h.1
+over_shown w s i t u (phase.Blocked carried) h = ap is_over h.1
 over_shown w s i t u phase.Ended h = ap is_over h
 
 pub ends_last : (D : Type 0) (m : Shown D) → IsKept D m → StepsOfArisen → EventLaws → (i : ℕ) → i < length m.whole.threads → has_end (let t : Thread = thread_at m.whole i in t.asked) ≡ is_ended (phase_at m.whole i)

@@ -33,13 +33,13 @@ not_outside p job h is = true≢false (ap outside_in (sym is) ∙ h)
 
 shown_outside : (w : Whole) (s : State) (i : ℕ) (t : Thread) (u : lock.Thread) (p : Phase) → PhaseShows (terms_with w (own s)) i s.rows t u p → is_outside p ≡ false → outside_in u.phase ≡ false
 shown_outside w s i t u phase.Working h q = ap outside_in h
-shown_outside w s i t u (phase.WantsTable call turns) h q = ap outside_in h
-shown_outside w s i t u (phase.WantsObject call turns clock object) h q = ap outside_in h.1.0
+shown_outside w s i t u (phase.WantsTable call carried) h q = ap outside_in h
+shown_outside w s i t u (phase.WantsObject call carried clock object) h q = ap outside_in h.1.0
 shown_outside w s i t u (phase.Granted place object ends) h q = ap outside_in h.1.0
 shown_outside w s i t u (phase.ToOutside o) h q = ap outside_in h.1.0
 shown_outside w s i t u (phase.Outside o) h q = absurd (true≢false q)
 shown_outside w s i t u (phase.Recorded o) h q = ap outside_in h.1.0
-shown_outside w s i t u (phase.Blocked turns) h q = ap outside_in h.1
+shown_outside w s i t u (phase.Blocked carried) h q = ap outside_in h.1
 shown_outside w s i t u phase.Ended h q = ap outside_in h
 
 -- nothing can come in this event, whichever run leads to the machine
@@ -76,7 +76,7 @@ answering_inside (phase.Recorded o) h = refl
 answering_inside p h = absurd (false≢true h)
 
 blocked_inside : (p : Phase) → is_blocked p ≡ true → is_outside p ≡ false
-blocked_inside (phase.Blocked turns) h = refl
+blocked_inside (phase.Blocked carried) h = refl
 blocked_inside p h = absurd (false≢true h)
 
 pub working_quiet : (i : ℕ) (w : Whole) → works (phase_at w i) ≡ true → IsQuiet (Advances i) w
@@ -99,13 +99,13 @@ going_in p = false
 
 shown_going : (w : Whole) (s : State) (i : ℕ) (t : Thread) (u : lock.Thread) (p : Phase) → PhaseShows (terms_with w (own s)) i s.rows t u p → goes_outside p ≡ false → going_in u.phase ≡ false
 shown_going w s i t u phase.Working h q = ap going_in h
-shown_going w s i t u (phase.WantsTable call turns) h q = ap going_in h
-shown_going w s i t u (phase.WantsObject call turns clock object) h q = ap going_in h.1.0
+shown_going w s i t u (phase.WantsTable call carried) h q = ap going_in h
+shown_going w s i t u (phase.WantsObject call carried clock object) h q = ap going_in h.1.0
 shown_going w s i t u (phase.Granted place object ends) h q = ap going_in h.1.0
 shown_going w s i t u (phase.ToOutside o) h q = absurd (true≢false q)
 shown_going w s i t u (phase.Outside o) h q = ap going_in h.1.0
 shown_going w s i t u (phase.Recorded o) h q = ap going_in h.1.0
-shown_going w s i t u (phase.Blocked turns) h q = ap going_in h.1
+shown_going w s i t u (phase.Blocked carried) h q = ap going_in h.1
 shown_going w s i t u phase.Ended h q = ap going_in h
 
 -- no call goes outside in this event, whichever run leads to the machine
@@ -130,7 +130,7 @@ answering_home_in (phase.Recorded o) h = refl
 answering_home_in p h = absurd (false≢true h)
 
 blocked_home_in : (p : Phase) → is_blocked p ≡ true → goes_outside p ≡ false
-blocked_home_in (phase.Blocked turns) h = refl
+blocked_home_in (phase.Blocked carried) h = refl
 blocked_home_in p h = absurd (false≢true h)
 
 pub working_home : (i : ℕ) (w : Whole) → works (phase_at w i) ≡ true → StaysHome (Advances i) w

@@ -25,7 +25,7 @@ use Rattle.sequential_object.specs.Step.{Carried, Stepped, concluded, effect_of,
 use Rattle.sequential_object.specs.Streams.{Breaks, Ends, NoRoom, NothingYet, Reading, Reads, Writes, Writing, new_pair}
 use Rattle.sequential_object.specs.Transfers.{base_of, file_in, ftruncate_result, host_offset, lseek_result, not_listener, offset_of, pread_result, pwrite_result, read_content, read_done, read_result, readable, seek_content, size_of, start_of, writable, write_content, write_done, write_result}
 use Rattle.posix_terms.specs.declared.call.Access.{Access}
-use Rattle.posix_terms.specs.declared.call.Call.{Call}
+use Rattle.posix_terms.specs.Calls.{Call}
 use Rattle.posix_terms.specs.declared.call.Call.TheVariants as call
 use Rattle.posix_terms.specs.declared.call.OpenFlags.{OpenFlags}
 use Rattle.posix_terms.specs.declared.call.ShutdownHow.{ShutdownHow}
@@ -454,9 +454,9 @@ by_call s (call.TcpAccept descriptor) carried h = by_accept s descriptor
 
 by_step : (settings : Settings) (s : State) (carried : Carried) (r : Result Effect Errno) → AddsBy s r → AddsNone s (concluded settings s None carried r).after
 by_step settings s carried (Ok (Completes after x)) h = h.it
-by_step settings s carried (Ok Blocks) h = by_wait (nat_lt (carried + 1) settings.patience)
+by_step settings s carried (Ok Blocks) h = by_wait (nat_lt (carried.turns + 1) settings.patience)
   where
-    by_wait : (b : Bool) → AddsNone s (let stepped : Stepped = if b then record { after = s; answer = answer.Again; carried = carried + 1 } else record { after = s; answer = answer.Reply (reply.Fail EINTR); carried = nothing_carried } in stepped.after)
+    by_wait : (b : Bool) → AddsNone s (let stepped : Stepped = if b then record { after = s; answer = answer.Again; carried = record { turns = carried.turns + 1 } } else record { after = s; answer = answer.Reply (reply.Fail EINTR); carried = nothing_carried } in stepped.after)
     by_wait true = adds_none s
     by_wait false = adds_none s
 by_step settings s carried (Ok (Asks a)) h = h.it

@@ -10,7 +10,7 @@ use Rattle.sequential_object.specs.Object as posix
 use Rattle.sequential_object.specs.Effects.{Effect, Asks, Blocks, Completes}
 use Rattle.sequential_object.specs.Object.{State, Content, DoorTo, File, Pair, Pipe, content_of}
 use Rattle.sequential_object.specs.Step.{Carried, Stepped, asks, concluded, effect_of, failed, is_again, nothing_carried, step, waited}
-use Rattle.posix_terms.specs.declared.call.Call.{Call}
+use Rattle.posix_terms.specs.Calls.{Call}
 use Rattle.posix_terms.specs.declared.errno.Errno.{Errno}
 use Rattle.posix_terms.specs.declared.errno.Errno.TheVariants.{EINTR}
 use Rattle.posix_terms.specs.declared.object.Door.{Door}
@@ -40,7 +40,7 @@ use Rattle.descriptor_table.specs.declared.plan.Plan.TheVariants as plan
 use Rattle.sequential_object.specs.Worlds.{World}
 use Rattle.object_store.specs.Acting.{held_by, offset_of_key}
 use Rattle.object_store.specs.Bodies.{Kept, first_kept, kept_as, keeping}
-use Rattle.object_store.specs.Store.{EndsTurn, IsPlanned, Replies, Stands, Stored, TableMade, kept_at}
+use Rattle.object_store.specs.Store.{EndsTurn, IsPlanned, Replies, RepliesAlways, Stands, Stored, TableMade, kept_at}
 use Rattle.object_store.proofs.Found.{birth_is, known_at}
 use Rattle.object_store.proofs.Numbering.{lowest_is_free}
 use Rattle.object_store.proofs.Shapes.{Finds, IsMaking, finds, planned_fits, suits}
@@ -242,10 +242,10 @@ turn_ends h w node act settings carried done _ e now same =
 
 -- a reply carries nothing on
 waited_carries : (settings : Settings) (s : State) (carried : Carried) (r : Reply) → (waited settings s carried).answer ≡ answer.Reply r → (waited settings s carried).carried ≡ nothing_carried
-waited_carries settings s carried r is = by_test (nat_lt (carried + 1) settings.patience) is
+waited_carries settings s carried r is = by_test (nat_lt (carried.turns + 1) settings.patience) is
   where
-    by_test : (b : Bool) → (let x : Stepped = if b then record { after = s; answer = answer.Again; carried = carried + 1 } else record { after = s; answer = answer.Reply (reply.Fail EINTR); carried = nothing_carried } in x.answer) ≡ answer.Reply r
-        → (let x : Stepped = if b then record { after = s; answer = answer.Again; carried = carried + 1 } else record { after = s; answer = answer.Reply (reply.Fail EINTR); carried = nothing_carried } in x.carried) ≡ nothing_carried
+    by_test : (b : Bool) → (let x : Stepped = if b then record { after = s; answer = answer.Again; carried = record { turns = carried.turns + 1 } } else record { after = s; answer = answer.Reply (reply.Fail EINTR); carried = nothing_carried } in x.answer) ≡ answer.Reply r
+        → (let x : Stepped = if b then record { after = s; answer = answer.Again; carried = record { turns = carried.turns + 1 } } else record { after = s; answer = answer.Reply (reply.Fail EINTR); carried = nothing_carried } in x.carried) ≡ nothing_carried
     by_test true is = cc
     by_test false is = refl
 
@@ -261,18 +261,28 @@ carries_nothing settings s (Some (result.Fail e)) carried (Ok (Asks a)) r is = b
 carries_nothing settings s None carried (Ok (Asks a)) r is = refl
 carries_nothing settings s outcome carried (Err e) r is = refl
 
-pub replies_end : (old : Stored) (c : Call) (r : Reply) (new : Stored) → Replies old c r new → EndsTurn old c (Some r) new
-replies_end old c r new replies settings w carried st =
-    let now = replies settings w carried st in
+-- an act ends so whatever the call carries
+abbrev pub EndsAlways : Stored → Call → Option Reply → Stored → Type 0
+EndsAlways old c e new = (carried : Carried) → EndsTurn carried old c e new
+
+pub replies_end : (old : Stored) (c : Call) (r : Reply) (new : Stored) → RepliesAlways old c r new → EndsAlways old c (Some r) new
+replies_end old c r new replies carried settings w st =
+    let now = replies carried settings w st in
     (ap₂ (λ (a : Answer) (b : Carried). (a, b)) now.0 (carries_nothing settings w.object None carried (effect_of w.object c carried) r now.0), now.1)
 
-pub ends_reply : (old : Stored) (c : Call) (r : Reply) (new : Stored) → EndsTurn old c (Some r) new → Replies old c r new
-ends_reply old c r new ends settings w carried st = let now = ends settings w carried st in (ap (λ (p : Answer × Carried). p.0) now.0, now.1)
+pub replies_turn : (carried : Carried) (old : Stored) (c : Call) (r : Reply) (new : Stored) → RepliesAlways old c r new → EndsTurn carried old c (Some r) new
+replies_turn carried old c r new replies = replies_end old c r new replies carried
+
+pub end_replies : (carried : Carried) (old : Stored) (c : Call) (r : Reply) (new : Stored) → EndsTurn carried old c (Some r) new → Replies carried old c r new
+end_replies carried old c r new ends settings w st = let now = ends settings w st in (ap (λ (p : Answer × Carried). p.0) now.0, now.1)
+
+pub ends_reply : (old : Stored) (c : Call) (r : Reply) (new : Stored) → EndsAlways old c (Some r) new → RepliesAlways old c r new
+ends_reply old c r new ends carried = end_replies carried old c r new (ends carried)
 
 -- ## Calls that the table answers
 
-pub reply_makes : (law : TableFollows) (h : Stored) (c : Call) (r : Reply) (u : TableState) → planned h.table c ≡ plan.Reply r → TableMade h c None u → Replies h c r (record h { table = u })
-reply_makes law h c r u is made settings w carried st =
+pub reply_makes : (law : TableFollows) (h : Stored) (c : Call) (r : Reply) (u : TableState) → planned h.table c ≡ plan.Reply r → TableMade h c None u → RepliesAlways h c r (record h { table = u })
+reply_makes law h c r u is made carried settings w st =
     let after = (step settings w.object c None carried).after in
     let agrees : AgreesOn h.table c (plan.Reply r) (locked_object w.object c carried) (asks w.object c carried) (step settings w.object c None carried).answer =
     subst (λ (p : Plan). AgreesOn h.table c p (locked_object w.object c carried) (asks w.object c carried) (step settings w.object c None carried).answer) is ((law.calls h.table c st.sound st.described).plans settings w.object None carried st.shows) in
@@ -308,8 +318,8 @@ known_of law h w c node act keep st is = subst (LocksKnown h.table (read_count c
 -- the table was changed, and the object
 pub made_ends : (law : TableFollows) (h : Stored) (c : Call) (node : ℕ) (act : Op) (u : TableState) (given : NewNumbers) (bodies : List Kept) (e : Option Reply) → Rests act → IsKind act → IsPlanned h c node act → TableMade h c None u → TellsAsStep h.table c None given
     → let done = acted h.table node act c None given (held_for act (kept_at h node)) (offset_in h act) in
-    e ≡ done.ending → Rewrites h node done.content bodies → EndsTurn h c e (record { table = u; bodies = bodies })
-made_ends law h c node act u given bodies e rests kind (keep, is) made tells same rewrites settings w carried st =
+    e ≡ done.ending → Rewrites h node done.content bodies → EndsAlways h c e (record { table = u; bodies = bodies })
+made_ends law h c node act u given bodies e rests kind (keep, is) made tells same rewrites carried settings w st =
     let stepped = step settings w.object c None carried in
     let told : numbers_told c stepped.answer ≡ given = sym (tells settings w.object None carried (λ keeps. refl) st.shows) in
     let P : NewNumbers → Type 0 = λ n. let done = acted h.table node act c None n (held_for act (kept_at h node)) (offset_in h act) in IsActed h.table node act done (ended settings w.object carried done.ending) stepped in
@@ -320,8 +330,8 @@ made_ends law h c node act u given bodies e rests kind (keep, is) made tells sam
 
 -- the object alone was changed
 pub stays_ends : (law : TableFollows) (h : Stored) (c : Call) (node : ℕ) (act : Op) (bodies : List Kept) (done : Acted) (e : Option Reply) → Rests act → IsKind act → IsPlanned h c node act → Changes h.table c None h.table → ((given : NewNumbers) → acted h.table node act c None given (held_for act (kept_at h node)) (offset_in h act) ≡ done)
-    → e ≡ done.ending → Rewrites h node done.content bodies → EndsTurn h c e (record h { bodies = bodies })
-stays_ends law h c node act bodies done e rests kind (keep, is) same done_is ends rewrites settings w carried st =
+    → e ≡ done.ending → Rewrites h node done.content bodies → EndsAlways h c e (record h { bodies = bodies })
+stays_ends law h c node act bodies done e rests kind (keep, is) same done_is ends rewrites carried settings w st =
     let stepped = step settings w.object c None carried in
     let P : Acted → Type 0 = λ d. IsActed h.table node act d (ended settings w.object carried d.ending) stepped in
     let now : P done = subst P (done_is (numbers_told c stepped.answer)) (acted_kind law h w c node act settings carried st (keep, is) kind) in
@@ -351,8 +361,8 @@ moves_still t node _ keep _ (BySeek from) birth apart = apart
 
 -- the offset is moved
 pub moved_ends : (law : TableFollows) (h : Stored) (c : Call) (node : ℕ) (act : Op) (key : ℕ) (bodies : List Kept) (done : Acted) (e : Option Reply) → Moves act key → IsKind act → IsPlanned h c node act → Changes h.table c None h.table → ((given : NewNumbers) → acted h.table node act c None given (held_for act (kept_at h node)) (offset_in h act) ≡ done)
-    → e ≡ done.ending → Rewrites h node done.content bodies → EndsTurn h c e (record { table = record h.table { descriptions = with_offset h.table.descriptions key done.offset }; bodies = bodies })
-moved_ends law h c node act key bodies done e moves kind (keep, is) same done_is ends rewrites settings w carried st =
+    → e ≡ done.ending → Rewrites h node done.content bodies → EndsAlways h c e (record { table = record h.table { descriptions = with_offset h.table.descriptions key done.offset }; bodies = bodies })
+moved_ends law h c node act key bodies done e moves kind (keep, is) same done_is ends rewrites carried settings w st =
     let stepped = step settings w.object c None carried in
     let P : Acted → Type 0 = λ d. IsActed h.table node act d (ended settings w.object carried d.ending) stepped in
     let now : P done = subst P (done_is (numbers_told c stepped.answer)) (acted_kind law h w c node act settings carried st (keep, is) kind) in
@@ -364,8 +374,8 @@ moved_ends law h c node act key bodies done e moves kind (keep, is) same done_is
 
 -- the offset is left where it was
 pub rested_ends : (law : TableFollows) (h : Stored) (c : Call) (node : ℕ) (act : Op) (key : ℕ) (bodies : List Kept) (done : Acted) (e : Option Reply) → Moves act key → IsKind act → IsPlanned h c node act → Changes h.table c None h.table → ((given : NewNumbers) → acted h.table node act c None given (held_for act (kept_at h node)) (offset_in h act) ≡ done)
-    → done.offset ≡ offset_of_key h key → e ≡ done.ending → Rewrites h node done.content bodies → EndsTurn h c e (record h { bodies = bodies })
-rested_ends law h c node act key bodies done e moves kind (keep, is) same done_is rests ends rewrites settings w carried st =
+    → done.offset ≡ offset_of_key h key → e ≡ done.ending → Rewrites h node done.content bodies → EndsAlways h c e (record h { bodies = bodies })
+rested_ends law h c node act key bodies done e moves kind (keep, is) same done_is rests ends rewrites carried settings w st =
     let stepped = step settings w.object c None carried in
     let P : Acted → Type 0 = λ d. IsActed h.table node act d (ended settings w.object carried d.ending) stepped in
     let now : P done = subst P (done_is (numbers_told c stepped.answer)) (acted_kind law h w c node act settings carried st (keep, is) kind) in
@@ -377,8 +387,8 @@ rested_ends law h c node act key bodies done e moves kind (keep, is) same done_i
 
 -- what referred to an object does so no more, and the object holds what it held
 pub released_ends : (law : TableFollows) (h : Stored) (c : Call) (node : ℕ) (u : TableState) (r : Reply) → IsPlanned h c node op.Release → TableMade h c None u
-    → ((given : NewNumbers) (content : Content) → let done = acted h.table node op.Release c None given content 0 in (done.ending ≡ Some r) × (done.content ≡ content)) → Replies h c r (record h { table = u })
-released_ends law h c node u r (keep, is) made done_is settings w carried st =
+    → ((given : NewNumbers) (content : Content) → let done = acted h.table node op.Release c None given content 0 in (done.ending ≡ Some r) × (done.content ≡ content)) → RepliesAlways h c r (record h { table = u })
+released_ends law h c node u r (keep, is) made done_is carried settings w st =
     let stepped = step settings w.object c None carried in
     let content = content_of w.object (birth_at h.table node) in
     let found = released_is law h w c node settings carried st (keep, is) in

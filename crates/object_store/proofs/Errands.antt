@@ -9,7 +9,7 @@ use Rattle.posix_terms.specs.Ends.{is_end}
 use Rattle.sequential_object.specs.Locked.{OutsideLocks, locked_object, locks_door}
 use Rattle.sequential_object.specs.Refusals.{◌>>=◌, count_of, refuse_if, some_or}
 use Rattle.sequential_object.specs.Step.{Carried}
-use Rattle.posix_terms.specs.declared.call.Call.{Call}
+use Rattle.posix_terms.specs.Calls.{Call}
 use Rattle.posix_terms.specs.declared.call.Call.TheVariants as call
 use Rattle.posix_terms.specs.declared.call.ShutdownHow.{ShutdownHow}
 use Rattle.posix_terms.specs.declared.errno.Errno.{Errno}
@@ -146,22 +146,22 @@ number_found h w descriptor st (Shut table state) = rw (table, state) refl
 number_found h w descriptor st (Open key d offset at got there table state) =
     rw (table, state) (sym (ap (λ (n : ℕ). Some n) (used_number h w d.node st (st.sound.described_objects key d got))))
 
-by_call : (law : TableFollows) (h : Stored) (w : World) (c : Call) (node : ℕ) (turns : Carried) (errand : Errand) → Stands h w → HasAct c (op.Ask errand) → Some node ≡ numbered w (locked_object w.object c turns) → door_planned h.table c node ≡ numbered w (door_taken w.object c turns)
-by_call law h w _ node turns _ st (ClosesOut descriptor asked waits taken) locked = locked
-by_call law h w _ node turns _ st (ReadsOut descriptor count asked waits taken) locked = locked
-by_call law h w _ node turns _ st (WritesOut descriptor bytes asked waits taken) locked = locked
-by_call law h w _ node turns _ st (SeeksOut descriptor offset whence asked waits taken) locked = locked
-by_call law h w _ node turns _ st (ShutsOut descriptor how asked waits taken) locked = locked
-by_call law h w _ node turns _ st (OpensOut path access flags asked waits taken) locked = refl
-by_call law h w _ node turns _ st (Listens port asked waits taken) locked = refl
-by_call law h w _ node turns _ st (Connects port asked waits taken) locked = refl
-by_call law h w _ node turns _ st (Accepts descriptor asked waits taken) locked = number_found h w descriptor st (law.found h.table w.object descriptor st.sound st.shows)
+by_call : (law : TableFollows) (h : Stored) (w : World) (c : Call) (node : ℕ) (carried : Carried) (errand : Errand) → Stands h w → HasAct c (op.Ask errand) → Some node ≡ numbered w (locked_object w.object c carried) → door_planned h.table c node ≡ numbered w (door_taken w.object c carried)
+by_call law h w _ node carried _ st (ClosesOut descriptor asked waits taken) locked = locked
+by_call law h w _ node carried _ st (ReadsOut descriptor count asked waits taken) locked = locked
+by_call law h w _ node carried _ st (WritesOut descriptor bytes asked waits taken) locked = locked
+by_call law h w _ node carried _ st (SeeksOut descriptor offset whence asked waits taken) locked = locked
+by_call law h w _ node carried _ st (ShutsOut descriptor how asked waits taken) locked = locked
+by_call law h w _ node carried _ st (OpensOut path access flags asked waits taken) locked = refl
+by_call law h w _ node carried _ st (Listens port asked waits taken) locked = refl
+by_call law h w _ node carried _ st (Connects port asked waits taken) locked = refl
+by_call law h w _ node carried _ st (Accepts descriptor asked waits taken) locked = number_found h w descriptor st (law.found h.table w.object descriptor st.sound st.shows)
 
 -- an errand takes along the door that its call does
-pub door_known : (law : TableFollows) (h : Stored) (w : World) (c : Call) (node : ℕ) (errand : Errand) (keep : Bool) (turns : Carried) → Stands h w → planned h.table c ≡ plan.Node node (op.Ask errand) keep → errand.door ≡ numbered w (door_taken w.object c turns)
-door_known law h w c node errand keep turns st is =
-    let locked : Some node ≡ numbered w (locked_object w.object c turns) = sym (number_known law h w c turns st ∙ ap object_of is) in
-    door_is_planned h.table c node errand keep is ∙ by_call law h w c node turns errand st (planned_fits h.table c node (op.Ask errand) keep is).0 locked
+pub door_known : (law : TableFollows) (h : Stored) (w : World) (c : Call) (node : ℕ) (errand : Errand) (keep : Bool) (carried : Carried) → Stands h w → planned h.table c ≡ plan.Node node (op.Ask errand) keep → errand.door ≡ numbered w (door_taken w.object c carried)
+door_known law h w c node errand keep carried st is =
+    let locked : Some node ≡ numbered w (locked_object w.object c carried) = sym (number_known law h w c carried st ∙ ap object_of is) in
+    door_is_planned h.table c node errand keep is ∙ by_call law h w c node carried errand st (planned_fits h.table c node (op.Ask errand) keep is).0 locked
 
 -- ## By the definition
 

@@ -8,7 +8,7 @@ use Rattle.sequential_object.specs.Object.{Content, DoorTo, File, Pair, Pipe}
 use Rattle.sequential_object.specs.Streams as stream
 use Rattle.sequential_object.specs.Streams.{Reading, Writing, new_pair, pair_read, pair_write, pipe_write, shut, stream_read, with_waiting}
 use Rattle.sequential_object.specs.Transfers.{base_of, offset_of}
-use Rattle.posix_terms.specs.declared.call.Call.{Call}
+use Rattle.posix_terms.specs.Calls.{Call}
 use Rattle.posix_terms.specs.declared.call.Call.TheVariants as call
 use Rattle.posix_terms.specs.declared.call.Whence.{Whence}
 use Rattle.posix_terms.specs.declared.call.ShutdownHow.{ShutdownHow}
@@ -20,7 +20,7 @@ use Rattle.posix_terms.specs.declared.object.Side.{Side}
 use Rattle.posix_terms.specs.declared.object.Side.TheVariants.{Side0, Side1}
 use Rattle.posix_terms.specs.declared.reply.ObjectKind.TheVariants as kind
 use Rattle.sequential_object.specs.Locked.{keeps_table, locked_object}
-use Rattle.sequential_object.specs.Step.{Carried, asks, step}
+use Rattle.sequential_object.specs.Step.{Carried, asks, nothing_carried, step}
 use Rattle.posix_terms.specs.declared.reply.Answer.{Answer}
 use Rattle.posix_terms.specs.declared.reply.Reply.{Reply}
 use Rattle.posix_terms.specs.declared.reply.Reply.TheVariants as reply
@@ -46,8 +46,8 @@ use Rattle.object_store.specs.declared.patience.TurnStart.TheVariants as start
 use Rattle.object_store.specs.Bodies.{Kept, first_kept, keeping}
 use Rattle.object_store.specs.Patience.{Waits}
 use Rattle.object_store.specs.Acting.{acts_inside, ActsOn, HasRead, HasWritten, Seeks, Writes, WritesFile, cut_bodies, held_by, holding, moved, offset_of_key, release_reply, rewritten, start_at}
-use Rattle.object_store.specs.Store.{EndsTurn, IsPlanned, Makes, Replies, Stands, Stored, TableMade, body_at, kept_at}
-use Rattle.object_store.proofs.Doing.{bodies_same, bodies_set, ends_reply, made_ends, moved_ends, released_ends, rested_ends, stays_ends}
+use Rattle.object_store.specs.Store.{EndsTurn, IsPlanned, Makes, Replies, RepliesAlways, Stands, Stored, TableMade, body_at, kept_at}
+use Rattle.object_store.proofs.Doing.{EndsAlways, end_replies, bodies_same, bodies_set, ends_reply, made_ends, moved_ends, released_ends, rested_ends, stays_ends}
 use Rattle.object_store.proofs.Doing.Moves.{ByRead, ByWrite, BySeek}
 use Rattle.object_store.proofs.Shapes.{HasAct, planned_fits}
 use Rattle.object_store.proofs.Shapes.HasAct.{Accepts, Closes, ClosesOut, Connects, Cuts, Listens, MakesPair, MakesPipe, Opens, OpensOut, Preads, Pwrites, Reads, ReadsOut, Replaces, SeeksFrom, SeeksOut, Shuts, ShutsOut, Stats, Unnames, WritesOut, WritesTo}
@@ -98,10 +98,10 @@ unchanged t _ _ (Accepts descriptor asked waits d) of = absurd of
 still : (h : Stored) (c : Call) (node : ℕ) (act : Op) → IsPlanned h c node act → OfContent act → Changes h.table c None h.table
 still h c node act planned of = unchanged h.table c act (act_of h c node act planned) of
 
-as_is : (h new : Stored) (c : Call) (x e : Option Reply) (z : Stored) → e ≡ x → new ≡ z → EndsTurn h c x z → EndsTurn h c e new
-as_is h new c x e z answers leaves ends = subst (λ (y : Option Reply). EndsTurn h c y new) (sym answers) (subst (λ (y : Stored). EndsTurn h c x y) (sym leaves) ends)
+as_is : (h new : Stored) (c : Call) (x e : Option Reply) (z : Stored) → e ≡ x → new ≡ z → EndsAlways h c x z → EndsAlways h c e new
+as_is h new c x e z answers leaves ends = subst (λ (y : Option Reply). EndsAlways h c y new) (sym answers) (subst (λ (y : Stored). EndsAlways h c x y) (sym leaves) ends)
 
-replied_as : (h new : Stored) (c : Call) (x r : Reply) (z : Stored) → r ≡ x → new ≡ z → EndsTurn h c (Some x) z → Replies h c r new
+replied_as : (h new : Stored) (c : Call) (x r : Reply) (z : Stored) → r ≡ x → new ≡ z → EndsAlways h c (Some x) z → RepliesAlways h c r new
 replied_as h new c x r z answers leaves ends = ends_reply h c r new (as_is h new c (Some x) (Some r) z (ap Some answers) leaves ends)
 
 -- ## Reading
@@ -121,7 +121,7 @@ stream_offset t node n from (part.Socket side) k offset its =
 stream_offset t node n from (part.Door door) k offset its = refl
 
 read_stream_ends : (law : TableFollows) (h new : Stored) (c : Call) (node n : ℕ) (from : Opened) (which : End) (e : Option Reply) → IsPlanned h c node (op.Read from n) → node < length h.bodies → from.«end» ≡ which → is_end which part.Only ≡ false
-    → ActsOn (read_acted h.table node from n (held_by which (kept_at h node)) (offset_of_key h from.key)) h node e new → EndsTurn h c e new
+    → ActsOn (read_acted h.table node from n (held_by which (kept_at h node)) (offset_of_key h from.key)) h node e new → EndsAlways h c e new
 read_stream_ends law h new c node n from which e planned inside through its (answers, leaves) =
     let done = read_acted h.table node from n (held_by which (kept_at h node)) (offset_of_key h from.key) in
     as_is h new c e e _ refl leaves
@@ -129,7 +129,7 @@ read_stream_ends law h new c node n from which e planned inside through its (ans
     (λ given. ap (λ (x : End). read_acted h.table node from n (held_by x (kept_at h node)) (offset_of_key h from.key)) through)
     (stream_offset h.table node n from which (kept_at h node) (offset_of_key h from.key) its) answers (bodies_set h node done.content inside))
 
-read_by : (law : TableFollows) (h new : Stored) (c : Call) (node n : ℕ) (from : Opened) (which : End) (e : Option Reply) → IsPlanned h c node (op.Read from n) → node < length h.bodies → from.«end» ≡ which → HasRead which h node from n e new → EndsTurn h c e new
+read_by : (law : TableFollows) (h new : Stored) (c : Call) (node n : ℕ) (from : Opened) (which : End) (e : Option Reply) → IsPlanned h c node (op.Read from n) → node < length h.bodies → from.«end» ≡ which → HasRead which h node from n e new → EndsAlways h c e new
 read_by law h new c node n from part.Only e planned inside through (answers, leaves) =
     let done = read_acted h.table node from n (File (body_at h node)) (offset_of_key h from.key) in
     as_is h new c _ e _ answers leaves
@@ -145,28 +145,28 @@ read_by law h new c node n from (part.Door door) e planned inside through (answe
     (rested_ends law h c node (op.Read from n) from.key h.bodies done (Some reply.Done) (ByRead from n) tt planned (still h c node (op.Read from n) planned tt)
     (λ given. ap (λ (x : End). read_acted h.table node from n (held_by x (kept_at h node)) (offset_of_key h from.key)) through) refl refl (bodies_same h node done.content refl))
 
-pub read_ends : (law : TableFollows) (h new : Stored) (c : Call) (node n : ℕ) (from : Opened) (e : Option Reply) → IsPlanned h c node (op.Read from n) → node < length h.bodies → HasRead from.«end» h node from n e new → EndsTurn h c e new
+pub read_ends : (law : TableFollows) (h new : Stored) (c : Call) (node n : ℕ) (from : Opened) (e : Option Reply) → IsPlanned h c node (op.Read from n) → node < length h.bodies → HasRead from.«end» h node from n e new → EndsAlways h c e new
 read_ends law h new c node n from e planned inside has = read_by law h new c node n from from.«end» e planned inside refl has
 
-pub pread_ends : (law : TableFollows) (h : Stored) (c : Call) (node n start : ℕ) (r : Reply) → IsPlanned h c node (op.Pread n start) → r ≡ reply.Data (bytes_at (body_at h node) start n) → EndsTurn h c (Some r) h
+pub pread_ends : (law : TableFollows) (h : Stored) (c : Call) (node n start : ℕ) (r : Reply) → IsPlanned h c node (op.Pread n start) → r ≡ reply.Data (bytes_at (body_at h node) start n) → EndsAlways h c (Some r) h
 pread_ends law h c node n start r planned answers =
     let done = acted h.table node (op.Pread n start) c None numbers.None (File (body_at h node)) 0 in
     let x = reply.Data (bytes_at (body_at h node) start n) in
     as_is h h c (Some x) (Some r) h (ap Some answers) refl (stays_ends law h c node (op.Pread n start) h.bodies done (Some x) tt tt planned (still h c node (op.Pread n start) planned tt) (λ given. refl) refl (bodies_same h node done.content refl))
 
-pub fstat_makes : (law : TableFollows) (h : Stored) (c : Call) (node links : ℕ) (r : Reply) → IsPlanned h c node (op.Fstat links) → r ≡ reply.Stat kind.File (length (body_at h node)) links → Replies h c r h
+pub fstat_makes : (law : TableFollows) (h : Stored) (c : Call) (node links : ℕ) (r : Reply) → IsPlanned h c node (op.Fstat links) → r ≡ reply.Stat kind.File (length (body_at h node)) links → RepliesAlways h c r h
 fstat_makes law h c node links r planned answers =
     let done = acted h.table node (op.Fstat links) c None numbers.None (File (body_at h node)) 0 in
     let x = reply.Stat kind.File (length (body_at h node)) links in
     replied_as h h c x r h answers refl (stays_ends law h c node (op.Fstat links) h.bodies done (Some x) tt tt planned (still h c node (op.Fstat links) planned tt) (λ given. refl) refl (bodies_same h node done.content refl))
 
-pub ftruncate_makes : (law : TableFollows) (h new : Stored) (c : Call) (node size : ℕ) (r : Reply) → IsPlanned h c node (op.Ftruncate size) → node < length h.bodies → r ≡ reply.Done → new ≡ rewritten h node (resized (body_at h node) size) → Replies h c r new
+pub ftruncate_makes : (law : TableFollows) (h new : Stored) (c : Call) (node size : ℕ) (r : Reply) → IsPlanned h c node (op.Ftruncate size) → node < length h.bodies → r ≡ reply.Done → new ≡ rewritten h node (resized (body_at h node) size) → RepliesAlways h c r new
 ftruncate_makes law h new c node size r planned inside answers leaves =
     let done = acted h.table node (op.Ftruncate size) c None numbers.None (File (body_at h node)) 0 in
     replied_as h new c reply.Done r _ answers leaves
     (stays_ends law h c node (op.Ftruncate size) (slice_set h.bodies node (keeping done.content (kept_at h node))) done (Some reply.Done) tt tt planned (still h c node (op.Ftruncate size) planned tt) (λ given. refl) refl (bodies_set h node done.content inside))
 
-pub shutdown_makes : (law : TableFollows) (h new : Stored) (c : Call) (node : ℕ) (side : Side) (how : ShutdownHow) (r : Reply) → IsPlanned h c node (op.Shutdown side how) → node < length h.bodies → r ≡ reply.Done → new ≡ holding h node (Pair (shut (kept_at h node).pair side how)) → Replies h c r new
+pub shutdown_makes : (law : TableFollows) (h new : Stored) (c : Call) (node : ℕ) (side : Side) (how : ShutdownHow) (r : Reply) → IsPlanned h c node (op.Shutdown side how) → node < length h.bodies → r ≡ reply.Done → new ≡ holding h node (Pair (shut (kept_at h node).pair side how)) → RepliesAlways h c r new
 shutdown_makes law h new c node side how r planned inside answers leaves =
     let done = acted h.table node (op.Shutdown side how) c None numbers.None (Pair (kept_at h node).pair) 0 in
     replied_as h new c reply.Done r _ answers leaves
@@ -194,7 +194,7 @@ write_acts h c descriptor bytes node to which given call_is through =
     ∙ ap (λ (x : End). write_acted h.table node to bytes (held_by x (kept_at h node)) (offset_of_key h to.key)) through
 
 write_stream_ends : (law : TableFollows) (h new : Stored) (c : Call) (descriptor : ℤ) (bytes : List ℕ) (node : ℕ) (to : Opened) (which : End) (e : Option Reply) → IsPlanned h c node (op.Write to) → c ≡ call.Write descriptor bytes → node < length h.bodies → to.«end» ≡ which → is_end which part.Only ≡ false
-    → ActsOn (write_acted h.table node to bytes (held_by which (kept_at h node)) (offset_of_key h to.key)) h node e new → EndsTurn h c e new
+    → ActsOn (write_acted h.table node to bytes (held_by which (kept_at h node)) (offset_of_key h to.key)) h node e new → EndsAlways h c e new
 write_stream_ends law h new c descriptor bytes node to which e planned call_is inside through its (answers, leaves) =
     let done = write_acted h.table node to bytes (held_by which (kept_at h node)) (offset_of_key h to.key) in
     as_is h new c e e _ refl leaves
@@ -202,13 +202,13 @@ write_stream_ends law h new c descriptor bytes node to which e planned call_is i
     (stream_written_offset h.table node to bytes which (kept_at h node) (offset_of_key h to.key) its) answers (bodies_set h node done.content inside))
 
 -- to a file
-write_none_ends : (law : TableFollows) (h : Stored) (c : Call) (descriptor : ℤ) (bytes : List ℕ) (node : ℕ) (to : Opened) → IsPlanned h c node (op.Write to) → c ≡ call.Write descriptor bytes → to.«end» ≡ part.Only → (length bytes == 0) ≡ true → EndsTurn h c (Some (reply.Count 0)) h
+write_none_ends : (law : TableFollows) (h : Stored) (c : Call) (descriptor : ℤ) (bytes : List ℕ) (node : ℕ) (to : Opened) → IsPlanned h c node (op.Write to) → c ≡ call.Write descriptor bytes → to.«end» ≡ part.Only → (length bytes == 0) ≡ true → EndsAlways h c (Some (reply.Count 0)) h
 write_none_ends law h c descriptor bytes node to planned call_is through none =
     let done : Acted = replied (reply.Count 0) (File (body_at h node)) (offset_of_key h to.key) in
     rested_ends law h c node (op.Write to) to.key h.bodies done (Some (reply.Count 0)) (ByWrite to) tt planned (still h c node (op.Write to) planned tt) (λ given. write_acts h c descriptor bytes node to part.Only given call_is through ∙ rw none refl) refl refl (bodies_same h node done.content refl)
 
 write_some_ends : (law : TableFollows) (h new : Stored) (c : Call) (descriptor : ℤ) (bytes : List ℕ) (node : ℕ) (to : Opened) (r : Reply) (w : Result (List ℕ × ℕ) Errno) → IsPlanned h c node (op.Write to) → c ≡ call.Write descriptor bytes → to.«end» ≡ part.Only → (length bytes == 0) ≡ false → node < length h.bodies
-    → written (body_at h node) (start_at h to node) bytes ≡ w → Writes w h (λ count. moved h to.key (start_at h to node + count)) node r new → EndsTurn h c (Some r) new
+    → written (body_at h node) (start_at h to node) bytes ≡ w → Writes w h (λ count. moved h to.key (start_at h to node + count)) node r new → EndsAlways h c (Some r) new
 write_some_ends law h new c descriptor bytes node to r (Ok (file, count)) planned call_is through some inside is (answers, leaves) =
     let done : Acted = replied (reply.Count count) (File file) (start_at h to node + count) in
     as_is h new c (Some (reply.Count count)) (Some r) _ (ap Some answers) leaves
@@ -220,11 +220,11 @@ write_some_ends law h new c descriptor bytes node to r (Err e) planned call_is t
     (rested_ends law h c node (op.Write to) to.key h.bodies done (Some (reply.Fail e)) (ByWrite to) tt planned (still h c node (op.Write to) planned tt)
     (λ given. write_acts h c descriptor bytes node to part.Only given call_is through ∙ rw (is, some) refl) refl refl (bodies_same h node done.content refl))
 
-write_file_ends : (law : TableFollows) (h new : Stored) (c : Call) (descriptor : ℤ) (bytes : List ℕ) (node : ℕ) (to : Opened) (r : Reply) (b : Bool) → IsPlanned h c node (op.Write to) → c ≡ call.Write descriptor bytes → to.«end» ≡ part.Only → (length bytes == 0) ≡ b → node < length h.bodies → WritesFile b h node to bytes r new → EndsTurn h c (Some r) new
+write_file_ends : (law : TableFollows) (h new : Stored) (c : Call) (descriptor : ℤ) (bytes : List ℕ) (node : ℕ) (to : Opened) (r : Reply) (b : Bool) → IsPlanned h c node (op.Write to) → c ≡ call.Write descriptor bytes → to.«end» ≡ part.Only → (length bytes == 0) ≡ b → node < length h.bodies → WritesFile b h node to bytes r new → EndsAlways h c (Some r) new
 write_file_ends law h new c descriptor bytes node to r true planned call_is through none inside (answers, leaves) = as_is h new c (Some (reply.Count 0)) (Some r) h (ap Some answers) leaves (write_none_ends law h c descriptor bytes node to planned call_is through none)
 write_file_ends law h new c descriptor bytes node to r false planned call_is through some inside writes = write_some_ends law h new c descriptor bytes node to r (written (body_at h node) (start_at h to node) bytes) planned call_is through some inside refl writes
 
-write_by : (law : TableFollows) (h new : Stored) (c : Call) (descriptor : ℤ) (bytes : List ℕ) (node : ℕ) (to : Opened) (which : End) (e : Option Reply) → IsPlanned h c node (op.Write to) → c ≡ call.Write descriptor bytes → node < length h.bodies → to.«end» ≡ which → HasWritten which h node to bytes e new → EndsTurn h c e new
+write_by : (law : TableFollows) (h new : Stored) (c : Call) (descriptor : ℤ) (bytes : List ℕ) (node : ℕ) (to : Opened) (which : End) (e : Option Reply) → IsPlanned h c node (op.Write to) → c ≡ call.Write descriptor bytes → node < length h.bodies → to.«end» ≡ which → HasWritten which h node to bytes e new → EndsAlways h c e new
 write_by law h new c descriptor bytes node to part.Only e planned call_is inside through (r, is, writes) = as_is h new c (Some r) e new is refl (write_file_ends law h new c descriptor bytes node to r (length bytes == 0) planned call_is through refl inside writes)
 write_by law h new c descriptor bytes node to part.Read e planned call_is inside through acts_on = write_stream_ends law h new c descriptor bytes node to part.Read e planned call_is inside through refl acts_on
 write_by law h new c descriptor bytes node to part.Write e planned call_is inside through acts_on = write_stream_ends law h new c descriptor bytes node to part.Write e planned call_is inside through refl acts_on
@@ -235,16 +235,16 @@ write_by law h new c descriptor bytes node to (part.Door door) e planned call_is
     as_is h new c _ e _ answers leaves
     (rested_ends law h c node (op.Write to) to.key h.bodies done (Some reply.Done) (ByWrite to) tt planned (still h c node (op.Write to) planned tt) (λ given. write_acts h c descriptor bytes node to (part.Door door) given call_is through) refl refl (bodies_same h node done.content refl))
 
-pub write_ends : (law : TableFollows) (h new : Stored) (c : Call) (descriptor : ℤ) (bytes : List ℕ) (node : ℕ) (to : Opened) (e : Option Reply) → IsPlanned h c node (op.Write to) → c ≡ call.Write descriptor bytes → node < length h.bodies → HasWritten to.«end» h node to bytes e new → EndsTurn h c e new
+pub write_ends : (law : TableFollows) (h new : Stored) (c : Call) (descriptor : ℤ) (bytes : List ℕ) (node : ℕ) (to : Opened) (e : Option Reply) → IsPlanned h c node (op.Write to) → c ≡ call.Write descriptor bytes → node < length h.bodies → HasWritten to.«end» h node to bytes e new → EndsAlways h c e new
 write_ends law h new c descriptor bytes node to e planned call_is inside has = write_by law h new c descriptor bytes node to to.«end» e planned call_is inside refl has
 
-pub pwrite_none_makes : (law : TableFollows) (h : Stored) (c : Call) (descriptor : ℤ) (bytes : List ℕ) (position : ℤ) (node start : ℕ) → IsPlanned h c node (op.Pwrite start) → c ≡ call.Pwrite descriptor bytes position → (length bytes == 0) ≡ true → Replies h c (reply.Count 0) h
+pub pwrite_none_makes : (law : TableFollows) (h : Stored) (c : Call) (descriptor : ℤ) (bytes : List ℕ) (position : ℤ) (node start : ℕ) → IsPlanned h c node (op.Pwrite start) → c ≡ call.Pwrite descriptor bytes position → (length bytes == 0) ≡ true → RepliesAlways h c (reply.Count 0) h
 pwrite_none_makes law h c descriptor bytes position node start planned call_is none =
     let done : Acted = replied (reply.Count 0) (File (body_at h node)) 0 in
     ends_reply h c (reply.Count 0) h (stays_ends law h c node (op.Pwrite start) h.bodies done (Some (reply.Count 0)) tt tt planned (still h c node (op.Pwrite start) planned tt) (λ given. rw (call_is, none) refl) refl (bodies_same h node done.content refl))
 
 pwrite_by : (law : TableFollows) (h new : Stored) (c : Call) (descriptor : ℤ) (bytes : List ℕ) (position : ℤ) (node start : ℕ) (r : Reply) (w : Result (List ℕ × ℕ) Errno) → IsPlanned h c node (op.Pwrite start) → c ≡ call.Pwrite descriptor bytes position → (length bytes == 0) ≡ false → node < length h.bodies
-    → written (body_at h node) start bytes ≡ w → Writes w h (λ count. h) node r new → Replies h c r new
+    → written (body_at h node) start bytes ≡ w → Writes w h (λ count. h) node r new → RepliesAlways h c r new
 pwrite_by law h new c descriptor bytes position node start r (Ok (file, count)) planned call_is some inside is (answers, leaves) =
     let done : Acted = replied (reply.Count count) (File file) 0 in
     replied_as h new c (reply.Count count) r _ answers leaves
@@ -255,13 +255,13 @@ pwrite_by law h new c descriptor bytes position node start r (Err e) planned cal
     (stays_ends law h c node (op.Pwrite start) h.bodies done (Some (reply.Fail e)) tt tt planned (still h c node (op.Pwrite start) planned tt) (λ given. rw (call_is, is, some) refl) refl (bodies_same h node done.content refl))
 
 pub pwrite_makes : (law : TableFollows) (h new : Stored) (c : Call) (descriptor : ℤ) (bytes : List ℕ) (position : ℤ) (node start : ℕ) (r : Reply) → IsPlanned h c node (op.Pwrite start) → c ≡ call.Pwrite descriptor bytes position → (length bytes == 0) ≡ false → node < length h.bodies
-    → Writes (written (body_at h node) start bytes) h (λ count. h) node r new → Replies h c r new
+    → Writes (written (body_at h node) start bytes) h (λ count. h) node r new → RepliesAlways h c r new
 pwrite_makes law h new c descriptor bytes position node start r planned call_is some inside writes = pwrite_by law h new c descriptor bytes position node start r (written (body_at h node) start bytes) planned call_is some inside refl writes
 
 -- ## Seeking
 
 seek_by : (law : TableFollows) (h new : Stored) (c : Call) (descriptor offset : ℤ) (whence : Whence) (node : ℕ) (from : Opened) (r : Reply) (to : Result ℕ Errno) → IsPlanned h c node (op.Lseek from) → c ≡ call.Lseek descriptor offset whence
-    → offset_of (pos (base_of whence (offset_of_key h from.key) (length (body_at h node))) +ℤ offset) ≡ to → Seeks to h from.key r new → Replies h c r new
+    → offset_of (pos (base_of whence (offset_of_key h from.key) (length (body_at h node))) +ℤ offset) ≡ to → Seeks to h from.key r new → RepliesAlways h c r new
 seek_by law h new c descriptor offset whence node from r (Ok to) planned call_is is (answers, leaves) =
     let done : Acted = replied (reply.Number (pos to)) (File (body_at h node)) to in
     replied_as h new c (reply.Number (pos to)) r _ answers leaves
@@ -272,7 +272,7 @@ seek_by law h new c descriptor offset whence node from r (Err e) planned call_is
     (rested_ends law h c node (op.Lseek from) from.key h.bodies done (Some (reply.Fail e)) (BySeek from) tt planned (still h c node (op.Lseek from) planned tt) (λ given. rw (call_is, is) refl) refl refl (bodies_same h node done.content refl))
 
 pub lseek_makes : (law : TableFollows) (h new : Stored) (c : Call) (descriptor offset : ℤ) (whence : Whence) (node : ℕ) (from : Opened) (r : Reply) → IsPlanned h c node (op.Lseek from) → c ≡ call.Lseek descriptor offset whence
-    → Seeks (offset_of (pos (base_of whence (offset_of_key h from.key) (length (body_at h node))) +ℤ offset)) h from.key r new → Replies h c r new
+    → Seeks (offset_of (pos (base_of whence (offset_of_key h from.key) (length (body_at h node))) +ℤ offset)) h from.key r new → RepliesAlways h c r new
 lseek_makes law h new c descriptor offset whence node from r planned call_is seeks =
     seek_by law h new c descriptor offset whence node from r (offset_of (pos (base_of whence (offset_of_key h from.key) (length (body_at h node))) +ℤ offset)) planned call_is refl seeks
 
@@ -283,7 +283,7 @@ released_done t node _ given content (Closes descriptor) = (refl, refl)
 released_done t node _ given content (Replaces descriptor target) = (refl, refl)
 released_done t node _ given content (Unnames path) = (refl, refl)
 
-pub release_makes : (law : TableFollows) (h : Stored) (c : Call) (node : ℕ) (u : TableState) → IsPlanned h c node op.Release → TableMade h c None u → Replies h c (release_reply c) (record h { table = u })
+pub release_makes : (law : TableFollows) (h : Stored) (c : Call) (node : ℕ) (u : TableState) → IsPlanned h c node op.Release → TableMade h c None u → RepliesAlways h c (release_reply c) (record h { table = u })
 release_makes law h c node u planned made = released_ends law h c node u (release_reply c) planned made (λ given content. released_done h.table node c given content (act_of h c node op.Release planned))
 
 cut_rewrites : (h : Stored) (node : ℕ) (cut : Bool) → node < length h.bodies → Rewrites h node (if cut then File [] else File (body_at h node)) (cut_bodies h node cut)
@@ -291,17 +291,17 @@ cut_rewrites h node true inside = bodies_set h node (File []) inside
 cut_rewrites h node false inside = bodies_same h node (File (body_at h node)) refl
 
 pub open_makes : (law : TableFollows) (h : Stored) (c : Call) (node : ℕ) (cut : Bool) (u : TableState) (given : NewNumbers) → IsPlanned h c node (op.Open cut) → TableMade h c None u → TellsAsStep h.table c None given → node < length h.bodies
-    → Replies h c (numbers_reply given) (record { table = u; bodies = cut_bodies h node cut })
+    → RepliesAlways h c (numbers_reply given) (record { table = u; bodies = cut_bodies h node cut })
 open_makes law h c node cut u given planned made tells inside =
     ends_reply h c (numbers_reply given) _ (made_ends law h c node (op.Open cut) u given (cut_bodies h node cut) (Some (numbers_reply given)) tt tt planned made tells refl (cut_rewrites h node cut inside))
 
 pub pipe_makes : (law : TableFollows) (h : Stored) (c : Call) (node : ℕ) (u : TableState) (given : NewNumbers) → IsPlanned h c node op.Pipe → TableMade h c None u → TellsAsStep h.table c None given → node < length h.bodies
-    → Replies h c (numbers_reply given) (record { table = u; bodies = slice_set h.bodies node (keeping (Pipe []) (kept_at h node)) })
+    → RepliesAlways h c (numbers_reply given) (record { table = u; bodies = slice_set h.bodies node (keeping (Pipe []) (kept_at h node)) })
 pipe_makes law h c node u given planned made tells inside =
     ends_reply h c (numbers_reply given) _ (made_ends law h c node op.Pipe u given (slice_set h.bodies node (keeping (Pipe []) (kept_at h node))) (Some (numbers_reply given)) tt tt planned made tells refl (bodies_set h node (Pipe []) inside))
 
 pub pair_makes : (law : TableFollows) (h : Stored) (c : Call) (node : ℕ) (u : TableState) (given : NewNumbers) → IsPlanned h c node op.Socketpair → TableMade h c None u → TellsAsStep h.table c None given → node < length h.bodies
-    → Replies h c (numbers_reply given) (record { table = u; bodies = slice_set h.bodies node (keeping (Pair new_pair) (kept_at h node)) })
+    → RepliesAlways h c (numbers_reply given) (record { table = u; bodies = slice_set h.bodies node (keeping (Pair new_pair) (kept_at h node)) })
 pair_makes law h c node u given planned made tells inside =
     ends_reply h c (numbers_reply given) _ (made_ends law h c node op.Socketpair u given (slice_set h.bodies node (keeping (Pair new_pair) (kept_at h node))) (Some (numbers_reply given)) tt tt planned made tells refl (bodies_set h node (Pair new_pair) inside))
 
@@ -351,8 +351,8 @@ plan_asks law h c node act keep w carried is st =
 pub plan_keeps : (law : TableFollows) (h : Stored) (c : Call) (node : ℕ) (act : Op) (keep : Bool) (w : World) → planned h.table c ≡ plan.Node node act keep → Stands h w → keep ≡ keeps_table c
 plan_keeps law h c node act keep w is st =
     let settings : Settings = record { patience = 1; door_cost = 1 } in
-    let agrees : AgreesOn h.table c (plan.Node node act keep) (locked_object w.object c 0) (asks w.object c 0) (step settings w.object c None 0).answer =
-    subst (λ (p : Plan). AgreesOn h.table c p (locked_object w.object c 0) (asks w.object c 0) (step settings w.object c None 0).answer) is ((law.calls h.table c st.sound st.described).plans settings w.object None 0 st.shows) in
+    let agrees : AgreesOn h.table c (plan.Node node act keep) (locked_object w.object c nothing_carried) (asks w.object c nothing_carried) (step settings w.object c None nothing_carried).answer =
+    subst (λ (p : Plan). AgreesOn h.table c p (locked_object w.object c nothing_carried) (asks w.object c nothing_carried) (step settings w.object c None nothing_carried).answer) is ((law.calls h.table c st.sound st.described).plans settings w.object None nothing_carried st.shows) in
     agrees.1.1
 
 pub reply_asks : (law : TableFollows) (h : Stored) (c : Call) (r : Reply) (w : World) (carried : Carried) → planned h.table c ≡ plan.Reply r → Stands h w → asks w.object c carried ≡ None
@@ -387,25 +387,25 @@ reply_alone law h c r is w carried st = reply_asks law h c r w carried is st
 pub act_alone : (law : TableFollows) (h : Stored) (c : Call) (node : ℕ) (act : Op) → IsPlanned h c node act → acts_inside act ≡ true → AsksNothing h c
 act_alone law h c node act (keep, is) inside w carried st = plan_asks law h c node act keep w carried is st ∙ inside_asks c act inside
 
--- it ends with a reply, whatever the call carries
-pub turn_replied : (h new : Stored) (c : Call) (r : Reply) (patience turns : ℕ) → AsksNothing h c → Replies h c r new → Makes patience turns h c (start.Ended (end.Reply r)) new
-turn_replied h new c r patience turns alone replies settings w same st =
-    let done = replies settings w turns st in
+-- it ends with a reply
+pub turn_replied : (h new : Stored) (c : Call) (r : Reply) (patience : ℕ) (carried : Carried) → AsksNothing h c → Replies carried h c r new → Makes patience carried h c (start.Ended (end.Reply r)) new
+turn_replied h new c r patience carried alone replies settings w same st =
+    let done = replies settings w st in
     record {
-      request = alone w turns st;
-      answer_is = ap (λ (a : Answer). answered_with a (step settings w.object c None turns).carried) done.0;
+      request = alone w carried st;
+      answer_is = ap (λ (a : Answer). answered_with a (step settings w.object c None carried).carried) done.0;
       change = done.1;
     }
 
-pub act_replied : (h new : Stored) (c : Call) (r : Reply) (patience turns : ℕ) → AsksNothing h c → EndsTurn h c (Some r) new → Makes patience turns h c (start.Ended (end.Reply r)) new
-act_replied h new c r patience turns alone ends = turn_replied h new c r patience turns alone (ends_reply h c r new ends)
+pub act_replied : (h new : Stored) (c : Call) (r : Reply) (patience : ℕ) (carried : Carried) → AsksNothing h c → EndsTurn carried h c (Some r) new → Makes patience carried h c (start.Ended (end.Reply r)) new
+act_replied h new c r patience carried alone ends = turn_replied h new c r patience carried alone (end_replies carried h c r new ends)
 
 -- it has to wait
-pub act_waits : (h new : Stored) (c : Call) (patience turns : ℕ) (e : TurnEnd) → AsksNothing h c → EndsTurn h c None new → Waits patience turns e → Makes patience turns h c (start.Ended e) new
-act_waits h new c patience turns e alone ends waits settings w same st =
-    let done = ends settings w turns st in
+pub act_waits : (h new : Stored) (c : Call) (patience : ℕ) (carried : Carried) (e : TurnEnd) → AsksNothing h c → EndsTurn carried h c None new → Waits patience carried e → Makes patience carried h c (start.Ended e) new
+act_waits h new c patience carried e alone ends waits settings w same st =
+    let done = ends settings w st in
     record {
-      request = alone w turns st;
+      request = alone w carried st;
       answer_is = ap (λ (p : Answer × Carried). answered_with p.0 p.1) done.0 ∙ waits settings w.object same;
       change = done.1;
     }

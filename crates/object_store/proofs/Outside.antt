@@ -11,7 +11,7 @@ use Rattle.posix_terms.specs.Outcomes.{bytes_fit, fits, value_fits}
 use Rattle.sequential_object.specs.Effects.{Effect, Asks, Blocks, Completes}
 use Rattle.sequential_object.specs.Step as posix
 use Rattle.sequential_object.specs.Step.{AgainChangesNothing, Carried, FailChangesNothing, Stepped, closes_door, concluded, effect_of, failed, is_again, nothing_carried, step, waited}
-use Rattle.posix_terms.specs.declared.call.Call.{Call}
+use Rattle.posix_terms.specs.Calls.{Call}
 use Rattle.posix_terms.specs.declared.errno.Errno.{Errno}
 use Rattle.posix_terms.specs.declared.errno.Errno.TheVariants.{EAGAIN, EINTR}
 use Rattle.posix_terms.specs.declared.outcome.OutKind.{OutKind}
@@ -138,9 +138,9 @@ asked_stands law h w c node errand keep o u settings carried content st is made 
 
 -- a call that waits does not fail with EAGAIN
 waited_apart : (settings : Settings) (s : State) (carried : Carried) → (let x : Stepped = waited settings s carried in x.answer) ≡ answer.Reply (reply.Fail EAGAIN) → ⊥
-waited_apart settings s carried same = by_test (nat_lt (carried + 1) settings.patience) same
+waited_apart settings s carried same = by_test (nat_lt (carried.turns + 1) settings.patience) same
   where
-    by_test : (b : Bool) → (let x : Stepped = if b then record { after = s; answer = answer.Again; carried = carried + 1 } else record { after = s; answer = answer.Reply (reply.Fail EINTR); carried = nothing_carried } in x.answer) ≡ answer.Reply (reply.Fail EAGAIN) → ⊥
+    by_test : (b : Bool) → (let x : Stepped = if b then record { after = s; answer = answer.Again; carried = record { turns = carried.turns + 1 } } else record { after = s; answer = answer.Reply (reply.Fail EINTR); carried = nothing_carried } in x.answer) ≡ answer.Reply (reply.Fail EAGAIN) → ⊥
     by_test true same = cc
     by_test false same = cc
 
@@ -160,11 +160,11 @@ effect_waits settings s c carried r b (Ok (Completes after reply)) asked same = 
 effect_waits settings s c carried r b (Err e) asked same = absurd (none-some r asked)
 
 -- an errand waits just where its call does
-waits_known : (law : TableFollows) (h : Stored) (w : World) (c : Call) (node : ℕ) (errand : Errand) (keep : Bool) (turns : Carried) → Stands h w → planned h.table c ≡ plan.Node node (op.Ask errand) keep → errand.waits ≡ waits_outside w.object c turns
-waits_known law h w c node errand keep turns st is =
+waits_known : (law : TableFollows) (h : Stored) (w : World) (c : Call) (node : ℕ) (errand : Errand) (keep : Bool) (carried : Carried) → Stands h w → planned h.table c ≡ plan.Node node (op.Ask errand) keep → errand.waits ≡ waits_outside w.object c carried
+waits_known law h w c node errand keep carried st is =
     let settings : Settings = record { patience = 1; door_cost = 1 } in
-    let now = asked_does law h w c node errand keep (Some (outcome.Fail EAGAIN)) settings turns st is in
-    effect_waits settings w.object c turns (record { kind = errand.kind; asked = errand.asked; call = c }) errand.waits (effect_of w.object c turns) (plan_asks law h c node (op.Ask errand) keep w turns is st) now.answer_is
+    let now = asked_does law h w c node errand keep (Some (outcome.Fail EAGAIN)) settings carried st is in
+    effect_waits settings w.object c carried (record { kind = errand.kind; asked = errand.asked; call = c }) errand.waits (effect_of w.object c carried) (plan_asks law h c node (op.Ask errand) keep w carried is st) now.answer_is
 
 -- ## Going outside
 
@@ -177,12 +177,12 @@ asked_used law h w c node errand keep st is frees =
     absurd (false≢true (sym frees ∙ making)))
     (known_of law h w c node (op.Ask errand) keep st is).0.1
 
-pub goes_out : (law : TableFollows) (h new : Stored) (c : Call) (node : ℕ) (errand : Errand) (keep : Bool) (patience turns : ℕ) → planned h.table c ≡ plan.Node node (op.Ask errand) keep → LeavesTable keep h c new → Makes patience turns h c (start.GoesOut errand) new
-goes_out law h new c node errand keep patience turns is leaves settings w same st =
+pub goes_out : (law : TableFollows) (h new : Stored) (c : Call) (node : ℕ) (errand : Errand) (keep : Bool) (patience : ℕ) (carried : Carried) → planned h.table c ≡ plan.Node node (op.Ask errand) keep → LeavesTable keep h c new → Makes patience carried h c (start.GoesOut errand) new
+goes_out law h new c node errand keep patience carried is leaves settings w same st =
     record {
-      request = plan_asks law h c node (op.Ask errand) keep w turns is st;
-      door = door_known law h w c node errand keep turns st is;
-      waits = waits_known law h w c node errand keep turns st is;
+      request = plan_asks law h c node (op.Ask errand) keep w carried is st;
+      door = door_known law h w c node errand keep carried st is;
+      waits = waits_known law h w c node errand keep carried st is;
       change = change;
       ends = ends;
       kept = λ keeps. subst (λ (b : Bool). LeavesTable b h c new) (by_call ∙ keeps) leaves;
@@ -194,30 +194,30 @@ goes_out law h new c node errand keep patience turns is leaves settings w same s
     has : HasAct c (op.Ask errand)
     has = (planned_fits h.table c node (op.Ask errand) keep is).0
 
-    change : keeps_table c ≡ false → Stands new (world_with w (step settings w.object c None turns).after)
+    change : keeps_table c ≡ false → Stands new (world_with w (step settings w.object c None carried).after)
     change frees =
         let left : LeavesTable false h c new = subst (λ (b : Bool). LeavesTable b h c new) (by_call ∙ frees) leaves in
         let used = asked_used law h w c node errand keep st is (by_call ∙ frees) in
         let content = content_of w.object (birth_at h.table node) in
-        subst (λ (x : Stored). Stands x (world_with w (step settings w.object c None turns).after)) (sym left.1)
-        (asked_stands law h w c node errand keep None new.table settings turns content st is left.0 (there_is law h w c node (op.Ask errand) settings turns st (keep, is) used) (asked_does law h w c node errand keep None settings turns st is).content_is)
+        subst (λ (x : Stored). Stands x (world_with w (step settings w.object c None carried).after)) (sym left.1)
+        (asked_stands law h w c node errand keep None new.table settings carried content st is left.0 (there_is law h w c node (op.Ask errand) settings carried st (keep, is) used) (asked_does law h w c node errand keep None settings carried st is).content_is)
 
-    ends : keeps_table c ≡ false → (o : Outcome) → let stepped = step settings w.object c (Some o) turns in (stepped.answer, stepped.carried) ≡ ended settings w.object turns (outside_ending errand numbers.None (Some o))
+    ends : keeps_table c ≡ false → (o : Outcome) → let stepped = step settings w.object c (Some o) carried in (stepped.answer, stepped.carried) ≡ ended settings w.object carried (outside_ending errand numbers.None (Some o))
     ends frees o =
-        let stepped = step settings w.object c (Some o) turns in
-        let now = asked_does law h w c node errand keep (Some o) settings turns st is in
+        let stepped = step settings w.object c (Some o) carried in
+        let now = asked_does law h w c node errand keep (Some o) settings carried st is in
         ap₂ (λ (a : Answer) (b : Carried). (a, b)) now.answer_is now.carried_is
-        ∙ ap (λ (n : NewNumbers). ended settings w.object turns (outside_ending errand n (Some o))) (frees_tells c errand has frees stepped.answer)
+        ∙ ap (λ (n : NewNumbers). ended settings w.object carried (outside_ending errand n (Some o))) (frees_tells c errand has frees stepped.answer)
 
 -- ## What comes of an errand
 
 -- a success
-pub succeeds : (patience turns : ℕ) (errand : Errand) (given : NewNumbers) (o : Outcome) (value : ℕ) (bytes : List ℕ) (r : Reply) → o ≡ outcome.Ok value bytes → r ≡ told_outside errand.kind given value bytes → EndsOutside patience turns errand given o (end.Reply r)
-succeeds patience turns errand given o value bytes r is told settings s same =
-    ap (λ (x : Outcome). as_answer (ended settings s turns (outside_ending errand given (Some x)))) is ∙ ap end.Reply (sym told)
+pub succeeds : (patience : ℕ) (carried : Carried) (errand : Errand) (given : NewNumbers) (o : Outcome) (value : ℕ) (bytes : List ℕ) (r : Reply) → o ≡ outcome.Ok value bytes → r ≡ told_outside errand.kind given value bytes → EndsOutside patience carried errand given o (end.Reply r)
+succeeds patience carried errand given o value bytes r is told settings s same =
+    ap (λ (x : Outcome). as_answer (ended settings s carried (outside_ending errand given (Some x)))) is ∙ ap end.Reply (sym told)
 
-pub same_outcome : (patience turns : ℕ) (errand : Errand) (given : NewNumbers) (o x : Outcome) (e : TurnEnd) → o ≡ x → EndsOutside patience turns errand given x e → EndsOutside patience turns errand given o e
-same_outcome patience turns errand given o x e is ends = subst (λ (y : Outcome). EndsOutside patience turns errand given y e) (sym is) ends
+pub same_outcome : (patience : ℕ) (carried : Carried) (errand : Errand) (given : NewNumbers) (o x : Outcome) (e : TurnEnd) → o ≡ x → EndsOutside patience carried errand given x e → EndsOutside patience carried errand given o e
+same_outcome patience carried errand given o x e is ends = subst (λ (y : Outcome). EndsOutside patience carried errand given y e) (sym is) ends
 
 at_most : (asked value count : ℕ) → (value == count) ≡ true → nat_le value asked ≡ true → count ≤ asked
 at_most asked value count same within = grind (arith, nat_tests)
@@ -249,10 +249,10 @@ read_fits asked value bytes fit =
 -- ## Opening a door
 
 -- nor does an outcome that does not fit
-pub off_port : (law : TableFollows) (h new : Stored) (c : Call) (node : ℕ) (errand : Errand) (keep : Bool) (o : Outcome) (e : TurnEnd) (patience turns : ℕ) → planned h.table c ≡ plan.Node node (op.Ask errand) keep → at_port c o ≡ false → Opens patience turns h c o e new
-off_port law h new c node errand keep o e patience turns is off settings w r same st keeps asked fit =
+pub off_port : (law : TableFollows) (h new : Stored) (c : Call) (node : ℕ) (errand : Errand) (keep : Bool) (o : Outcome) (e : TurnEnd) (patience : ℕ) (carried : Carried) → planned h.table c ≡ plan.Node node (op.Ask errand) keep → at_port c o ≡ false → Opens patience carried h c o e new
+off_port law h new c node errand keep o e patience carried is off settings w r same st keeps asked fit =
     let own : Request = record { kind = errand.kind; asked = errand.asked; call = c } in
-    let its : own ≡ r = same_Some own r (sym (plan_asks law h c node (op.Ask errand) keep w turns is st) ∙ asked) in
+    let its : own ≡ r = same_Some own r (sym (plan_asks law h c node (op.Ask errand) keep w carried is st) ∙ asked) in
     let fit_own : fits errand.kind errand.asked o ≡ true = subst (λ (q : Request). fits q.kind q.asked o ≡ true) (sym its) fit in
     absurd (false≢true (sym off ∙ port_fits c errand o (planned_fits h.table c node (op.Ask errand) keep is).0 fit_own))
 
@@ -270,9 +270,9 @@ door_kept out.Close value content kept opens = absurd (false≢true opens)
 
 -- a failure is a reply, or makes the call wait
 failing : (settings : Settings) (s : State) (carried : Carried) (e : Errno) (b : Bool) → let a : Answer = (ended settings s carried (if b then None else Some (reply.Fail e))).0 in (a ≡ answer.Again) ⊎ ((x : Errno) × (a ≡ answer.Reply (reply.Fail x)))
-failing settings s carried e true = by_test (nat_lt (carried + 1) settings.patience)
+failing settings s carried e true = by_test (nat_lt (carried.turns + 1) settings.patience)
   where
-    by_test : (b : Bool) → let x : Stepped = if b then record { after = s; answer = answer.Again; carried = carried + 1 } else record { after = s; answer = answer.Reply (reply.Fail EINTR); carried = nothing_carried } in (x.answer ≡ answer.Again) ⊎ ((y : Errno) × (x.answer ≡ answer.Reply (reply.Fail y)))
+    by_test : (b : Bool) → let x : Stepped = if b then record { after = s; answer = answer.Again; carried = record { turns = carried.turns + 1 } } else record { after = s; answer = answer.Reply (reply.Fail EINTR); carried = nothing_carried } in (x.answer ≡ answer.Again) ⊎ ((y : Errno) × (x.answer ≡ answer.Reply (reply.Fail y)))
     by_test true = inl refl
     by_test false = inr (EINTR, refl)
 failing settings s carried e false = inr (e, refl)
@@ -316,14 +316,14 @@ door_stands law fails waits h w c node errand keep (outcome.Fail e) u settings c
         λ other got. absurd (false≢true (sym (next_is_new h w st) ∙ ap (λ (x : Option Content). is_some x) (sym (ap₂ (λ (x : State) (b : ℕ). fin.get x.objects b) left birth) ∙ got))) in
         asked_stands law h w c node errand keep (Some (outcome.Fail e)) u settings carried (File (kept_at h node).file) st is made refl holds
 
-pub door_opens : TableFollows → FailChangesNothing → AgainChangesNothing → (h new : Stored) (c : Call) (node : ℕ) (errand : Errand) (keep : Bool) (o : Outcome) (given : NewNumbers) (e : TurnEnd) (patience turns : ℕ) → planned h.table c ≡ plan.Node node (op.Ask errand) keep → TableMade h c (Some o) new.table → TellsAsStep h.table c (Some o) given
-    → new.bodies ≡ h.bodies → (opens_door errand.kind ≡ true → EndsOutside patience turns errand given o e) → Opens patience turns h c o e new
-door_opens law fails waits h new c node errand keep o given e patience turns is made tells bodies ends settings w r same st keeps asked fit =
-    let stepped = step settings w.object c (Some o) turns in
-    let now = asked_does law h w c node errand keep (Some o) settings turns st is in
-    let told : numbers_told c stepped.answer ≡ given = sym (tells settings w.object (Some o) turns (λ x. refl) st.shows) in
+pub door_opens : TableFollows → FailChangesNothing → AgainChangesNothing → (h new : Stored) (c : Call) (node : ℕ) (errand : Errand) (keep : Bool) (o : Outcome) (given : NewNumbers) (e : TurnEnd) (patience : ℕ) (carried : Carried) → planned h.table c ≡ plan.Node node (op.Ask errand) keep → TableMade h c (Some o) new.table → TellsAsStep h.table c (Some o) given
+    → new.bodies ≡ h.bodies → (opens_door errand.kind ≡ true → EndsOutside patience carried errand given o e) → Opens patience carried h c o e new
+door_opens law fails waits h new c node errand keep o given e patience carried is made tells bodies ends settings w r same st keeps asked fit =
+    let stepped = step settings w.object c (Some o) carried in
+    let now = asked_does law h w c node errand keep (Some o) settings carried st is in
+    let told : numbers_told c stepped.answer ≡ given = sym (tells settings w.object (Some o) carried (λ x. refl) st.shows) in
     let opens = keeps_opens c errand (planned_fits h.table c node (op.Ask errand) keep is).0 keeps in
-    let ending = ap₂ (λ (a : Answer) (b : Carried). (a, b)) now.answer_is now.carried_is ∙ ap (λ (n : NewNumbers). ended settings w.object turns (outside_ending errand n (Some o))) told in (
+    let ending = ap₂ (λ (a : Answer) (b : Carried). (a, b)) now.answer_is now.carried_is ∙ ap (λ (n : NewNumbers). ended settings w.object carried (outside_ending errand n (Some o))) told in (
       ap as_answer ending ∙ ends opens settings w.object same,
-      subst (λ (x : Stored). Stands x (world_with w stepped.after)) (changed_is h new bodies) (door_stands law fails waits h w c node errand keep o new.table settings turns st is made keeps),
+      subst (λ (x : Stored). Stands x (world_with w stepped.after)) (changed_is h new bodies) (door_stands law fails waits h w c node errand keep o new.table settings carried st is made keeps),
     )

@@ -9,7 +9,7 @@ use Rattle.std.specs.Prelude.{is_some, unwrap_or}
 use Rattle.sequential_object.specs.Locked.{locked_object}
 use Rattle.sequential_object.specs.Object.{FileNode, path_cmp}
 use Rattle.sequential_object.specs.Step.{Carried, asks, step}
-use Rattle.posix_terms.specs.declared.call.Call.{Call}
+use Rattle.posix_terms.specs.Calls.{Call}
 use Rattle.posix_terms.specs.declared.limits.TheConstants.Limits as limit
 use Rattle.posix_terms.specs.declared.reply.Answer.{Answer}
 use Rattle.posix_terms.specs.declared.request.Request.{Request}
@@ -56,7 +56,7 @@ planned_number h w c (plan.Reply r) most o q a stands known agrees = ap (numbere
 planned_number h w c (plan.Node node act keep_table) most o q a stands known agrees = ap (numbered w) agrees.0 ∙ ap (λ n. Some n) (stands_number h w node stands known.0)
 
 -- the number of the object that a call locks is that of the lock machine
-pub number_known : (law : TableFollows) (h : Stored) (w : World) (call : Call) (carried : Carried) → Stands h w → numbered w (locked_object w.object call carried) ≡ number_locked h call
+pub number_known : (law : TableFollows) (h : Stored) (w : World) (call : Call) (carried : Carried) → Stands h w → numbered w (locked_object w.object call carried) ≡ number_locked h call carried
 number_known law h w call carried stands =
     let settings : Settings = record { patience = 1; door_cost = 1 } in
     let follows : FollowsStep h.table call = law.calls h.table call stands.sound stands.described in

@@ -1,7 +1,7 @@
 -- Internal: no contract of the headline or of a command stands on it.
 -- What the acts of calls make of the table and the bodies.
 use Rattle.std.specs.Prelude.{◌≡◌, ℕ, ◌+◌, ◌==◌, List, [], take, length, slice_set, pos, Bool, true, false, Result, Ok, Err, if◌then◌else◌, Option, Some}
-use Rattle.posix_terms.specs.declared.call.Call.{Call}
+use Rattle.posix_terms.specs.Calls.{Call}
 use Rattle.posix_terms.specs.declared.call.Call.TheVariants as call
 use Rattle.posix_terms.specs.declared.errno.Errno.{Errno}
 use Rattle.posix_terms.specs.declared.reply.Reply.{Reply}

@@ -6,7 +6,7 @@ use Rattle.sequential_object.specs.Effects.{Effect, Asks}
 use Rattle.sequential_object.specs.Locked.{keeps_table, locked_object}
 use Rattle.sequential_object.specs.Object.{State, Description}
 use Rattle.sequential_object.specs.Step.{Carried, asks, effect_of}
-use Rattle.posix_terms.specs.declared.call.Call.{Call}
+use Rattle.posix_terms.specs.Calls.{Call}
 use Rattle.posix_terms.specs.declared.call.Call.TheVariants as call
 use Rattle.posix_terms.specs.declared.errno.Errno.{Errno}
 

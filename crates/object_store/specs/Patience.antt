@@ -20,7 +20,7 @@ use Rattle.sequential_object.specs.declared.turn_end.TurnEnd.TheVariants as end
 -- how many bytes the end of a turn brings
 abbrev pub turn_bytes : TurnEnd → ℕ
 turn_bytes (end.Reply reply) = reply_bytes reply
-turn_bytes (end.Blocked turns) = 0
+turn_bytes (end.Blocked carried) = 0
 
 -- how many bytes an act brings that replies so, or has to wait
 abbrev pub act_bytes : Option Reply → ℕ
@@ -31,15 +31,15 @@ act_bytes None = 0
 abbrev pub stopped_ending : Bool → Option Reply
 stopped_ending nonblock = if nonblock then Some (Fail EAGAIN) else None
 
--- the end of a turn of a call that cannot go on, and was blocked for so many turns before
-abbrev pub Waits : ℕ → ℕ → TurnEnd → Type 0
-Waits patience turns e = (settings : Settings) (s : State) → settings.patience ≡ patience → answer_in (waited settings s turns) ≡ e
+-- the end of a turn of a call that cannot go on, and carries this
+abbrev pub Waits : ℕ → Carried → TurnEnd → Type 0
+Waits patience carried e = (settings : Settings) (s : State) → settings.patience ≡ patience → answer_in (waited settings s carried) ≡ e
 
 -- an answer with what is carried on, as one of the lock machine
 abbrev pub as_answer : posix.Answer × Carried → TurnEnd
 as_answer (answer, carried) = answered_with answer carried
 
 -- the end of a turn of a call that went outside with this errand, by the outcome that came. Where it opened a door these are its numbers
-abbrev pub EndsOutside : ℕ → ℕ → Errand → NewNumbers → Outcome → TurnEnd → Type 0
-EndsOutside patience turns errand given outcome e =
-    (settings : Settings) (s : State) → settings.patience ≡ patience → as_answer (acts.ended settings s turns (acts.outside_ending errand given (Some outcome))) ≡ e
+abbrev pub EndsOutside : ℕ → Carried → Errand → NewNumbers → Outcome → TurnEnd → Type 0
+EndsOutside patience carried errand given outcome e =
+    (settings : Settings) (s : State) → settings.patience ≡ patience → as_answer (acts.ended settings s carried (acts.outside_ending errand given (Some outcome))) ≡ e

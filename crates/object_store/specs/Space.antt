@@ -2,7 +2,7 @@
 -- How much memory is set aside for the bytes of a reply.
 use Rattle.std.specs.Prelude.{◌≤◌, ℕ}
 use Rattle.descriptor_table.specs.Plans.{bytes_asked, read_count}
-use Rattle.posix_terms.specs.declared.call.Call.{Call}
+use Rattle.posix_terms.specs.Calls.{Call}
 use Rattle.object_store.specs.Patience.{turn_bytes}
 use Rattle.object_store.specs.declared.patience.TurnStart.{TurnStart}
 use Rattle.object_store.specs.declared.patience.TurnStart.TheVariants as start

@@ -6,7 +6,7 @@ use Rattle.sequential_object.specs.Object.{Content}
 use Rattle.sequential_object.specs.Locked.{keeps_table, locked_object}
 use Rattle.posix_terms.specs.Outcomes.{fits}
 use Rattle.sequential_object.specs.Step.{Carried, asks, step}
-use Rattle.posix_terms.specs.declared.call.Call.{Call}
+use Rattle.posix_terms.specs.Calls.{Call}
 use Rattle.posix_terms.specs.declared.call.Call.TheVariants as call
 use Rattle.posix_terms.specs.declared.limits.TheConstants.Limits as limit
 use Rattle.posix_terms.specs.declared.outcome.OutKind.{OutKind}
@@ -64,45 +64,45 @@ pub record Stands (h : Stored) (w : World) : Type 0 where
   pub contents : (node birth : ℕ) → slice_index_or h.table.objects node None ≡ Some birth → (content : Content) → map.get w.object.objects birth ≡ Some content → content ≡ kept_as content (kept_at h node)
   pub numbers : w.numbers ≡ h.table.objects
 
--- the number of the object that a call locks
-abbrev pub number_locked : Stored → Call → Option ℕ
-number_locked h c = object_of (planned h.table c)
+-- the number of the object that a call locks which carries this
+abbrev pub number_locked : Stored → Call → Carried → Option ℕ
+number_locked h c carried = object_of (planned h.table c)
 
 -- in whatever world they stand for it is the number of the object whose lock the call takes
 abbrev pub LocksAsStep : Type 0
 LocksAsStep =
     (h : Stored) (w : World) (c : Call) (carried : Carried) → Stands h w
-    → number_locked h c ≡ numbered w (locked_object w.object c carried)
+    → number_locked h c carried ≡ numbered w (locked_object w.object c carried)
 
 -- a turn that goes outside with this errand, in this world: it asks what the call asks, at the door that the call takes along, and EAGAIN makes it
 -- wait just where it makes the call wait. Unless it keeps the table, its change is made, whatever will come of it, and it will end as the errand has it
-pub record GoesOut (settings : Settings) (w : World) (turns : ℕ) (old : Stored) (c : Call) (errand : Errand) (new : Stored) : Type 0 where
-  pub request : asks w.object c turns ≡ request_of c (op.Ask errand)
-  pub door : errand.door ≡ numbered w (door_taken w.object c turns)
-  pub waits : errand.waits ≡ waits_outside w.object c turns
-  pub change : keeps_table c ≡ false → Stands new (world_with w (step settings w.object c None turns).after)
-  pub ends : keeps_table c ≡ false → (o : Outcome) → let stepped = step settings w.object c (Some o) turns in (stepped.answer, stepped.carried) ≡ acts.ended settings w.object turns (acts.outside_ending errand numbers.None (Some o))
+pub record GoesOut (settings : Settings) (w : World) (carried : Carried) (old : Stored) (c : Call) (errand : Errand) (new : Stored) : Type 0 where
+  pub request : asks w.object c carried ≡ request_of c (op.Ask errand)
+  pub door : errand.door ≡ numbered w (door_taken w.object c carried)
+  pub waits : errand.waits ≡ waits_outside w.object c carried
+  pub change : keeps_table c ≡ false → Stands new (world_with w (step settings w.object c None carried).after)
+  pub ends : keeps_table c ≡ false → (o : Outcome) → let stepped = step settings w.object c (Some o) carried in (stepped.answer, stepped.carried) ≡ acts.ended settings w.object carried (acts.outside_ending errand numbers.None (Some o))
   pub kept : keeps_table c ≡ true → new ≡ old
 
 -- a turn that asks nothing outside: so it ended, and now they stand for the world behind it
-pub record EndsAt (settings : Settings) (w : World) (turns : ℕ) (c : Call) (e : TurnEnd) (new : Stored) : Type 0 where
-  pub request : asks w.object c turns ≡ None
-  pub answer_is : answer_in (step settings w.object c None turns) ≡ e
-  pub change : Stands new (world_with w (step settings w.object c None turns).after)
+pub record EndsAt (settings : Settings) (w : World) (carried : Carried) (c : Call) (e : TurnEnd) (new : Stored) : Type 0 where
+  pub request : asks w.object c carried ≡ None
+  pub answer_is : answer_in (step settings w.object c None carried) ≡ e
+  pub change : Stands new (world_with w (step settings w.object c None carried).after)
 
--- how a turn of a call starts that was blocked for so many turns
-abbrev pub StartsIn : Settings → World → ℕ → Stored → Call → TurnStart → Stored → Type 0
-StartsIn settings w turns old c (start.Ended e) new = EndsAt settings w turns c e new
-StartsIn settings w turns old c (start.GoesOut errand) new = GoesOut settings w turns old c errand new
+-- how a turn of a call starts that carries this
+abbrev pub StartsIn : Settings → World → Carried → Stored → Call → TurnStart → Stored → Type 0
+StartsIn settings w carried old c (start.Ended e) new = EndsAt settings w carried c e new
+StartsIn settings w carried old c (start.GoesOut errand) new = GoesOut settings w carried old c errand new
 
 -- with this patience, and in whatever world they stood for
-abbrev pub Makes : ℕ → ℕ → Stored → Call → TurnStart → Stored → Type 0
-Makes patience turns old c x new = (settings : Settings) (w : World) → settings.patience ≡ patience → Stands old w → StartsIn settings w turns old c x new
+abbrev pub Makes : ℕ → Carried → Stored → Call → TurnStart → Stored → Type 0
+Makes patience carried old c x new = (settings : Settings) (w : World) → settings.patience ≡ patience → Stands old w → StartsIn settings w carried old c x new
 
--- what a call comes to with the table alone: its turn, at whatever patience and however often it was blocked; or it locks an object, and nothing has changed
-abbrev pub ComesTo : Stored → Call → AtTable → Stored → Type 0
-ComesTo old c (at.Answers r) new = (number_locked old c ≡ None) × ((patience turns : ℕ) → Makes patience turns old c (start.Ended (end.Reply r)) new) × (reply_bytes r ≤ read_count c)
-ComesTo old c (at.Locks n) new = (number_locked old c ≡ Some n) × (n < limit.OBJECTS) × (new ≡ old)
+-- what a call that carries this comes to with the table alone: its turn, at whatever patience; or it locks an object, and nothing has changed
+abbrev pub ComesTo : Carried → Stored → Call → AtTable → Stored → Type 0
+ComesTo carried old c (at.Answers r) new = (number_locked old c carried ≡ None) × ((patience : ℕ) → Makes patience carried old c (start.Ended (end.Reply r)) new) × (reply_bytes r ≤ read_count c)
+ComesTo carried old c (at.Locks n) new = (number_locked old c carried ≡ Some n) × (n < limit.OBJECTS) × (new ≡ old)
 
 -- a turn that ended brings no more bytes than the call may read. One that goes outside asks no more, and leaves the room for them as it was
 abbrev pub UsesRoom : ℕ → List ℕ → List ℕ → TurnStart → Type 0
@@ -110,23 +110,27 @@ UsesRoom most old new (start.Ended e) = turn_bytes e ≤ most
 UsesRoom most old new (start.GoesOut errand) = (new ≡ old) × (bytes_asked errand ≤ most)
 
 -- a turn of a call that kept the table while it was outside ended so, by an outcome that fits what it asked
-abbrev pub Opens : ℕ → ℕ → Stored → Call → Outcome → TurnEnd → Stored → Type 0
-Opens patience turns old c o e new =
-    (settings : Settings) (w : World) (r : Request) → settings.patience ≡ patience → Stands old w → keeps_table c ≡ true → asks w.object c turns ≡ Some r → fits r.kind r.asked o ≡ true →
-    (answer_in (step settings w.object c (Some o) turns) ≡ e) × Stands new (world_with w (step settings w.object c (Some o) turns).after)
+abbrev pub Opens : ℕ → Carried → Stored → Call → Outcome → TurnEnd → Stored → Type 0
+Opens patience carried old c o e new =
+    (settings : Settings) (w : World) (r : Request) → settings.patience ≡ patience → Stands old w → keeps_table c ≡ true → asks w.object c carried ≡ Some r → fits r.kind r.asked o ≡ true →
+    (answer_in (step settings w.object c (Some o) carried) ≡ e) × Stands new (world_with w (step settings w.object c (Some o) carried).after)
 
--- the act of a turn was made, in whatever world they stood for and whatever the call carried: so it ended
-abbrev pub EndsTurn : Stored → Call → Option Reply → Stored → Type 0
-EndsTurn old c e new =
-    (settings : Settings) (w : World) (carried : Carried) → Stands old w →
+-- the act of a turn of a call that carries this was made, in whatever world they stood for: so it ended
+abbrev pub EndsTurn : Carried → Stored → Call → Option Reply → Stored → Type 0
+EndsTurn carried old c e new =
+    (settings : Settings) (w : World) → Stands old w →
     let stepped = step settings w.object c None carried in
     ((stepped.answer, stepped.carried) ≡ acts.ended settings w.object carried e) × Stands new (world_with w stepped.after)
 
--- the call was made, which is not blocked at any turn: this is its reply
-abbrev pub Replies : Stored → Call → Reply → Stored → Type 0
-Replies old c r new =
-    (settings : Settings) (w : World) (carried : Carried) → Stands old w →
+-- the call was made, which carries this and is not blocked: this is its reply
+abbrev pub Replies : Carried → Stored → Call → Reply → Stored → Type 0
+Replies carried old c r new =
+    (settings : Settings) (w : World) → Stands old w →
     ((step settings w.object c None carried).answer ≡ answer.Reply r) × Stands new (world_with w (step settings w.object c None carried).after)
+
+-- so it is whatever the call carries
+abbrev pub RepliesAlways : Stored → Call → Reply → Stored → Type 0
+RepliesAlways old c r new = (carried : Carried) → Replies carried old c r new
 
 -- nothing is open, and there is only the root
 abbrev pub first_stored : Stored

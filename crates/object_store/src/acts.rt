@@ -11,12 +11,12 @@ ghost use Rattle.object_store.specs.Acting.{Seeks, Writes, cut_bodies, release_r
 ghost use Rattle.descriptor_table.specs.declared.plan.Op.TheVariants as op;
 ghost use Rattle.descriptor_table.specs.declared.plan.Plan.TheVariants as plan;
 ghost use Rattle.object_store.specs.Patience.{act_bytes};
-ghost use Rattle.object_store.specs.Store.{EndsTurn, IsPlanned, Replies, body_at};
+ghost use Rattle.object_store.specs.Store.{EndsTurn, IsPlanned, RepliesAlways, body_at};
 
 use crate::store::Store;
 use descriptor_table::{NewNumbers, Op, Opened, Plan, table_follows_step};
 use memory_files::FileBody;
-use posix_terms::{Bytes, Call, Errno, ObjectKind, Reply, Whence};
+use posix_terms::{Bytes, Call, Carried, Errno, ObjectKind, Reply, Whence};
 
 // What calls do with the file whose lock they took, by the file's number and the key of the description.
 impl Store {
@@ -125,11 +125,17 @@ impl Store {
 // What calls do whose operands the plan does not hold.
 impl Store {
     // A write, which of no bytes does nothing.
-    pub(crate) fn write_call(&mut self, call: &Call, node: usize, to: Opened) -> Option<Reply>
+    pub(crate) fn write_call(
+        &mut self,
+        call: &Call,
+        node: usize,
+        to: Opened,
+        carried: Carried,
+    ) -> Option<Reply>
         requires inside { node < limit.OBJECTS }
         requires known { ContainsKey self.old.table.descriptions to.key }
         requires planned { IsPlanned self.old call.now node (op.Write to) }
-        ensures ends { EndsTurn self.old call.now result self.new }
+        ensures ends { EndsTurn carried self.old call.now result self.new }
         ensures few { act_bytes result ≡ 0 }
         ensures births { (self.new.table.descriptions.made ≡ self.old.table.descriptions.made) × (self.new.table.made_objects ≡ self.old.table.made_objects) }
     {
@@ -145,7 +151,7 @@ impl Store {
     pub(crate) fn pwrite_call(&mut self, call: &Call, node: usize, position: u64) -> Reply
         requires inside { node < limit.OBJECTS }
         requires planned { IsPlanned self.old call.now node (op.Pwrite position) }
-        ensures reply { Replies self.old call.now result self.new }
+        ensures reply { RepliesAlways self.old call.now result self.new }
         ensures few { reply_bytes result ≡ 0 }
         ensures births { (self.new.table.descriptions.made ≡ self.old.table.descriptions.made) × (self.new.table.made_objects ≡ self.old.table.made_objects) }
     {
@@ -168,7 +174,7 @@ impl Store {
         requires inside { node < limit.OBJECTS }
         requires known { ContainsKey self.old.table.descriptions from.key }
         requires planned { IsPlanned self.old call.now node (op.Lseek from) }
-        ensures reply { Replies self.old call.now result self.new }
+        ensures reply { RepliesAlways self.old call.now result self.new }
         ensures few { reply_bytes result ≡ 0 }
         ensures births { (self.new.table.descriptions.made ≡ self.old.table.descriptions.made) × (self.new.table.made_objects ≡ self.old.table.made_objects) }
     {
@@ -185,7 +191,7 @@ impl Store {
         requires objects { self.old.table.made_objects < 2 ^ 127 }
         requires inside { node < limit.OBJECTS }
         requires planned { planned self.old.table call.now ≡ plan.Node node (op.Open cut) keep_table }
-        ensures reply { Replies self.old call.now result self.new }
+        ensures reply { RepliesAlways self.old call.now result self.new }
         ensures few { reply_bytes result ≡ 0 }
         ensures births { (self.new.table.descriptions.made ≤ self.old.table.descriptions.made + 2) × (self.new.table.made_objects ≤ self.old.table.made_objects + 1) }
     {
@@ -216,7 +222,7 @@ impl Store {
         requires descriptions { self.old.table.descriptions.made < 2 ^ 127 }
         requires objects { self.old.table.made_objects < 2 ^ 127 }
         requires planned { planned self.old.table call.now ≡ plan.Node node op.Release keep_table }
-        ensures reply { Replies self.old call.now result self.new }
+        ensures reply { RepliesAlways self.old call.now result self.new }
         ensures few { reply_bytes result ≡ 0 }
         ensures births { (self.new.table.descriptions.made ≤ self.old.table.descriptions.made + 2) × (self.new.table.made_objects ≤ self.old.table.made_objects + 1) }
     {

@@ -11,7 +11,7 @@ use crate::acts::numbers_reply;
 use crate::patience::fail_outside;
 use crate::store::Store;
 use descriptor_table::{Errand, NewNumbers, Op, Plan, table_follows_step};
-use posix_terms::{Call, Errno, Outcome, Reply};
+use posix_terms::{Call, Carried, Errno, Outcome, Reply};
 use sequential_object::{TurnEnd, blocked_calls_change_nothing, failed_calls_change_nothing};
 
 // Calls that go outside.
@@ -27,7 +27,11 @@ impl Store {
         if keep_table {
             return;
         }
-        let plan = self.table.plan(call);
+        let plan = Plan::Node {
+            node,
+            op: Op::Ask(errand),
+            keep_table,
+        };
         let _ = self.change(call, &plan, None);
     }
 
@@ -39,11 +43,11 @@ impl Store {
         call: &Call,
         outcome: &Outcome,
         patience: u32,
-        turns: u32,
+        carried: Carried,
     ) -> TurnEnd
         requires descriptions { self.old.table.descriptions.made < 2 ^ 127 }
         requires objects { self.old.table.made_objects < 2 ^ 127 }
-        ensures opens { Opens patience turns self.old call.now outcome.now result self.new }
+        ensures opens { Opens patience carried self.old call.now outcome.now result self.new }
         ensures few { turn_bytes result ≡ 0 }
         ensures births { (self.new.table.descriptions.made ≤ self.old.table.descriptions.made + 2) × (self.new.table.made_objects ≤ self.old.table.made_objects + 1) }
     {
@@ -62,7 +66,7 @@ impl Store {
             return TurnEnd::Reply(Reply::Fail(Errno::EIO));
         }
         let given = self.change(call, &plan, Some(outcome));
-        end_opening(errand, given, outcome, patience, turns)
+        end_opening(errand, given, outcome, patience, carried)
     }
 }
 
@@ -83,13 +87,13 @@ fn end_opening(
     given: NewNumbers,
     outcome: &Outcome,
     patience: u32,
-    turns: u32,
+    carried: Carried,
 ) -> TurnEnd
-    ensures ends { opens_door errand.kind ≡ true → EndsOutside patience turns errand given outcome.now result }
+    ensures ends { opens_door errand.kind ≡ true → EndsOutside patience carried errand given outcome.now result }
     ensures few { turn_bytes result ≡ 0 }
 {
     match outcome {
         Outcome::Ok { .. } => TurnEnd::Reply(numbers_reply(given)),
-        Outcome::Fail(error) => fail_outside(errand, *error, patience, turns),
+        Outcome::Fail(error) => fail_outside(errand, *error, patience, carried),
     }
 }

@@ -1,30 +1,31 @@
 //! The descriptor table with the bodies of its objects, for the lock machine: it makes one turn of
 //! a call at a time.
 //!
-//! `Store::number_locked` tells which object a call has to lock, and `Store::make` makes a turn of
-//! it; it asks that fewer than 2^127 descriptions and objects were ever made. The [`TurnStart`] is
-//! how the turn ended, or what the call asks outside: then [`end_outside`] ends it by the outcome,
-//! or `Store::open_door` where the call kept the table. By the contracts a turn does what the
-//! sequential object does. A call that cannot go on is blocked until it was for as many turns as
-//! its patience, and then fails with `EINTR`. A store takes the room for all bodies when it is
-//! made. For the bytes of a read the caller hands in room, as many as
-//! `descriptor_table::read_count` says, or has a [`Room`] for them.
+//! `Store::settle_or_lock` makes the turn of a call that the table alone answers, and of any other
+//! tells which object it has to lock; then `Store::make` makes its turn, and asks that fewer than
+//! 2^127 descriptions and objects were ever made. The [`TurnStart`] is how the turn ended, or what
+//! the call asks outside: then [`end_outside`] ends it by the outcome, or `Store::open_door` where
+//! the call kept the table. By the contracts a turn does what the sequential object does. A call
+//! that cannot go on is blocked until it was for as many turns as its patience, and then fails with
+//! `EINTR`. A store takes the room for all bodies when it is made. For the bytes of a read the
+//! caller hands in room, as many as `descriptor_table::read_count` says, or has a [`Room`] for them.
 //!
 //! ```rust
-//! use object_store::{Store, TurnEnd, TurnStart};
-//! use posix_terms::{Call, Reply};
+//! use object_store::{AtTable, Store, TurnEnd, TurnStart};
+//! use posix_terms::{Call, Carried, Reply};
 //!
 //! let mut store = Store::new(alloc)?;
 //! let mut room = Vec::new(alloc);
-//! if let TurnStart::Ended(TurnEnd::Reply(reply)) = store.make(&Call::Pipe, 3, 0, &mut room) {
+//! let first = Carried { turns: 0 };
+//! if let TurnStart::Ended(TurnEnd::Reply(reply)) = store.make(&Call::Pipe, 3, first, &mut room) {
 //!     assert!(rt; reply == Reply::Pair(0, 1));
 //! }
 //! let read = Call::Read { descriptor: 0, count: 4 };
-//! assert!(rt; store.number_locked(&read) == Some(0));
+//! assert!(rt; matches!(store.settle_or_lock(&read, first), AtTable::Locks(0)));
 //! let mut room = vec![in alloc; 0; descriptor_table::read_count(&read)]?;
 //! // Nothing waits in the pipe: of its patience of 3 turns, one is used.
-//! if let TurnStart::Ended(TurnEnd::Blocked(turns)) = store.make(&read, 3, 0, &mut room) {
-//!     assert!(rt; turns == 1);
+//! if let TurnStart::Ended(TurnEnd::Blocked(carried)) = store.make(&read, 3, first, &mut room) {
+//!     assert!(rt; carried.turns == 1);
 //! }
 //! ```
 #![tactic(auto)]

@@ -8,7 +8,7 @@ ghost use Rattle.descriptor_table.specs.declared.plan.NewNumbers.TheVariants as 
 ghost use Rattle.object_store.specs.Patience.{EndsOutside, Waits, act_bytes, stopped_ending, turn_bytes};
 
 use descriptor_table::Errand;
-use posix_terms::{Bytes, Errno, OutKind, Outcome, Reply};
+use posix_terms::{Bytes, Carried, Errno, OutKind, Outcome, Reply};
 use sequential_object::TurnEnd;
 use std::mem::replace;
 
@@ -42,14 +42,16 @@ pub(crate) fn stopped(nonblock: bool) -> Option<Reply>
     }
 }
 
-// The end of a turn of a call that cannot go on, and was blocked for so many turns before: it is made again,
-// until it was blocked for as many turns as its patience.
-pub(crate) fn blocked(patience: u32, turns: u32) -> TurnEnd
-    ensures waits { Waits patience turns result }
+// The end of a turn of a call that cannot go on, and carries this: it is made again, until it was blocked for as
+// many turns as its patience.
+pub(crate) fn blocked(patience: u32, carried: Carried) -> TurnEnd
+    ensures waits { Waits patience carried result }
     ensures few { turn_bytes result ≡ 0 }
 {
-    if u64::from(turns) + 1 < u64::from(patience) {
-        TurnEnd::Blocked(turns + 1)
+    if u64::from(carried.turns) + 1 < u64::from(patience) {
+        TurnEnd::Blocked(Carried {
+            turns: carried.turns + 1,
+        })
     } else {
         TurnEnd::Reply(Reply::Fail(Errno::EINTR))
     }
@@ -63,15 +65,15 @@ pub fn end_outside(
     errand: Errand,
     outcome: &Outcome,
     patience: u32,
-    turns: u32,
+    carried: Carried,
     room: &mut Vec<u8>,
 ) -> TurnEnd
-    ensures ends { fits errand.kind errand.asked outcome.now ≡ true → bytes_asked errand ≤ length room.old.items → EndsOutside patience turns errand numbers.None outcome.now result }
+    ensures ends { fits errand.kind errand.asked outcome.now ≡ true → bytes_asked errand ≤ length room.old.items → EndsOutside patience carried errand numbers.None outcome.now result }
     ensures few { turn_bytes result ≤ length room.old.items }
 {
     let (value, bytes) = match outcome {
         Outcome::Ok { value, bytes } => (*value, bytes),
-        Outcome::Fail(error) => return fail_outside(errand, *error, patience, turns),
+        Outcome::Fail(error) => return fail_outside(errand, *error, patience, carried),
     };
     TurnEnd::Reply(match errand.kind {
         OutKind::Read => Reply::Data(filled(room, bytes.as_slice())),
@@ -129,12 +131,12 @@ fn seek_reply(offset: u64) -> Reply
 }
 
 // The end of a turn of a call that failed outside.
-pub(crate) fn fail_outside(errand: Errand, error: Errno, patience: u32, turns: u32) -> TurnEnd
-    ensures ends { (given : NewNumbers) → EndsOutside patience turns errand given (failure error) result }
+pub(crate) fn fail_outside(errand: Errand, error: Errno, patience: u32, carried: Carried) -> TurnEnd
+    ensures ends { (given : NewNumbers) → EndsOutside patience carried errand given (failure error) result }
     ensures few { turn_bytes result ≡ 0 }
 {
     if errand.waits && error == Errno::EAGAIN {
-        return blocked(patience, turns);
+        return blocked(patience, carried);
     }
     TurnEnd::Reply(Reply::Fail(error))
 }

@@ -9,7 +9,7 @@ ghost use Rattle.object_store.specs.Store.{Makes};
 use crate::patience::{TurnStart, copied, end_outside};
 use crate::store::Store;
 use descriptor_table::{Errand, read_count};
-use posix_terms::{Call, Outcome, Reply};
+use posix_terms::{Call, Carried, Outcome, Reply};
 use sequential_object::TurnEnd;
 use std::alloc::{AllocError, Global};
 use std::marker::Model;
@@ -69,15 +69,21 @@ impl Room {
     }
 
     /// Makes a turn of a call, as [`Store::make`], with room for the bytes of its reply.
-    pub fn make(&mut self, store: &mut Store, call: &Call, patience: u32, turns: u32) -> TurnStart
+    pub fn make(
+        &mut self,
+        store: &mut Store,
+        call: &Call,
+        patience: u32,
+        carried: Carried,
+    ) -> TurnStart
         requires descriptions { store.old.table.descriptions.made < 2 ^ 127 }
         requires objects { store.old.table.made_objects < 2 ^ 127 }
         requires room { HasSpaceFor call.now self.old }
-        ensures makes { Makes patience turns store.old call.now result store.new }
+        ensures makes { Makes patience carried store.old call.now result store.new }
         ensures room { LeavesSpace result self.new }
         ensures births { (store.new.table.descriptions.made ≤ store.old.table.descriptions.made + 2) × (store.new.table.made_objects ≤ store.old.table.made_objects + 1) }
     {
-        store.make(call, patience, turns, &mut self.told)
+        store.make(call, patience, carried, &mut self.told)
     }
 
     /// Ends a turn that went outside, as [`end_outside`], with room for the bytes that came.
@@ -86,14 +92,14 @@ impl Room {
         errand: Errand,
         outcome: &Outcome,
         patience: u32,
-        turns: u32,
+        carried: Carried,
     ) -> TurnEnd
         requires asked { bytes_asked errand ≤ self.old.told }
         requires copy { self.old.told ≤ self.old.row }
-        ensures ends { fits errand.kind errand.asked outcome.now ≡ true → EndsOutside patience turns errand numbers.None outcome.now result }
+        ensures ends { fits errand.kind errand.asked outcome.now ≡ true → EndsOutside patience carried errand numbers.None outcome.now result }
         ensures copy { turn_bytes result ≤ self.new.row }
     {
-        end_outside(errand, outcome, patience, turns, &mut self.told)
+        end_outside(errand, outcome, patience, carried, &mut self.told)
     }
 
     /// A copy of a reply, for the row.

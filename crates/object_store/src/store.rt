@@ -1,4 +1,4 @@
-ghost use Rattle.std.specs.Prelude.{◌≡◌, ◌+◌, ◌<◌, ◌≤◌, ◌^◌, true, length, IfOk, IfSome, option_copied};
+ghost use Rattle.std.specs.Prelude.{◌≡◌, ◌+◌, ◌<◌, ◌≤◌, ◌^◌, true, length, IfOk, option_copied};
 ghost use Rattle.posix_terms.specs.declared.limits.TheConstants.Limits as limit;
 ghost use Rattle.descriptor_table.specs.Plans.{MovesKnown, planned, read_count};
 ghost use Rattle.descriptor_table.specs.declared.plan.Plan.TheVariants as plan;
@@ -7,12 +7,12 @@ ghost use Rattle.descriptor_table.specs.Laws.{TableFollows};
 ghost use Rattle.descriptor_table.specs.Changes.{IsAtPort};
 ghost use Rattle.object_store.specs.Acting.{acts_inside};
 ghost use Rattle.object_store.specs.Patience.{act_bytes};
-ghost use Rattle.object_store.specs.Store.{ComesTo, EndsTurn, IsPlanned, UsesRoom, Makes, Replies, TableMade, first_stored, number_locked};
+ghost use Rattle.object_store.specs.Store.{ComesTo, EndsTurn, IsPlanned, UsesRoom, Makes, Replies, TableMade, first_stored};
 
 use crate::body::Body;
 use crate::patience::{AtTable, TurnStart, blocked};
 use descriptor_table::{NewNumbers, Op, Plan, Table, table_follows_step};
-use posix_terms::{Call, Limits, Outcome, Reply};
+use posix_terms::{Call, Carried, Limits, Outcome, Reply};
 use sequential_object::TurnEnd;
 use std::alloc::{AllocError, Global};
 use std::marker::Model;
@@ -58,33 +58,22 @@ impl Store {
         })
     }
 
-    /// The number of the object that a call has to lock beside the table, if it needs one.
-    pub fn number_locked(&self, call: &Call) -> Option<usize>
-        ensures number { result ≡ number_locked self.now call.now }
-        ensures inside { IfSome result (λ n. n < limit.OBJECTS) }
-    {
-        match self.table.plan(call) {
-            Plan::Node { node, .. } => Some(node),
-            Plan::Reply(_) => None,
-        }
-    }
-
-    /// Makes the turn of a call that the table alone answers. Of any other call it tells the number of the object that it has to lock
-    /// beside the table, and changes nothing.
-    pub fn settle_or_lock(&mut self, call: &Call) -> AtTable
+    /// Makes the turn of a call that carries this, if the table alone answers it. Of any other call it tells the
+    /// number of the object that it has to lock beside the table, and changes nothing.
+    pub fn settle_or_lock(&mut self, call: &Call, carried: Carried) -> AtTable
         requires descriptions { self.old.table.descriptions.made < 2 ^ 127 }
         requires objects { self.old.table.made_objects < 2 ^ 127 }
-        ensures comes { ComesTo self.old call.now result self.new }
+        ensures comes { ComesTo carried self.old call.now result self.new }
         ensures births { (self.new.table.descriptions.made ≤ self.old.table.descriptions.made + 2) × (self.new.table.made_objects ≤ self.old.table.made_objects + 1) }
     {
         table_follows_step();
         match self.table.plan(call) {
-            Plan::Reply(reply) => AtTable::Answers(self.settle(call, reply)),
+            Plan::Reply(reply) => AtTable::Answers(self.settle(call, carried, reply)),
             Plan::Node { node, .. } => AtTable::Locks(node),
         }
     }
 
-    /// Makes one turn of a call that was blocked for so many turns before. A call that cannot go on is blocked
+    /// Makes one turn of a call that carries this from its blocked turns. A call that cannot go on is blocked
     /// until it was for as many turns as its patience, and then fails with EINTR; where its description has
     /// O_NONBLOCK it fails at once with EAGAIN. A call that goes outside gets its errand, with the number of the
     /// object whose door it takes along; unless it keeps the table, its change is made, and `end_outside` ends its
@@ -93,17 +82,25 @@ impl Store {
     /// The room is for a read's bytes, and has at least as many as `read_count` says, whatever they are. A read that
     /// is made here takes it, even where it has to wait, so its next turn needs another, and no reply brings more
     /// bytes than that. A call that goes outside leaves it as it was, for `end_outside`, and asks no more (`room`).
-    pub fn make(&mut self, call: &Call, patience: u32, turns: u32, room: &mut Vec<u8>) -> TurnStart
+    pub fn make(
+        &mut self,
+        call: &Call,
+        patience: u32,
+        carried: Carried,
+        room: &mut Vec<u8>,
+    ) -> TurnStart
         requires descriptions { self.old.table.descriptions.made < 2 ^ 127 }
         requires objects { self.old.table.made_objects < 2 ^ 127 }
         requires room { read_count call.now ≤ length room.old.items }
-        ensures makes { Makes patience turns self.old call.now result self.new }
+        ensures makes { Makes patience carried self.old call.now result self.new }
         ensures room { UsesRoom (read_count call.now) room.old.items room.new.items result }
         ensures births { (self.new.table.descriptions.made ≤ self.old.table.descriptions.made + 2) × (self.new.table.made_objects ≤ self.old.table.made_objects + 1) }
     {
         table_follows_step();
         match self.table.plan(call) {
-            Plan::Reply(reply) => TurnStart::Ended(TurnEnd::Reply(self.settle(call, reply))),
+            Plan::Reply(reply) => TurnStart::Ended(TurnEnd::Reply(self.settle(
+                call, carried, reply,
+            ))),
             Plan::Node {
                 node,
                 op: Op::Ask(errand),
@@ -117,21 +114,21 @@ impl Store {
                 op,
                 keep_table,
             } => {
-                TurnStart::Ended(match self.act(call, node, op, keep_table, room) {
+                TurnStart::Ended(match self.act(call, node, op, keep_table, carried, room) {
                     Some(reply) => TurnEnd::Reply(reply),
-                    None => blocked(patience, turns),
+                    None => blocked(patience, carried),
                 })
             }
         }
     }
 
     // Makes a call that the table alone answers.
-    fn settle(&mut self, call: &Call, reply: Reply) -> Reply
+    fn settle(&mut self, call: &Call, carried: Carried, reply: Reply) -> Reply
         requires descriptions { self.old.table.descriptions.made < 2 ^ 127 }
         requires objects { self.old.table.made_objects < 2 ^ 127 }
         requires planned { planned self.old.table call.now ≡ plan.Reply reply }
         ensures same { result ≡ reply }
-        ensures reply { Replies self.old call.now result self.new }
+        ensures reply { Replies carried self.old call.now result self.new }
         ensures births { (self.new.table.descriptions.made ≤ self.old.table.descriptions.made + 2) × (self.new.table.made_objects ≤ self.old.table.made_objects + 1) }
     {
         let plan = Plan::Reply(reply);
@@ -174,6 +171,7 @@ impl Store {
         node: usize,
         op: Op,
         keep_table: bool,
+        carried: Carried,
         room: &mut Vec<u8>,
     ) -> Option<Reply>
         requires whole { planned self.old.table call.now ≡ plan.Node node op keep_table }
@@ -184,7 +182,7 @@ impl Store {
         requires known { MovesKnown self.old.table (read_count call.now) op }
         requires here { acts_inside op ≡ true }
         requires room { read_count call.now ≤ length room.old.items }
-        ensures ends { EndsTurn self.old call.now result self.new }
+        ensures ends { EndsTurn carried self.old call.now result self.new }
         ensures few { act_bytes result ≤ read_count call.now }
         ensures births { (self.new.table.descriptions.made ≤ self.old.table.descriptions.made + 2) × (self.new.table.made_objects ≤ self.old.table.made_objects + 1) }
     {
@@ -193,7 +191,7 @@ impl Store {
         table_follows_step();
         match op {
             Op::Read { from, count } => self.read(node, from, taken(room, count)),
-            Op::Write { to } => self.write_call(call, node, to),
+            Op::Write { to } => self.write_call(call, node, to, carried),
             Op::Open { cut } => Some(self.open(call, node, cut, keep_table)),
             Op::Release => Some(self.release(call, node, keep_table)),
             Op::Pread { count, position } => {

@@ -14,7 +14,7 @@ ghost use Rattle.descriptor_table.specs.declared.plan.Op.TheVariants as op;
 ghost use Rattle.descriptor_table.specs.declared.plan.Plan.TheVariants as plan;
 ghost use Rattle.object_store.specs.Acting.{ActsOn, HasRead, HasWritten, ending_of_read, ending_of_write, holding, offset_of_key};
 ghost use Rattle.object_store.specs.Patience.{act_bytes};
-ghost use Rattle.object_store.specs.Store.{Replies, kept_at};
+ghost use Rattle.object_store.specs.Store.{RepliesAlways, kept_at};
 
 use crate::acts::numbers_reply;
 use crate::patience::stopped;
@@ -135,7 +135,7 @@ impl Store {
         requires objects { self.old.table.made_objects < 2 ^ 127 }
         requires inside { node < limit.OBJECTS }
         requires planned { planned self.old.table call.now ≡ plan.Node node op.Pipe keep_table }
-        ensures reply { Replies self.old call.now result self.new }
+        ensures reply { RepliesAlways self.old call.now result self.new }
         ensures few { reply_bytes result ≡ 0 }
         ensures births { (self.new.table.descriptions.made ≤ self.old.table.descriptions.made + 2) × (self.new.table.made_objects ≤ self.old.table.made_objects + 1) }
     {
@@ -165,7 +165,7 @@ impl Store {
         requires objects { self.old.table.made_objects < 2 ^ 127 }
         requires inside { node < limit.OBJECTS }
         requires planned { planned self.old.table call.now ≡ plan.Node node op.Socketpair keep_table }
-        ensures reply { Replies self.old call.now result self.new }
+        ensures reply { RepliesAlways self.old call.now result self.new }
         ensures few { reply_bytes result ≡ 0 }
         ensures births { (self.new.table.descriptions.made ≤ self.old.table.descriptions.made + 2) × (self.new.table.made_objects ≤ self.old.table.made_objects + 1) }
     {

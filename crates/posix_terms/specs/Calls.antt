@@ -1,9 +1,9 @@
 -- Believed: a contract of the headline stands on it.
 -- The calls by their kinds and words, and what an access allows.
-use Rattle.std.specs.Prelude.{ℕ, List, Bool, true, false, codes}
+use Rattle.std.specs.Prelude.{ℕ, ℤ, List, Bool, true, false, codes}
 use Rattle.posix_terms.specs.declared.call.Access.{Access}
 use Rattle.posix_terms.specs.declared.call.Access.TheVariants.{ReadOnly, WriteOnly, ReadWrite}
-use Rattle.posix_terms.specs.declared.call.Call.{Call}
+use Rattle.posix_terms.specs.declared.call.Call as declared
 use Rattle.posix_terms.specs.declared.call.Call.TheVariants as call
 use Rattle.posix_terms.specs.declared.call.CallKind.{CallKind}
 use Rattle.posix_terms.specs.declared.call.CallKind.TheVariants as kind
@@ -18,7 +18,11 @@ can_write ReadOnly = false
 can_write WriteOnly = true
 can_write ReadWrite = true
 
-abbrev pub kind_of : Call → CallKind
+-- a call whose arguments are numbers and bytes
+abbrev pub Call : Type 0
+Call = declared.Call ℤ (List ℕ)
+
+abbrev pub kind_of : {Number Text : Type 0} → declared.Call Number Text → CallKind
 kind_of (call.Open path access flags) = kind.Open
 kind_of (call.Close descriptor) = kind.Close
 kind_of (call.Read descriptor count) = kind.Read

@@ -56,67 +56,70 @@ pub enum ShutdownHow {
 
 /// One call, with its arguments as the thread gave them. Descriptors, counts, positions, sizes and
 /// offsets may be any numbers, and a path any bytes: what is wrong with them is told by the reply.
+///
+/// A line of a script that makes a call has it in this type too: there `Number` and `Text` may be
+/// registers, whose values are found when the line is executed.
 #[derive(Clone, Debug, PartialEq, Eq, Drop)]
-pub enum Call {
+pub enum Call<Number = i64, Text = Bytes> {
     Open {
         path: Bytes,
         access: Access,
         flags: OpenFlags,
     },
     Close {
-        descriptor: i64,
+        descriptor: Number,
     },
     Read {
-        descriptor: i64,
-        count: i64,
+        descriptor: Number,
+        count: Number,
     },
     Write {
-        descriptor: i64,
-        bytes: Bytes,
+        descriptor: Number,
+        bytes: Text,
     },
     /// A read at a position, whatever the offset is.
     Pread {
-        descriptor: i64,
-        count: i64,
-        position: i64,
+        descriptor: Number,
+        count: Number,
+        position: Number,
     },
     /// A write at a position, whatever the offset and the flags are.
     Pwrite {
-        descriptor: i64,
-        bytes: Bytes,
-        position: i64,
+        descriptor: Number,
+        bytes: Text,
+        position: Number,
     },
     Lseek {
-        descriptor: i64,
-        offset: i64,
+        descriptor: Number,
+        offset: Number,
         whence: Whence,
     },
     Ftruncate {
-        descriptor: i64,
-        size: i64,
+        descriptor: Number,
+        size: Number,
     },
     Fstat {
-        descriptor: i64,
+        descriptor: Number,
     },
     Dup {
-        descriptor: i64,
+        descriptor: Number,
     },
     /// `fcntl` with `F_DUPFD`: the new number is `least` or above.
     DupFrom {
-        descriptor: i64,
-        least: i64,
+        descriptor: Number,
+        least: Number,
     },
     Dup2 {
-        descriptor: i64,
-        target: i64,
+        descriptor: Number,
+        target: Number,
     },
     /// `fcntl` with `F_GETFL`.
     Getfl {
-        descriptor: i64,
+        descriptor: Number,
     },
     /// `fcntl` with `F_SETFL`: both flags become as given.
     Setfl {
-        descriptor: i64,
+        descriptor: Number,
         append: bool,
         nonblock: bool,
     },
@@ -137,7 +140,7 @@ pub enum Call {
     /// A pair of connected stream sockets in memory.
     Socketpair,
     Shutdown {
-        descriptor: i64,
+        descriptor: Number,
         how: ShutdownHow,
     },
     /// Opens a file of the host. `exclusive` and `nonblock` of the flags are ignored.
@@ -148,16 +151,16 @@ pub enum Call {
     },
     /// Listens at a port of 127.0.0.1, or where it is 0 at any that is free: `socket`, `bind` and `listen`.
     TcpListen {
-        port: i64,
+        port: Number,
     },
     /// Connects to a port of 127.0.0.1: `socket` and `connect`.
     TcpConnect {
-        port: i64,
+        port: Number,
     },
     /// `accept` at a listener. Outside it never waits: where nobody is there the outcome is EAGAIN, which blocks
     /// the call, or with O_NONBLOCK is its reply.
     TcpAccept {
-        descriptor: i64,
+        descriptor: Number,
     },
 }
 
@@ -191,7 +194,7 @@ pub enum CallKind {
     TcpAccept,
 }
 
-impl Call {
+impl<Number, Text> Call<Number, Text> {
     /// Which call this is.
     pub fn kind(&self) -> CallKind
         ensures { result ≡ kind_of self.now }
@@ -224,7 +227,9 @@ impl Call {
             Call::TcpAccept { .. } => CallKind::TcpAccept,
         }
     }
+}
 
+impl Call {
     /// A copy of the call.
     pub fn try_clone(&self) -> Result<Call, AllocError>
         ensures { IfOk result (λ call. call ≡ self.now) }

@@ -2,8 +2,8 @@
 //! outside, turns and transcripts. What each call does is said in the crate `sequential_object`.
 //!
 //! A [`Call`] has its arguments as the thread gave them, a [`Step`] is a call, work or the end, a
-//! [`Reply`] is what comes back, and an
-//! [`Outcome`] is what came from outside; `Outcome::fits` tells whether it answers what was asked.
+//! [`Reply`] is what comes back, and an [`Outcome`] is what came from outside; `Outcome::fits` tells
+//! whether it answers what was asked. [`Carried`] is what a blocked call hands on to its next turn.
 //! A [`Transcript`] is what one thread saw, a [`HistoryRow`] one granted turn of a run, and
 //! [`Limits`] has the limits of the profile. Contracts see plain values: of [`Bytes`] the list of
 //! bytes, of a transcript the list of its rows. Copies and `Transcript::push` take memory, and fail
@@ -30,7 +30,9 @@
 
 mod bytes;
 mod call;
+mod carried;
 mod errno;
+mod laws;
 mod limits;
 mod object;
 mod outcome;
@@ -42,7 +44,9 @@ mod transcript;
 
 pub use bytes::Bytes;
 pub use call::{Access, Call, CallKind, OpenFlags, ShutdownHow, Whence};
+pub use carried::Carried;
 pub use errno::{Errno, codes_lead_back, errno_name};
+pub use laws::equal_ones_are_the_same;
 pub use limits::Limits;
 pub use object::{Door, End, Side};
 pub use outcome::{Given, OutKind, Outcome, Outcomes};

@@ -2,13 +2,13 @@ use crate::outcomes::{doors, outcomes};
 use crate::record::{Over, push_actor};
 use input_log::MemorySink;
 use logged_machine::Stop;
-use posix_terms::Settings;
+use posix_terms::{Call, Settings};
 use recorder::{BoxedActor, run_recorded};
 use std::alloc::{AllocError, Global};
 use std::sync::Wait;
 use std::test::Fail;
 use std::thread::Threads;
-use thread_scripts::{CallLine, Line, Number, Script, StreamLine, TransferLine};
+use thread_scripts::{Line, Number, Script};
 
 // Longer than a script's text can spell: a clock has room for one less.
 const TOO_LONG: u64 = 4_611_686_018_427_387_904;
@@ -22,11 +22,11 @@ const SETTINGS: Settings = Settings {
 fn line(place: usize, time: u64) -> Line {
     match place {
         0 => Line::Work(time),
-        1 => Line::Call(CallLine::Stream(StreamLine::Pipe)),
-        _ => Line::Call(CallLine::Transfer(TransferLine::Read {
+        1 => Line::Call(Call::Pipe),
+        _ => Line::Call(Call::Read {
             descriptor: Number::Value(0),
             count: Number::Value(1),
-        })),
+        }),
     }
 }
 

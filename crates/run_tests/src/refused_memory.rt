@@ -87,28 +87,28 @@ fn same_phase(one: &Phase, other: &Phase) -> bool {
     match (one, other) {
         (Phase::Working, Phase::Working) | (Phase::Ended, Phase::Ended) => true,
         (
-            Phase::WantsTable { call, turns },
+            Phase::WantsTable { call, carried },
             Phase::WantsTable {
                 call: other_call,
-                turns: other_turns,
+                carried: other_carried,
             },
-        ) => call == other_call && turns == other_turns,
+        ) => call == other_call && carried == other_carried,
         (
             Phase::WantsObject {
                 call,
-                turns,
+                carried,
                 clock,
                 object,
             },
             Phase::WantsObject {
                 call: other_call,
-                turns: other_turns,
+                carried: other_carried,
                 clock: other_clock,
                 object: other_object,
             },
         ) => {
             call == other_call
-                && turns == other_turns
+                && carried == other_carried
                 && clock == other_clock
                 && object == other_object
         }
@@ -120,7 +120,7 @@ fn same_phase(one: &Phase, other: &Phase) -> bool {
                 ..
             },
         ) => row == other_row && object == other_object,
-        (Phase::Blocked { turns }, Phase::Blocked { turns: other }) => turns == other,
+        (Phase::Blocked { carried }, Phase::Blocked { carried: other }) => carried == other,
         _ => false,
     }
 }

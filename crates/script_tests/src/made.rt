@@ -1,9 +1,8 @@
-use posix_terms::{Access, Bytes, Limits, OpenFlags, Reply};
+use posix_terms::{Access, Bytes, Call, Limits, OpenFlags, Reply};
 use std::alloc::{AllocError, Global};
 use std::test::Fail;
 use thread_scripts::{
-    Actor, BoxedActor, CallLine, Data, DoorLine, Line, Number, PathLine, Register, Script,
-    ScriptActor, Step, TransferLine, parse,
+    Actor, BoxedActor, Data, Line, Number, Register, Script, ScriptActor, Step, parse,
 };
 
 /// Longer than a text may spell.
@@ -53,18 +52,18 @@ const NO_FLAGS: OpenFlags = OpenFlags {
 };
 
 fn open(path: Bytes) -> Line {
-    Line::Call(CallLine::Path(PathLine::Open {
+    Line::Call(Call::Open {
         path,
         access: Access::ReadOnly,
         flags: NO_FLAGS,
-    }))
+    })
 }
 
 fn write(bytes: Bytes) -> Line {
-    Line::Call(CallLine::Transfer(TransferLine::Write {
+    Line::Call(Call::Write {
         descriptor: Number::Register(Register::new(0)),
         bytes: Data::Text(bytes),
-    }))
+    })
 }
 
 fn copy() -> Line {
@@ -108,11 +107,11 @@ fn is_refused(alloc: Global, line: Line) -> Result<bool, Fail> {
 }
 
 fn host_open(path: Bytes, flags: OpenFlags) -> Line {
-    Line::Call(CallLine::Door(DoorLine::HostOpen {
+    Line::Call(Call::HostOpen {
         path,
         access: Access::ReadOnly,
         flags,
-    }))
+    })
 }
 
 const EXCLUSIVE: OpenFlags = OpenFlags {

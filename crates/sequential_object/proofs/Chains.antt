@@ -5,7 +5,7 @@ use Rattle.sequential_object.specs.Examples.{answers_from, state_after}
 use Rattle.sequential_object.specs.Object.{State, Description, Content, Node}
 use Rattle.sequential_object.specs.Step.{Stepped, nothing_carried, step}
 use Rattle.posix_terms.specs.declared.call.Access.{Access}
-use Rattle.posix_terms.specs.declared.call.Call.{Call}
+use Rattle.posix_terms.specs.Calls.{Call}
 use Rattle.posix_terms.specs.declared.object.End.{End}
 use Rattle.posix_terms.specs.declared.object.End.TheVariants as part
 use Rattle.posix_terms.specs.declared.reply.Answer.{Answer}

@@ -197,14 +197,14 @@ asked_turns_of settings s carried (t ∷ turns) (next ∷ states) leads =
     ∙ ap (λ (bs : List Bool). is_some t.outcome ∷ bs) (asked_turns_of settings next.0 next.1 turns states leads.2)
 
 abbrev patient_states : List (State × Carried)
-patient_states = (stream_1, 0) ∷ (stream_1, 1) ∷ (stream_1, 0) ∷ (stream_1, 1) ∷ []
+patient_states = (stream_1, nothing_carried) ∷ (stream_1, record { turns = 1 }) ∷ (stream_1, nothing_carried) ∷ (stream_1, record { turns = 1 }) ∷ []
 
 patient_leads : (settings : Settings) → settings.patience ≡ 2 → LeadsOn settings empty_state nothing_carried patient_door patient_states
 unfolding tcp_connect_result lowest_from read_result
 patient_leads settings is = (simp listed, simp listed, (simp (listed, is), simp listed, (simp (listed, is), simp listed, (simp (listed, is), simp listed, tt))))
 
 abbrev impatient_states : List (State × Carried)
-impatient_states = (stream_1, 0) ∷ (stream_1, 0) ∷ []
+impatient_states = (stream_1, nothing_carried) ∷ (stream_1, nothing_carried) ∷ []
 
 impatient_leads : (settings : Settings) → settings.patience ≡ 1 → LeadsOn settings empty_state nothing_carried impatient_door impatient_states
 unfolding tcp_connect_result lowest_from read_result

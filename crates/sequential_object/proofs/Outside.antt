@@ -14,7 +14,7 @@ use Rattle.sequential_object.specs.Sockets.{pipe_result, socketpair_result, shut
 use Rattle.sequential_object.specs.Step.{step, asks, Carried, Stepped, effect_of, concluded, failed, is_again, waited}
 use Rattle.sequential_object.specs.Transfers.{read_result, write_result, pread_result, pwrite_result, lseek_result, ftruncate_result}
 use Rattle.posix_terms.specs.declared.call.Access.{Access}
-use Rattle.posix_terms.specs.declared.call.Call.{Call}
+use Rattle.posix_terms.specs.Calls.{Call}
 use Rattle.posix_terms.specs.declared.call.Call.TheVariants as call
 use Rattle.posix_terms.specs.declared.call.OpenFlags.{OpenFlags}
 use Rattle.posix_terms.specs.declared.call.ShutdownHow.{ShutdownHow}

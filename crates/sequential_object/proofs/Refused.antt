@@ -13,7 +13,7 @@ use Rattle.sequential_object.specs.Sockets.{pipe_result, socketpair_result, shut
 use Rattle.sequential_object.specs.Step.{step, Carried, Stepped, closes_door, effect_of, concluded, failed, is_again, nothing_carried, request_of, waited}
 use Rattle.sequential_object.specs.Transfers.{read_result, write_result, pread_result, pwrite_result, lseek_result, ftruncate_result}
 use Rattle.posix_terms.specs.declared.call.Access.{Access}
-use Rattle.posix_terms.specs.declared.call.Call.{Call}
+use Rattle.posix_terms.specs.Calls.{Call}
 use Rattle.posix_terms.specs.declared.call.Call.TheVariants as call
 use Rattle.posix_terms.specs.declared.call.OpenFlags.{OpenFlags}
 use Rattle.posix_terms.specs.declared.call.ShutdownHow.{ShutdownHow}
@@ -179,9 +179,9 @@ granted s (call.TcpAccept descriptor) carried alone = granted-accept s descripto
 
 -- a turn that is blocked changes nothing
 pub waited_alone : (settings : Settings) (s : State) (carried : Carried) → (waited settings s carried).after ≡ s
-waited_alone settings s carried = by_test (nat_lt (carried + 1) settings.patience)
+waited_alone settings s carried = by_test (nat_lt (carried.turns + 1) settings.patience)
   where
-    by_test : (b : Bool) → (let stepped : Stepped = if b then record { after = s; answer = answer.Again; carried = carried + 1 } else record { after = s; answer = answer.Reply (reply.Fail EINTR); carried = nothing_carried } in stepped.after) ≡ s
+    by_test : (b : Bool) → (let stepped : Stepped = if b then record { after = s; answer = answer.Again; carried = record { turns = carried.turns + 1 } } else record { after = s; answer = answer.Reply (reply.Fail EINTR); carried = nothing_carried } in stepped.after) ≡ s
     by_test true = refl
     by_test false = refl
 

@@ -364,13 +364,14 @@ pair settings = (simp listed, (simp listed, (simp listed, (simp listed, (simp li
 
 -- ## Patience
 
-read_waits : (settings : Settings) (turns : ℕ) → step settings (step settings empty_state call.Pipe None nothing_carried).after (call.Read (pos 0) (pos 4)) None turns ≡ waited settings (pipe_1 [] false) turns
+read_waits : (settings : Settings) (turns : ℕ) → step settings (step settings empty_state call.Pipe None nothing_carried).after (call.Read (pos 0) (pos 4)) None (record { turns = turns })
+    ≡ waited settings (pipe_1 [] false) (record { turns = turns })
 unfolding pipe_result lowest_from read_result
 read_waits settings turns = simp listed
 
 abbrev answer_by : State → ℕ → ℕ → Answer
 answer_by s turns patience =
-    let stepped : Stepped = if nat_lt (turns + 1) patience then record { after = s; answer = answer.Again; carried = turns + 1 } else record { after = s; answer = answer.Reply (reply.Fail EINTR); carried = nothing_carried } in stepped.answer
+    let stepped : Stepped = if nat_lt (turns + 1) patience then record { after = s; answer = answer.Again; carried = record { turns = turns + 1 } } else record { after = s; answer = answer.Reply (reply.Fail EINTR); carried = nothing_carried } in stepped.answer
 
 patient_at : (turns : ℕ) → AnswersAfter 3 turns (answer_by (pipe_1 [] false) turns 3)
 patient_at turns settings is = ap (λ (stepped : Stepped). stepped.answer) (read_waits settings turns) ∙ ap (answer_by (pipe_1 [] false) turns) is

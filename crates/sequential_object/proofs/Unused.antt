@@ -23,7 +23,7 @@ use Rattle.sequential_object.specs.Streams.{Breaks, Ends, NoRoom, NothingYet, Re
 use Rattle.sequential_object.specs.Transfers.{base_of, file_in, ftruncate_result, host_offset, lseek_result, not_listener, offset_of, pread_result, pwrite_result, read_content, read_done, read_result, readable, seek_content, size_of, start_of, with_offset, writable, write_content, write_done, write_result}
 use Rattle.sequential_object.specs.Unused.{HoldsNothingUnused}
 use Rattle.posix_terms.specs.declared.call.Access.{Access}
-use Rattle.posix_terms.specs.declared.call.Call.{Call}
+use Rattle.posix_terms.specs.Calls.{Call}
 use Rattle.posix_terms.specs.declared.call.Call.TheVariants as call
 use Rattle.posix_terms.specs.declared.call.OpenFlags.{OpenFlags}
 use Rattle.posix_terms.specs.declared.call.ShutdownHow.{ShutdownHow}

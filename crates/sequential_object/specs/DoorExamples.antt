@@ -5,7 +5,7 @@ use Rattle.sequential_object.specs.Examples.{appending, creating, plainly}
 use Rattle.sequential_object.specs.Object.{State, empty_state}
 use Rattle.sequential_object.specs.Step.{Carried, asks, nothing_carried, step}
 use Rattle.posix_terms.specs.declared.call.Access.TheVariants as access
-use Rattle.posix_terms.specs.declared.call.Call.{Call}
+use Rattle.posix_terms.specs.Calls.{Call}
 use Rattle.posix_terms.specs.declared.call.Call.TheVariants as call
 use Rattle.posix_terms.specs.declared.call.ShutdownHow.TheVariants as how
 use Rattle.posix_terms.specs.declared.call.Whence.TheVariants as whence

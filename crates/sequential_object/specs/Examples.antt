@@ -5,7 +5,7 @@ use Rattle.std.specs.FinMap as fin
 use Rattle.sequential_object.specs.Object.{State, empty_state}
 use Rattle.sequential_object.specs.Step.{nothing_carried, step}
 use Rattle.posix_terms.specs.declared.call.Access.TheVariants as access
-use Rattle.posix_terms.specs.declared.call.Call.{Call}
+use Rattle.posix_terms.specs.Calls.{Call}
 use Rattle.posix_terms.specs.declared.call.Call.TheVariants as call
 use Rattle.posix_terms.specs.declared.call.OpenFlags.{OpenFlags}
 use Rattle.posix_terms.specs.declared.call.ShutdownHow.TheVariants as how
@@ -191,7 +191,7 @@ half_closed_pair =
 abbrev pub AnswersAfter : ℕ → ℕ → Answer → Type 0
 AnswersAfter patience turns a =
     (settings : Settings) → settings.patience ≡ patience
-    → (step settings (step settings empty_state call.Pipe None nothing_carried).after (call.Read (pos 0) (pos 4)) None turns).answer ≡ a
+    → (step settings (step settings empty_state call.Pipe None nothing_carried).after (call.Read (pos 0) (pos 4)) None (record { turns = turns })).answer ≡ a
 
 -- a file is unlinked and then closed
 abbrev pub closed_last : List (Call × Reply)

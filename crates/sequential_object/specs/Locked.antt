@@ -14,7 +14,7 @@ use Rattle.sequential_object.specs.Refusals.{◌>>=◌, count_of, position_of, r
 use Rattle.sequential_object.specs.Sockets.{pipe_result, shuttable, socketpair_result}
 use Rattle.sequential_object.specs.Step.{Carried, asks, step}
 use Rattle.sequential_object.specs.Transfers.{file_in, readable, seekable, size_of, writable}
-use Rattle.posix_terms.specs.declared.call.Call.{Call}
+use Rattle.posix_terms.specs.Calls.{Call}
 use Rattle.posix_terms.specs.declared.call.Call.TheVariants as call
 use Rattle.posix_terms.specs.declared.errno.Errno.{Errno}
 use Rattle.posix_terms.specs.declared.errno.Errno.TheVariants.{EBADF, EBUSY, EINVAL, ESPIPE}

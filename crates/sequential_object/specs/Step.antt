@@ -1,6 +1,6 @@
 -- Believed: a contract of the headline stands on it.
 -- What one call, taken alone, answers and leaves.
-use Rattle.std.specs.Prelude.{◌≡◌, ℕ, ◌+◌, Bool, true, false, ◌&&◌, Result, Ok, Err, Option, Some, None, is_some, if◌then◌else◌, nat_lt}
+use Rattle.std.specs.Prelude.{◌≡◌, ◌+◌, Bool, true, false, ◌&&◌, Result, Ok, Err, Option, Some, None, is_some, if◌then◌else◌, nat_lt}
 use Rattle.sequential_object.specs.Descriptors.{open_result, close_result}
 use Rattle.sequential_object.specs.Duplicates.{dup_result, dup_from_result, dup2_result}
 use Rattle.sequential_object.specs.Doors.{host_open_result, tcp_accept_result, tcp_connect_result, tcp_listen_result}
@@ -10,8 +10,9 @@ use Rattle.sequential_object.specs.Object.{State}
 use Rattle.sequential_object.specs.Sockets.{pipe_result, socketpair_result, shutdown_result}
 use Rattle.sequential_object.specs.Status.{fstat_result, getfl_result, setfl_result}
 use Rattle.sequential_object.specs.Transfers.{read_result, write_result, pread_result, pwrite_result, lseek_result, ftruncate_result}
-use Rattle.posix_terms.specs.declared.call.Call.{Call}
+use Rattle.posix_terms.specs.Calls.{Call}
 use Rattle.posix_terms.specs.declared.call.Call.TheVariants as call
+pub use Rattle.posix_terms.specs.declared.carried.Carried.{Carried}
 use Rattle.posix_terms.specs.declared.errno.Errno.{Errno}
 use Rattle.posix_terms.specs.declared.errno.Errno.TheVariants.{EAGAIN, EINTR, EIO}
 use Rattle.posix_terms.specs.declared.outcome.Outcome.{Outcome}
@@ -22,13 +23,9 @@ use Rattle.posix_terms.specs.declared.reply.Answer.TheVariants as answer
 use Rattle.posix_terms.specs.declared.reply.Reply.TheVariants as reply
 use Rattle.posix_terms.specs.declared.transcript.Settings.{Settings}
 
--- what a blocked call hands on to its next turn: the number of its turns so far
-abbrev pub Carried : Type 0
-Carried = ℕ
-
--- a call at its first turn
+-- `Carried` is what a blocked call hands on to its next turn: the number of its blocked turns so far. Of a call at its first turn it is this
 abbrev pub nothing_carried : Carried
-nothing_carried = 0
+nothing_carried = record { turns = 0 }
 
 -- what a call does, by the rows of the call table
 abbrev pub effect_of : State → Call → Carried → Result Effect Errno
@@ -72,11 +69,11 @@ pub record Stepped : Type 0 where
   pub answer : Answer
   pub carried : Carried
 
--- a call that was blocked for so many turns before is blocked again: it is made anew at a later turn, until its patience is at its end
+-- a call that carries this is blocked: it is made anew at a later turn, until its patience is at its end
 abbrev pub waited : Settings → State → Carried → Stepped
 waited settings s carried =
-    if nat_lt (carried + 1) settings.patience
-    then record { after = s; answer = answer.Again; carried = carried + 1 }
+    if nat_lt (carried.turns + 1) settings.patience
+    then record { after = s; answer = answer.Again; carried = record { turns = carried.turns + 1 } }
     else record { after = s; answer = answer.Reply (reply.Fail EINTR); carried = nothing_carried }
 
 abbrev pub is_again : Errno → Bool

@@ -5,7 +5,7 @@ use Rattle.std.specs.FinMap as map
 use Rattle.sequential_object.specs.Descriptors.{has_descriptor, has_description, has_end, has_path, is_of_end}
 use Rattle.sequential_object.specs.Object.{State, Description, Content, empty_state}
 use Rattle.sequential_object.specs.Step.{Carried, step}
-use Rattle.posix_terms.specs.declared.call.Call.{Call}
+use Rattle.posix_terms.specs.Calls.{Call}
 use Rattle.posix_terms.specs.declared.object.End.{End}
 use Rattle.posix_terms.specs.declared.outcome.Outcome.{Outcome}
 use Rattle.posix_terms.specs.declared.transcript.Settings.{Settings}

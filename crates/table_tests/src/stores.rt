@@ -1,7 +1,7 @@
 use crate::tables::outcome;
 use descriptor_table::{Errand, read_count};
-use object_store::{Store, TurnEnd, TurnStart, end_outside};
-use posix_terms::{Access, Bytes, Call, Errno, OpenFlags, OutKind, Outcome, Reply};
+use object_store::{AtTable, Store, TurnEnd, TurnStart, end_outside};
+use posix_terms::{Access, Bytes, Call, Carried, Errno, OpenFlags, OutKind, Outcome, Reply};
 use std::alloc::{AllocError, Global};
 use std::process::Abort;
 use std::test::Fail;
@@ -20,7 +20,6 @@ enum Ask {
     // A read of four bytes at descriptor 0.
     Read,
     Write(i64, &'static [u8]),
-    Getfl(i64),
     Close(i64),
     // Opens a file of the host for writing.
     HostOpen,
@@ -40,9 +39,6 @@ fn call_of(alloc: Global, ask: &Ask) -> Result<Call, AllocError> {
         Ask::Write(descriptor, bytes) => Call::Write {
             descriptor: *descriptor,
             bytes: Bytes::from_slice(alloc, bytes)?,
-        },
-        Ask::Getfl(descriptor) => Call::Getfl {
-            descriptor: *descriptor,
         },
         Ask::Close(descriptor) => Call::Close {
             descriptor: *descriptor,
@@ -84,7 +80,7 @@ fn replied(reply: &Reply, wanted: &End) -> bool {
 fn ended(end: &TurnEnd, wanted: &End) -> bool {
     match (end, wanted) {
         (TurnEnd::Reply(reply), _) => replied(reply, wanted),
-        (TurnEnd::Blocked(turns), End::Blocked(wanted)) => turns == wanted,
+        (TurnEnd::Blocked(carried), End::Blocked(wanted)) => carried.turns == *wanted,
         _ => false,
     }
 }
@@ -100,7 +96,7 @@ enum Turn {
     // It opens a door, with this outcome outside, and ends so.
     Opens(Result<u64, Errno>, End),
     // It takes the lock of the object of this number.
-    Locks(Option<usize>),
+    Locks(usize),
 }
 
 // Whether a turn of a call ends so, where it was blocked for so many before, or asks this outside.
@@ -117,7 +113,7 @@ fn makes(
         return Ok(false);
     }
     let mut room = vec![in alloc; 0; read_count(call)]?;
-    Ok(match store.make(call, 3, turns, &mut room) {
+    Ok(match store.make(call, 3, Carried { turns }, &mut room) {
         TurnStart::Ended(found) => match end {
             Some(wanted) => ended(&found, wanted),
             None => false,
@@ -132,7 +128,22 @@ fn opens(store: &mut Store, call: &Call, outcome: &Outcome, wanted: &End) -> boo
     if descriptions >= 1_000 || objects >= 1_000 {
         return false;
     }
-    ended(&store.open_door(call, outcome, 3, 0), wanted)
+    ended(
+        &store.open_door(call, outcome, 3, Carried { turns: 0 }),
+        wanted,
+    )
+}
+
+// Whether a call takes the lock of this object.
+fn locks(store: &mut Store, call: &Call, wanted: usize) -> bool {
+    let (descriptions, objects) = store.table.made();
+    if descriptions >= 1_000 || objects >= 1_000 {
+        return false;
+    }
+    match store.settle_or_lock(call, Carried { turns: 0 }) {
+        AtTable::Locks(object) => object == wanted,
+        AtTable::Answers(_) => false,
+    }
 }
 
 // Whether this becomes of a call.
@@ -143,13 +154,14 @@ fn becomes(alloc: Global, store: &mut Store, call: &Call, turn: &Turn) -> Result
         Turn::Comes(errand, came, turns, wanted) => {
             let outcome = outcome(alloc, *came);
             let mut room = Vec::new(alloc);
+            let carried = Carried { turns: *turns };
             ended(
-                &end_outside(*errand, &outcome, 3, *turns, &mut room),
+                &end_outside(*errand, &outcome, 3, carried, &mut room),
                 wanted,
             )
         }
         Turn::Opens(came, wanted) => opens(store, call, &outcome(alloc, *came), wanted),
-        Turn::Locks(wanted) => store.number_locked(call) == *wanted,
+        Turn::Locks(wanted) => locks(store, call, *wanted),
     })
 }
 
@@ -180,9 +192,8 @@ fn assert_store(rt: &impl Abort, alloc: Global, rows: &[(Ask, Turn)]) -> Result<
 
 const LOCKS: &[(Ask, Turn)] = &[
     (Ask::Pipe, Turn::Ends(0, End::Pair(0, 1))),
-    (Ask::Read, Turn::Locks(Some(0))),
-    (Ask::Pipe, Turn::Locks(Some(1))),
-    (Ask::Getfl(0), Turn::Locks(None)),
+    (Ask::Read, Turn::Locks(0)),
+    (Ask::Pipe, Turn::Locks(1)),
 ];
 
 #[test]

@@ -5,27 +5,22 @@ use Rattle.std.specs.List.{cons_option, list_all}
 use Rattle.std.specs.Result.{result_ok}
 use Rattle.hex.specs.Hex.{decode_of}
 use Rattle.posix_terms.specs.declared.limits.TheConstants.Limits.{COUNT}
+use Rattle.posix_terms.specs.declared.call.Access.{Access}
+use Rattle.posix_terms.specs.declared.call.Call.TheVariants as call
 use Rattle.posix_terms.specs.declared.call.CallKind.{CallKind}
 use Rattle.posix_terms.specs.declared.call.CallKind.TheVariants as kind
 use Rattle.posix_terms.specs.declared.call.OpenFlags.{OpenFlags}
-use Rattle.thread_scripts.specs.Calls.{◌>>=◌, accept_line, call_line, close_line, connect_line, data_operand, dup2_line, dup_from_line, dup_line, fstat_line, ftruncate_line, getfl_line, host_open_line, link_line, listen_line, lseek_line, mkdir_line, number_operand, open_line, pipe_line, pread_line, pwrite_line, read_line, register_or_bytes, rmdir_line, setfl_line, shutdown_line, socketpair_line, status_flags, unlink_line, write_line}
+use Rattle.thread_scripts.specs.Calls.{◌>>=◌, bytes_at, call_line, data_operand, number_and_bytes, number_and_flags, number_and_how, number_operand, one_number, one_path, opening, register_or_bytes, seek, status_flags, three_numbers, two_numbers, two_paths}
 use Rattle.thread_scripts.specs.Grammar.{gathered, readings_from}
 use Rattle.thread_scripts.specs.Labels.{place_after, place_of}
 use Rattle.thread_scripts.specs.Lines.{add_line, end_line, label_at, label_line, line_of, line_with, set_bytes_line, set_line, word_named, words_say, work_line}
 use Rattle.thread_scripts.specs.Numbers.{byte_register_of, register_of}
 use Rattle.thread_scripts.specs.Rules.{call_keeps, is_path, is_short, keeps_rules, leads_to_label, line_keeps, target_of}
-use Rattle.thread_scripts.specs.Texts.{access_of, bytes_of, host_flags_of, is_graphic, known_to_host, no_flags, path_of, short_enough, shutdown_how_of, whence_of, with_flags}
+use Rattle.thread_scripts.specs.Texts.{access_of, bytes_of, is_graphic, known_to_host, no_flags, path_of, short_enough, with_flags}
 use Rattle.thread_scripts.specs.Words.{words_of}
-use Rattle.thread_scripts.specs.declared.line.CallLine.TheVariants as call_line
 use Rattle.thread_scripts.specs.declared.line.Data.{Data}
 use Rattle.thread_scripts.specs.declared.line.Data.TheVariants as bytes
-use Rattle.thread_scripts.specs.declared.line.DescriptorLine.TheVariants as descriptor_line
-use Rattle.thread_scripts.specs.declared.line.DoorLine.TheVariants as door_line
 use Rattle.thread_scripts.specs.declared.line.Number.{Number}
-use Rattle.thread_scripts.specs.declared.line.PathLine.TheVariants as path_line
-use Rattle.thread_scripts.specs.declared.line.StatusLine.TheVariants as status_line
-use Rattle.thread_scripts.specs.declared.line.StreamLine.TheVariants as stream_line
-use Rattle.thread_scripts.specs.declared.line.TransferLine.TheVariants as transfer_line
 use Rattle.thread_scripts.specs.declared.line.Line.{Line}
 use Rattle.thread_scripts.specs.declared.line.Line.TheVariants as line
 use Rattle.thread_scripts.specs.declared.lines.Word.{Word}
@@ -58,10 +53,6 @@ of_any fine f h (Some x) = h x
 of_two : {X Y Z : Type 0} (fine : Z → Bool) (f : X → Y → Z) → ((x : X) (y : Y) → fine (f x y) ≡ true) → (a : Option X) (b : Option Y) → Reads fine (a >>= λ x. b >>= λ y. Some (f x y))
 of_two fine f h None b = tt
 of_two fine f h (Some x) b = of_any fine (f x) (h x) b
-
-of_three : {W X Y Z : Type 0} (fine : Z → Bool) (f : W → X → Y → Z) → ((w : W) (x : X) (y : Y) → fine (f w x y) ≡ true) → (a : Option W) (b : Option X) (c : Option Y) → Reads fine (a >>= λ w. b >>= λ x. c >>= λ y. Some (f w x y))
-of_three fine f h None b c = tt
-of_three fine f h (Some w) b c = of_two fine (f w) (h w) b c
 
 mapped : {X Y : Type 0} (good : X → Bool) (fine : Y → Bool) (f : X → Y) → ((x : X) → good x ≡ true → fine (f x) ≡ true) → (o : Option X) → Reads good o → Reads fine (option_map f o)
 mapped good fine f h None r = tt
@@ -101,189 +92,103 @@ data_reads word = at (byte_register_of word) where
 abbrev pub known_flags : OpenFlags → Bool
 known_flags flags = not (flags.exclusive || flags.nonblock)
 
-host_flags_read : (words : List (List ℕ)) → Reads known_flags (host_flags_of words)
-host_flags_read words = at (with_flags no_flags words) where
-  known : (f : OpenFlags) (b : Bool) → (f.exclusive || f.nonblock) ≡ b → Reads known_flags (if b then None else Some f)
-  known f true e = tt
-  known f false e = ap not e
-
-  at : (o : Option OpenFlags) → Reads known_flags (option_and_then known_to_host o)
-  at None = tt
-  at (Some f) = known f (f.exclusive || f.nonblock) refl
+host_flags_read : (f : OpenFlags) → Reads known_flags (known_to_host f)
+host_flags_read f = at (f.exclusive || f.nonblock) refl where
+  at : (b : Bool) → (f.exclusive || f.nonblock) ≡ b → Reads known_flags (if b then None else Some f)
+  at true e = tt
+  at false e = ap not e
 
 pub both : (a b : Bool) → a ≡ true → b ≡ true → (a && b) ≡ true
 both a b x y = rw (x, y) refl
 
-open_keeps : (operands : List (List ℕ)) → Reads call_keeps (open_line operands)
-open_keeps [] = tt
-open_keeps (a ∷ []) = tt
-open_keeps (a ∷ b ∷ more) = then_reads is_path call_keeps (path_of a) (λ p. access_of b >>= λ x. with_flags no_flags more >>= λ f. Some (call_line.Path (path_line.Open p x f))) (path_reads a) (λ p e. of_two call_keeps (λ x f. call_line.Path (path_line.Open p x f)) (λ x f. e) (access_of b) (with_flags no_flags more))
+-- ## Operands, by their shapes
 
-close_keeps : (operands : List (List ℕ)) → Reads call_keeps (close_line operands)
-close_keeps [] = tt
-close_keeps (a ∷ []) = of_any call_keeps (λ x. call_line.Descriptor (descriptor_line.Close x)) (λ x. refl) (number_operand a)
-close_keeps (a ∷ e ∷ more) = tt
+abbrev second_is_short : Number × Data → Bool
+second_is_short o = is_short o.1
 
-read_keeps : (operands : List (List ℕ)) → Reads call_keeps (read_line operands)
-read_keeps [] = tt
-read_keeps (a ∷ []) = tt
-read_keeps (a ∷ b ∷ []) = of_two call_keeps (λ x y. call_line.Transfer (transfer_line.Read x y)) (λ x y. refl) (number_operand a) (number_operand b)
-read_keeps (a ∷ b ∷ e ∷ more) = tt
+with_bytes : (d : Option Number) (b : Option Data) → Reads is_short b → Reads second_is_short (d >>= λ x. b >>= λ y. Some (x, y))
+with_bytes None b h = tt
+with_bytes (Some x) b h = then_reads is_short second_is_short b (λ y. Some (x, y)) h (λ y e. e)
 
-write_with : (d : Option Number) (b : Option Data) → Reads is_short b → Reads call_keeps (d >>= λ x. b >>= λ y. Some (call_line.Transfer (transfer_line.Write x y)))
-write_with None b h = tt
-write_with (Some x) b h = then_reads is_short call_keeps b (λ y. Some (call_line.Transfer (transfer_line.Write x y))) h (λ y e. e)
+number_and_bytes_read : (operands : List (List ℕ)) → Reads second_is_short (number_and_bytes operands)
+number_and_bytes_read [] = tt
+number_and_bytes_read (a ∷ []) = tt
+number_and_bytes_read (a ∷ b ∷ []) = with_bytes (number_operand a) (data_operand b) (data_reads b)
+number_and_bytes_read (a ∷ b ∷ c ∷ more) = tt
 
-write_keeps : (operands : List (List ℕ)) → Reads call_keeps (write_line operands)
-write_keeps [] = tt
-write_keeps (a ∷ []) = tt
-write_keeps (a ∷ b ∷ []) = write_with (number_operand a) (data_operand b) (data_reads b)
-write_keeps (a ∷ b ∷ e ∷ more) = tt
+abbrev middle_is_short : Number × Data × Number → Bool
+middle_is_short o = is_short o.1
 
-pread_keeps : (operands : List (List ℕ)) → Reads call_keeps (pread_line operands)
-pread_keeps [] = tt
-pread_keeps (a ∷ []) = tt
-pread_keeps (a ∷ b ∷ []) = tt
-pread_keeps (a ∷ b ∷ c ∷ []) = of_three call_keeps (λ x y z. call_line.Transfer (transfer_line.Pread x y z)) (λ x y z. refl) (number_operand a) (number_operand b) (number_operand c)
-pread_keeps (a ∷ b ∷ c ∷ e ∷ more) = tt
+with_bytes_at : (d p : Option Number) (b : Option Data) → Reads is_short b → Reads middle_is_short (d >>= λ x. p >>= λ z. b >>= λ y. Some (x, y, z))
+with_bytes_at None p b h = tt
+with_bytes_at (Some x) None b h = tt
+with_bytes_at (Some x) (Some z) b h = then_reads is_short middle_is_short b (λ y. Some (x, y, z)) h (λ y e. e)
 
-pwrite_with : (d : Option Number) (b : Option Data) (p : Option Number) → Reads is_short b → Reads call_keeps (d >>= λ x. b >>= λ y. p >>= λ z. Some (call_line.Transfer (transfer_line.Pwrite x y z)))
-pwrite_with None b p h = tt
-pwrite_with (Some x) b p h = then_reads is_short call_keeps b (λ y. p >>= λ z. Some (call_line.Transfer (transfer_line.Pwrite x y z))) h (λ y e. of_any call_keeps (λ z. call_line.Transfer (transfer_line.Pwrite x y z)) (λ z. e) p)
+bytes_at_read : (operands : List (List ℕ)) → Reads middle_is_short (bytes_at operands)
+bytes_at_read [] = tt
+bytes_at_read (a ∷ []) = tt
+bytes_at_read (a ∷ b ∷ []) = tt
+bytes_at_read (a ∷ b ∷ c ∷ []) = with_bytes_at (number_operand a) (number_operand c) (data_operand b) (data_reads b)
+bytes_at_read (a ∷ b ∷ c ∷ d ∷ more) = tt
 
-pwrite_keeps : (operands : List (List ℕ)) → Reads call_keeps (pwrite_line operands)
-pwrite_keeps [] = tt
-pwrite_keeps (a ∷ []) = tt
-pwrite_keeps (a ∷ b ∷ []) = tt
-pwrite_keeps (a ∷ b ∷ c ∷ []) = pwrite_with (number_operand a) (data_operand b) (number_operand c) (data_reads b)
-pwrite_keeps (a ∷ b ∷ c ∷ e ∷ more) = tt
+one_path_reads : (operands : List (List ℕ)) → Reads is_path (one_path operands)
+one_path_reads [] = tt
+one_path_reads (a ∷ []) = path_reads a
+one_path_reads (a ∷ b ∷ more) = tt
 
-lseek_keeps : (operands : List (List ℕ)) → Reads call_keeps (lseek_line operands)
-lseek_keeps [] = tt
-lseek_keeps (a ∷ []) = tt
-lseek_keeps (a ∷ b ∷ []) = tt
-lseek_keeps (a ∷ b ∷ c ∷ []) = of_three call_keeps (λ x y z. call_line.Status (status_line.Lseek x y z)) (λ x y z. refl) (number_operand a) (number_operand b) (whence_of c)
-lseek_keeps (a ∷ b ∷ c ∷ e ∷ more) = tt
+abbrev are_paths : List ℕ × List ℕ → Bool
+are_paths o = is_path o.0 && is_path o.1
 
-ftruncate_keeps : (operands : List (List ℕ)) → Reads call_keeps (ftruncate_line operands)
-ftruncate_keeps [] = tt
-ftruncate_keeps (a ∷ []) = tt
-ftruncate_keeps (a ∷ b ∷ []) = of_two call_keeps (λ x y. call_line.Status (status_line.Ftruncate x y)) (λ x y. refl) (number_operand a) (number_operand b)
-ftruncate_keeps (a ∷ b ∷ e ∷ more) = tt
+two_paths_read : (operands : List (List ℕ)) → Reads are_paths (two_paths operands)
+two_paths_read [] = tt
+two_paths_read (a ∷ []) = tt
+two_paths_read (a ∷ b ∷ []) = then_reads is_path are_paths (path_of a) (λ p. path_of b >>= λ q. Some (p, q)) (path_reads a) (λ p e. then_reads is_path are_paths (path_of b) (λ q. Some (p, q)) (path_reads b) (λ q d. both (is_path p) (is_path q) e d))
+two_paths_read (a ∷ b ∷ c ∷ more) = tt
 
-fstat_keeps : (operands : List (List ℕ)) → Reads call_keeps (fstat_line operands)
-fstat_keeps [] = tt
-fstat_keeps (a ∷ []) = of_any call_keeps (λ x. call_line.Status (status_line.Fstat x)) (λ x. refl) (number_operand a)
-fstat_keeps (a ∷ e ∷ more) = tt
+abbrev opens_path : List ℕ × Access × OpenFlags → Bool
+opens_path o = is_path o.0
 
-dup_keeps : (operands : List (List ℕ)) → Reads call_keeps (dup_line operands)
-dup_keeps [] = tt
-dup_keeps (a ∷ []) = of_any call_keeps (λ x. call_line.Descriptor (descriptor_line.Dup x)) (λ x. refl) (number_operand a)
-dup_keeps (a ∷ e ∷ more) = tt
+with_path : (x : Option Access) (f : Option OpenFlags) (p : Option (List ℕ)) → Reads is_path p → Reads opens_path (x >>= λ a. f >>= λ g. p >>= λ q. Some (q, a, g))
+with_path None f p h = tt
+with_path (Some x) None p h = tt
+with_path (Some x) (Some f) p h = then_reads is_path opens_path p (λ q. Some (q, x, f)) h (λ q e. e)
 
-dup_from_keeps : (operands : List (List ℕ)) → Reads call_keeps (dup_from_line operands)
-dup_from_keeps [] = tt
-dup_from_keeps (a ∷ []) = tt
-dup_from_keeps (a ∷ b ∷ []) = of_two call_keeps (λ x y. call_line.Descriptor (descriptor_line.DupFrom x y)) (λ x y. refl) (number_operand a) (number_operand b)
-dup_from_keeps (a ∷ b ∷ e ∷ more) = tt
+opening_reads : (operands : List (List ℕ)) → Reads opens_path (opening operands)
+opening_reads [] = tt
+opening_reads (a ∷ []) = tt
+opening_reads (a ∷ b ∷ words) = with_path (access_of b) (with_flags no_flags words) (path_of a) (path_reads a)
 
-dup2_keeps : (operands : List (List ℕ)) → Reads call_keeps (dup2_line operands)
-dup2_keeps [] = tt
-dup2_keeps (a ∷ []) = tt
-dup2_keeps (a ∷ b ∷ []) = of_two call_keeps (λ x y. call_line.Descriptor (descriptor_line.Dup2 x y)) (λ x y. refl) (number_operand a) (number_operand b)
-dup2_keeps (a ∷ b ∷ e ∷ more) = tt
-
-getfl_keeps : (operands : List (List ℕ)) → Reads call_keeps (getfl_line operands)
-getfl_keeps [] = tt
-getfl_keeps (a ∷ []) = of_any call_keeps (λ x. call_line.Status (status_line.Getfl x)) (λ x. refl) (number_operand a)
-getfl_keeps (a ∷ e ∷ more) = tt
-
-setfl_keeps : (operands : List (List ℕ)) → Reads call_keeps (setfl_line operands)
-setfl_keeps [] = tt
-setfl_keeps (a ∷ more) = then_reads anything call_keeps (number_operand a) (λ x. with_flags no_flags more >>= λ w. status_flags w >>= λ f. Some (call_line.Status (status_line.Setfl x f.append f.nonblock))) (any (number_operand a)) (λ x _. then_reads anything call_keeps (with_flags no_flags more) (λ w. status_flags w >>= λ f. Some (call_line.Status (status_line.Setfl x f.append f.nonblock))) (any (with_flags no_flags more)) (λ w _. of_any call_keeps (λ f. call_line.Status (status_line.Setfl x f.append f.nonblock)) (λ f. refl) (status_flags w)))
-
-link_keeps : (operands : List (List ℕ)) → Reads call_keeps (link_line operands)
-link_keeps [] = tt
-link_keeps (a ∷ []) = tt
-link_keeps (a ∷ b ∷ []) = then_reads is_path call_keeps (path_of a) (λ p. path_of b >>= λ q. Some (call_line.Path (path_line.Link p q))) (path_reads a) (λ p e. then_reads is_path call_keeps (path_of b) (λ q. Some (call_line.Path (path_line.Link p q))) (path_reads b) (λ q d. both (is_path p) (is_path q) e d))
-link_keeps (a ∷ b ∷ e ∷ more) = tt
-
-unlink_keeps : (operands : List (List ℕ)) → Reads call_keeps (unlink_line operands)
-unlink_keeps [] = tt
-unlink_keeps (a ∷ []) = then_reads is_path call_keeps (path_of a) (λ p. Some (call_line.Path (path_line.Unlink p))) (path_reads a) (λ p e. e)
-unlink_keeps (a ∷ e ∷ more) = tt
-
-mkdir_keeps : (operands : List (List ℕ)) → Reads call_keeps (mkdir_line operands)
-mkdir_keeps [] = tt
-mkdir_keeps (a ∷ []) = then_reads is_path call_keeps (path_of a) (λ p. Some (call_line.Path (path_line.Mkdir p))) (path_reads a) (λ p e. e)
-mkdir_keeps (a ∷ e ∷ more) = tt
-
-rmdir_keeps : (operands : List (List ℕ)) → Reads call_keeps (rmdir_line operands)
-rmdir_keeps [] = tt
-rmdir_keeps (a ∷ []) = then_reads is_path call_keeps (path_of a) (λ p. Some (call_line.Path (path_line.Rmdir p))) (path_reads a) (λ p e. e)
-rmdir_keeps (a ∷ e ∷ more) = tt
-
-pipe_keeps : (operands : List (List ℕ)) → Reads call_keeps (pipe_line operands)
-pipe_keeps [] = refl
-pipe_keeps (e ∷ more) = tt
-
-socketpair_keeps : (operands : List (List ℕ)) → Reads call_keeps (socketpair_line operands)
-socketpair_keeps [] = refl
-socketpair_keeps (e ∷ more) = tt
-
-shutdown_keeps : (operands : List (List ℕ)) → Reads call_keeps (shutdown_line operands)
-shutdown_keeps [] = tt
-shutdown_keeps (a ∷ []) = tt
-shutdown_keeps (a ∷ b ∷ []) = of_two call_keeps (λ x y. call_line.Stream (stream_line.Shutdown x y)) (λ x y. refl) (number_operand a) (shutdown_how_of b)
-shutdown_keeps (a ∷ b ∷ e ∷ more) = tt
-
-host_open_keeps : (operands : List (List ℕ)) → Reads call_keeps (host_open_line operands)
-host_open_keeps [] = tt
-host_open_keeps (a ∷ []) = tt
-host_open_keeps (a ∷ b ∷ more) = then_reads is_path call_keeps (path_of a) (λ p. access_of b >>= λ x. host_flags_of more >>= λ f. Some (call_line.Door (door_line.HostOpen p x f))) (path_reads a) (λ p e. then_reads anything call_keeps (access_of b) (λ x. host_flags_of more >>= λ f. Some (call_line.Door (door_line.HostOpen p x f))) (any (access_of b)) (λ x _. then_reads known_flags call_keeps (host_flags_of more) (λ f. Some (call_line.Door (door_line.HostOpen p x f))) (host_flags_read more) (λ f d. both (is_path p) (known_flags f) e d)))
-
-listen_keeps : (operands : List (List ℕ)) → Reads call_keeps (listen_line operands)
-listen_keeps [] = tt
-listen_keeps (a ∷ []) = of_any call_keeps (λ x. call_line.Door (door_line.Listen x)) (λ x. refl) (number_operand a)
-listen_keeps (a ∷ e ∷ more) = tt
-
-connect_keeps : (operands : List (List ℕ)) → Reads call_keeps (connect_line operands)
-connect_keeps [] = tt
-connect_keeps (a ∷ []) = of_any call_keeps (λ x. call_line.Door (door_line.Connect x)) (λ x. refl) (number_operand a)
-connect_keeps (a ∷ e ∷ more) = tt
-
-accept_keeps : (operands : List (List ℕ)) → Reads call_keeps (accept_line operands)
-accept_keeps [] = tt
-accept_keeps (a ∷ []) = of_any call_keeps (λ x. call_line.Door (door_line.Accept x)) (λ x. refl) (number_operand a)
-accept_keeps (a ∷ e ∷ more) = tt
+-- ## Calls
 
 calls_keep : (k : CallKind) (operands : List (List ℕ)) → Reads call_keeps (call_line k operands)
 unfolding call_line
-calls_keep kind.Open operands = open_keeps operands
-calls_keep kind.Close operands = close_keeps operands
-calls_keep kind.Read operands = read_keeps operands
-calls_keep kind.Write operands = write_keeps operands
-calls_keep kind.Pread operands = pread_keeps operands
-calls_keep kind.Pwrite operands = pwrite_keeps operands
-calls_keep kind.Lseek operands = lseek_keeps operands
-calls_keep kind.Ftruncate operands = ftruncate_keeps operands
-calls_keep kind.Fstat operands = fstat_keeps operands
-calls_keep kind.Dup operands = dup_keeps operands
-calls_keep kind.DupFrom operands = dup_from_keeps operands
-calls_keep kind.Dup2 operands = dup2_keeps operands
-calls_keep kind.Getfl operands = getfl_keeps operands
-calls_keep kind.Setfl operands = setfl_keeps operands
-calls_keep kind.Link operands = link_keeps operands
-calls_keep kind.Unlink operands = unlink_keeps operands
-calls_keep kind.Mkdir operands = mkdir_keeps operands
-calls_keep kind.Rmdir operands = rmdir_keeps operands
-calls_keep kind.Pipe operands = pipe_keeps operands
-calls_keep kind.Socketpair operands = socketpair_keeps operands
-calls_keep kind.Shutdown operands = shutdown_keeps operands
-calls_keep kind.HostOpen operands = host_open_keeps operands
-calls_keep kind.TcpListen operands = listen_keeps operands
-calls_keep kind.TcpConnect operands = connect_keeps operands
-calls_keep kind.TcpAccept operands = accept_keeps operands
+calls_keep kind.Open operands = mapped opens_path call_keeps (λ o. call.Open o.0 o.1 o.2) (λ o e. e) (opening operands) (opening_reads operands)
+calls_keep kind.Close operands = mapped anything call_keeps call.Close (λ o _. refl) (one_number operands) (any (one_number operands))
+calls_keep kind.Read operands = mapped anything call_keeps (λ o. call.Read o.0 o.1) (λ o _. refl) (two_numbers operands) (any (two_numbers operands))
+calls_keep kind.Write operands = mapped second_is_short call_keeps (λ o. call.Write o.0 o.1) (λ o e. e) (number_and_bytes operands) (number_and_bytes_read operands)
+calls_keep kind.Pread operands = mapped anything call_keeps (λ o. call.Pread o.0 o.1 o.2) (λ o _. refl) (three_numbers operands) (any (three_numbers operands))
+calls_keep kind.Pwrite operands = mapped middle_is_short call_keeps (λ o. call.Pwrite o.0 o.1 o.2) (λ o e. e) (bytes_at operands) (bytes_at_read operands)
+calls_keep kind.Lseek operands = mapped anything call_keeps (λ o. call.Lseek o.0 o.1 o.2) (λ o _. refl) (seek operands) (any (seek operands))
+calls_keep kind.Ftruncate operands = mapped anything call_keeps (λ o. call.Ftruncate o.0 o.1) (λ o _. refl) (two_numbers operands) (any (two_numbers operands))
+calls_keep kind.Fstat operands = mapped anything call_keeps call.Fstat (λ o _. refl) (one_number operands) (any (one_number operands))
+calls_keep kind.Dup operands = mapped anything call_keeps call.Dup (λ o _. refl) (one_number operands) (any (one_number operands))
+calls_keep kind.DupFrom operands = mapped anything call_keeps (λ o. call.DupFrom o.0 o.1) (λ o _. refl) (two_numbers operands) (any (two_numbers operands))
+calls_keep kind.Dup2 operands = mapped anything call_keeps (λ o. call.Dup2 o.0 o.1) (λ o _. refl) (two_numbers operands) (any (two_numbers operands))
+calls_keep kind.Getfl operands = mapped anything call_keeps call.Getfl (λ o _. refl) (one_number operands) (any (one_number operands))
+calls_keep kind.Setfl operands = then_reads anything call_keeps (number_and_flags operands) (λ o. status_flags o.1 >>= λ f. Some (call.Setfl o.0 f.append f.nonblock)) (any (number_and_flags operands)) (λ o _. of_any call_keeps (λ f. call.Setfl o.0 f.append f.nonblock) (λ f. refl) (status_flags o.1))
+calls_keep kind.Link operands = mapped are_paths call_keeps (λ o. call.Link o.0 o.1) (λ o e. e) (two_paths operands) (two_paths_read operands)
+calls_keep kind.Unlink operands = mapped is_path call_keeps call.Unlink (λ o e. e) (one_path operands) (one_path_reads operands)
+calls_keep kind.Mkdir operands = mapped is_path call_keeps call.Mkdir (λ o e. e) (one_path operands) (one_path_reads operands)
+calls_keep kind.Rmdir operands = mapped is_path call_keeps call.Rmdir (λ o e. e) (one_path operands) (one_path_reads operands)
+calls_keep kind.Pipe [] = refl
+calls_keep kind.Pipe (a ∷ more) = tt
+calls_keep kind.Socketpair [] = refl
+calls_keep kind.Socketpair (a ∷ more) = tt
+calls_keep kind.Shutdown operands = mapped anything call_keeps (λ o. call.Shutdown o.0 o.1) (λ o _. refl) (number_and_how operands) (any (number_and_how operands))
+calls_keep kind.HostOpen operands = then_reads opens_path call_keeps (opening operands) (λ o. known_to_host o.2 >>= λ f. Some (call.HostOpen o.0 o.1 f)) (opening_reads operands) (λ o e. then_reads known_flags call_keeps (known_to_host o.2) (λ f. Some (call.HostOpen o.0 o.1 f)) (host_flags_read o.2) (λ f d. both (is_path o.0) (known_flags f) e d))
+calls_keep kind.TcpListen operands = mapped anything call_keeps call.TcpListen (λ o _. refl) (one_number operands) (any (one_number operands))
+calls_keep kind.TcpConnect operands = mapped anything call_keeps call.TcpConnect (λ o _. refl) (one_number operands) (any (one_number operands))
+calls_keep kind.TcpAccept operands = mapped anything call_keeps call.TcpAccept (λ o _. refl) (one_number operands) (any (one_number operands))
 
 work_reads : (operands : List (List ℕ)) → Reads line_keeps (work_line operands)
 work_reads [] = tt

@@ -1,6 +1,7 @@
 pub mod Words
 pub mod Numbers
 pub mod Texts
+pub mod CallLines
 pub mod Calls
 pub mod Labels
 pub mod Lines

@@ -4,29 +4,16 @@ use Rattle.std.specs.Prelude.{ℕ, zero, suc, ◌+◌, ◌-◌, Bool, true, fals
 use Rattle.std.specs.Int.{cast_signed, int_wrapping_add, w64}
 use Rattle.std.specs.Ordering.{int_eq}
 use Rattle.posix_terms.specs.Errors.{code_of}
-use Rattle.posix_terms.specs.declared.call.Call.{Call}
+use Rattle.posix_terms.specs.Calls.{Call}
 use Rattle.posix_terms.specs.declared.call.Call.TheVariants as call
 use Rattle.posix_terms.specs.declared.limits.TheConstants.Limits.{EXECUTED_LINES}
 use Rattle.posix_terms.specs.declared.reply.Reply.{Reply}
 use Rattle.posix_terms.specs.declared.reply.Reply.TheVariants as reply
+use Rattle.thread_scripts.specs.CallLines.{CallLine}
 use Rattle.thread_scripts.specs.declared.line.Number.{Number}
 use Rattle.thread_scripts.specs.declared.line.Number.TheVariants as number
 use Rattle.thread_scripts.specs.declared.line.Data.{Data}
 use Rattle.thread_scripts.specs.declared.line.Data.TheVariants as bytes
-use Rattle.thread_scripts.specs.declared.line.CallLine.{CallLine}
-use Rattle.thread_scripts.specs.declared.line.CallLine.TheVariants as call_line
-use Rattle.thread_scripts.specs.declared.line.DescriptorLine.{DescriptorLine}
-use Rattle.thread_scripts.specs.declared.line.DescriptorLine.TheVariants as descriptor_line
-use Rattle.thread_scripts.specs.declared.line.DoorLine.{DoorLine}
-use Rattle.thread_scripts.specs.declared.line.DoorLine.TheVariants as door_line
-use Rattle.thread_scripts.specs.declared.line.PathLine.{PathLine}
-use Rattle.thread_scripts.specs.declared.line.PathLine.TheVariants as path_line
-use Rattle.thread_scripts.specs.declared.line.StatusLine.{StatusLine}
-use Rattle.thread_scripts.specs.declared.line.StatusLine.TheVariants as status_line
-use Rattle.thread_scripts.specs.declared.line.StreamLine.{StreamLine}
-use Rattle.thread_scripts.specs.declared.line.StreamLine.TheVariants as stream_line
-use Rattle.thread_scripts.specs.declared.line.TransferLine.{TransferLine}
-use Rattle.thread_scripts.specs.declared.line.TransferLine.TheVariants as transfer_line
 use Rattle.thread_scripts.specs.declared.line.Line.{Line}
 use Rattle.thread_scripts.specs.declared.line.Line.TheVariants as line
 use Rattle.thread_scripts.specs.declared.state.Action.{Action}
@@ -75,51 +62,33 @@ abbrev pub data_value : ScriptState → Data → List ℕ
 data_value s (bytes.Text text) = text
 data_value s (bytes.Register register) = slice_index_or s.bytes register []
 
-abbrev pub transfer_of : ScriptState → TransferLine → Call
-transfer_of s (transfer_line.Read d n) = call.Read (number_value s d) (number_value s n)
-transfer_of s (transfer_line.Write d b) = call.Write (number_value s d) (data_value s b)
-transfer_of s (transfer_line.Pread d n p) = call.Pread (number_value s d) (number_value s n) (number_value s p)
-transfer_of s (transfer_line.Pwrite d b p) = call.Pwrite (number_value s d) (data_value s b) (number_value s p)
-
-abbrev pub descriptor_call_of : ScriptState → DescriptorLine → Call
-descriptor_call_of s (descriptor_line.Close d) = call.Close (number_value s d)
-descriptor_call_of s (descriptor_line.Dup d) = call.Dup (number_value s d)
-descriptor_call_of s (descriptor_line.DupFrom d n) = call.DupFrom (number_value s d) (number_value s n)
-descriptor_call_of s (descriptor_line.Dup2 d t) = call.Dup2 (number_value s d) (number_value s t)
-
-abbrev pub status_call_of : ScriptState → StatusLine → Call
-status_call_of s (status_line.Lseek d o whence) = call.Lseek (number_value s d) (number_value s o) whence
-status_call_of s (status_line.Ftruncate d n) = call.Ftruncate (number_value s d) (number_value s n)
-status_call_of s (status_line.Fstat d) = call.Fstat (number_value s d)
-status_call_of s (status_line.Getfl d) = call.Getfl (number_value s d)
-status_call_of s (status_line.Setfl d append nonblock) = call.Setfl (number_value s d) append nonblock
-
-abbrev pub stream_call_of : ScriptState → StreamLine → Call
-stream_call_of s stream_line.Pipe = call.Pipe
-stream_call_of s stream_line.Socketpair = call.Socketpair
-stream_call_of s (stream_line.Shutdown d how) = call.Shutdown (number_value s d) how
-
-abbrev pub door_call_of : ScriptState → DoorLine → Call
-door_call_of s (door_line.HostOpen path access flags) = call.HostOpen path access flags
-door_call_of s (door_line.Listen port) = call.TcpListen (number_value s port)
-door_call_of s (door_line.Connect port) = call.TcpConnect (number_value s port)
-door_call_of s (door_line.Accept d) = call.TcpAccept (number_value s d)
-
-abbrev pub path_call_of : PathLine → Call
-path_call_of (path_line.Open path access flags) = call.Open path access flags
-path_call_of (path_line.Link old_path new_path) = call.Link old_path new_path
-path_call_of (path_line.Unlink path) = call.Unlink path
-path_call_of (path_line.Mkdir path) = call.Mkdir path
-path_call_of (path_line.Rmdir path) = call.Rmdir path
-
 -- the call that a line makes
 abbrev pub call_of : ScriptState → CallLine → Call
-call_of s (call_line.Transfer l) = transfer_of s l
-call_of s (call_line.Descriptor l) = descriptor_call_of s l
-call_of s (call_line.Status l) = status_call_of s l
-call_of s (call_line.Stream l) = stream_call_of s l
-call_of s (call_line.Path l) = path_call_of l
-call_of s (call_line.Door l) = door_call_of s l
+call_of s (call.Open path access flags) = call.Open path access flags
+call_of s (call.Close descriptor) = call.Close (number_value s descriptor)
+call_of s (call.Read descriptor count) = call.Read (number_value s descriptor) (number_value s count)
+call_of s (call.Write descriptor bytes) = call.Write (number_value s descriptor) (data_value s bytes)
+call_of s (call.Pread descriptor count position) = call.Pread (number_value s descriptor) (number_value s count) (number_value s position)
+call_of s (call.Pwrite descriptor bytes position) = call.Pwrite (number_value s descriptor) (data_value s bytes) (number_value s position)
+call_of s (call.Lseek descriptor offset whence) = call.Lseek (number_value s descriptor) (number_value s offset) whence
+call_of s (call.Ftruncate descriptor size) = call.Ftruncate (number_value s descriptor) (number_value s size)
+call_of s (call.Fstat descriptor) = call.Fstat (number_value s descriptor)
+call_of s (call.Dup descriptor) = call.Dup (number_value s descriptor)
+call_of s (call.DupFrom descriptor least) = call.DupFrom (number_value s descriptor) (number_value s least)
+call_of s (call.Dup2 descriptor target) = call.Dup2 (number_value s descriptor) (number_value s target)
+call_of s (call.Getfl descriptor) = call.Getfl (number_value s descriptor)
+call_of s (call.Setfl descriptor append nonblock) = call.Setfl (number_value s descriptor) append nonblock
+call_of s (call.Link old_path new_path) = call.Link old_path new_path
+call_of s (call.Unlink path) = call.Unlink path
+call_of s (call.Mkdir path) = call.Mkdir path
+call_of s (call.Rmdir path) = call.Rmdir path
+call_of s call.Pipe = call.Pipe
+call_of s call.Socketpair = call.Socketpair
+call_of s (call.Shutdown descriptor how) = call.Shutdown (number_value s descriptor) how
+call_of s (call.HostOpen path access flags) = call.HostOpen path access flags
+call_of s (call.TcpListen port) = call.TcpListen (number_value s port)
+call_of s (call.TcpConnect port) = call.TcpConnect (number_value s port)
+call_of s (call.TcpAccept descriptor) = call.TcpAccept (number_value s descriptor)
 
 -- what a line does; `end` goes behind the last line
 unfoldable pub action_of : Bool → ScriptState → Line → Action

@@ -82,6 +82,3 @@ with_flags flags (word ∷ words) = option_and_then (λ more. with_flags more wo
 -- the flags of `host_open`: not those that only `open` has
 abbrev pub known_to_host : OpenFlags → Option OpenFlags
 known_to_host flags = if flags.exclusive || flags.nonblock then None else Some flags
-
-abbrev pub host_flags_of : List (List ℕ) → Option OpenFlags
-host_flags_of words = option_and_then known_to_host (with_flags no_flags words)

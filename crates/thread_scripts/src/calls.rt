@@ -1,15 +1,12 @@
 ghost use Rattle.std.specs.Prelude.{◌≡◌, map};
-ghost use Rattle.thread_scripts.specs.Calls.{accept_line, call_line, close_line, connect_line, data_operand, dup_from_line, dup_line, dup2_line, fstat_line, ftruncate_line, getfl_line, host_open_line, kind_among, kind_named, link_line, listen_line, lseek_line, mkdir_line, number_operand, open_line, pipe_line, pread_line, pwrite_line, read_line, rmdir_line, setfl_line, shutdown_line, socketpair_line, status_flags, unlink_line, write_line};
+ghost use Rattle.thread_scripts.specs.Calls.{alone, bytes_at, call_line, data_operand, kind_among, kind_named, number_and_bytes, number_and_flags, number_and_how, number_operand, one_number, one_path, opening, seek, status_flags, three_numbers, two_numbers, two_paths};
 ghost use Rattle.thread_scripts.specs.Faults.{Reads};
 
 use crate::fault::LineFault;
-use crate::line::{
-    CallLine, Data, DescriptorLine, DoorLine, Number, PathLine, StatusLine, StreamLine,
-    TransferLine,
-};
+use crate::line::{CallLine, Data, Number};
 use crate::numbers::{byte_register, number, register};
-use crate::texts::{access, byte_text, flags, host_flags, path, shutdown_how, whence};
-use posix_terms::{CallKind, OpenFlags};
+use crate::texts::{access, byte_text, flags, known_to_host, path, shutdown_how, whence};
+use posix_terms::{Access, Bytes, Call, CallKind, OpenFlags, ShutdownHow, Whence};
 use std::alloc::Global;
 
 /// An operand that is a number: a register's or its own.
@@ -54,163 +51,149 @@ pub(crate) fn kind_named(word: &[u8]) -> Option<CallKind>
     kind_among(&CallKind::ALL, word)
 }
 
-fn read_open(alloc: Global, operands: &[&[u8]]) -> Result<CallLine, LineFault>
-    ensures { Reads result (open_line (map (λ w. w.now) operands.now)) }
+// Operands, by their shapes.
+
+/// `NUMBER`
+fn one_number(operands: &[&[u8]]) -> Result<Number, LineFault>
+    ensures { Reads result (one_number (map (λ w. w.now) operands.now)) }
 {
-    let [path_word, access_word, flag_words @ ..] = operands else {
+    let [number] = operands else {
         return Err(LineFault::Bad);
     };
-    let path = path(alloc, path_word)?;
-    let access = access(access_word).ok_or(LineFault::Bad)?;
-    let flags = flags(flag_words).ok_or(LineFault::Bad)?;
-    Ok(CallLine::Path(PathLine::Open {
-        path,
-        access,
-        flags,
-    }))
+    number_operand(number)
 }
 
-fn read_close(operands: &[&[u8]]) -> Result<CallLine, LineFault>
-    ensures { Reads result (close_line (map (λ w. w.now) operands.now)) }
+/// `NUMBER NUMBER`
+fn two_numbers(operands: &[&[u8]]) -> Result<(Number, Number), LineFault>
+    ensures { Reads result (two_numbers (map (λ w. w.now) operands.now)) }
 {
-    let [descriptor] = operands else {
+    let [first, second] = operands else {
         return Err(LineFault::Bad);
     };
-    let descriptor = number_operand(descriptor)?;
-    Ok(CallLine::Descriptor(DescriptorLine::Close { descriptor }))
+    let first = number_operand(first)?;
+    let second = number_operand(second)?;
+    Ok((first, second))
 }
 
-fn read_read(operands: &[&[u8]]) -> Result<CallLine, LineFault>
-    ensures { Reads result (read_line (map (λ w. w.now) operands.now)) }
+/// `NUMBER NUMBER NUMBER`
+fn three_numbers(operands: &[&[u8]]) -> Result<(Number, Number, Number), LineFault>
+    ensures { Reads result (three_numbers (map (λ w. w.now) operands.now)) }
 {
-    let [descriptor, count] = operands else {
+    let [first, second, third] = operands else {
         return Err(LineFault::Bad);
     };
-    let descriptor = number_operand(descriptor)?;
-    let count = number_operand(count)?;
-    Ok(CallLine::Transfer(TransferLine::Read { descriptor, count }))
+    let first = number_operand(first)?;
+    let second = number_operand(second)?;
+    let third = number_operand(third)?;
+    Ok((first, second, third))
 }
 
-fn read_write(alloc: Global, operands: &[&[u8]]) -> Result<CallLine, LineFault>
-    ensures { Reads result (write_line (map (λ w. w.now) operands.now)) }
+/// `NUMBER BYTES`
+fn number_and_bytes(alloc: Global, operands: &[&[u8]]) -> Result<(Number, Data), LineFault>
+    ensures { Reads result (number_and_bytes (map (λ w. w.now) operands.now)) }
 {
-    let [descriptor, bytes] = operands else {
+    let [number, bytes] = operands else {
         return Err(LineFault::Bad);
     };
-    let descriptor = number_operand(descriptor)?;
+    let number = number_operand(number)?;
     let bytes = data_operand(alloc, bytes)?;
-    Ok(CallLine::Transfer(TransferLine::Write { descriptor, bytes }))
+    Ok((number, bytes))
 }
 
-fn read_pread(operands: &[&[u8]]) -> Result<CallLine, LineFault>
-    ensures { Reads result (pread_line (map (λ w. w.now) operands.now)) }
+/// `NUMBER BYTES NUMBER`
+fn bytes_at(alloc: Global, operands: &[&[u8]]) -> Result<(Number, Data, Number), LineFault>
+    ensures { Reads result (bytes_at (map (λ w. w.now) operands.now)) }
 {
-    let [descriptor, count, position] = operands else {
+    let [number, bytes, position] = operands else {
         return Err(LineFault::Bad);
     };
-    let descriptor = number_operand(descriptor)?;
-    let count = number_operand(count)?;
+    let number = number_operand(number)?;
     let position = number_operand(position)?;
-    Ok(CallLine::Transfer(TransferLine::Pread {
-        descriptor,
-        count,
-        position,
-    }))
-}
-
-fn read_pwrite(alloc: Global, operands: &[&[u8]]) -> Result<CallLine, LineFault>
-    ensures { Reads result (pwrite_line (map (λ w. w.now) operands.now)) }
-{
-    let [descriptor, bytes, position] = operands else {
-        return Err(LineFault::Bad);
-    };
-    let descriptor = number_operand(descriptor)?;
     let bytes = data_operand(alloc, bytes)?;
-    let position = number_operand(position)?;
-    Ok(CallLine::Transfer(TransferLine::Pwrite {
-        descriptor,
-        bytes,
-        position,
-    }))
+    Ok((number, bytes, position))
 }
 
-fn read_lseek(operands: &[&[u8]]) -> Result<CallLine, LineFault>
-    ensures { Reads result (lseek_line (map (λ w. w.now) operands.now)) }
+/// `NUMBER NUMBER WHENCE`
+fn seek(operands: &[&[u8]]) -> Result<(Number, Number, Whence), LineFault>
+    ensures { Reads result (seek (map (λ w. w.now) operands.now)) }
 {
-    let [descriptor, offset, whence_word] = operands else {
+    let [number, offset, word] = operands else {
         return Err(LineFault::Bad);
     };
-    let descriptor = number_operand(descriptor)?;
+    let number = number_operand(number)?;
     let offset = number_operand(offset)?;
-    let whence = whence(whence_word).ok_or(LineFault::Bad)?;
-    Ok(CallLine::Status(StatusLine::Lseek {
-        descriptor,
-        offset,
-        whence,
-    }))
+    let whence = whence(word).ok_or(LineFault::Bad)?;
+    Ok((number, offset, whence))
 }
 
-fn read_ftruncate(operands: &[&[u8]]) -> Result<CallLine, LineFault>
-    ensures { Reads result (ftruncate_line (map (λ w. w.now) operands.now)) }
+/// `NUMBER HOW`
+fn number_and_how(operands: &[&[u8]]) -> Result<(Number, ShutdownHow), LineFault>
+    ensures { Reads result (number_and_how (map (λ w. w.now) operands.now)) }
 {
-    let [descriptor, size] = operands else {
+    let [number, word] = operands else {
         return Err(LineFault::Bad);
     };
-    let descriptor = number_operand(descriptor)?;
-    let size = number_operand(size)?;
-    Ok(CallLine::Status(StatusLine::Ftruncate { descriptor, size }))
+    let number = number_operand(number)?;
+    let how = shutdown_how(word).ok_or(LineFault::Bad)?;
+    Ok((number, how))
 }
 
-fn read_fstat(operands: &[&[u8]]) -> Result<CallLine, LineFault>
-    ensures { Reads result (fstat_line (map (λ w. w.now) operands.now)) }
+/// `NUMBER FLAG..`
+fn number_and_flags(operands: &[&[u8]]) -> Result<(Number, OpenFlags), LineFault>
+    ensures { Reads result (number_and_flags (map (λ w. w.now) operands.now)) }
 {
-    let [descriptor] = operands else {
+    let [number, words @ ..] = operands else {
         return Err(LineFault::Bad);
     };
-    let descriptor = number_operand(descriptor)?;
-    Ok(CallLine::Status(StatusLine::Fstat { descriptor }))
+    let number = number_operand(number)?;
+    let flags = flags(words).ok_or(LineFault::Bad)?;
+    Ok((number, flags))
 }
 
-fn read_dup(operands: &[&[u8]]) -> Result<CallLine, LineFault>
-    ensures { Reads result (dup_line (map (λ w. w.now) operands.now)) }
+/// `PATH`
+fn one_path(alloc: Global, operands: &[&[u8]]) -> Result<Bytes, LineFault>
+    ensures { Reads result (one_path (map (λ w. w.now) operands.now)) }
 {
-    let [descriptor] = operands else {
+    let [word] = operands else {
         return Err(LineFault::Bad);
     };
-    let descriptor = number_operand(descriptor)?;
-    Ok(CallLine::Descriptor(DescriptorLine::Dup { descriptor }))
+    path(alloc, word)
 }
 
-fn read_dup_from(operands: &[&[u8]]) -> Result<CallLine, LineFault>
-    ensures { Reads result (dup_from_line (map (λ w. w.now) operands.now)) }
+/// `PATH PATH`
+fn two_paths(alloc: Global, operands: &[&[u8]]) -> Result<(Bytes, Bytes), LineFault>
+    ensures { Reads result (two_paths (map (λ w. w.now) operands.now)) }
 {
-    let [descriptor, least] = operands else {
+    let [first, second] = operands else {
         return Err(LineFault::Bad);
     };
-    let descriptor = number_operand(descriptor)?;
-    let least = number_operand(least)?;
-    Ok(CallLine::Descriptor(DescriptorLine::DupFrom { descriptor, least }))
+    let first = path(alloc, first)?;
+    let second = path(alloc, second)?;
+    Ok((first, second))
 }
 
-fn read_dup2(operands: &[&[u8]]) -> Result<CallLine, LineFault>
-    ensures { Reads result (dup2_line (map (λ w. w.now) operands.now)) }
+/// `PATH ACCESS FLAG..`
+fn opening(alloc: Global, operands: &[&[u8]]) -> Result<(Bytes, Access, OpenFlags), LineFault>
+    ensures { Reads result (opening (map (λ w. w.now) operands.now)) }
 {
-    let [descriptor, target] = operands else {
+    let [path_word, access_word, words @ ..] = operands else {
         return Err(LineFault::Bad);
     };
-    let descriptor = number_operand(descriptor)?;
-    let target = number_operand(target)?;
-    Ok(CallLine::Descriptor(DescriptorLine::Dup2 { descriptor, target }))
+    let access = access(access_word).ok_or(LineFault::Bad)?;
+    let flags = flags(words).ok_or(LineFault::Bad)?;
+    let path = path(alloc, path_word)?;
+    Ok((path, access, flags))
 }
 
-fn read_getfl(operands: &[&[u8]]) -> Result<CallLine, LineFault>
-    ensures { Reads result (getfl_line (map (λ w. w.now) operands.now)) }
+/// A call without operands.
+fn alone(operands: &[&[u8]], call: CallLine) -> Result<CallLine, LineFault>
+    ensures { Reads result (alone call (map (λ w. w.now) operands.now)) }
 {
-    let [descriptor] = operands else {
-        return Err(LineFault::Bad);
-    };
-    let descriptor = number_operand(descriptor)?;
-    Ok(CallLine::Status(StatusLine::Getfl { descriptor }))
+    if operands.is_empty() {
+        Ok(call)
+    } else {
+        Err(LineFault::Bad)
+    }
 }
 
 /// Flags that can be set later: those for opening alone are not among them.
@@ -224,138 +207,6 @@ fn status_flags(flags: OpenFlags) -> Option<OpenFlags>
     }
 }
 
-fn read_setfl(operands: &[&[u8]]) -> Result<CallLine, LineFault>
-    ensures { Reads result (setfl_line (map (λ w. w.now) operands.now)) }
-{
-    let [descriptor, flag_words @ ..] = operands else {
-        return Err(LineFault::Bad);
-    };
-    let descriptor = number_operand(descriptor)?;
-    let words = flags(flag_words).ok_or(LineFault::Bad)?;
-    let flags = status_flags(words).ok_or(LineFault::Bad)?;
-    Ok(CallLine::Status(StatusLine::Setfl {
-        descriptor,
-        append: flags.append,
-        nonblock: flags.nonblock,
-    }))
-}
-
-fn read_link(alloc: Global, operands: &[&[u8]]) -> Result<CallLine, LineFault>
-    ensures { Reads result (link_line (map (λ w. w.now) operands.now)) }
-{
-    let [old_word, new_word] = operands else {
-        return Err(LineFault::Bad);
-    };
-    let old_path = path(alloc, old_word)?;
-    let new_path = path(alloc, new_word)?;
-    Ok(CallLine::Path(PathLine::Link { old_path, new_path }))
-}
-
-fn read_unlink(alloc: Global, operands: &[&[u8]]) -> Result<CallLine, LineFault>
-    ensures { Reads result (unlink_line (map (λ w. w.now) operands.now)) }
-{
-    let [path_word] = operands else {
-        return Err(LineFault::Bad);
-    };
-    let path = path(alloc, path_word)?;
-    Ok(CallLine::Path(PathLine::Unlink { path }))
-}
-
-fn read_mkdir(alloc: Global, operands: &[&[u8]]) -> Result<CallLine, LineFault>
-    ensures { Reads result (mkdir_line (map (λ w. w.now) operands.now)) }
-{
-    let [path_word] = operands else {
-        return Err(LineFault::Bad);
-    };
-    let path = path(alloc, path_word)?;
-    Ok(CallLine::Path(PathLine::Mkdir { path }))
-}
-
-fn read_rmdir(alloc: Global, operands: &[&[u8]]) -> Result<CallLine, LineFault>
-    ensures { Reads result (rmdir_line (map (λ w. w.now) operands.now)) }
-{
-    let [path_word] = operands else {
-        return Err(LineFault::Bad);
-    };
-    let path = path(alloc, path_word)?;
-    Ok(CallLine::Path(PathLine::Rmdir { path }))
-}
-
-fn read_pipe(operands: &[&[u8]]) -> Result<CallLine, LineFault>
-    ensures { Reads result (pipe_line (map (λ w. w.now) operands.now)) }
-{
-    if !operands.is_empty() {
-        return Err(LineFault::Bad);
-    }
-    Ok(CallLine::Stream(StreamLine::Pipe))
-}
-
-fn read_socketpair(operands: &[&[u8]]) -> Result<CallLine, LineFault>
-    ensures { Reads result (socketpair_line (map (λ w. w.now) operands.now)) }
-{
-    if !operands.is_empty() {
-        return Err(LineFault::Bad);
-    }
-    Ok(CallLine::Stream(StreamLine::Socketpair))
-}
-
-fn read_host_open(alloc: Global, operands: &[&[u8]]) -> Result<CallLine, LineFault>
-    ensures { Reads result (host_open_line (map (λ w. w.now) operands.now)) }
-{
-    let [path_word, access_word, flag_words @ ..] = operands else {
-        return Err(LineFault::Bad);
-    };
-    let path = path(alloc, path_word)?;
-    let access = access(access_word).ok_or(LineFault::Bad)?;
-    let flags = host_flags(flag_words).ok_or(LineFault::Bad)?;
-    Ok(CallLine::Door(DoorLine::HostOpen {
-        path,
-        access,
-        flags,
-    }))
-}
-
-fn read_tcp_listen(operands: &[&[u8]]) -> Result<CallLine, LineFault>
-    ensures { Reads result (listen_line (map (λ w. w.now) operands.now)) }
-{
-    let [port] = operands else {
-        return Err(LineFault::Bad);
-    };
-    let port = number_operand(port)?;
-    Ok(CallLine::Door(DoorLine::Listen { port }))
-}
-
-fn read_tcp_connect(operands: &[&[u8]]) -> Result<CallLine, LineFault>
-    ensures { Reads result (connect_line (map (λ w. w.now) operands.now)) }
-{
-    let [port] = operands else {
-        return Err(LineFault::Bad);
-    };
-    let port = number_operand(port)?;
-    Ok(CallLine::Door(DoorLine::Connect { port }))
-}
-
-fn read_tcp_accept(operands: &[&[u8]]) -> Result<CallLine, LineFault>
-    ensures { Reads result (accept_line (map (λ w. w.now) operands.now)) }
-{
-    let [descriptor] = operands else {
-        return Err(LineFault::Bad);
-    };
-    let descriptor = number_operand(descriptor)?;
-    Ok(CallLine::Door(DoorLine::Accept { descriptor }))
-}
-
-fn read_shutdown(operands: &[&[u8]]) -> Result<CallLine, LineFault>
-    ensures { Reads result (shutdown_line (map (λ w. w.now) operands.now)) }
-{
-    let [descriptor, how_word] = operands else {
-        return Err(LineFault::Bad);
-    };
-    let descriptor = number_operand(descriptor)?;
-    let how = shutdown_how(how_word).ok_or(LineFault::Bad)?;
-    Ok(CallLine::Stream(StreamLine::Shutdown { descriptor, how }))
-}
-
 /// The line of a call with these operands.
 #[tactic(auto, unfolding(crate::specs::Calls::call_line))]
 pub(crate) fn read_call(
@@ -365,31 +216,126 @@ pub(crate) fn read_call(
 ) -> Result<CallLine, LineFault>
     ensures { Reads result (call_line kind (map (λ w. w.now) operands.now)) }
 {
-    match kind {
-        CallKind::Open => read_open(alloc, operands),
-        CallKind::Close => read_close(operands),
-        CallKind::Read => read_read(operands),
-        CallKind::Write => read_write(alloc, operands),
-        CallKind::Pread => read_pread(operands),
-        CallKind::Pwrite => read_pwrite(alloc, operands),
-        CallKind::Lseek => read_lseek(operands),
-        CallKind::Ftruncate => read_ftruncate(operands),
-        CallKind::Fstat => read_fstat(operands),
-        CallKind::Dup => read_dup(operands),
-        CallKind::DupFrom => read_dup_from(operands),
-        CallKind::Dup2 => read_dup2(operands),
-        CallKind::Getfl => read_getfl(operands),
-        CallKind::Setfl => read_setfl(operands),
-        CallKind::Link => read_link(alloc, operands),
-        CallKind::Unlink => read_unlink(alloc, operands),
-        CallKind::Mkdir => read_mkdir(alloc, operands),
-        CallKind::Rmdir => read_rmdir(alloc, operands),
-        CallKind::Pipe => read_pipe(operands),
-        CallKind::Socketpair => read_socketpair(operands),
-        CallKind::Shutdown => read_shutdown(operands),
-        CallKind::HostOpen => read_host_open(alloc, operands),
-        CallKind::TcpListen => read_tcp_listen(operands),
-        CallKind::TcpConnect => read_tcp_connect(operands),
-        CallKind::TcpAccept => read_tcp_accept(operands),
-    }
+    Ok(match kind {
+        CallKind::Open => {
+            let (path, access, flags) = opening(alloc, operands)?;
+            Call::Open {
+                path,
+                access,
+                flags,
+            }
+        }
+        CallKind::Close => {
+            let descriptor = one_number(operands)?;
+            Call::Close { descriptor }
+        }
+        CallKind::Read => {
+            let (descriptor, count) = two_numbers(operands)?;
+            Call::Read { descriptor, count }
+        }
+        CallKind::Write => {
+            let (descriptor, bytes) = number_and_bytes(alloc, operands)?;
+            Call::Write { descriptor, bytes }
+        }
+        CallKind::Pread => {
+            let (descriptor, count, position) = three_numbers(operands)?;
+            Call::Pread {
+                descriptor,
+                count,
+                position,
+            }
+        }
+        CallKind::Pwrite => {
+            let (descriptor, bytes, position) = bytes_at(alloc, operands)?;
+            Call::Pwrite {
+                descriptor,
+                bytes,
+                position,
+            }
+        }
+        CallKind::Lseek => {
+            let (descriptor, offset, whence) = seek(operands)?;
+            Call::Lseek {
+                descriptor,
+                offset,
+                whence,
+            }
+        }
+        CallKind::Ftruncate => {
+            let (descriptor, size) = two_numbers(operands)?;
+            Call::Ftruncate { descriptor, size }
+        }
+        CallKind::Fstat => {
+            let descriptor = one_number(operands)?;
+            Call::Fstat { descriptor }
+        }
+        CallKind::Dup => {
+            let descriptor = one_number(operands)?;
+            Call::Dup { descriptor }
+        }
+        CallKind::DupFrom => {
+            let (descriptor, least) = two_numbers(operands)?;
+            Call::DupFrom { descriptor, least }
+        }
+        CallKind::Dup2 => {
+            let (descriptor, target) = two_numbers(operands)?;
+            Call::Dup2 { descriptor, target }
+        }
+        CallKind::Getfl => {
+            let descriptor = one_number(operands)?;
+            Call::Getfl { descriptor }
+        }
+        CallKind::Setfl => {
+            let (descriptor, flags) = number_and_flags(operands)?;
+            let flags = status_flags(flags).ok_or(LineFault::Bad)?;
+            Call::Setfl {
+                descriptor,
+                append: flags.append,
+                nonblock: flags.nonblock,
+            }
+        }
+        CallKind::Link => {
+            let (old_path, new_path) = two_paths(alloc, operands)?;
+            Call::Link { old_path, new_path }
+        }
+        CallKind::Unlink => {
+            let path = one_path(alloc, operands)?;
+            Call::Unlink { path }
+        }
+        CallKind::Mkdir => {
+            let path = one_path(alloc, operands)?;
+            Call::Mkdir { path }
+        }
+        CallKind::Rmdir => {
+            let path = one_path(alloc, operands)?;
+            Call::Rmdir { path }
+        }
+        CallKind::Pipe => alone(operands, Call::Pipe)?,
+        CallKind::Socketpair => alone(operands, Call::Socketpair)?,
+        CallKind::Shutdown => {
+            let (descriptor, how) = number_and_how(operands)?;
+            Call::Shutdown { descriptor, how }
+        }
+        CallKind::HostOpen => {
+            let (path, access, flags) = opening(alloc, operands)?;
+            let flags = known_to_host(flags).ok_or(LineFault::Bad)?;
+            Call::HostOpen {
+                path,
+                access,
+                flags,
+            }
+        }
+        CallKind::TcpListen => {
+            let port = one_number(operands)?;
+            Call::TcpListen { port }
+        }
+        CallKind::TcpConnect => {
+            let port = one_number(operands)?;
+            Call::TcpConnect { port }
+        }
+        CallKind::TcpAccept => {
+            let descriptor = one_number(operands)?;
+            Call::TcpAccept { descriptor }
+        }
+    })
 }

@@ -53,9 +53,6 @@ pub use laws::{
     accepted_exactly, bad_line_is_the_first, jumps_lead_to_labels, programs_of_scripts,
     read_scripts_keep_rules, runs_end, script_stays, too_long_is_counted,
 };
-pub use line::{
-    ByteRegister, CallLine, Data, DescriptorLine, DoorLine, Line, Number, NumberRegister, PathLine,
-    Register, StatusLine, StreamLine, TransferLine,
-};
+pub use line::{ByteRegister, CallLine, Data, Line, Number, NumberRegister, Register};
 pub use posix_terms::Step;
 pub use script::Script;

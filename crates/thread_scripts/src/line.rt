@@ -1,6 +1,6 @@
-ghost use Rattle.std.specs.Prelude.{◌≡◌, ◌<◌, ◌≤◌, ℕ, IfSome, IsSome};
+ghost use Rattle.std.specs.Prelude.{◌≡◌, ◌<◌, ℕ};
 
-use posix_terms::{Access, Bytes, OpenFlags, ShutdownHow, Whence};
+use posix_terms::{Bytes, Call};
 use std::marker::Model;
 
 /// One of so many registers. Contracts see its number.
@@ -59,133 +59,9 @@ pub enum Data {
     Register(ByteRegister),
 }
 
-/// A call that moves bytes, as a line gives it. Counts are bytes, and positions bytes from the beginning.
-#[derive(Debug, PartialEq, Eq, Drop)]
-pub enum TransferLine {
-    Read {
-        descriptor: Number,
-        count: Number,
-    },
-    Write {
-        descriptor: Number,
-        bytes: Data,
-    },
-    Pread {
-        descriptor: Number,
-        count: Number,
-        position: Number,
-    },
-    Pwrite {
-        descriptor: Number,
-        bytes: Data,
-        position: Number,
-    },
-}
-
-/// A call that frees or shares a descriptor, as a line gives it.
-#[derive(Clone, Copy, Debug, PartialEq, Eq)]
-pub enum DescriptorLine {
-    Close { descriptor: Number },
-    Dup { descriptor: Number },
-    /// The new descriptor has the lowest free number that is at least this.
-    DupFrom { descriptor: Number, least: Number },
-    /// The new descriptor has this number.
-    Dup2 { descriptor: Number, target: Number },
-}
-
-/// A call about an offset, a length or flags, as a line gives it.
-#[derive(Clone, Copy, Debug, PartialEq, Eq)]
-pub enum StatusLine {
-    Lseek {
-        descriptor: Number,
-        offset: Number,
-        whence: Whence,
-    },
-    /// Makes a file this many bytes long.
-    Ftruncate {
-        descriptor: Number,
-        size: Number,
-    },
-    Fstat {
-        descriptor: Number,
-    },
-    Getfl {
-        descriptor: Number,
-    },
-    /// Sets both flags: one that is false is cleared.
-    Setfl {
-        descriptor: Number,
-        append: bool,
-        nonblock: bool,
-    },
-}
-
-/// A call that makes streams in memory or shuts a socket, as a line gives it.
-#[derive(Clone, Copy, Debug, PartialEq, Eq)]
-pub enum StreamLine {
-    Pipe,
-    Socketpair,
-    Shutdown {
-        descriptor: Number,
-        how: ShutdownHow,
-    },
-}
-
-/// A call on paths, as a line gives it. The bytes of a path are `!` to `~`.
-#[derive(Debug, PartialEq, Eq, Drop)]
-pub enum PathLine {
-    Open {
-        path: Bytes,
-        access: Access,
-        flags: OpenFlags,
-    },
-    Link {
-        old_path: Bytes,
-        new_path: Bytes,
-    },
-    Unlink {
-        path: Bytes,
-    },
-    Mkdir {
-        path: Bytes,
-    },
-    Rmdir {
-        path: Bytes,
-    },
-}
-
-/// A call that opens a door to the outside, as a line gives it.
-#[derive(Debug, PartialEq, Eq, Drop)]
-pub enum DoorLine {
-    /// A file of the host. The bytes of its path are `!` to `~`, and `exclusive` and `nonblock` are false.
-    HostOpen {
-        path: Bytes,
-        access: Access,
-        flags: OpenFlags,
-    },
-    /// A listener at a port, or with 0 at any.
-    Listen {
-        port: Number,
-    },
-    Connect {
-        port: Number,
-    },
-    /// Takes a connection of a listener.
-    Accept {
-        descriptor: Number,
-    },
-}
-
-/// A call as a line gives it: its numbers and bytes are found when the line is executed.
-#[derive(Debug, PartialEq, Eq, Drop)]
-pub enum CallLine {
-    Transfer(TransferLine),
-    Descriptor(DescriptorLine),
-    Status(StatusLine),
-    Stream(StreamLine),
-    Path(PathLine),
-    Door(DoorLine),
-}
+/// A call as a line gives it: its numbers and bytes are found when the line is executed. In a script, also one made in
+/// code, the bytes of a path are `!` to `~`, and a file of the host is opened without `exclusive` and `nonblock`.
+pub type CallLine = Call<Number, Data>;
 
 /// A line of a script that does something. A jump has the place of its label's line: how many lines
 /// lie before that.

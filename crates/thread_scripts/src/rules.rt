@@ -1,9 +1,9 @@
 ghost use Rattle.std.specs.Prelude.{◌≡◌};
 ghost use Rattle.std.specs.List.{list_all};
-ghost use Rattle.thread_scripts.specs.Rules.{call_keeps, door_keeps, is_path, is_script, is_short, keeps_rules, leads_to_label, line_keeps, path_keeps, target_of, transfer_keeps};
+ghost use Rattle.thread_scripts.specs.Rules.{call_keeps, is_path, is_script, is_short, keeps_rules, leads_to_label, line_keeps, target_of};
 
-use crate::line::{CallLine, Data, DoorLine, Line, PathLine, TransferLine};
-use posix_terms::{Bytes, Limits};
+use crate::line::{CallLine, Data, Line};
+use posix_terms::{Bytes, Call, Limits};
 
 /// Where a line may jump to.
 fn target(line: &Line) -> Option<usize>
@@ -42,45 +42,20 @@ fn is_path(path: &Bytes) -> bool
     path.as_slice().iter().all(|byte| byte.is_ascii_graphic())
 }
 
-fn transfer_keeps(line: &TransferLine) -> bool
-    ensures { result ≡ transfer_keeps line.now }
-{
-    match line {
-        TransferLine::Write { bytes, .. } => is_short(bytes),
-        TransferLine::Pwrite { bytes, .. } => is_short(bytes),
-        _ => true,
-    }
-}
-
-fn path_keeps(line: &PathLine) -> bool
-    ensures { result ≡ path_keeps line.now }
-{
-    match line {
-        PathLine::Open { path, .. } => is_path(path),
-        PathLine::Link { old_path, new_path } => is_path(old_path) && is_path(new_path),
-        PathLine::Unlink { path } => is_path(path),
-        PathLine::Mkdir { path } => is_path(path),
-        PathLine::Rmdir { path } => is_path(path),
-    }
-}
-
-fn door_keeps(line: &DoorLine) -> bool
-    ensures { result ≡ door_keeps line.now }
-{
-    match line {
-        DoorLine::HostOpen { path, flags, .. } => is_path(path)
-            && !(flags.exclusive || flags.nonblock),
-        _ => true,
-    }
-}
-
+/// Whether the bytes, paths and flags of a call keep to their bounds.
 fn call_keeps(line: &CallLine) -> bool
     ensures { result ≡ call_keeps line.now }
 {
     match line {
-        CallLine::Transfer(line) => transfer_keeps(line),
-        CallLine::Path(line) => path_keeps(line),
-        CallLine::Door(line) => door_keeps(line),
+        Call::Write { bytes, .. } | Call::Pwrite { bytes, .. } => is_short(bytes),
+        Call::Link { old_path, new_path } => is_path(old_path) && is_path(new_path),
+        Call::Open { path, .. }
+        | Call::Unlink { path }
+        | Call::Mkdir { path }
+        | Call::Rmdir { path } => is_path(path),
+        Call::HostOpen { path, flags, .. } => {
+            is_path(path) && !(flags.exclusive || flags.nonblock)
+        }
         _ => true,
     }
 }

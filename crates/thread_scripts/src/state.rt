@@ -1,11 +1,7 @@
-ghost use Rattle.std.specs.Prelude.{◌≡◌, ◌+◌, ◌^◌, ◌<◌, IfOk, IfSome, OnOk, OnErr, option_copied, slice_get};
-ghost use Rattle.thread_scripts.specs.Meaning.{path_call_of};
+ghost use Rattle.std.specs.Prelude.{◌≡◌, ◌+◌, ◌^◌, ◌<◌, IfOk, IfSome, option_copied, slice_get};
 
 use crate::actor::ScriptState;
-use crate::line::{
-    ByteRegister, CallLine, Data, DescriptorLine, DoorLine, Line, Number, NumberRegister, PathLine,
-    StatusLine, StreamLine, TransferLine,
-};
+use crate::line::{ByteRegister, CallLine, Data, Line, Number, NumberRegister};
 use crate::script::Script;
 use posix_terms::{Bytes, Call, Limits, Reply, Step};
 use std::alloc::AllocError;
@@ -29,37 +25,8 @@ pub(crate) struct Saved {
     executed: usize,
 }
 
-fn path_call(line: &PathLine) -> Result<Call, AllocError>
-    ensures { IfOk result (λ call. call ≡ path_call_of line.now) }
-{
-    Ok(match line {
-        PathLine::Open {
-            path,
-            access,
-            flags,
-        } => Call::Open {
-            path: path.try_clone()?,
-            access: *access,
-            flags: *flags,
-        },
-        PathLine::Link { old_path, new_path } => Call::Link {
-            old_path: old_path.try_clone()?,
-            new_path: new_path.try_clone()?,
-        },
-        PathLine::Unlink { path } => Call::Unlink {
-            path: path.try_clone()?,
-        },
-        PathLine::Mkdir { path } => Call::Mkdir {
-            path: path.try_clone()?,
-        },
-        PathLine::Rmdir { path } => Call::Rmdir {
-            path: path.try_clone()?,
-        },
-    })
-}
-
 impl ScriptState {
-    ghost use Rattle.thread_scripts.specs.Meaning.{action_of, call_of, data_value, descriptor_call_of, door_call_of, is_failure, lines_left, next_of, next_within, number_value, performed, start_of, status_call_of, step_given, stored, stream_call_of, transfer_of};
+    ghost use Rattle.thread_scripts.specs.Meaning.{action_of, call_of, data_value, lines_left, next_of, next_within, number_value, performed, start_of, step_given, stored};
     ghost use Rattle.thread_scripts.specs.Saving.{with_saved};
 
     /// The state before the script's first line. It takes no memory.
@@ -100,19 +67,32 @@ impl ScriptState {
         }
     }
 
-    fn transfer(&self, line: &TransferLine) -> Result<Call, AllocError>
-        ensures { IfOk result (λ call. call ≡ transfer_of self.now line.now) }
+    /// The call that a line makes.
+    fn call(&self, line: &CallLine) -> Result<Call, AllocError>
+        ensures { IfOk result (λ call. call ≡ call_of self.now line.now) }
     {
         Ok(match line {
-            TransferLine::Read { descriptor, count } => Call::Read {
+            Call::Open {
+                path,
+                access,
+                flags,
+            } => Call::Open {
+                path: path.try_clone()?,
+                access: *access,
+                flags: *flags,
+            },
+            Call::Close { descriptor } => Call::Close {
+                descriptor: self.number(*descriptor),
+            },
+            Call::Read { descriptor, count } => Call::Read {
                 descriptor: self.number(*descriptor),
                 count: self.number(*count),
             },
-            TransferLine::Write { descriptor, bytes } => Call::Write {
+            Call::Write { descriptor, bytes } => Call::Write {
                 descriptor: self.number(*descriptor),
                 bytes: self.bytes(bytes)?,
             },
-            TransferLine::Pread {
+            Call::Pread {
                 descriptor,
                 count,
                 position,
@@ -121,7 +101,7 @@ impl ScriptState {
                 count: self.number(*count),
                 position: self.number(*position),
             },
-            TransferLine::Pwrite {
+            Call::Pwrite {
                 descriptor,
                 bytes,
                 position,
@@ -130,70 +110,65 @@ impl ScriptState {
                 bytes: self.bytes(bytes)?,
                 position: self.number(*position),
             },
-        })
-    }
-
-    fn descriptor_call(&self, line: DescriptorLine) -> Call
-        ensures { result ≡ descriptor_call_of self.now line }
-    {
-        match line {
-            DescriptorLine::Close { descriptor } => Call::Close {
-                descriptor: self.number(descriptor),
-            },
-            DescriptorLine::Dup { descriptor } => Call::Dup {
-                descriptor: self.number(descriptor),
-            },
-            DescriptorLine::DupFrom { descriptor, least } => Call::DupFrom {
-                descriptor: self.number(descriptor),
-                least: self.number(least),
-            },
-            DescriptorLine::Dup2 { descriptor, target } => Call::Dup2 {
-                descriptor: self.number(descriptor),
-                target: self.number(target),
-            },
-        }
-    }
-
-    fn status_call(&self, line: StatusLine) -> Call
-        ensures { result ≡ status_call_of self.now line }
-    {
-        match line {
-            StatusLine::Lseek {
+            Call::Lseek {
                 descriptor,
                 offset,
                 whence,
             } => Call::Lseek {
-                descriptor: self.number(descriptor),
-                offset: self.number(offset),
-                whence,
+                descriptor: self.number(*descriptor),
+                offset: self.number(*offset),
+                whence: *whence,
             },
-            StatusLine::Ftruncate { descriptor, size } => Call::Ftruncate {
-                descriptor: self.number(descriptor),
-                size: self.number(size),
+            Call::Ftruncate { descriptor, size } => Call::Ftruncate {
+                descriptor: self.number(*descriptor),
+                size: self.number(*size),
             },
-            StatusLine::Fstat { descriptor } => Call::Fstat {
-                descriptor: self.number(descriptor),
+            Call::Fstat { descriptor } => Call::Fstat {
+                descriptor: self.number(*descriptor),
             },
-            StatusLine::Getfl { descriptor } => Call::Getfl {
-                descriptor: self.number(descriptor),
+            Call::Dup { descriptor } => Call::Dup {
+                descriptor: self.number(*descriptor),
             },
-            StatusLine::Setfl {
+            Call::DupFrom { descriptor, least } => Call::DupFrom {
+                descriptor: self.number(*descriptor),
+                least: self.number(*least),
+            },
+            Call::Dup2 { descriptor, target } => Call::Dup2 {
+                descriptor: self.number(*descriptor),
+                target: self.number(*target),
+            },
+            Call::Getfl { descriptor } => Call::Getfl {
+                descriptor: self.number(*descriptor),
+            },
+            Call::Setfl {
                 descriptor,
                 append,
                 nonblock,
             } => Call::Setfl {
-                descriptor: self.number(descriptor),
-                append,
-                nonblock,
+                descriptor: self.number(*descriptor),
+                append: *append,
+                nonblock: *nonblock,
             },
-        }
-    }
-
-    fn door_call(&self, line: &DoorLine) -> Result<Call, AllocError>
-        ensures { IfOk result (λ call. call ≡ door_call_of self.now line.now) }
-    {
-        Ok(match line {
-            DoorLine::HostOpen {
+            Call::Link { old_path, new_path } => Call::Link {
+                old_path: old_path.try_clone()?,
+                new_path: new_path.try_clone()?,
+            },
+            Call::Unlink { path } => Call::Unlink {
+                path: path.try_clone()?,
+            },
+            Call::Mkdir { path } => Call::Mkdir {
+                path: path.try_clone()?,
+            },
+            Call::Rmdir { path } => Call::Rmdir {
+                path: path.try_clone()?,
+            },
+            Call::Pipe => Call::Pipe,
+            Call::Socketpair => Call::Socketpair,
+            Call::Shutdown { descriptor, how } => Call::Shutdown {
+                descriptor: self.number(*descriptor),
+                how: *how,
+            },
+            Call::HostOpen {
                 path,
                 access,
                 flags,
@@ -202,43 +177,16 @@ impl ScriptState {
                 access: *access,
                 flags: *flags,
             },
-            DoorLine::Listen { port } => Call::TcpListen {
+            Call::TcpListen { port } => Call::TcpListen {
                 port: self.number(*port),
             },
-            DoorLine::Connect { port } => Call::TcpConnect {
+            Call::TcpConnect { port } => Call::TcpConnect {
                 port: self.number(*port),
             },
-            DoorLine::Accept { descriptor } => Call::TcpAccept {
+            Call::TcpAccept { descriptor } => Call::TcpAccept {
                 descriptor: self.number(*descriptor),
             },
         })
-    }
-
-    fn stream_call(&self, line: StreamLine) -> Call
-        ensures { result ≡ stream_call_of self.now line }
-    {
-        match line {
-            StreamLine::Pipe => Call::Pipe,
-            StreamLine::Socketpair => Call::Socketpair,
-            StreamLine::Shutdown { descriptor, how } => Call::Shutdown {
-                descriptor: self.number(descriptor),
-                how,
-            },
-        }
-    }
-
-    /// The call that a line makes.
-    fn call(&self, line: &CallLine) -> Result<Call, AllocError>
-        ensures { IfOk result (λ call. call ≡ call_of self.now line.now) }
-    {
-        match line {
-            CallLine::Transfer(line) => self.transfer(line),
-            CallLine::Descriptor(line) => Ok(self.descriptor_call(*line)),
-            CallLine::Status(line) => Ok(self.status_call(*line)),
-            CallLine::Stream(line) => Ok(self.stream_call(*line)),
-            CallLine::Path(line) => path_call(line),
-            CallLine::Door(line) => self.door_call(line),
-        }
     }
 
     /// What a line does.

@@ -1,6 +1,6 @@
 ghost use Rattle.std.specs.Prelude.{◌≡◌, map};
 ghost use Rattle.std.specs.List.{list_all};
-ghost use Rattle.thread_scripts.specs.Texts.{access_of, bytes_of, host_flags_of, is_graphic, no_flags, once, path_of, shutdown_how_of, whence_of, with_flag, with_flags};
+ghost use Rattle.thread_scripts.specs.Texts.{access_of, bytes_of, is_graphic, known_to_host, no_flags, once, path_of, shutdown_how_of, whence_of, with_flag, with_flags};
 ghost use Rattle.thread_scripts.specs.Faults.{Reads};
 
 use crate::fault::LineFault;
@@ -78,15 +78,15 @@ pub(crate) fn whence(word: &[u8]) -> Option<Whence>
     }
 }
 
-/// The flags of `host_open`.
-pub(crate) fn host_flags(words: &[&[u8]]) -> Option<OpenFlags>
-    ensures { result ≡ host_flags_of (map (λ w. w.now) words.now) }
+/// The flags, if a file of the host can be opened with them: `exclusive` and `nonblock` are for `open` alone.
+pub(crate) fn known_to_host(flags: OpenFlags) -> Option<OpenFlags>
+    ensures { result ≡ known_to_host flags }
 {
-    let flags = flags(words)?;
     if flags.exclusive || flags.nonblock {
-        return None;
+        None
+    } else {
+        Some(flags)
     }
-    Some(flags)
 }
 
 /// What of a socket is shut.

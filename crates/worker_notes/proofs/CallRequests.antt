@@ -13,7 +13,7 @@ use Rattle.sequential_object.specs.Sockets.{shutdown_result}
 use Rattle.sequential_object.specs.Step.{Carried, asks, request_of}
 use Rattle.sequential_object.specs.Transfers.{lseek_result, read_result, write_result}
 use Rattle.posix_terms.specs.declared.call.Access.{Access}
-use Rattle.posix_terms.specs.declared.call.Call.{Call}
+use Rattle.posix_terms.specs.Calls.{Call}
 use Rattle.posix_terms.specs.declared.call.Call.TheVariants as call
 use Rattle.posix_terms.specs.declared.call.OpenFlags.{OpenFlags}
 use Rattle.posix_terms.specs.declared.call.ShutdownHow.{ShutdownHow}

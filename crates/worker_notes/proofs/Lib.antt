@@ -1,4 +1,3 @@
-pub mod SameCalls
 pub mod Replying
 pub mod Agreeing
 pub mod CallRequests

@@ -4,7 +4,7 @@ use Rattle.std.specs.Prelude.{◌≡◌, ℕ, ℤ, pos, negsuc, length, Option, 
 use Rattle.lock_machine.specs.Requests.{kind_asked}
 use Rattle.sequential_object.specs.Object.{State}
 use Rattle.sequential_object.specs.Step.{Carried, asks}
-use Rattle.posix_terms.specs.declared.call.Call.{Call}
+use Rattle.posix_terms.specs.Calls.{Call}
 use Rattle.posix_terms.specs.declared.call.Call.TheVariants as call
 use Rattle.posix_terms.specs.declared.outcome.OutKind.{OutKind}
 use Rattle.posix_terms.specs.declared.request.Request.{Request}

@@ -1,12 +1,13 @@
 ghost use Rattle.std.specs.Prelude.{◌≡◌, ◌↔◌, IsTrue};
 
-use posix_terms::{Call, Outcome, Reply, Step};
+use posix_terms::{Call, Outcome, Reply, Step, equal_ones_are_the_same};
 
 // Each says that `==` tells which values are equal.
 
 pub fn same_call(one: &Call, other: &Call) -> bool
     ensures { IsTrue result ↔ (one.now ≡ other.now) }
 {
+    equal_ones_are_the_same();
     one == other
 }
 

@@ -1,5 +1,4 @@
-use Rattle.comparator.proofs.SameRows.{row_Decides}
 use Rattle.comparator.proofs.same.same_row.Goals as goal
 
 pub returns : goal.returns
-returns c = rw c.eq.ensures (row_Decides c.args.one.now c.args.other.now)
+returns c = rw c.eq.ensures (c.equal_ones_are_the_same.ensures.rows c.args.one.now c.args.other.now)

@@ -2,7 +2,7 @@ use Rattle.std.proofs.Common.{◌≡◌, ℕ, None, [], ◌∷◌, ◌++◌, len
 use Rattle.object_store.specs.Store.{Makes, number_locked}
 use Rattle.object_store.specs.declared.patience.TurnStart.TheVariants as start
 use Rattle.sequential_object.specs.declared.turn_end.TurnEnd.TheVariants as end
-use Rattle.lock_machine.specs.Events.{granted_row, parts}
+use Rattle.lock_machine.specs.Events.{granted_row}
 use Rattle.lock_machine.specs.Threads.{timed}
 use Rattle.lock_machine.specs.declared.thread.Phase.TheVariants as phase
 use Rattle.lock_machine.proofs.Granting.{planned_none, seated}
@@ -14,12 +14,12 @@ returns-in-Answers-clause-event c =
     let thread = c.args.thread.now in
     let shared = c.args.shared.now in
     let new = c.settle_or_lock.new.self in
-    let none : number_locked shared.store c.args.call ≡ None = search rules in
-    let makes : (patience turns : ℕ) → Makes patience turns shared.store c.args.call (start.Ended (end.Reply c.in-Answers.reply)) new = search rules in
+    let none : number_locked shared.store c.args.call c.args.carried ≡ None = search rules in
+    let makes : (patience : ℕ) → Makes patience c.args.carried shared.store c.args.call (start.Ended (end.Reply c.in-Answers.reply)) new = search rules in
     let reply = c.in-Answers.reply in
     let row : c.len-row.result ≡ length shared.rows.items = search rules in
     let seat = ap (λ n. phase.Granted n None (end.Reply reply)) row in
     let rows : c.push_reserved.new.self.items ≡ shared.rows.items ++ granted_row c.args.turn c.args.call ∷ [] = search rules in
     λ clock.
-    planned_none patience (number_locked shared.store c.args.call) c.args.turn c.args.call c.args.turns _ _ none
-    (seated patience c.args.turn c.args.call c.args.turns None (start.Ended (end.Reply reply)) (timed thread clock) _ shared.lock shared.store new shared.rows.items _ (makes patience c.args.turns) seat rows)
+    planned_none patience (number_locked shared.store c.args.call c.args.carried) c.args.turn c.args.call c.args.carried _ _ none
+    (seated patience c.args.turn c.args.call c.args.carried None (start.Ended (end.Reply reply)) (timed thread clock) _ shared.lock shared.store new shared.rows.items _ (makes patience) seat rows)

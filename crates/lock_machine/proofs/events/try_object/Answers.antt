@@ -23,7 +23,7 @@ returns-clause-event c =
     let now = clock_at c.add.new.self c.args.i in
     let old : Parts = parts (timed c.args.thread.now start) shared.lock shared.store shared.rows.items in
     let new : Parts = parts (timed c.grant_object.new.thread now) c.grant_object.new.shared.lock c.grant_object.new.shared.store c.grant_object.new.shared.rows.items in
-    let is : c.args.thread.now.phase ≡ phase.WantsObject want.call want.turns want.clock want.object = search rules in
+    let is : c.args.thread.now.phase ≡ phase.WantsObject want.call want.carried want.clock want.object = search rules in
     let tried : object_taken (takes_object c.args.i c.args.lock.now old) c.args.i c.args.lock.now ≡ Some c.in-Some.taken = search rules in
     let taken = taken_some (takes_object c.args.i c.args.lock.now old) c.args.i c.args.lock.now c.in-Some.taken tried in
     let cost : c.if-is_some.cost ≡ object_cost true (keeps_table want.call) =
@@ -48,11 +48,11 @@ returns-clause-event c =
       | then-not-keeps-2 w ↦
           let frees : keeps_table want.call ≡ false = search rules in
           let lock : w.free.new.self ≡ freed (start + 1) = search rules in
-          reached_granted c.args.patience c.args.i now want.call want.turns want.clock want.object w.free.new.self c.args.lock.now c.in-Some.taken old new is taken.0 room
+          reached_granted c.args.patience c.args.i now want.call want.carried want.clock want.object w.free.new.self c.args.lock.now c.in-Some.taken old new is taken.0 room
           (reached_parts (keeps_table want.call) now w.free.new.self old clock (λ keeps. absurd (false≢true (sym frees ∙ keeps))) (λ e. lock)) taken.1 (subst P w.shared-is (c.grant_object.ensures.event now))
       | else-not-keeps-2 w ↦
           let keeps : keeps_table want.call ≡ true = search rules in
-          reached_granted c.args.patience c.args.i now want.call want.turns want.clock want.object shared.lock c.args.lock.now c.in-Some.taken old new is taken.0 room
+          reached_granted c.args.patience c.args.i now want.call want.carried want.clock want.object shared.lock c.args.lock.now c.in-Some.taken old new is taken.0 room
           (reached_parts (keeps_table want.call) now shared.lock old clock (λ e. refl) (λ frees. absurd (false≢true (sym frees ∙ keeps)))) taken.1 (subst P w.shared-is (c.grant_object.ensures.event now))
     ]
 
@@ -68,7 +68,7 @@ grant_object-requires-clause-born c =
 pub grant_object-requires-clause-row : goal.grant_object-requires-clause-row
 grant_object-requires-clause-row c =
     let want = c.in-WantsObject in
-    let is : c.args.thread.now.phase ≡ phase.WantsObject want.call want.turns want.clock want.object = search rules in
+    let is : c.args.thread.now.phase ≡ phase.WantsObject want.call want.carried want.clock want.object = search rules in
     let own = subst (λ (p : Phase). HasRoom (rows_due p) c.args.shared.now.rows) is c.requires.row in
     let P : Shared → Type 0 = λ s. HasRoom 1 s.rows in
     elim c.if-not-keeps-2.branch [

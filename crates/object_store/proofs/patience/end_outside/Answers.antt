@@ -23,10 +23,10 @@ shorter room bytes =
     omega arith
 
 pub returns-in-Fail-clause-ends : goal.returns-in-Fail-clause-ends
-returns-in-Fail-clause-ends c fit enough = same_outcome c.args.patience c.args.turns c.args.errand numbers.None c.args.outcome.now (outcome.Fail c.in-Fail.error) c.fail_outside.result c.in-Fail.is (c.fail_outside.ensures.ends numbers.None)
+returns-in-Fail-clause-ends c fit enough = same_outcome c.args.patience c.args.carried c.args.errand numbers.None c.args.outcome.now (outcome.Fail c.in-Fail.error) c.fail_outside.result c.in-Fail.is (c.fail_outside.ensures.ends numbers.None)
 
 pub returns-clause-ends : goal.returns-clause-ends
-returns-clause-ends c fit enough = succeeds c.args.patience c.args.turns c.args.errand numbers.None c.args.outcome.now c.in-Ok.value c.in-Ok.bytes c.match-errand.result c.in-Ok.is told
+returns-clause-ends c fit enough = succeeds c.args.patience c.args.carried c.args.errand numbers.None c.args.outcome.now c.in-Ok.value c.in-Ok.bytes c.match-errand.result c.in-Ok.is told
   where
     of_kind : (k : OutKind) → c.args.errand.kind ≡ k → told_outside k numbers.None c.in-Ok.value c.in-Ok.bytes ≡ told_outside c.args.errand.kind numbers.None c.in-Ok.value c.in-Ok.bytes
     of_kind k is = ap (λ (x : OutKind). told_outside x numbers.None c.in-Ok.value c.in-Ok.bytes) (sym is)

@@ -1,6 +1,4 @@
-use Rattle.std.proofs.Common.{rules}
-use Rattle.worker_notes.proofs.SameCalls.{call_is}
 use Rattle.worker_notes.proofs.same.same_call.Goals as goal
 
 pub returns : goal.returns
-returns c = (λ h. call_is _ _ (rw c.eq.ensures at h), search rules)
+returns c = rw c.eq.ensures (c.equal_ones_are_the_same.ensures.calls c.args.one.now c.args.other.now)

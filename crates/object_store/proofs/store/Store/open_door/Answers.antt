@@ -17,7 +17,7 @@ returns-then-not-is_at_port-clause-opens c =
     let x = c.in-Node-default-Ask-default in
     let is : planned h.table call ≡ plan.Node x.node (op.Ask x.errand) x.keep_table = search rules in
     let off : at_port call c.args.outcome.now ≡ false = search rules in
-    off_port c.table_follows_step.ensures.follows h h call x.node x.errand x.keep_table c.args.outcome.now (end.Reply (Fail EIO)) c.args.patience c.args.turns is off
+    off_port c.table_follows_step.ensures.follows h h call x.node x.errand x.keep_table c.args.outcome.now (end.Reply (Fail EIO)) c.args.patience c.args.carried is off
 
 pub returns-clause-opens : goal.returns-clause-opens
 returns-clause-opens c =
@@ -29,4 +29,4 @@ returns-clause-opens c =
     let made : TableMade h call (Some c.args.outcome.now) new.table = search rules in
     let tells : TellsAsStep h.table call (Some c.args.outcome.now) c.change-given.result = search rules in
     let bodies : new.bodies ≡ h.bodies = search rules in
-    door_opens c.table_follows_step.ensures.follows c.failed_calls_change_nothing.ensures c.blocked_calls_change_nothing.ensures h new call x.node x.errand x.keep_table c.args.outcome.now c.change-given.result c.end_opening.result c.args.patience c.args.turns is made tells bodies c.end_opening.ensures.ends
+    door_opens c.table_follows_step.ensures.follows c.failed_calls_change_nothing.ensures c.blocked_calls_change_nothing.ensures h new call x.node x.errand x.keep_table c.args.outcome.now c.change-given.result c.end_opening.result c.args.patience c.args.carried is made tells bodies c.end_opening.ensures.ends

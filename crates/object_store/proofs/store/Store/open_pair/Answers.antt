@@ -6,7 +6,7 @@ use Rattle.std.specs.Prelude.{slice_set}
 use Rattle.descriptor_table.specs.Agreement.{TellsAsStep}
 use Rattle.object_store.specs.Acting.{holding}
 use Rattle.object_store.specs.Bodies.{keeping}
-use Rattle.object_store.specs.Store.{Replies, Stored, TableMade, kept_at}
+use Rattle.object_store.specs.Store.{RepliesAlways, Stored, TableMade, kept_at}
 use Rattle.object_store.proofs.Making.{has_body, held_changed, pair_makes}
 use Rattle.object_store.proofs.store.Store.open_pair.Goals as goal
 
@@ -20,6 +20,6 @@ returns-clause-reply c =
     let bodies : new.bodies ≡ h.bodies = search rules in
     let tells : TellsAsStep h.table call None c.change-given.result = search rules in
     let cleared : c.clear_pair.new.self ≡ holding new c.args.node (Pair new_pair) = search rules in
-    subst (λ (z : Stored). Replies h call c.numbers_reply.result z) (held_changed h new c.args.node (Pair new_pair) bodies ∙ sym cleared)
-    (subst (λ (r : Reply). Replies h call r (record { table = new.table; bodies = slice_set h.bodies c.args.node (keeping (Pair new_pair) (kept_at h c.args.node)) })) (sym c.numbers_reply.ensures)
+    subst (λ (z : Stored). RepliesAlways h call c.numbers_reply.result z) (held_changed h new c.args.node (Pair new_pair) bodies ∙ sym cleared)
+    (subst (λ (r : Reply). RepliesAlways h call r (record { table = new.table; bodies = slice_set h.bodies c.args.node (keeping (Pair new_pair) (kept_at h c.args.node)) })) (sym c.numbers_reply.ensures)
     (pair_makes c.change-given.ensures.follows h call c.args.node new.table c.change-given.result (c.args.keep_table, c.requires.planned) made tells inside))

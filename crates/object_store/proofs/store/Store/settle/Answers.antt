@@ -11,5 +11,5 @@ returns-clause-reply c =
     let call = c.args.call.now in
     let new = c.change.new.self in
     let same : c.args.reply ≡ c.in-Reply.reply = search rules in
-    subst (λ (z : Stored). Replies h call c.in-Reply.reply z) (changed_is h new c.change.ensures.bodies)
-    (subst (λ (r : Reply). Replies h call r (record h { table = new.table })) same (reply_makes c.change.ensures.follows h call c.args.reply new.table c.requires.planned c.change.ensures.made))
+    subst (λ (z : Stored). Replies c.args.carried h call c.in-Reply.reply z) (changed_is h new c.change.ensures.bodies)
+    (subst (λ (r : Reply). Replies c.args.carried h call r (record h { table = new.table })) same (reply_makes c.change.ensures.follows h call c.args.reply new.table c.requires.planned c.change.ensures.made c.args.carried))

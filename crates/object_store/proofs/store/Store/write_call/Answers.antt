@@ -11,4 +11,4 @@ returns-clause-ends c =
     let h = c.args.self.now in
     let inside : c.args.node < length h.bodies = has_body h c.args.node (search rules) c.requires.inside in
     let written : HasWritten c.args.to.«end» h c.args.node c.args.to c.in-Write.bytes c.write.result c.write.new.self = search rules in
-    write_ends c.table_follows_step.ensures.follows h c.write.new.self c.args.call.now c.in-Write.descriptor c.in-Write.bytes c.args.node c.args.to c.write.result c.requires.planned c.in-Write.is inside written
+    write_ends c.table_follows_step.ensures.follows h c.write.new.self c.args.call.now c.in-Write.descriptor c.in-Write.bytes c.args.node c.args.to c.write.result c.requires.planned c.in-Write.is inside written c.args.carried

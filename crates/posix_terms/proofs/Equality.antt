@@ -1,16 +1,29 @@
--- `==` of two calls says that they are the same.
-use Rattle.std.proofs.Common.{◌≡◌, ℕ, List, true, ◌&&◌, nat_eq, refl, rules}
+-- `==` of two calls, and of two rows, tells whether they are the same.
+use Rattle.std.proofs.Common.{◌≡◌, ℕ, List, Bool, true, ◌&&◌, nat_eq, refl, subst, rules}
 use Rattle.std.proofs.lemmas.Bool.{and_parts, false≢true}
 use Rattle.std.proofs.lemmas.Slice.Eq.{bytes_eq-Decides}
+use Rattle.std.specs.Bool.{Decides}
 use Rattle.std.specs.Cmp.{booleans_Decides}
 use Rattle.std.specs.Cmp.Lexicographic.{pointwise}
+use Rattle.std.specs.contracts.prelude.I64PartialEq.TheImpl as numbers
+use denote.Builtin
 use Rattle.posix_terms.specs.contracts.call.AccessPartialEq.TheImpl as access
-use Rattle.posix_terms.specs.contracts.call.CallPartialEq.TheImpl.{ghosts}
+use Rattle.posix_terms.specs.contracts.bytes.Bytes
+use Rattle.posix_terms.specs.contracts.bytes.BytesPartialEq.TheImpl as bytes
+use Rattle.posix_terms.specs.contracts.call.CallPartialEq.TheImpl as calls
 use Rattle.posix_terms.specs.contracts.call.OpenFlagsPartialEq.TheImpl as flags
+use Rattle.posix_terms.specs.contracts.reply.ReplyPartialEq.TheImpl as reply
+use Rattle.posix_terms.specs.contracts.transcript.RowEq.TheImpl.Laws as rows
+use Rattle.posix_terms.specs.contracts.transcript.RowPartialEq.TheImpl as row
+use Rattle.posix_terms.specs.contracts.transcript.TurnPartialEq.TheImpl as turn
+use Rattle.posix_terms.specs.Calls.{Call}
 use Rattle.posix_terms.specs.declared.call.Access.{Access}
-use Rattle.posix_terms.specs.declared.call.Call.{Call}
 use Rattle.posix_terms.specs.declared.call.Call.TheVariants as call
 use Rattle.posix_terms.specs.declared.call.OpenFlags.{OpenFlags}
+use Rattle.posix_terms.specs.declared.reply.Reply.{Reply}
+use Rattle.posix_terms.specs.declared.reply.Reply.TheVariants as reply_of
+use Rattle.posix_terms.specs.declared.transcript.Row.{Row}
+use Rattle.posix_terms.specs.declared.transcript.Turn.{Turn}
 
 flags_are : (f g : OpenFlags) → flags.ghosts.eq f g ≡ true → f ≡ g
 flags_are f g h =
@@ -35,7 +48,11 @@ opening_is p q a b f g h =
     let second = and_parts _ _ first.1 in
     ((bytes_eq-Decides p q).0 first.0, access_is a b second.0, flags_are f g second.1)
 
-pub call_is : (a b : Call) → ghosts.eq a b ≡ true → a ≡ b
+-- `==` of two calls
+abbrev equal : Call → Call → Bool
+equal a b = let g = calls.ghosts Builtin.i64 Bytes.the_row numbers.ghosts numbers.dict bytes.ghosts bytes.dict in g.eq a b
+
+call_is : (a b : Call) → equal a b ≡ true → a ≡ b
 call_is (call.Open p a f) (call.Open q b g) h = let s = opening_is p q a b f g h in λ i. call.Open (s.0 i) (s.1 i) (s.2 i)
 call_is (call.Close d) (call.Close e) h = search rules
 call_is (call.Read d n) (call.Read e m) h = search rules
@@ -62,3 +79,32 @@ call_is (call.TcpListen d) (call.TcpListen e) h = search rules
 call_is (call.TcpConnect d) (call.TcpConnect e) h = search rules
 call_is (call.TcpAccept d) (call.TcpAccept e) h = search rules
 call_is a b h = absurd (false≢true h)
+
+-- ## Rows
+
+turn_is : (a b : Turn) → turn.ghosts.eq a b ≡ true → a ≡ b
+turn_is a b h = search rules
+
+reply_is : (a b : Reply) → reply.ghosts.eq a b ≡ true → a ≡ b
+reply_is a b h = search rules
+
+row_is : (a b : Row) → row.ghosts.eq a b ≡ true → a ≡ b
+row_is a b h =
+    let first = and_parts _ _ h in
+    let second = and_parts _ _ first.1 in
+    λ i. record {
+      call = call_is a.call b.call first.0 i;
+      turn = turn_is a.turn b.turn second.0 i;
+      reply = reply_is a.reply b.reply second.1 i;
+    }
+
+pub row_Decides : (a b : Row) → Decides (row.ghosts.eq a b) (a ≡ b)
+row_Decides a b = (row_is a b, λ h. subst (λ c. row.ghosts.eq a c ≡ true) h (rows.laws-law.refl a))
+
+-- ## Calls, by a row that has them
+
+equal_refl : (a : Call) → equal a a ≡ true
+equal_refl a = (and_parts _ _ (rows.laws-law.refl (record { call = a; turn = record { clock = 0; thread = 0 }; reply = reply_of.Done }))).0
+
+pub call_Decides : (a b : Call) → Decides (equal a b) (a ≡ b)
+call_Decides a b = (call_is a b, λ h. subst (λ c. equal a c ≡ true) h (equal_refl a))

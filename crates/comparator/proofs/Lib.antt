@@ -1,2 +1,0 @@
-pub mod SameCalls
-pub mod SameRows
