@@ -1,7 +1,10 @@
 """How the tools run the program: where it stands, and one run of it with a limit of time."""
+import multiprocessing
 import os
 import subprocess
 import sys
+import time
+from concurrent.futures import ProcessPoolExecutor
 
 TOP = os.path.dirname(os.path.dirname(os.path.realpath(__file__)))
 PROGRAM = TOP + "/crates/detio_cmd/out/detio_cmd"
@@ -24,6 +27,22 @@ def answer(words, folder, more=None, seconds=SECONDS):
     except subprocess.TimeoutExpired:
         return "hung", "", ""
     return ran.returncode, ran.stdout.decode("latin-1"), ran.stderr.decode("latin-1")
+
+
+def in_parts(name, work, program, asked, size):
+    """Has a function make the runs that are asked for, so many at a time, and yields what it answers of each part of them.
+    It is called with the program, the seed and the numbers; the last that it answers is a failure, which ends all, or None."""
+    begun, told, last = time.time(), 0, asked.first + asked.count
+    parts = [range(at, min(at + size, last)) for at in range(asked.first, last, size)]
+    with ProcessPoolExecutor(asked.jobs, multiprocessing.get_context("fork")) as pool:
+        for part, found in zip(parts, pool.map(work, [program] * len(parts), [asked.seed] * len(parts), parts)):
+            if found[-1]:
+                pool.shutdown(cancel_futures=True)
+                sys.exit(f"{name}: failed\n{found[-1]}")
+            yield found
+            if time.time() > told + 2:
+                told, done = time.time(), part[-1] + 1 - asked.first
+                print(f"{name}: {done} of {asked.count} runs, {told - begun:.0f} seconds", file=sys.stderr, flush=True)
 
 
 def said(found):

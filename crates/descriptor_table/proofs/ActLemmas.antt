@@ -12,9 +12,9 @@ use Rattle.sequential_object.specs.Descriptors.{close_result, open_result}
 use Rattle.sequential_object.specs.Doors.{NewDoor, opens}
 use Rattle.sequential_object.specs.Duplicates as duplicates
 use Rattle.sequential_object.specs.Duplicates.{dup2_result, descriptor_number}
-use Rattle.sequential_object.specs.Effects.{Effect, Blocks, Completes, asks_of}
+use Rattle.sequential_object.specs.Effects.{Decision, Effect, Blocks, Completes, alone, asks_of, does_of, locking}
 use Rattle.sequential_object.specs.Files.{bytes_at, resized, written}
-use Rattle.sequential_object.specs.Names.{file_named, file_node, links_of, removed, removed_dir, unlink_result, with_paths}
+use Rattle.sequential_object.specs.Names.{PathMap, file_named, file_node, links_of, removed, removed_dir, unlink_result, unnamed_object, with_paths}
 use Rattle.sequential_object.specs.Paths.{node_at, resolved}
 use Rattle.sequential_object.specs.Object.{State, Content, File, Pipe, Pair, DoorTo, Node, FileNode, Directory, with_content, content_of, is_door}
 use Rattle.sequential_object.specs.Object as object
@@ -22,10 +22,11 @@ use Rattle.sequential_object.specs.Refusals.{◌>>=◌, count_of, position_of, r
 use Rattle.posix_terms.specs.Ends.{is_end, side_of, peer_of}
 use Rattle.sequential_object.specs.Sockets as sockets
 use Rattle.sequential_object.specs.Sockets.{NewEnd, pipe_result, shut_content, shuttable, shutdown_result, socketpair_result}
-use Rattle.sequential_object.specs.Status.{fstat_result, stat_of}
+use Rattle.sequential_object.specs.Status.{fstat_result, stat_content, stat_of}
 use Rattle.sequential_object.specs.Streams.{PairState, Reading, Reads, Ends, NothingYet, Writing, Writes, Breaks, NoRoom, new_pair, pair_read, pair_write, pipe_write, shut, stream_read, with_waiting}
 use Rattle.sequential_object.specs.Step.{Carried, Stepped, concluded, failed, is_again, outside, step, waited}
-use Rattle.sequential_object.specs.Transfers.{base_of, file_in, has_peer, host_offset, offset_of, read_content, read_done, seek_content, write_at, write_content, write_done, read_result, write_result, pread_result, pwrite_result, lseek_result, ftruncate_result, size_of, start_of}
+use Rattle.sequential_object.specs.Transfers as transfers
+use Rattle.sequential_object.specs.Transfers.{base_of, file_in, has_peer, host_offset, offset_of, read_content, read_done, seek_content, write_at, write_content, write_done, read_result, write_result, pread_result, pwrite_result, lseek_result, ftruncate_result, size_of, start_of, write_file}
 use Rattle.posix_terms.specs.declared.call.Access.{Access}
 use Rattle.posix_terms.specs.declared.call.Access.TheVariants.{ReadOnly, WriteOnly, ReadWrite}
 use Rattle.posix_terms.specs.Calls.{Call}
@@ -92,8 +93,8 @@ module _ (t : TableState) (s : State) (settings : Settings) (outcome : Option Ou
   abbrev Does : Call → Plan → Result Effect Errno → Type 0
   Does c p does = ActsOn t s settings outcome carried c p (concluded settings s outcome carried does)
 
-  abbrev Acts : Call → Result Plan Errno → Result Effect Errno → Type 0
-  Acts c p does = Does c (answered p) does
+  abbrev Acts : Call → Result Plan Errno → Result Decision Errno → Type 0
+  Acts c p decided = Does c (answered p) (does_of decided)
 
   -- what an act leaves is what is concluded
   abbrev Ended : ℕ → Op → Acted → Result Effect Errno → Type 0
@@ -179,7 +180,7 @@ module _ (t : TableState) (s : State) (settings : Settings) (outcome : Option Ou
       ask : ℕ → Op
       ask n = errand d out.Read n (not d.flags.nonblock)
 
-      by_file : (n : ℕ) (file : List ℕ) (content : Content) (other : ℕ) → content_of s (birth_at t d.node) ≡ File file → content ≡ File file → offset ≡ other → Ended d.node (act n) (read_acted t d.node (seen key d) n content other) (read_content s d.birth (shown t d offset) n (File file))
+      by_file : (n : ℕ) (file : List ℕ) (content : Content) (other : ℕ) → content_of s (birth_at t d.node) ≡ File file → content ≡ File file → offset ≡ other → Ended d.node (act n) (read_acted t d.node (seen key d) n content other) (does_of (Ok (read_content s d.birth (shown t d offset) n (File file))))
       by_file n file content other is its same = rw (its, ← same) (record {
         answer_is = refl;
         carried_is = refl;
@@ -204,29 +205,33 @@ module _ (t : TableState) (s : State) (settings : Settings) (outcome : Option Ou
           (by_reading n (λ left. Pair (with_waiting p (side_of d.«end») left)) (Pair p) other (pair_read p (side_of d.«end») n (is_open t d.node (part.Socket (peer_of (side_of d.«end»))))) is stands)
 
       by_zero : (n : ℕ) (b : Bool) (does : Result Effect Errno) → Does (call.Read descriptor count) (locks d.node (act n)) does
-          → Does (call.Read descriptor count) (if b then plan.Reply (reply.Data []) else locks d.node (act n)) (if b then Ok (Completes s (reply.Data [])) else does)
+          → Acts (call.Read descriptor count) (Ok (if b then plan.Reply (reply.Data []) else locks d.node (act n))) (Ok (if b then alone s (reply.Data []) else locking (birth_at t d.node) does))
       by_zero n true does acts = tt
       by_zero n false does acts = acts
 
-      by_outside : (n : ℕ) (b : Bool) → Does (call.Read descriptor count) (if b then plan.Reply (reply.Data []) else locks d.node (ask n)) (Ok (if b then Completes s (reply.Data []) else asks_of s out.Read n (not d.flags.nonblock) (λ value bytes. reply.Data bytes)))
+      by_outside : (n : ℕ) (b : Bool) → Acts (call.Read descriptor count) (Ok (if b then plan.Reply (reply.Data []) else locks d.node (ask n)))
+          (Ok (if b then alone s (reply.Data []) else locking (birth_at t d.node) (Ok (asks_of s out.Read n (not d.flags.nonblock) (λ value bytes. reply.Data bytes)))))
       by_outside n true = tt
       by_outside n false = asked_as (call.Read descriptor count) d.node out.Read n (not d.flags.nonblock) (Some d.node) (λ value bytes. reply.Data bytes) (λ value bytes. refl) (λ value content. refl)
 
-      by_kind : (n : ℕ) → Kind d.«end» (content_of s (birth_at t d.node)) → Does (call.Read descriptor count) (moves d n (reply.Data []) (act_or_ask d (act n) (ask n))) (read_content s d.birth (shown t d offset) n (content_of s (birth_at t d.node)))
+      reads : ℕ → Content → Result Effect Errno
+      reads n c = does_of (Ok (read_content s d.birth (shown t d offset) n c))
+
+      by_kind : (n : ℕ) → Kind d.«end» (content_of s (birth_at t d.node)) → Does (call.Read descriptor count) (moves d n (reply.Data []) (act_or_ask d (act n) (ask n))) (reads n (content_of s (birth_at t d.node)))
       by_kind n (IsFile file its is) =
-          does_as (call.Read descriptor count) _ (locks d.node (act n)) _ (File file) (read_content s d.birth (shown t d offset) n) (moves_file_inside d n (reply.Data []) (act n) (ask n) its) is
+          does_as (call.Read descriptor count) _ (locks d.node (act n)) _ (File file) (reads n) (moves_file_inside d n (reply.Data []) (act n) (ask n) its) is
           (λ content other holds stands. by_file n file content other is (sym holds ∙ is) (offset_same key offset other d got there stands))
       by_kind n (IsPipe waiting pipe is) =
-          does_as (call.Read descriptor count) _ (if n == 0 then plan.Reply (reply.Data []) else locks d.node (act n)) _ (Pipe waiting) (read_content s d.birth (shown t d offset) n) (moves_inside d n (reply.Data []) (act n) (ask n) pipe.stream pipe.inside) is
+          does_as (call.Read descriptor count) _ (if n == 0 then plan.Reply (reply.Data []) else locks d.node (act n)) _ (Pipe waiting) (reads n) (moves_inside d n (reply.Data []) (act n) (ask n) pipe.stream pipe.inside) is
           (by_zero n (n == 0) (read_done s (shown t d offset) (λ left. Pipe left) (stream_read waiting n (posix.has_end s (birth_at t d.node) part.Write))) (λ content other holds stands. by_pipe n waiting content other is (sym holds ∙ is) stands))
       by_kind n (IsPair p side its is) =
-          does_as (call.Read descriptor count) _ (if n == 0 then plan.Reply (reply.Data []) else locks d.node (act n)) _ (Pair p) (read_content s d.birth (shown t d offset) n) (moves_inside d n (reply.Data []) (act n) (ask n) (socket_stream d.«end» side its) (ap leads_outside its)) is
+          does_as (call.Read descriptor count) _ (if n == 0 then plan.Reply (reply.Data []) else locks d.node (act n)) _ (Pair p) (reads n) (moves_inside d n (reply.Data []) (act n) (ask n) (socket_stream d.«end» side its) (ap leads_outside its)) is
           (by_zero n (n == 0) (read_done s (shown t d offset) (λ left. Pair (with_waiting p (side_of d.«end») left)) (pair_read p (side_of d.«end») n (has_peer s (birth_at t d.node) (side_of d.«end»)))) (λ content other holds stands. by_pair n p side content other (sym (ap side_of its)) is (sym holds ∙ is) stands))
       by_kind n (IsDoor door its is) =
-          does_as (call.Read descriptor count) _ (if n == 0 then plan.Reply (reply.Data []) else locks d.node (ask n)) _ (DoorTo door) (read_content s d.birth (shown t d offset) n) (moves_outside d n (reply.Data []) (act n) (ask n) door its) is (by_outside n (n == 0))
+          does_as (call.Read descriptor count) _ (if n == 0 then plan.Reply (reply.Data []) else locks d.node (ask n)) _ (DoorTo door) (reads n) (moves_outside d n (reply.Data []) (act n) (ask n) door its) is (by_outside n (n == 0))
 
       by_access : (l : Result (Unit {0}) Errno) (b : Bool) (r : Result ℕ Errno) → Acts (call.Read descriptor count) (l >>= (λ _. refuse_if b EBADF >>= (λ _. r >>= (λ n. Ok (moves d n (reply.Data []) (act_or_ask d (act n) (ask n)))))))
-          ((l >>= (λ _. refuse_if b EBADF >>= (λ _. Ok (d.birth, shown t d offset)))) >>= (λ (found : ℕ × object.Description). r >>= (λ n. read_content s found.0 found.1 n (content_of s found.1.object))))
+          ((l >>= (λ _. refuse_if b EBADF >>= (λ _. Ok (d.birth, shown t d offset)))) >>= (λ (found : ℕ × object.Description). r >>= (λ n. Ok (read_content s found.0 found.1 n (content_of s found.1.object)))))
       by_access (Err e) b r = tt
       by_access (Ok u) true r = tt
       by_access (Ok u) false (Err e) = tt
@@ -245,6 +250,9 @@ module _ (t : TableState) (s : State) (settings : Settings) (outcome : Option Ou
       ask : Op
       ask = errand d out.Write (length bytes) (not d.flags.nonblock)
 
+      writes : Content → Result Effect Errno
+      writes c = does_of (Ok (write_content s d.birth (shown t d offset) bytes c))
+
       by_written : (file : List ℕ) (r : Result (List ℕ × ℕ) Errno) → content_of s (birth_at t d.node) ≡ File file
           → Ended d.node act (wrote r file offset (λ count. start_of (shown t d offset) file + count)) (r >>= (λ w. Ok (Completes (with_content (record s { descriptions = fin.insert s.descriptions d.birth (shown t d (start_of (shown t d offset) file + w.1)) }) (birth_at t d.node) (File w.0)) (reply.Count w.1))))
       by_written file (Ok w) is = record {
@@ -262,7 +270,7 @@ module _ (t : TableState) (s : State) (settings : Settings) (outcome : Option Ou
 
       by_length : (file : List ℕ) (b : Bool) → content_of s (birth_at t d.node) ≡ File file
           → Ended d.node act (if b then replied (reply.Count 0) (File file) offset else wrote (written file (start_of (shown t d offset) file) bytes) file offset (λ count. start_of (shown t d offset) file + count))
-          (if b then Ok (Completes s (reply.Count 0)) else write_content s d.birth (shown t d offset) bytes (File file))
+          (if b then Ok (Completes s (reply.Count 0)) else write_file s d.birth (shown t d offset) bytes file)
       by_length file true is = record {
         answer_is = refl;
         carried_is = refl;
@@ -272,7 +280,7 @@ module _ (t : TableState) (s : State) (settings : Settings) (outcome : Option Ou
       by_length file false is = by_written file (written file (start_of (shown t d offset) file) bytes) is
 
       by_file : (file : List ℕ) (content : Content) (other : ℕ) → content_of s (birth_at t d.node) ≡ File file → content ≡ File file → offset ≡ other
-          → Ended d.node act (write_acted t d.node (seen key d) bytes content other) (if length bytes == 0 then Ok (Completes s (reply.Count 0)) else write_content s d.birth (shown t d offset) bytes (File file))
+          → Ended d.node act (write_acted t d.node (seen key d) bytes content other) (writes (File file))
       by_file file content other is its same = rw (its, ← same) (by_length file (length bytes == 0) is)
 
       by_writing : (holds : List ℕ → Content) (was : Content) (other : ℕ) (w : Writing) → content_of s (birth_at t d.node) ≡ was → offset_at s (birth_of t key) ≡ Some other → Ended d.node act (has_written (seen key d) holds was other (length bytes) w) (write_done s (shown t d offset) (length bytes) holds w)
@@ -292,29 +300,30 @@ module _ (t : TableState) (s : State) (settings : Settings) (outcome : Option Ou
           (by_writing (λ left. Pair (with_waiting p (peer_of (side_of d.«end»)) left)) (Pair p) other (pair_write p (side_of d.«end») bytes (is_open t d.node (part.Socket (peer_of (side_of d.«end»))))) is stands)
 
       by_zero : (b : Bool) (does : Result Effect Errno) → Does (call.Write descriptor bytes) (locks d.node act) does
-          → Does (call.Write descriptor bytes) (if b then plan.Reply (reply.Count 0) else locks d.node act) (if b then Ok (Completes s (reply.Count 0)) else does)
+          → Acts (call.Write descriptor bytes) (Ok (if b then plan.Reply (reply.Count 0) else locks d.node act)) (Ok (if b then alone s (reply.Count 0) else locking (birth_at t d.node) does))
       by_zero true does acts = tt
       by_zero false does acts = acts
 
-      by_outside : (b : Bool) → Does (call.Write descriptor bytes) (if b then plan.Reply (reply.Count 0) else locks d.node ask) (if b then Ok (Completes s (reply.Count 0)) else Ok (asks_of s out.Write (length bytes) (not d.flags.nonblock) (λ value sent. reply.Count value)))
+      by_outside : (b : Bool) → Acts (call.Write descriptor bytes) (Ok (if b then plan.Reply (reply.Count 0) else locks d.node ask))
+          (Ok (if b then alone s (reply.Count 0) else locking (birth_at t d.node) (Ok (asks_of s out.Write (length bytes) (not d.flags.nonblock) (λ value sent. reply.Count value)))))
       by_outside true = tt
       by_outside false = asked_as (call.Write descriptor bytes) d.node out.Write (length bytes) (not d.flags.nonblock) (Some d.node) (λ value sent. reply.Count value) (λ value sent. refl) (λ value content. refl)
 
-      by_kind : Kind d.«end» (content_of s (birth_at t d.node)) → Does (call.Write descriptor bytes) (moves d (length bytes) (reply.Count 0) (act_or_ask d act ask)) (if length bytes == 0 then Ok (Completes s (reply.Count 0)) else write_content s d.birth (shown t d offset) bytes (content_of s (birth_at t d.node)))
+      by_kind : Kind d.«end» (content_of s (birth_at t d.node)) → Does (call.Write descriptor bytes) (moves d (length bytes) (reply.Count 0) (act_or_ask d act ask)) (writes (content_of s (birth_at t d.node)))
       by_kind (IsFile file its is) =
-          does_as (call.Write descriptor bytes) _ (locks d.node act) _ (File file) (λ c. if length bytes == 0 then Ok (Completes s (reply.Count 0)) else write_content s d.birth (shown t d offset) bytes c) (moves_file_inside d (length bytes) (reply.Count 0) act ask its) is
+          does_as (call.Write descriptor bytes) _ (locks d.node act) _ (File file) writes (moves_file_inside d (length bytes) (reply.Count 0) act ask its) is
           (λ content other holds stands. by_file file content other is (sym holds ∙ is) (offset_same key offset other d got there stands))
       by_kind (IsPipe waiting pipe is) =
-          does_as (call.Write descriptor bytes) _ (if length bytes == 0 then plan.Reply (reply.Count 0) else locks d.node act) _ (Pipe waiting) (λ c. if length bytes == 0 then Ok (Completes s (reply.Count 0)) else write_content s d.birth (shown t d offset) bytes c) (moves_inside d (length bytes) (reply.Count 0) act ask pipe.stream pipe.inside) is
+          does_as (call.Write descriptor bytes) _ (if length bytes == 0 then plan.Reply (reply.Count 0) else locks d.node act) _ (Pipe waiting) writes (moves_inside d (length bytes) (reply.Count 0) act ask pipe.stream pipe.inside) is
           (by_zero (length bytes == 0) (write_done s (shown t d offset) (length bytes) (λ left. Pipe left) (pipe_write waiting bytes (posix.has_end s (birth_at t d.node) part.Read))) (λ content other holds stands. by_pipe waiting content other is (sym holds ∙ is) stands))
       by_kind (IsPair p side its is) =
-          does_as (call.Write descriptor bytes) _ (if length bytes == 0 then plan.Reply (reply.Count 0) else locks d.node act) _ (Pair p) (λ c. if length bytes == 0 then Ok (Completes s (reply.Count 0)) else write_content s d.birth (shown t d offset) bytes c) (moves_inside d (length bytes) (reply.Count 0) act ask (socket_stream d.«end» side its) (ap leads_outside its)) is
+          does_as (call.Write descriptor bytes) _ (if length bytes == 0 then plan.Reply (reply.Count 0) else locks d.node act) _ (Pair p) writes (moves_inside d (length bytes) (reply.Count 0) act ask (socket_stream d.«end» side its) (ap leads_outside its)) is
           (by_zero (length bytes == 0) (write_done s (shown t d offset) (length bytes) (λ left. Pair (with_waiting p (peer_of (side_of d.«end»)) left)) (pair_write p (side_of d.«end») bytes (has_peer s (birth_at t d.node) (side_of d.«end»)))) (λ content other holds stands. by_pair p content other is (sym holds ∙ is) stands))
       by_kind (IsDoor door its is) =
-          does_as (call.Write descriptor bytes) _ (if length bytes == 0 then plan.Reply (reply.Count 0) else locks d.node ask) _ (DoorTo door) (λ c. if length bytes == 0 then Ok (Completes s (reply.Count 0)) else write_content s d.birth (shown t d offset) bytes c) (moves_outside d (length bytes) (reply.Count 0) act ask door its) is (by_outside (length bytes == 0))
+          does_as (call.Write descriptor bytes) _ (if length bytes == 0 then plan.Reply (reply.Count 0) else locks d.node ask) _ (DoorTo door) writes (moves_outside d (length bytes) (reply.Count 0) act ask door its) is (by_outside (length bytes == 0))
 
       by_refusals : (l : Result (Unit {0}) Errno) (a b : Bool) → Acts (call.Write descriptor bytes) (l >>= (λ _. refuse_if a EBADF >>= (λ _. refuse_if b EINVAL >>= (λ _. Ok (moves d (length bytes) (reply.Count 0) (act_or_ask d act ask))))))
-          ((l >>= (λ _. refuse_if a EBADF >>= (λ _. refuse_if b EINVAL >>= (λ _. Ok (d.birth, shown t d offset))))) >>= (λ (found : ℕ × object.Description). if length bytes == 0 then Ok (Completes s (reply.Count 0)) else write_content s found.0 found.1 bytes (content_of s found.1.object)))
+          ((l >>= (λ _. refuse_if a EBADF >>= (λ _. refuse_if b EINVAL >>= (λ _. Ok (d.birth, shown t d offset))))) >>= (λ (found : ℕ × object.Description). Ok (write_content s found.0 found.1 bytes (content_of s found.1.object))))
       by_refusals (Err e) a b = tt
       by_refusals (Ok u) true b = tt
       by_refusals (Ok u) false true = tt
@@ -345,21 +354,25 @@ module _ (t : TableState) (s : State) (settings : Settings) (outcome : Option Ou
           → Ended d.node (op.Lseek (seen key d)) (acted t d.node (op.Lseek (seen key d)) (call.Lseek descriptor to whence) outcome numbers.None content other) (seek_content s d.birth (shown t d offset) to whence (File file))
       by_file file content other is its same = rw (its, ← same) (by_offset file (offset_of (pos (base_of whence offset (length file)) +ℤ to)) is)
 
-      by_host : (r : Result (Unit {0}) Errno) → Acts (call.Lseek descriptor to whence) (r >>= (λ _. Ok (locks d.node ask))) (r >>= (λ _. Ok (asks_of s out.Seek 0 false (λ value bytes. reply.Number (pos value)))))
+      by_host : (r : Result (Unit {0}) Errno) → Acts (call.Lseek descriptor to whence) (r >>= (λ _. Ok (locks d.node ask)))
+          (r >>= (λ _. Ok (locking (birth_at t d.node) (Ok (asks_of s out.Seek 0 false (λ value bytes. reply.Number (pos value)))))))
       by_host (Ok u) = asked_as (call.Lseek descriptor to whence) d.node out.Seek 0 false (Some d.node) (λ value bytes. reply.Number (pos value)) (λ value bytes. refl) (λ value content. refl)
       by_host (Err e) = tt
 
-      by_door : (door : Door) → Acts (call.Lseek descriptor to whence) (by_end (part.Door door)) (seek_content s d.birth (shown t d offset) to whence (DoorTo door))
+      seeks : Content → Result Decision Errno
+      seeks c = transfers.seekable c to whence >>= (λ _. Ok (locking (birth_at t d.node) (seek_content s d.birth (shown t d offset) to whence c)))
+
+      by_door : (door : Door) → Acts (call.Lseek descriptor to whence) (by_end (part.Door door)) (seeks (DoorTo door))
       by_door door.HostFile = by_host (host_offset to whence)
       by_door (door.Listener port) = tt
       by_door door.Stream = tt
 
-      by_kind : Kind d.«end» (content_of s (birth_at t d.node)) → Acts (call.Lseek descriptor to whence) (by_end d.«end») (seek_content s d.birth (shown t d offset) to whence (content_of s (birth_at t d.node)))
-      by_kind (IsFile file its is) = does_as (call.Lseek descriptor to whence) _ (locks d.node (op.Lseek (seen key d))) _ (File file) (seek_content s d.birth (shown t d offset) to whence) (ap (λ (e : End). answered (by_end e)) its) is
+      by_kind : Kind d.«end» (content_of s (birth_at t d.node)) → Acts (call.Lseek descriptor to whence) (by_end d.«end») (seeks (content_of s (birth_at t d.node)))
+      by_kind (IsFile file its is) = does_as (call.Lseek descriptor to whence) _ (locks d.node (op.Lseek (seen key d))) _ (File file) (λ c. does_of (seeks c)) (ap (λ (e : End). answered (by_end e)) its) is
           (λ content other holds stands. by_file file content other is (sym holds ∙ is) (offset_same key offset other d got there stands))
       by_kind (IsPipe waiting pipe is) = rw (pipe.no_offset to whence) tt
-      by_kind (IsPair p side its is) = does_as (call.Lseek descriptor to whence) _ (answered (by_end (part.Socket side))) _ (Pair p) (seek_content s d.birth (shown t d offset) to whence) (ap (λ (e : End). answered (by_end e)) its) is tt
-      by_kind (IsDoor door its is) = does_as (call.Lseek descriptor to whence) _ (answered (by_end (part.Door door))) _ (DoorTo door) (seek_content s d.birth (shown t d offset) to whence) (ap (λ (e : End). answered (by_end e)) its) is (by_door door)
+      by_kind (IsPair p side its is) = does_as (call.Lseek descriptor to whence) _ (answered (by_end (part.Socket side))) _ (Pair p) (λ c. does_of (seeks c)) (ap (λ (e : End). answered (by_end e)) its) is tt
+      by_kind (IsDoor door its is) = does_as (call.Lseek descriptor to whence) _ (answered (by_end (part.Door door))) _ (DoorTo door) (λ c. does_of (seeks c)) (ap (λ (e : End). answered (by_end e)) its) is (by_door door)
 
   acts-fstat : (descriptor : ℤ) → RefersAlike t s descriptor → Acts (call.Fstat descriptor) (fstat_plan t descriptor) (fstat_result s descriptor)
   unfolding fstat_plan fstat_result
@@ -379,19 +392,19 @@ module _ (t : TableState) (s : State) (settings : Settings) (outcome : Option Ou
       by_end e = stat_plan d (links_of t.paths d.node) (stat_by e)
 
       does : Content → Result Effect Errno
-      does c = Ok (Completes s (stat_of s (birth_at t d.node) c))
+      does c = does_of (Ok (stat_content s (birth_at t d.node) c))
 
       by_door : (door : Door) → Does (call.Fstat descriptor) (by_end (part.Door door)) (does (DoorTo door))
       by_door door.HostFile = tt
       by_door (door.Listener port) = tt
       by_door door.Stream = tt
 
-      by_kind : Kind d.«end» (content_of s (birth_at t d.node)) → Does (call.Fstat descriptor) (stat_plan d (links_of t.paths d.node) (stat_by d.«end»)) (Ok (Completes s (stat_of s (birth_at t d.node) (content_of s (birth_at t d.node)))))
-      by_kind (IsFile file its is) = does_as (call.Fstat descriptor) _ (locks d.node (op.Fstat (links_of t.paths d.node))) _ (File file) (λ c. Ok (Completes s (stat_of s (birth_at t d.node) c)))
+      by_kind : Kind d.«end» (content_of s (birth_at t d.node)) → Does (call.Fstat descriptor) (stat_plan d (links_of t.paths d.node) (stat_by d.«end»)) (does (content_of s (birth_at t d.node)))
+      by_kind (IsFile file its is) = does_as (call.Fstat descriptor) _ (locks d.node (op.Fstat (links_of t.paths d.node))) _ (File file) does
           (ap (λ (e : End). stat_plan d (links_of t.paths d.node) (stat_by e)) its) is
           (λ content other holds stands. by_file file content other is (sym holds ∙ is))
       by_kind (IsPipe waiting pipe is) = rw pipe.told tt
-      by_kind (IsPair p side its is) = subst (λ (e : End). Does (call.Fstat descriptor) (stat_plan d (links_of t.paths d.node) (stat_by e)) (Ok (Completes s (stat_of s (birth_at t d.node) (content_of s (birth_at t d.node)))))) (sym its) tt
+      by_kind (IsPair p side its is) = subst (λ (e : End). Does (call.Fstat descriptor) (stat_plan d (links_of t.paths d.node) (stat_by e)) (does (content_of s (birth_at t d.node)))) (sym its) tt
       by_kind (IsDoor door its is) = does_as (call.Fstat descriptor) _ (by_end (part.Door door)) _ (DoorTo door) does (ap by_end its) is (by_door door)
 
   acts-pread : (descriptor count position : ℤ) → RefersAlike t s descriptor → Acts (call.Pread descriptor count position) (pread_plan t descriptor count position) (pread_result s descriptor count position)
@@ -405,14 +418,14 @@ module _ (t : TableState) (s : State) (settings : Settings) (outcome : Option Ou
       by_file n start file content other is its = rw its (record { answer_is = refl; carried_is = refl; content_is = same_content s (birth_at t d.node) (File file) is; offset_is = tt })
 
       by_refusals : (file : List ℕ) → content_of s (birth_at t d.node) ≡ File file → (a : Bool) (r p : Result ℕ Errno) → Acts (call.Pread descriptor count position) (refuse_if a EBADF >>= (λ _. r >>= (λ n. p >>= (λ start. Ok (locks d.node (op.Pread n start))))))
-          (refuse_if a EBADF >>= (λ _. r >>= (λ n. p >>= (λ start. Ok (Completes s (reply.Data (bytes_at file start n)))))))
+          (refuse_if a EBADF >>= (λ _. r >>= (λ n. p >>= (λ start. Ok (locking (birth_at t d.node) (Ok (Completes s (reply.Data (bytes_at file start n)))))))))
       by_refusals file is true r p = tt
       by_refusals file is false (Err e) p = tt
       by_refusals file is false (Ok n) (Err e) = tt
       by_refusals file is false (Ok n) (Ok start) = λ content other holds stands. by_file n start file content other is (sym holds ∙ is)
 
       by_kind : Kind d.«end» (content_of s (birth_at t d.node)) → Acts (call.Pread descriptor count position) (of_file d ESPIPE >>= (λ _. refuse_if (not (can_read d.access)) EBADF >>= (λ _. count_of count >>= (λ n. position_of position >>= (λ start. Ok (locks d.node (op.Pread n start)))))))
-          (file_in (content_of s (birth_at t d.node)) ESPIPE >>= (λ file. refuse_if (not (can_read d.access)) EBADF >>= (λ _. count_of count >>= (λ n. position_of position >>= (λ start. Ok (Completes s (reply.Data (bytes_at file start n))))))))
+          (file_in (content_of s (birth_at t d.node)) ESPIPE >>= (λ file. refuse_if (not (can_read d.access)) EBADF >>= (λ _. count_of count >>= (λ n. position_of position >>= (λ start. Ok (locking (birth_at t d.node) (Ok (Completes s (reply.Data (bytes_at file start n))))))))))
       by_kind (IsFile file its is) = rw (of_file_file d ESPIPE its, file_found file ESPIPE is) (by_refusals file is (not (can_read d.access)) (count_of count) (position_of position))
         where
           file_found : (file : List ℕ) (e : Errno) → content_of s (birth_at t d.node) ≡ File file → file_in (content_of s (birth_at t d.node)) e ≡ Ok file
@@ -442,14 +455,14 @@ module _ (t : TableState) (s : State) (settings : Settings) (outcome : Option Ou
       by_file file start content other is its = rw its (by_length file start other (length bytes == 0) is)
 
       by_refusals : (file : List ℕ) → content_of s (birth_at t d.node) ≡ File file → (a b : Bool) (p : Result ℕ Errno) → Acts (call.Pwrite descriptor bytes position) (refuse_if a EBADF >>= (λ _. refuse_if b EINVAL >>= (λ _. p >>= (λ start. Ok (locks d.node (op.Pwrite start))))))
-          (refuse_if a EBADF >>= (λ _. refuse_if b EINVAL >>= (λ _. p >>= (λ start. if length bytes == 0 then Ok (Completes s (reply.Count 0)) else write_at s (birth_at t d.node) file start bytes))))
+          (refuse_if a EBADF >>= (λ _. refuse_if b EINVAL >>= (λ _. p >>= (λ start. Ok (locking (birth_at t d.node) (if length bytes == 0 then Ok (Completes s (reply.Count 0)) else write_at s (birth_at t d.node) file start bytes))))))
       by_refusals file is true b p = tt
       by_refusals file is false true p = tt
       by_refusals file is false false (Err e) = tt
       by_refusals file is false false (Ok start) = λ content other holds stands. by_file file start content other is (sym holds ∙ is)
 
       by_kind : Kind d.«end» (content_of s (birth_at t d.node)) → Acts (call.Pwrite descriptor bytes position) (of_file d ESPIPE >>= (λ _. refuse_if (not (can_write d.access)) EBADF >>= (λ _. refuse_if (nat_lt 32767 (length bytes)) EINVAL >>= (λ _. position_of position >>= (λ start. Ok (locks d.node (op.Pwrite start)))))))
-          (file_in (content_of s (birth_at t d.node)) ESPIPE >>= (λ file. refuse_if (not (can_write d.access)) EBADF >>= (λ _. refuse_if (nat_lt 32767 (length bytes)) EINVAL >>= (λ _. position_of position >>= (λ start. if length bytes == 0 then Ok (Completes s (reply.Count 0)) else write_at s (birth_at t d.node) file start bytes)))))
+          (file_in (content_of s (birth_at t d.node)) ESPIPE >>= (λ file. refuse_if (not (can_write d.access)) EBADF >>= (λ _. refuse_if (nat_lt 32767 (length bytes)) EINVAL >>= (λ _. position_of position >>= (λ start. Ok (locking (birth_at t d.node) (if length bytes == 0 then Ok (Completes s (reply.Count 0)) else write_at s (birth_at t d.node) file start bytes)))))))
       by_kind (IsFile file its is) = rw (of_file_file d ESPIPE its, file_found file ESPIPE is) (by_refusals file is (not (can_write d.access)) (nat_lt 32767 (length bytes)) (position_of position))
         where
           file_found : (file : List ℕ) (e : Errno) → content_of s (birth_at t d.node) ≡ File file → file_in (content_of s (birth_at t d.node)) e ≡ Ok file
@@ -468,12 +481,12 @@ module _ (t : TableState) (s : State) (settings : Settings) (outcome : Option Ou
           → Ended d.node (op.Ftruncate n) (acted t d.node (op.Ftruncate n) (call.Ftruncate descriptor size) outcome numbers.None content other) (Ok (Completes (with_content s (birth_at t d.node) (File (resized file n))) reply.Done))
       by_file n file content other is its = rw its (record { answer_is = refl; carried_is = refl; content_is = put_content s (birth_at t d.node) (File (resized file n)); offset_is = tt })
 
-      by_size : (file : List ℕ) → content_of s (birth_at t d.node) ≡ File file → (r : Result ℕ Errno) → Acts (call.Ftruncate descriptor size) (r >>= (λ n. Ok (locks d.node (op.Ftruncate n)))) (r >>= (λ n. Ok (Completes (with_content s (birth_at t d.node) (File (resized file n))) reply.Done)))
+      by_size : (file : List ℕ) → content_of s (birth_at t d.node) ≡ File file → (r : Result ℕ Errno) → Acts (call.Ftruncate descriptor size) (r >>= (λ n. Ok (locks d.node (op.Ftruncate n)))) (r >>= (λ n. Ok (locking (birth_at t d.node) (Ok (Completes (with_content s (birth_at t d.node) (File (resized file n))) reply.Done)))))
       by_size file is (Err e) = tt
       by_size file is (Ok n) = λ content other holds stands. by_file n file content other is (sym holds ∙ is)
 
       by_kind : (a : Bool) → Kind d.«end» (content_of s (birth_at t d.node)) → Acts (call.Ftruncate descriptor size) (refuse_if a EINVAL >>= (λ _. of_file d EINVAL >>= (λ _. size_of size >>= (λ n. Ok (locks d.node (op.Ftruncate n))))))
-          (refuse_if a EINVAL >>= (λ _. file_in (content_of s (birth_at t d.node)) EINVAL >>= (λ file. size_of size >>= (λ n. Ok (Completes (with_content s (birth_at t d.node) (File (resized file n))) reply.Done)))))
+          (refuse_if a EINVAL >>= (λ _. file_in (content_of s (birth_at t d.node)) EINVAL >>= (λ file. size_of size >>= (λ n. Ok (locking (birth_at t d.node) (Ok (Completes (with_content s (birth_at t d.node) (File (resized file n))) reply.Done)))))))
       by_kind true k = tt
       by_kind false (IsFile file its is) = rw (of_file_file d EINVAL its, file_found file EINVAL is) (by_size file is (size_of size))
         where
@@ -496,8 +509,8 @@ module _ (t : TableState) (s : State) (settings : Settings) (outcome : Option Ou
       by_end : End → Result Plan Errno
       by_end e = shut_act d how e >>= (λ act. Ok (locks d.node act))
 
-      does : End → Content → Result Effect Errno
-      does e c = shuttable c >>= (λ _. Ok (shut_content s (record { object = birth_at t d.node; «end» = e; access = d.access; offset = offset; append = d.flags.append; nonblock = d.flags.nonblock }) how c))
+      does : End → Content → Result Decision Errno
+      does e c = shuttable c >>= (λ _. Ok (locking (birth_at t d.node) (Ok (shut_content s (record { object = birth_at t d.node; «end» = e; access = d.access; offset = offset; append = d.flags.append; nonblock = d.flags.nonblock }) how c))))
 
       by_door : (e : End) (door : Door) → Acts (call.Shutdown descriptor how) (by_end (part.Door door)) (does e (DoorTo door))
       by_door e door.HostFile = tt
@@ -507,8 +520,8 @@ module _ (t : TableState) (s : State) (settings : Settings) (outcome : Option Ou
       by_kind : (e : End) → Kind e (content_of s (birth_at t d.node)) → Acts (call.Shutdown descriptor how) (by_end e) (does e (content_of s (birth_at t d.node)))
       by_kind e (IsFile file its is) = rw its tt
       by_kind e (IsPipe waiting pipe is) = rw (pipe.no_socket d how) tt
-      by_kind e (IsPair p side its is) = rw its (does_as (call.Shutdown descriptor how) _ (locks d.node (op.Shutdown side how)) _ (Pair p) (does (part.Socket side)) refl is (λ content other holds stands. by_pair side p content other (sym holds ∙ is)))
-      by_kind e (IsDoor door its is) = does_as (call.Shutdown descriptor how) _ (answered (by_end (part.Door door))) _ (DoorTo door) (does e) (ap (λ (x : End). answered (by_end x)) its) is (by_door e door)
+      by_kind e (IsPair p side its is) = rw its (does_as (call.Shutdown descriptor how) _ (locks d.node (op.Shutdown side how)) _ (Pair p) (λ c. does_of (does (part.Socket side) c)) refl is (λ content other holds stands. by_pair side p content other (sym holds ∙ is)))
+      by_kind e (IsDoor door its is) = does_as (call.Shutdown descriptor how) _ (answered (by_end (part.Door door))) _ (DoorTo door) (λ c. does_of (does e c)) (ap (λ (x : End). answered (by_end x)) its) is (by_door e door)
 
   -- ## Letting go
 
@@ -554,13 +567,13 @@ module _ (t : TableState) (s : State) (settings : Settings) (outcome : Option Ou
 
       by_same : (n : ℕ) (same ends : Bool) → ends_a_door (described t target) ≡ ends
           → Acts (call.Dup2 descriptor target) (refuse_if (not same && ends) EBUSY >>= (λ _. Ok (if same then plan.Reply (reply.Number target) else replaced (described t target) (reply.Number target))))
-          (refuse_if (not same && ends) EBUSY >>= (λ _. Ok (Completes (if same then s else left n) (reply.Number target))))
+          (refuse_if (not same && ends) EBUSY >>= (λ _. Ok (if same then alone s (reply.Number target) else duplicates.replaced s target n d.birth)))
       by_same n true ends is = tt
       by_same n false true is = tt
       by_same n false false is = by_target n (described t target) is
 
       by_number : (r : Result ℕ Errno) → Acts (call.Dup2 descriptor target) (r >>= (λ n. refuse_if (not (int_eq descriptor target) && ends_a_door (described t target)) EBUSY >>= (λ _. Ok (if int_eq descriptor target then plan.Reply (reply.Number target) else replaced (described t target) (reply.Number target)))))
-          (r >>= (λ n. refuse_if (not (int_eq descriptor target) && ends_a_door (described t target)) EBUSY >>= (λ _. Ok (Completes (if int_eq descriptor target then s else left n) (reply.Number target)))))
+          (r >>= (λ n. refuse_if (not (int_eq descriptor target) && ends_a_door (described t target)) EBUSY >>= (λ _. Ok (if int_eq descriptor target then alone s (reply.Number target) else duplicates.replaced s target n d.birth))))
       by_number (Ok n) = by_same n (int_eq descriptor target) (ends_a_door (described t target)) refl
       by_number (Err e) = tt
 
@@ -568,18 +581,25 @@ module _ (t : TableState) (s : State) (settings : Settings) (outcome : Option Ou
   unfolding unlink_plan unlink_result file_named removed
   acts-unlink path = rw (resolved_shown t s path shows) (by_path (resolved t.paths path))
     where
+      unnamed : PathMap × ℕ → Decision
+      unnamed without =
+          record {
+            locks = unnamed_object (with_paths s without.0) without.1;
+            does = Ok (Completes (posix.without_unused (with_paths s without.0) without.1) reply.Done);
+          }
+
       by_last : (components : List (List ℕ)) (node : ℕ) (b : Bool) → ActsOn t s settings outcome carried (call.Unlink path) (if b then locks node op.Release else plan.Reply reply.Done) (concluded settings s outcome carried (Ok (Completes (posix.without_unused (with_paths s (fin.remove s.paths components)) (birth_at t node)) reply.Done)))
       by_last components node true = λ content other holds stands. record { answer_is = refl; carried_is = refl; content_is = unused_content (with_paths s (fin.remove s.paths components)) (birth_at t node) (birth_at t node) content (same_content s (birth_at t node) content holds); offset_is = tt }
       by_last components node false = tt
 
       by_node : (components : List (List ℕ)) (o : Option Node) → Acts (call.Unlink path) (file_node o >>= (λ node. Ok (if is_last_name t node then locks node op.Release else plan.Reply reply.Done)))
-          ((file_node (option_map (shown_node t) o) >>= (λ object. without_name s components object)) >>= (λ without. Ok (Completes (posix.without_unused (with_paths s without.0) without.1) reply.Done)))
+          ((file_node (option_map (shown_node t) o) >>= (λ object. without_name s components object)) >>= (λ without. Ok (unnamed without)))
       by_node components None = tt
       by_node components (Some Directory) = tt
       by_node components (Some (FileNode node)) = by_last components node (is_last_name t node)
 
       by_path : (r : Result (List (List ℕ)) Errno) → Acts (call.Unlink path) ((r >>= (λ components. file_node (node_at t.paths components))) >>= (λ node. Ok (if is_last_name t node then locks node op.Release else plan.Reply reply.Done)))
-          ((r >>= (λ components. file_node (node_at s.paths components) >>= (λ object. without_name s components object))) >>= (λ without. Ok (Completes (posix.without_unused (with_paths s without.0) without.1) reply.Done)))
+          ((r >>= (λ components. file_node (node_at s.paths components) >>= (λ object. without_name s components object))) >>= (λ without. Ok (unnamed without)))
       by_path (Ok components) = rw (node_shown t s components shows) (by_node components (node_at t.paths components))
       by_path (Err e) = tt
 

@@ -8,7 +8,7 @@ use Rattle.sequential_object.specs.Descriptors.{close_result, open_result}
 use Rattle.sequential_object.specs.Duplicates.{dup_result, dup_from_result, dup2_result}
 use Rattle.sequential_object.specs.Doors as doors
 use Rattle.sequential_object.specs.Doors.{host_open_result, tcp_accept_result, tcp_connect_result, tcp_listen_result}
-use Rattle.sequential_object.specs.Effects.{Effect, Asking, Asks, Blocks, Completes}
+use Rattle.sequential_object.specs.Effects.{Decision, Effect, Asking, Asks, Blocks, Completes, does_of, locking}
 use Rattle.sequential_object.specs.Names.{link_result, mkdir_result, rmdir_result, unlink_result}
 use Rattle.sequential_object.specs.Object.{State, Content, Pipe, Pair, DoorTo}
 use Rattle.sequential_object.specs.Object as object
@@ -67,7 +67,7 @@ use Rattle.sequential_object.specs.Locked.{locked_object}
 use Rattle.posix_terms.specs.declared.reply.Answer.TheVariants as answer
 use Rattle.descriptor_table.specs.Shows.{Shows, birth_at, is_of, same_door}
 use Rattle.descriptor_table.specs.Table.{TableState, IsSound, free_object, lowest_from, two_numbers}
-use Rattle.descriptor_table.proofs.FollowLemmas.{Follows, OpensAs, Stays, follows-close, follows-dup, follows-dup2, follows-dup_from, follows-link, follows-mkdir, follows-rmdir, follows-setfl, follows-unlink, follows_after, follows_plan, opens, stays-fstat, stays-ftruncate, stays-getfl, stays-lseek, stays-pread, stays-pwrite, stays-read, stays-shutdown, stays-write, stays_after, over_failed, waited_shown}
+use Rattle.descriptor_table.proofs.FollowLemmas.{FollowsBy, OpensBy, StaysBy, follows-close, follows-dup, follows-dup2, follows-dup_from, follows-link, follows-mkdir, follows-rmdir, follows-setfl, follows-unlink, follows_after, follows_plan, opens, stays-fstat, stays-ftruncate, stays-getfl, stays-lseek, stays-pread, stays-pwrite, stays-read, stays-shutdown, stays-write, stays_after, over_failed, waited_shown}
 
 -- ## Opening both ends
 
@@ -119,15 +119,18 @@ module _ (t : TableState) (s : State) (sound : IsSound t) (all : AreSound t.desc
           (omega (arith, two.low, sound_made.numbers)) fresh (ap (is_of one.0) (content_of_new t s node content shows inside) ∙ has)
 
   -- a call that is planned is made, under any keys that are free, and then the table shows the state after
-  abbrev EndsAs : Result Plan Errno → Result TwoEnds Errno → Result Effect Errno → Type 0
-  EndsAs (Ok p) (Ok two) (Ok (Completes after r)) =
+  abbrev EndsBy : Result Plan Errno → Result TwoEnds Errno → Result Effect Errno → Type 0
+  EndsBy (Ok p) (Ok two) (Ok (Completes after r)) =
       ((key next : ℕ) → fin.get t.descriptions.by_key key ≡ None → fin.get (one_opened two.node two.first key).descriptions.by_key next ≡ None → Shows (both_opened two.node two.first two.second key next) after)
       × (r ≡ reply.Pair (pos two.first) (pos two.second))
-  EndsAs (Ok p) (Ok two) (Ok Blocks) = ⊥
-  EndsAs (Ok p) (Ok two) (Ok (Asks a)) = ⊥
-  EndsAs (Ok p) (Ok two) (Err e) = ⊥
-  EndsAs (Ok p) (Err e) does = ⊥
-  EndsAs (Err e) two does = Unit {0}
+  EndsBy (Ok p) (Ok two) (Ok Blocks) = ⊥
+  EndsBy (Ok p) (Ok two) (Ok (Asks a)) = ⊥
+  EndsBy (Ok p) (Ok two) (Err e) = ⊥
+  EndsBy (Ok p) (Err e) does = ⊥
+  EndsBy (Err e) two does = Unit {0}
+
+  abbrev EndsAs : Result Plan Errno → Result TwoEnds Errno → Result Decision Errno → Type 0
+  EndsAs p two decided = EndsBy p two (does_of decided)
 
   ends_as : ChangesKeepSound → (act : Op) → is_of one.0 content ≡ true → is_of other.0 content ≡ true → EndsAs (two_ends_plan t act) (two_ends t) (sockets.two_ends s content (record { which = one.0; access = one.1 }) (record { which = other.0; access = other.1 }))
   unfolding two_ends
@@ -136,14 +139,14 @@ module _ (t : TableState) (s : State) (sound : IsSound t) (all : AreSound t.desc
       by_rest : (r : Result (ℕ × ℕ) Errno) (o : Option ℕ) → ((two : ℕ × ℕ) → r ≡ Ok two → AreFree t.descriptors two.0 two.1) → ((node : ℕ) → o ≡ Some node → (slice_index_or t.objects node None ≡ None) × (node < 0 + 48))
           → EndsAs (r >>= (λ _. some_or o ENFILE >>= (λ node. Ok (locks node act))))
           (r >>= (λ two. some_or o ENFILE >>= (λ node. Ok (record { first = two.0; second = two.1; node = node }))))
-          (r >>= (λ numbers. refuse_if (not (is_some o)) ENFILE >>= (λ _. Ok (Completes (opened_both s.next_object numbers.0 numbers.1) (reply.Pair (pos numbers.0) (pos numbers.1))))))
+          (r >>= (λ numbers. refuse_if (not (is_some o)) ENFILE >>= (λ _. Ok (locking s.next_object (Ok (Completes (opened_both s.next_object numbers.0 numbers.1) (reply.Pair (pos numbers.0) (pos numbers.1))))))))
       by_rest (Err e) o free below = tt
       by_rest (Ok two) None free below = tt
       by_rest (Ok two) (Some node) free below = (λ key next fresh fresh_too. (let at = below node refl in let low : node < 0 + 48 = at.1 in shows-two keep node two.0 two.1 key next (omega (arith, low)) at.0 (free two refl) fresh fresh_too has has_too), refl)
 
   -- a call that is not refused
   two_after : (settings : Settings) (outcome : Option Outcome) (carried : Carried) (p : Result Plan Errno) (two : Result TwoEnds Errno) (does : Result Effect Errno) (after : TableState)
-      → EndsAs p two does → is_refused (answered p) ≡ false → AreOpened t one other two after → Shows after (concluded settings s outcome carried does).after
+      → EndsBy p two does → is_refused (answered p) ≡ false → AreOpened t one other two after → Shows after (concluded settings s outcome carried does).after
   two_after settings outcome carried (Ok p) (Ok two) (Ok (Completes state r)) after ends made (key, fresh, (next, fresh_too, is)) = subst (λ (u : TableState). Shows u state) (sym is) (ends.0 key next fresh fresh_too)
   two_after settings outcome carried (Ok p) (Ok two) (Ok Blocks) after ends made is = absurd ends
   two_after settings outcome carried (Ok p) (Ok two) (Ok (Asks a)) after ends made is = absurd ends
@@ -153,7 +156,7 @@ module _ (t : TableState) (s : State) (sound : IsSound t) (all : AreSound t.desc
 
   -- its numbers
   two_told : (settings : Settings) (outcome : Option Outcome) (carried : Carried) (c : Call) (p : Result Plan Errno) (two : Result TwoEnds Errno) (does : Result Effect Errno)
-      → EndsAs p two does → is_refused (answered p) ≡ false → ((first second : ℤ) → numbers_told c (answer.Reply (reply.Pair first second)) ≡ numbers.Two first second) → two_given two ≡ numbers_told c (concluded settings s outcome carried does).answer
+      → EndsBy p two does → is_refused (answered p) ≡ false → ((first second : ℤ) → numbers_told c (answer.Reply (reply.Pair first second)) ≡ numbers.Two first second) → two_given two ≡ numbers_told c (concluded settings s outcome carried does).answer
   two_told settings outcome carried c (Ok p) (Ok two) (Ok (Completes state r)) ends made told = sym (ap (λ (x : Reply). numbers_told c (answer.Reply x)) ends.1 ∙ told (pos two.first) (pos two.second))
   two_told settings outcome carried c (Ok p) (Ok two) (Ok Blocks) ends made told = absurd ends
   two_told settings outcome carried c (Ok p) (Ok two) (Ok (Asks a)) ends made told = absurd ends
@@ -181,7 +184,7 @@ module _ (t : TableState) (s : State) (sound : IsSound t) (all : AreSound t.desc
 
 -- an `open` that is not refused
 opened_after : (t : TableState) (settings : Settings) (s : State) (outcome : Option Outcome) (carried : Carried) (access : Access) (flags : OpenFlags) (p : Result Plan Errno) (o : Result Opening Errno) (does : Result Effect Errno) (after : TableState) (sound : IsSound t) (all : AreSound t.descriptions) (shows : Shows t s)
-    → OpensAs t s sound all shows access flags p o does → is_refused (answered p) ≡ false → IsOpened t access flags o after → Shows after (concluded settings s outcome carried does).after
+    → OpensBy t s sound all shows access flags p o does → is_refused (answered p) ≡ false → IsOpened t access flags o after → Shows after (concluded settings s outcome carried does).after
 opened_after t settings s outcome carried access flags (Ok p) (Ok o) (Ok (Completes state r)) after sound all shows opens made (key, fresh, is) = subst (λ (u : TableState). Shows u state) (sym is) (opens.0 key fresh)
 opened_after t settings s outcome carried access flags (Ok p) (Ok o) (Ok Blocks) after sound all shows opens made is = absurd opens
 opened_after t settings s outcome carried access flags (Ok p) (Ok o) (Ok (Asks a)) after sound all shows opens made is = absurd opens
@@ -209,13 +212,16 @@ module _ (t : TableState) (s : State) (sound : IsSound t) (all : AreSound t.desc
     pub door_told : (value : ℕ) (bytes : List ℕ) → (a.succeeds value bytes).1 ≡ reply.Number (pos new.number)
     pub else_same : a.otherwise ≡ s
 
-  abbrev DoorsAs : Result Plan Errno → Result NewDoor Errno → Result Effect Errno → Type 0
-  DoorsAs (Ok p) (Ok new) (Ok (Asks a)) = OpensOutside new a
-  DoorsAs (Ok p) (Ok new) (Ok (Completes after r)) = ⊥
-  DoorsAs (Ok p) (Ok new) (Ok Blocks) = ⊥
-  DoorsAs (Ok p) (Ok new) (Err e) = ⊥
-  DoorsAs (Ok p) (Err e) does = ⊥
-  DoorsAs (Err e) new does = Unit {0}
+  abbrev DoorsBy : Result Plan Errno → Result NewDoor Errno → Result Effect Errno → Type 0
+  DoorsBy (Ok p) (Ok new) (Ok (Asks a)) = OpensOutside new a
+  DoorsBy (Ok p) (Ok new) (Ok (Completes after r)) = ⊥
+  DoorsBy (Ok p) (Ok new) (Ok Blocks) = ⊥
+  DoorsBy (Ok p) (Ok new) (Err e) = ⊥
+  DoorsBy (Ok p) (Err e) does = ⊥
+  DoorsBy (Err e) new does = Unit {0}
+
+  abbrev DoorsAs : Result Plan Errno → Result NewDoor Errno → Result Decision Errno → Type 0
+  DoorsAs p new decided = DoorsBy p new (does_of decided)
 
   shows-door : (node n key value : ℕ) → node < 48 → slice_index_or t.objects node None ≡ None → n < 32 → fin.get t.descriptions.by_key key ≡ None
       → Shows (door_opened (record { number = n; node = node }) value key) (posix.opened (object.with_object s (DoorTo (opens_as value))) n s.next_object (part.Door (opens_as value)) access append false)
@@ -253,7 +259,7 @@ module _ (t : TableState) (s : State) (sound : IsSound t) (all : AreSound t.desc
       by_rest : (number o : Option ℕ) → ((n : ℕ) → number ≡ Some n → n < 0 + 32) → ((node : ℕ) → o ≡ Some node → (slice_index_or t.objects node None ≡ None) × (node < 0 + 48))
           → DoorsAs (some_or number EMFILE >>= (λ _. some_or o ENFILE >>= (λ node. Ok (plan.Node node (op.Ask (record { kind = k; asked = asked; waits = waits; door = listener })) true))))
           (some_or number EMFILE >>= (λ n. some_or o ENFILE >>= (λ node. Ok (record { number = n; node = node }))))
-          (some_or number EMFILE >>= (λ n. refuse_if (not (is_some o)) ENFILE >>= (λ _. Ok (Asks (asking k asked waits n)))))
+          (some_or number EMFILE >>= (λ n. refuse_if (not (is_some o)) ENFILE >>= (λ _. Ok (locking s.next_object (Ok (Asks (asking k asked waits n)))))))
       by_rest None o below free = tt
       by_rest (Some n) None below free = tt
       by_rest (Some n) (Some node) below free =
@@ -265,7 +271,7 @@ module _ (t : TableState) (s : State) (sound : IsSound t) (all : AreSound t.desc
 
   -- a call that is not refused, by what came of what it asked
   door_after : (settings : Settings) (outcome : Option Outcome) (carried : Carried) (p : Result Plan Errno) (new : Result NewDoor Errno) (does : Result Effect Errno) (after : TableState)
-      → new_door t ≡ new → DoorsAs p new does → is_refused (answered p) ≡ false → OpensDoor t opens_as access append outcome after → Shows after (concluded settings s outcome carried does).after
+      → new_door t ≡ new → DoorsBy p new does → is_refused (answered p) ≡ false → OpensDoor t opens_as access append outcome after → Shows after (concluded settings s outcome carried does).after
   door_after settings (Some (came.Ok value bytes)) carried (Ok p) (Ok new) (Ok (Asks a)) after at opens made is = by_made (subst (λ (r : Result NewDoor Errno). changes.IsDoor t (opens_as value) access append r after) at is)
     where
       by_made : changes.IsDoor t (opens_as value) access append (Ok new) after → Shows after (a.succeeds value bytes).0
@@ -283,7 +289,7 @@ module _ (t : TableState) (s : State) (sound : IsSound t) (all : AreSound t.desc
 
   -- its number
   door_said : (settings : Settings) (outcome : Option Outcome) (carried : Carried) (c : Call) (p : Result Plan Errno) (new : Result NewDoor Errno) (does : Result Effect Errno)
-      → new_door t ≡ new → DoorsAs p new does → is_refused (answered p) ≡ false → ((n : ℤ) → numbers_told c (answer.Reply (reply.Number n)) ≡ numbers.One n) → ((e : Errno) → numbers.None ≡ numbers_told c (answer.Reply (reply.Fail e))) → numbers.None ≡ numbers_told c answer.Again
+      → new_door t ≡ new → DoorsBy p new does → is_refused (answered p) ≡ false → ((n : ℤ) → numbers_told c (answer.Reply (reply.Number n)) ≡ numbers.One n) → ((e : Errno) → numbers.None ≡ numbers_told c (answer.Reply (reply.Fail e))) → numbers.None ≡ numbers_told c answer.Again
       → door_given t outcome ≡ numbers_told c (concluded settings s outcome carried does).answer
   door_said settings (Some (came.Ok value bytes)) carried c (Ok p) (Ok new) (Ok (Asks a)) at opens made one none again = ap door_number at ∙ sym (ap (λ (x : Reply). numbers_told c (answer.Reply x)) (opens.door_told value bytes) ∙ one (pos new.number))
   door_said settings (Some (came.Fail e)) carried c (Ok p) (Ok new) (Ok (Asks a)) at opens made one none again =
@@ -337,54 +343,54 @@ module _ (t : TableState) (s : State) (sound : IsSound t) (all : AreSound t.desc
 -- ## All calls
 
 module _ (t : TableState) (s : State) (settings : Settings) (outcome : Option Outcome) (carried : Carried) (sound : IsSound t) (all : AreSound t.descriptions) (shows : Shows t s) where
-  follows_call : (after : TableState) (u : Result TableState Errno) (does : Result Effect Errno) → Follows u does → after ≡ kept_or t u → Shows after (concluded settings s outcome carried does).after
+  follows_call : (after : TableState) (u : Result TableState Errno) (does : Result Effect Errno) → FollowsBy u does → after ≡ kept_or t u → Shows after (concluded settings s outcome carried does).after
   follows_call after u does follows is = subst (λ (x : TableState). Shows x (concluded settings s outcome carried does).after) (sym is) (follows_after t settings s outcome carried u does shows follows)
 
-  stays_call : (after : TableState) (does : Result Effect Errno) → Stays t does → after ≡ t → Shows after (concluded settings s outcome carried does).after
+  stays_call : (after : TableState) (does : Result Effect Errno) → StaysBy t does → after ≡ t → Shows after (concluded settings s outcome carried does).after
   stays_call after does stays is = subst (λ (x : TableState). Shows x (concluded settings s outcome carried does).after) (sym is) (stays_after t settings s outcome carried does shows stays)
 
   found_at : (descriptor : ℤ) → RefersAlike t s descriptor
   found_at descriptor = found_both t s descriptor sound shows
 
   pub changes_call : ChangesKeepSound → (c : Call) (made_with : Option Outcome) (after : TableState) → IsMadeWith c made_with outcome → is_refused (planned t c) ≡ false → Changes t c made_with after → Shows after (step settings s c outcome carried).after
-  changes_call keep (call.Open path access flags) made_with after same made is = opened_after t settings s outcome carried access flags (open_plan t path access flags) (opening t path) (open_result s path access flags) after sound all shows (opens t s sound all shows path access flags) made is
-  changes_call keep (call.Close descriptor) made_with after same made is = follows_call after (close_change t descriptor) (close_result s descriptor) (follows-close t s sound all shows keep descriptor (found_at descriptor)) is
-  changes_call keep (call.Read descriptor count) made_with after same made is = stays_call after (read_result s descriptor count) (stays-read t s sound all shows descriptor count (found_at descriptor)) is
-  changes_call keep (call.Write descriptor bytes) made_with after same made is = stays_call after (write_result s descriptor bytes) (stays-write t s sound all shows descriptor bytes (found_at descriptor)) is
-  changes_call keep (call.Pread descriptor count position) made_with after same made is = stays_call after (pread_result s descriptor count position) (stays-pread t s sound all shows descriptor count position) is
-  changes_call keep (call.Pwrite descriptor bytes position) made_with after same made is = stays_call after (pwrite_result s descriptor bytes position) (stays-pwrite t s sound all shows descriptor bytes position (found_at descriptor)) is
-  changes_call keep (call.Lseek descriptor offset whence) made_with after same made is = stays_call after (lseek_result s descriptor offset whence) (stays-lseek t s sound all shows descriptor offset whence (found_at descriptor)) is
-  changes_call keep (call.Ftruncate descriptor size) made_with after same made is = stays_call after (ftruncate_result s descriptor size) (stays-ftruncate t s sound all shows descriptor size (found_at descriptor)) is
-  changes_call keep (call.Fstat descriptor) made_with after same made is = stays_call after (fstat_result s descriptor) (stays-fstat t s sound all shows descriptor) is
-  changes_call keep (call.Dup descriptor) made_with after same made is = follows_call after (dup_change t descriptor) (dup_result s descriptor) (follows-dup t s sound all shows descriptor (found_at descriptor)) is
-  changes_call keep (call.DupFrom descriptor least) made_with after same made is = follows_call after (dup_from_change t descriptor least) (dup_from_result s descriptor least) (follows-dup_from t s sound all shows descriptor least (found_at descriptor)) is
-  changes_call keep (call.Dup2 descriptor target) made_with after same made is = follows_call after (dup2_change t descriptor target) (dup2_result s descriptor target)
+  changes_call keep (call.Open path access flags) made_with after same made is = opened_after t settings s outcome carried access flags (open_plan t path access flags) (opening t path) (does_of (open_result s path access flags)) after sound all shows (opens t s sound all shows path access flags) made is
+  changes_call keep (call.Close descriptor) made_with after same made is = follows_call after (close_change t descriptor) (does_of (close_result s descriptor)) (follows-close t s sound all shows keep descriptor (found_at descriptor)) is
+  changes_call keep (call.Read descriptor count) made_with after same made is = stays_call after (does_of (read_result s descriptor count)) (stays-read t s sound all shows descriptor count (found_at descriptor)) is
+  changes_call keep (call.Write descriptor bytes) made_with after same made is = stays_call after (does_of (write_result s descriptor bytes)) (stays-write t s sound all shows descriptor bytes (found_at descriptor)) is
+  changes_call keep (call.Pread descriptor count position) made_with after same made is = stays_call after (does_of (pread_result s descriptor count position)) (stays-pread t s sound all shows descriptor count position) is
+  changes_call keep (call.Pwrite descriptor bytes position) made_with after same made is = stays_call after (does_of (pwrite_result s descriptor bytes position)) (stays-pwrite t s sound all shows descriptor bytes position (found_at descriptor)) is
+  changes_call keep (call.Lseek descriptor offset whence) made_with after same made is = stays_call after (does_of (lseek_result s descriptor offset whence)) (stays-lseek t s sound all shows descriptor offset whence (found_at descriptor)) is
+  changes_call keep (call.Ftruncate descriptor size) made_with after same made is = stays_call after (does_of (ftruncate_result s descriptor size)) (stays-ftruncate t s sound all shows descriptor size (found_at descriptor)) is
+  changes_call keep (call.Fstat descriptor) made_with after same made is = stays_call after (does_of (fstat_result s descriptor)) (stays-fstat t s sound all shows descriptor) is
+  changes_call keep (call.Dup descriptor) made_with after same made is = follows_call after (dup_change t descriptor) (does_of (dup_result s descriptor)) (follows-dup t s sound all shows descriptor (found_at descriptor)) is
+  changes_call keep (call.DupFrom descriptor least) made_with after same made is = follows_call after (dup_from_change t descriptor least) (does_of (dup_from_result s descriptor least)) (follows-dup_from t s sound all shows descriptor least (found_at descriptor)) is
+  changes_call keep (call.Dup2 descriptor target) made_with after same made is = follows_call after (dup2_change t descriptor target) (does_of (dup2_result s descriptor target))
       (follows_plan t s sound all shows (dup2_plan t descriptor target) (dup2_change t descriptor target) (dup2_result s descriptor target) (follows-dup2 t s sound all shows keep descriptor target (found_at descriptor) (λ n. found_at (pos n))) made) is
-  changes_call keep (call.Getfl descriptor) made_with after same made is = stays_call after (getfl_result s descriptor) (stays-getfl t s sound all shows descriptor) is
-  changes_call keep (call.Setfl descriptor append nonblock) made_with after same made is = follows_call after (setfl_change t descriptor append nonblock) (setfl_result s descriptor append nonblock) (follows-setfl t s sound all shows descriptor append nonblock (found_at descriptor)) is
-  changes_call keep (call.Link old_path new_path) made_with after same made is = follows_call after (link_change t old_path new_path) (link_result s old_path new_path) (follows-link t s sound all shows old_path new_path) is
-  changes_call keep (call.Unlink path) made_with after same made is = follows_call after (unlink_change t path) (unlink_result s path) (follows-unlink t s sound all shows path) is
-  changes_call keep (call.Mkdir path) made_with after same made is = follows_call after (mkdir_change t path) (mkdir_result s path) (follows-mkdir t s sound all shows path) is
-  changes_call keep (call.Rmdir path) made_with after same made is = follows_call after (rmdir_change t path) (rmdir_result s path) (follows-rmdir t s sound all shows path) is
-  changes_call keep call.Pipe made_with after same made is = two_after t s sound all shows (Pipe []) read_end write_end settings outcome carried (two_ends_plan t op.Pipe) (two_ends t) (pipe_result s) after (ends-pipe t s sound all shows keep) made is
-  changes_call keep call.Socketpair made_with after same made is = two_after t s sound all shows (Pair new_pair) (socket_end Side0) (socket_end Side1) settings outcome carried (two_ends_plan t op.Socketpair) (two_ends t) (socketpair_result s) after (ends-socketpair t s sound all shows keep) made is
-  changes_call keep (call.Shutdown descriptor how) made_with after same made is = stays_call after (shutdown_result s descriptor how) (stays-shutdown t s sound all shows descriptor how (found_at descriptor)) is
+  changes_call keep (call.Getfl descriptor) made_with after same made is = stays_call after (does_of (getfl_result s descriptor)) (stays-getfl t s sound all shows descriptor) is
+  changes_call keep (call.Setfl descriptor append nonblock) made_with after same made is = follows_call after (setfl_change t descriptor append nonblock) (does_of (setfl_result s descriptor append nonblock)) (follows-setfl t s sound all shows descriptor append nonblock (found_at descriptor)) is
+  changes_call keep (call.Link old_path new_path) made_with after same made is = follows_call after (link_change t old_path new_path) (does_of (link_result s old_path new_path)) (follows-link t s sound all shows old_path new_path) is
+  changes_call keep (call.Unlink path) made_with after same made is = follows_call after (unlink_change t path) (does_of (unlink_result s path)) (follows-unlink t s sound all shows path) is
+  changes_call keep (call.Mkdir path) made_with after same made is = follows_call after (mkdir_change t path) (does_of (mkdir_result s path)) (follows-mkdir t s sound all shows path) is
+  changes_call keep (call.Rmdir path) made_with after same made is = follows_call after (rmdir_change t path) (does_of (rmdir_result s path)) (follows-rmdir t s sound all shows path) is
+  changes_call keep call.Pipe made_with after same made is = two_after t s sound all shows (Pipe []) read_end write_end settings outcome carried (two_ends_plan t op.Pipe) (two_ends t) (does_of (pipe_result s)) after (ends-pipe t s sound all shows keep) made is
+  changes_call keep call.Socketpair made_with after same made is = two_after t s sound all shows (Pair new_pair) (socket_end Side0) (socket_end Side1) settings outcome carried (two_ends_plan t op.Socketpair) (two_ends t) (does_of (socketpair_result s)) after (ends-socketpair t s sound all shows keep) made is
+  changes_call keep (call.Shutdown descriptor how) made_with after same made is = stays_call after (does_of (shutdown_result s descriptor how)) (stays-shutdown t s sound all shows descriptor how (found_at descriptor)) is
   changes_call keep (call.HostOpen path access flags) made_with after same made is =
-      door_after t s sound all shows host_file access flags.append settings outcome carried (host_open_plan t path access flags) (new_door t) (host_open_result s path access flags) after refl (doors-host_open t s sound all shows path access flags) made
+      door_after t s sound all shows host_file access flags.append settings outcome carried (host_open_plan t path access flags) (new_door t) (does_of (host_open_result s path access flags)) after refl (doors-host_open t s sound all shows path access flags) made
       (subst (λ (o : Option Outcome). OpensDoor t host_file access flags.append o after) (sym (same refl)) is)
   changes_call keep (call.TcpListen port) made_with after same made is =
-      door_after t s sound all shows listener_at ReadWrite false settings outcome carried (tcp_listen_plan t port) (new_door t) (tcp_listen_result s port) after refl (doors-listen t s sound all shows port) made
+      door_after t s sound all shows listener_at ReadWrite false settings outcome carried (tcp_listen_plan t port) (new_door t) (does_of (tcp_listen_result s port)) after refl (doors-listen t s sound all shows port) made
       (subst (λ (o : Option Outcome). OpensDoor t listener_at ReadWrite false o after) (sym (same refl)) is)
   changes_call keep (call.TcpConnect port) made_with after same made is =
-      door_after t s sound all shows stream ReadWrite false settings outcome carried (tcp_connect_plan t port) (new_door t) (tcp_connect_result s port) after refl (doors-connect t s sound all shows port) made
+      door_after t s sound all shows stream ReadWrite false settings outcome carried (tcp_connect_plan t port) (new_door t) (does_of (tcp_connect_result s port)) after refl (doors-connect t s sound all shows port) made
       (subst (λ (o : Option Outcome). OpensDoor t stream ReadWrite false o after) (sym (same refl)) is)
   changes_call keep (call.TcpAccept descriptor) made_with after same made is =
-      door_after t s sound all shows stream ReadWrite false settings outcome carried (tcp_accept_plan t descriptor) (new_door t) (tcp_accept_result s descriptor) after refl (doors-accept t s sound all shows descriptor (found_at descriptor)) made
+      door_after t s sound all shows stream ReadWrite false settings outcome carried (tcp_accept_plan t descriptor) (new_door t) (does_of (tcp_accept_result s descriptor)) after refl (doors-accept t s sound all shows descriptor (found_at descriptor)) made
       (subst (λ (o : Option Outcome). OpensDoor t stream ReadWrite false o after) (sym (same refl)) is)
 
 -- the number of an `open` that is not refused
 told_after : (t : TableState) (settings : Settings) (s : State) (outcome : Option Outcome) (carried : Carried) (path : List ℕ) (access : Access) (flags : OpenFlags) (p : Result Plan Errno) (o : Result Opening Errno) (does : Result Effect Errno) (sound : IsSound t) (all : AreSound t.descriptions) (shows : Shows t s)
-    → OpensAs t s sound all shows access flags p o does → is_refused (answered p) ≡ false → opened_number o ≡ numbers_told (call.Open path access flags) (concluded settings s outcome carried does).answer
+    → OpensBy t s sound all shows access flags p o does → is_refused (answered p) ≡ false → opened_number o ≡ numbers_told (call.Open path access flags) (concluded settings s outcome carried does).answer
 told_after t settings s outcome carried path access flags (Ok p) (Ok o) (Ok (Completes state r)) sound all shows opens made = ap (λ (x : Reply). numbers_told (call.Open path access flags) (answer.Reply x)) (sym opens.1)
 told_after t settings s outcome carried path access flags (Ok p) (Ok o) (Ok Blocks) sound all shows opens made = absurd opens
 told_after t settings s outcome carried path access flags (Ok p) (Ok o) (Ok (Asks a)) sound all shows opens made = absurd opens
@@ -420,7 +426,7 @@ none_told (call.TcpConnect port) e = refl
 none_told (call.TcpAccept descriptor) e = refl
 
 tells_call : ChangesKeepSound → (t : TableState) (settings : Settings) (s : State) (outcome : Option Outcome) (carried : Carried) → IsSound t → AreSound t.descriptions → Shows t s → (c : Call) (made_with : Option Outcome) → IsMadeWith c made_with outcome → is_refused (planned t c) ≡ false → numbers_given t c made_with ≡ numbers_told c (step settings s c outcome carried).answer
-tells_call keep t settings s outcome carried sound all shows (call.Open path access flags) made_with same made = told_after t settings s outcome carried path access flags (open_plan t path access flags) (opening t path) (open_result s path access flags) sound all shows (opens t s sound all shows path access flags) made
+tells_call keep t settings s outcome carried sound all shows (call.Open path access flags) made_with same made = told_after t settings s outcome carried path access flags (open_plan t path access flags) (opening t path) (does_of (open_result s path access flags)) sound all shows (opens t s sound all shows path access flags) made
 tells_call keep t settings s outcome carried sound all shows (call.Close descriptor) made_with same made = refl
 tells_call keep t settings s outcome carried sound all shows (call.Read descriptor count) made_with same made = refl
 tells_call keep t settings s outcome carried sound all shows (call.Write descriptor bytes) made_with same made = refl
@@ -438,17 +444,17 @@ tells_call keep t settings s outcome carried sound all shows (call.Link old_path
 tells_call keep t settings s outcome carried sound all shows (call.Unlink path) made_with same made = refl
 tells_call keep t settings s outcome carried sound all shows (call.Mkdir path) made_with same made = refl
 tells_call keep t settings s outcome carried sound all shows (call.Rmdir path) made_with same made = refl
-tells_call keep t settings s outcome carried sound all shows call.Pipe made_with same made = two_told t s sound all shows (Pipe []) read_end write_end settings outcome carried call.Pipe (two_ends_plan t op.Pipe) (two_ends t) (pipe_result s) (ends-pipe t s sound all shows keep) made (λ first second. refl)
-tells_call keep t settings s outcome carried sound all shows call.Socketpair made_with same made = two_told t s sound all shows (Pair new_pair) (socket_end Side0) (socket_end Side1) settings outcome carried call.Socketpair (two_ends_plan t op.Socketpair) (two_ends t) (socketpair_result s) (ends-socketpair t s sound all shows keep) made (λ first second. refl)
+tells_call keep t settings s outcome carried sound all shows call.Pipe made_with same made = two_told t s sound all shows (Pipe []) read_end write_end settings outcome carried call.Pipe (two_ends_plan t op.Pipe) (two_ends t) (does_of (pipe_result s)) (ends-pipe t s sound all shows keep) made (λ first second. refl)
+tells_call keep t settings s outcome carried sound all shows call.Socketpair made_with same made = two_told t s sound all shows (Pair new_pair) (socket_end Side0) (socket_end Side1) settings outcome carried call.Socketpair (two_ends_plan t op.Socketpair) (two_ends t) (does_of (socketpair_result s)) (ends-socketpair t s sound all shows keep) made (λ first second. refl)
 tells_call keep t settings s outcome carried sound all shows (call.Shutdown descriptor how) made_with same made = refl
 tells_call keep t settings s outcome carried sound all shows (call.HostOpen path access flags) made_with same made =
-    ap (door_given t) (sym (same refl)) ∙ door_said t s sound all shows host_file access flags.append settings outcome carried (call.HostOpen path access flags) (host_open_plan t path access flags) (new_door t) (host_open_result s path access flags) refl (doors-host_open t s sound all shows path access flags) made (λ n. refl) (none_told (call.HostOpen path access flags)) refl
+    ap (door_given t) (sym (same refl)) ∙ door_said t s sound all shows host_file access flags.append settings outcome carried (call.HostOpen path access flags) (host_open_plan t path access flags) (new_door t) (does_of (host_open_result s path access flags)) refl (doors-host_open t s sound all shows path access flags) made (λ n. refl) (none_told (call.HostOpen path access flags)) refl
 tells_call keep t settings s outcome carried sound all shows (call.TcpListen port) made_with same made =
-    ap (door_given t) (sym (same refl)) ∙ door_said t s sound all shows listener_at ReadWrite false settings outcome carried (call.TcpListen port) (tcp_listen_plan t port) (new_door t) (tcp_listen_result s port) refl (doors-listen t s sound all shows port) made (λ n. refl) (none_told (call.TcpListen port)) refl
+    ap (door_given t) (sym (same refl)) ∙ door_said t s sound all shows listener_at ReadWrite false settings outcome carried (call.TcpListen port) (tcp_listen_plan t port) (new_door t) (does_of (tcp_listen_result s port)) refl (doors-listen t s sound all shows port) made (λ n. refl) (none_told (call.TcpListen port)) refl
 tells_call keep t settings s outcome carried sound all shows (call.TcpConnect port) made_with same made =
-    ap (door_given t) (sym (same refl)) ∙ door_said t s sound all shows stream ReadWrite false settings outcome carried (call.TcpConnect port) (tcp_connect_plan t port) (new_door t) (tcp_connect_result s port) refl (doors-connect t s sound all shows port) made (λ n. refl) (none_told (call.TcpConnect port)) refl
+    ap (door_given t) (sym (same refl)) ∙ door_said t s sound all shows stream ReadWrite false settings outcome carried (call.TcpConnect port) (tcp_connect_plan t port) (new_door t) (does_of (tcp_connect_result s port)) refl (doors-connect t s sound all shows port) made (λ n. refl) (none_told (call.TcpConnect port)) refl
 tells_call keep t settings s outcome carried sound all shows (call.TcpAccept descriptor) made_with same made =
-    ap (door_given t) (sym (same refl)) ∙ door_said t s sound all shows stream ReadWrite false settings outcome carried (call.TcpAccept descriptor) (tcp_accept_plan t descriptor) (new_door t) (tcp_accept_result s descriptor) refl (doors-accept t s sound all shows descriptor (found_both t s descriptor sound shows)) made (λ n. refl) (none_told (call.TcpAccept descriptor)) refl
+    ap (door_given t) (sym (same refl)) ∙ door_said t s sound all shows stream ReadWrite false settings outcome carried (call.TcpAccept descriptor) (tcp_accept_plan t descriptor) (new_door t) (does_of (tcp_accept_result s descriptor)) refl (doors-accept t s sound all shows descriptor (found_both t s descriptor sound shows)) made (λ n. refl) (none_told (call.TcpAccept descriptor)) refl
 
 -- ## A call that the table refuses
 

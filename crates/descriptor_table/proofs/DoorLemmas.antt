@@ -2,7 +2,7 @@
 use Rattle.std.proofs.Common.{◌≡◌, ◌&&◌, ℕ, ℤ, List, Option, Some, None, Result, Err, false, not, refl, sym, ap, ◌∙◌}
 use Rattle.posix_terms.specs.Calls.{can_write}
 use Rattle.sequential_object.specs.Doors.{NewDoor, host_open_result, host_path, listener_in, opens, port_of, tcp_accept_result, tcp_connect_result, tcp_listen_result}
-use Rattle.sequential_object.specs.Effects.{Effect}
+use Rattle.sequential_object.specs.Effects.{Decision}
 use Rattle.sequential_object.specs.Object.{State, Content, DoorTo, content_of}
 use Rattle.sequential_object.specs.Refusals.{refuse_if}
 use Rattle.posix_terms.specs.declared.call.Access.{Access}
@@ -81,7 +81,7 @@ listener_by e c (IsDoor d its is) = ap listener_in is ∙ by_door d ∙ sym (ap 
 
 -- ## What holds of a refusal, and of the door of a call that is not refused, holds of the call
 
-module _ (t : TableState) (s : State) (P : Result Plan Errno → Result Effect Errno → Type 0)
+module _ (t : TableState) (s : State) (P : Result Plan Errno → Result Decision Errno → Type 0)
     (refused : (e : Errno) → P (Err e) (Err e)) where
   -- it holds of this door, and of the listener that is taken along
   abbrev pub Over : NewDoor → Option ℕ → Type 0

@@ -12,7 +12,7 @@ use Rattle.sequential_object.specs.Descriptors as posix
 use Rattle.sequential_object.specs.Descriptors.{close_result, open_result}
 use Rattle.sequential_object.specs.Duplicates as duplicates
 use Rattle.sequential_object.specs.Duplicates.{dup_result, dup_from_result, dup2_result, descriptor_number}
-use Rattle.sequential_object.specs.Effects.{Effect, Asking, Asks, Blocks, Completes, asks_of}
+use Rattle.sequential_object.specs.Effects.{Decision, Effect, Asking, Asks, Blocks, Completes, alone, asks_of, does_of, locking}
 use Rattle.sequential_object.specs.Files.{bytes_at, resized, written}
 use Rattle.sequential_object.specs.Names as names
 use Rattle.sequential_object.specs.Names.{PathMap, added, file_named, file_node, has_entries, link_result, mkdir_result, removed, removed_dir, removed_dir_at, rmdir_result, unlink_result}
@@ -22,12 +22,12 @@ use Rattle.std.specs.Ordering.{nat_cmp}
 use Rattle.sequential_object.specs.Object.{State, Content, File, Pipe, Pair, DoorTo, Node, FileNode, Directory, content_of}
 use Rattle.sequential_object.specs.Object as object
 use Rattle.sequential_object.specs.Refusals.{◌>>=◌, count_of, position_of, refuse_if, some_or}
-use Rattle.sequential_object.specs.Status.{fstat_result, getfl_result, setfl_result}
+use Rattle.sequential_object.specs.Status.{fstat_result, getfl_result, setfl_result, stat_content}
 use Rattle.posix_terms.specs.Ends.{side_of, peer_of}
 use Rattle.sequential_object.specs.Sockets.{shut_content, shutdown_result, shuttable}
 use Rattle.sequential_object.specs.Step.{Carried, concluded, failed, is_again, waited, Stepped, outside}
 use Rattle.sequential_object.specs.Streams.{Reading, Reads, Ends, NothingYet, Writing, Writes, Breaks, NoRoom, pair_read, pair_write, pipe_write, shut, stream_read, with_waiting}
-use Rattle.sequential_object.specs.Transfers.{base_of, file_in, has_peer, host_offset, not_listener, offset_of, read_content, read_done, seek_content, write_at, write_content, write_done, read_result, write_result, pread_result, pwrite_result, lseek_result, ftruncate_result, size_of, start_of}
+use Rattle.sequential_object.specs.Transfers.{base_of, file_in, has_peer, host_offset, not_listener, offset_of, read_content, read_done, seek_content, write_at, write_content, write_done, read_result, write_result, pread_result, pwrite_result, lseek_result, ftruncate_result, size_of, start_of, seekable, write_file}
 use Rattle.posix_terms.specs.declared.call.Access.{Access}
 use Rattle.posix_terms.specs.declared.call.OpenFlags.{OpenFlags}
 use Rattle.posix_terms.specs.declared.call.ShutdownHow.{ShutdownHow}
@@ -72,15 +72,18 @@ abbrev pub LeavesShown : TableState → Asking → Type 0
 LeavesShown u a = Shows u a.otherwise × ((value : ℕ) (bytes : List ℕ) → Shows u (a.succeeds value bytes).0)
 
 -- both are refused, or the table after shows the state after, whatever comes of what is asked outside; and that does not make the call wait
-abbrev pub Follows : Result TableState Errno → Result Effect Errno → Type 0
-Follows (Ok u) (Ok (Completes after r)) = Shows u after
-Follows (Ok u) (Ok Blocks) = ⊥
-Follows (Ok u) (Ok (Asks a)) = LeavesShown u a × (a.waits ≡ false)
-Follows (Ok u) (Err e) = ⊥
-Follows (Err e) (Ok effect) = ⊥
-Follows (Err e) (Err f) = Unit {0}
+abbrev pub FollowsBy : Result TableState Errno → Result Effect Errno → Type 0
+FollowsBy (Ok u) (Ok (Completes after r)) = Shows u after
+FollowsBy (Ok u) (Ok Blocks) = ⊥
+FollowsBy (Ok u) (Ok (Asks a)) = LeavesShown u a × (a.waits ≡ false)
+FollowsBy (Ok u) (Err e) = ⊥
+FollowsBy (Err e) (Ok effect) = ⊥
+FollowsBy (Err e) (Err f) = Unit {0}
 
-pub follows_after : (t : TableState) (settings : Settings) (s : State) (outcome : Option Outcome) (carried : Carried) (u : Result TableState Errno) (does : Result Effect Errno) → Shows t s → Follows u does → Shows (kept_or t u) (concluded settings s outcome carried does).after
+abbrev pub Follows : Result TableState Errno → Result Decision Errno → Type 0
+Follows u decided = FollowsBy u (does_of decided)
+
+pub follows_after : (t : TableState) (settings : Settings) (s : State) (outcome : Option Outcome) (carried : Carried) (u : Result TableState Errno) (does : Result Effect Errno) → Shows t s → FollowsBy u does → Shows (kept_or t u) (concluded settings s outcome carried does).after
 follows_after t settings s outcome carried (Ok u) (Ok (Completes after r)) shows follows = follows
 follows_after t settings s outcome carried (Ok u) (Ok Blocks) shows follows = absurd follows
 follows_after t settings s (Some (came.Ok value bytes)) carried (Ok u) (Ok (Asks a)) shows follows = follows.0.1 value bytes
@@ -108,13 +111,16 @@ pub over_failed : (P : Stepped → Type 0) (settings : Settings) (s : State) (ca
 over_failed P settings s carried a e later told = cond_both (a.waits && is_again e) _ _ P (λ again. later) (λ never. told)
 
 -- the table stays, and shows the state after
-abbrev pub Stays : TableState → Result Effect Errno → Type 0
-Stays t (Ok (Completes after r)) = Shows t after
-Stays t (Ok Blocks) = Unit {0}
-Stays t (Ok (Asks a)) = LeavesShown t a
-Stays t (Err e) = Unit {0}
+abbrev pub StaysBy : TableState → Result Effect Errno → Type 0
+StaysBy t (Ok (Completes after r)) = Shows t after
+StaysBy t (Ok Blocks) = Unit {0}
+StaysBy t (Ok (Asks a)) = LeavesShown t a
+StaysBy t (Err e) = Unit {0}
 
-pub stays_after : (t : TableState) (settings : Settings) (s : State) (outcome : Option Outcome) (carried : Carried) (does : Result Effect Errno) → Shows t s → Stays t does → Shows t (concluded settings s outcome carried does).after
+abbrev pub Stays : TableState → Result Decision Errno → Type 0
+Stays t decided = StaysBy t (does_of decided)
+
+pub stays_after : (t : TableState) (settings : Settings) (s : State) (outcome : Option Outcome) (carried : Carried) (does : Result Effect Errno) → Shows t s → StaysBy t does → Shows t (concluded settings s outcome carried does).after
 stays_after t settings s outcome carried (Ok (Completes after r)) shows stays = stays
 stays_after t settings s outcome carried (Ok Blocks) shows stays = waited_shown t settings s carried shows
 stays_after t settings s (Some (came.Ok value bytes)) carried (Ok (Asks a)) shows stays = stays.1 value bytes
@@ -159,7 +165,13 @@ module _ (t : TableState) (s : State) (sound : IsSound t) (all : AreSound t.desc
 
   pub stays-fstat : (descriptor : ℤ) → Stays t (fstat_result s descriptor)
   unfolding fstat_result
-  stays-fstat descriptor = bound (Stays t) (λ e. tt) (posix.described s descriptor) _ (λ _ _. shows)
+  stays-fstat descriptor = bound (Stays t) (λ e. tt) (posix.described s descriptor) _ (λ found _. by_content found.1.object (content_of s found.1.object))
+    where
+      by_content : (object : ℕ) (c : Content) → Stays t (Ok (stat_content s object c))
+      by_content object (File file) = shows
+      by_content object (Pipe bytes) = shows
+      by_content object (Pair p) = shows
+      by_content object (DoorTo door) = shows
 
   pub stays-pread : (descriptor count position : ℤ) → Stays t (pread_result s descriptor count position)
   unfolding pread_result
@@ -169,7 +181,7 @@ module _ (t : TableState) (s : State) (sound : IsSound t) (all : AreSound t.desc
       bound (Stays t) (λ e. tt) (refuse_if (not (can_read found.1.access)) EBADF) _ (λ _ _.
       bound (Stays t) (λ e. tt) (count_of count) _ (λ _ _. bound (Stays t) (λ e. tt) (position_of position) _ (λ _ _. shows)))))
 
-  stays_blocked : (b : Bool) → Stays t (if b then Err EAGAIN else Ok Blocks)
+  stays_blocked : (b : Bool) → StaysBy t (if b then Err EAGAIN else Ok Blocks)
   stays_blocked true = tt
   stays_blocked false = tt
 
@@ -178,26 +190,26 @@ module _ (t : TableState) (s : State) (sound : IsSound t) (all : AreSound t.desc
   stays-read descriptor count (Shut table state) = rw state tt
   stays-read descriptor count (Open key d offset at got there table state) = rw state (by_access (not_listener (content_of s (birth_at t d.node))) (not (can_read d.access)))
     where
-      by_reading : (holds : List ℕ → Content) (r : Reading) → ((left : List ℕ) → HasEndsOf (holds left) (content_of s (birth_at t d.node))) → Stays t (read_done s (shown t d offset) holds r)
+      by_reading : (holds : List ℕ → Content) (r : Reading) → ((left : List ℕ) → HasEndsOf (holds left) (content_of s (birth_at t d.node))) → StaysBy t (read_done s (shown t d offset) holds r)
       by_reading holds (Reads bytes left) alike = shows-content t s (birth_at t d.node) (holds left) shows (object_there key d got) (alike left)
       by_reading holds Ends alike = shows
       by_reading holds NothingYet alike = stays_blocked d.flags.nonblock
 
-      by_stream : (b : Bool) (holds : List ℕ → Content) (r : Reading) → ((left : List ℕ) → HasEndsOf (holds left) (content_of s (birth_at t d.node))) → Stays t (if b then Ok (Completes s (reply.Data [])) else read_done s (shown t d offset) holds r)
+      by_stream : (b : Bool) (holds : List ℕ → Content) (r : Reading) → ((left : List ℕ) → HasEndsOf (holds left) (content_of s (birth_at t d.node))) → Stays t (Ok (if b then alone s (reply.Data []) else locking (birth_at t d.node) (read_done s (shown t d offset) holds r)))
       by_stream true holds r alike = shows
       by_stream false holds r alike = by_reading holds r alike
 
-      by_door : (n : ℕ) (b : Bool) → Stays t (Ok (if b then Completes s (reply.Data []) else asks_of s out.Read n (not d.flags.nonblock) (λ value bytes. reply.Data bytes)))
+      by_door : (n : ℕ) (b : Bool) → Stays t (Ok (if b then alone s (reply.Data []) else locking (birth_at t d.node) (Ok (asks_of s out.Read n (not d.flags.nonblock) (λ value bytes. reply.Data bytes)))))
       by_door n true = shows
       by_door n false = (shows, λ value bytes. shows)
 
-      by_content : (n : ℕ) (c : Content) → content_of s (birth_at t d.node) ≡ c → Stays t (read_content s d.birth (shown t d offset) n c)
+      by_content : (n : ℕ) (c : Content) → content_of s (birth_at t d.node) ≡ c → Stays t (Ok (read_content s d.birth (shown t d offset) n c))
       by_content n (File file) is = shows-offset t s key (offset + length (bytes_at file offset n)) d all shows got
       by_content n (Pipe waiting) is = by_stream (n == 0) (λ left. Pipe left) (stream_read waiting n (posix.has_end s (birth_at t d.node) part.Write)) (λ left. alike_pipe (content_of s (birth_at t d.node)) left waiting is)
       by_content n (Pair p) is = by_stream (n == 0) (λ left. Pair (with_waiting p (side_of d.«end») left)) (pair_read p (side_of d.«end») n (has_peer s (birth_at t d.node) (side_of d.«end»))) (λ left. alike_pair (content_of s (birth_at t d.node)) (with_waiting p (side_of d.«end») left) p is)
       by_content n (DoorTo door) is = by_door n (n == 0)
 
-      by_access : (r : Result (Unit {0}) Errno) (b : Bool) → Stays t ((r >>= (λ _. refuse_if b EBADF >>= (λ _. Ok (d.birth, shown t d offset)))) >>= (λ (found : ℕ × object.Description). count_of count >>= (λ n. read_content s found.0 found.1 n (content_of s found.1.object))))
+      by_access : (r : Result (Unit {0}) Errno) (b : Bool) → Stays t ((r >>= (λ _. refuse_if b EBADF >>= (λ _. Ok (d.birth, shown t d offset)))) >>= (λ (found : ℕ × object.Description). count_of count >>= (λ n. Ok (read_content s found.0 found.1 n (content_of s found.1.object)))))
       by_access (Err e) b = tt
       by_access (Ok x) true = tt
       by_access (Ok x) false = bound (Stays t) (λ e. tt) (count_of count) _ (λ n _. by_content n (content_of s (birth_at t d.node)) refl)
@@ -205,39 +217,47 @@ module _ (t : TableState) (s : State) (sound : IsSound t) (all : AreSound t.desc
   pub stays-write : (descriptor : ℤ) (bytes : List ℕ) → RefersAlike t s descriptor → Stays t (write_result s descriptor bytes)
   unfolding write_result
   stays-write descriptor bytes (Shut table state) = rw state tt
-  stays-write descriptor bytes (Open key d offset at got there table state) = rw state (by_refusals (not_listener (content_of s (birth_at t d.node))) (not (can_write d.access)) (nat_lt 32767 (length bytes)) (length bytes == 0))
+  stays-write descriptor bytes (Open key d offset at got there table state) = rw state (by_refusals (not_listener (content_of s (birth_at t d.node))) (not (can_write d.access)) (nat_lt 32767 (length bytes)))
     where
-      by_writing : (holds : List ℕ → Content) (w : Writing) → ((left : List ℕ) → HasEndsOf (holds left) (content_of s (birth_at t d.node))) → Stays t (write_done s (shown t d offset) (length bytes) holds w)
+      by_writing : (holds : List ℕ → Content) (w : Writing) → ((left : List ℕ) → HasEndsOf (holds left) (content_of s (birth_at t d.node))) → StaysBy t (write_done s (shown t d offset) (length bytes) holds w)
       by_writing holds (Writes left) alike = shows-content t s (birth_at t d.node) (holds left) shows (object_there key d got) (alike left)
       by_writing holds Breaks alike = tt
       by_writing holds NoRoom alike = stays_blocked d.flags.nonblock
 
-      by_content : (c : Content) → content_of s (birth_at t d.node) ≡ c → Stays t (write_content s d.birth (shown t d offset) bytes c)
-      by_content (File file) is =
-          bound (Stays t) (λ e. tt) (written file (start_of (shown t d offset) file) bytes) _
+      by_stream : (b : Bool) (does : Result Effect Errno) → StaysBy t does → Stays t (Ok (if b then alone s (reply.Count 0) else locking (birth_at t d.node) does))
+      by_stream true does stays = shows
+      by_stream false does stays = stays
+
+      by_file : (b : Bool) (file : List ℕ) → content_of s (birth_at t d.node) ≡ File file
+          → StaysBy t (if b then Ok (Completes s (reply.Count 0)) else write_file s d.birth (shown t d offset) bytes file)
+      by_file true file is = shows
+      by_file false file is =
+          bound (StaysBy t) (λ e. tt) (written file (start_of (shown t d offset) file) bytes) _
           (λ w _. shows-content t
           (record s { descriptions = fin.insert s.descriptions d.birth (shown t d (start_of (shown t d offset) file + w.1)) })
           (birth_at t d.node) (File w.0)
           (shows-offset t s key (start_of (shown t d offset) file + w.1) d all shows got) (object_there key d got) (alike_file (content_of s (birth_at t d.node)) w.0 file is))
-      by_content (Pipe waiting) is = by_writing (λ left. Pipe left) (pipe_write waiting bytes (posix.has_end s (birth_at t d.node) part.Read)) (λ left. alike_pipe (content_of s (birth_at t d.node)) left waiting is)
-      by_content (Pair p) is = by_writing (λ left. Pair (with_waiting p (peer_of (side_of d.«end»)) left)) (pair_write p (side_of d.«end») bytes (has_peer s (birth_at t d.node) (side_of d.«end»))) (λ left. alike_pair (content_of s (birth_at t d.node)) (with_waiting p (peer_of (side_of d.«end»)) left) p is)
-      by_content (DoorTo door) is = (shows, λ value sent. shows)
 
-      by_refusals : (r : Result (Unit {0}) Errno) (a b c : Bool) → Stays t ((r >>= (λ _. refuse_if a EBADF >>= (λ _. refuse_if b EINVAL >>= (λ _. Ok (d.birth, shown t d offset))))) >>= (λ (found : ℕ × object.Description). if c then Ok (Completes s (reply.Count 0)) else write_content s found.0 found.1 bytes (content_of s found.1.object)))
-      by_refusals (Err e) a b c = tt
-      by_refusals (Ok x) true b c = tt
-      by_refusals (Ok x) false true c = tt
-      by_refusals (Ok x) false false true = shows
-      by_refusals (Ok x) false false false = by_content (content_of s (birth_at t d.node)) refl
+      by_content : (c : Content) → content_of s (birth_at t d.node) ≡ c → Stays t (Ok (write_content s d.birth (shown t d offset) bytes c))
+      by_content (File file) is = by_file (length bytes == 0) file is
+      by_content (Pipe waiting) is = by_stream (length bytes == 0) _ (by_writing (λ left. Pipe left) (pipe_write waiting bytes (posix.has_end s (birth_at t d.node) part.Read)) (λ left. alike_pipe (content_of s (birth_at t d.node)) left waiting is))
+      by_content (Pair p) is = by_stream (length bytes == 0) _ (by_writing (λ left. Pair (with_waiting p (peer_of (side_of d.«end»)) left)) (pair_write p (side_of d.«end») bytes (has_peer s (birth_at t d.node) (side_of d.«end»))) (λ left. alike_pair (content_of s (birth_at t d.node)) (with_waiting p (peer_of (side_of d.«end»)) left) p is))
+      by_content (DoorTo door) is = by_stream (length bytes == 0) _ (shows, λ value sent. shows)
+
+      by_refusals : (r : Result (Unit {0}) Errno) (a b : Bool) → Stays t ((r >>= (λ _. refuse_if a EBADF >>= (λ _. refuse_if b EINVAL >>= (λ _. Ok (d.birth, shown t d offset))))) >>= (λ (found : ℕ × object.Description). Ok (write_content s found.0 found.1 bytes (content_of s found.1.object))))
+      by_refusals (Err e) a b = tt
+      by_refusals (Ok x) true b = tt
+      by_refusals (Ok x) false true = tt
+      by_refusals (Ok x) false false = by_content (content_of s (birth_at t d.node)) refl
 
   pub stays-lseek : (descriptor offset : ℤ) (whence : Whence) → RefersAlike t s descriptor → Stays t (lseek_result s descriptor offset whence)
   unfolding lseek_result
   stays-lseek descriptor offset whence (Shut table state) = rw state tt
   stays-lseek descriptor offset whence (Open key d at_offset at got there table state) = rw state (by_content (content_of s (birth_at t d.node)))
     where
-      by_content : (c : Content) → Stays t (seek_content s d.birth (shown t d at_offset) offset whence c)
+      by_content : (c : Content) → Stays t (seekable c offset whence >>= (λ _. Ok (locking (birth_at t d.node) (seek_content s d.birth (shown t d at_offset) offset whence c))))
       by_content (File file) =
-          bound (Stays t) (λ e. tt) (offset_of (pos (base_of whence at_offset (length file)) +ℤ offset)) _
+          bound (StaysBy t) (λ e. tt) (offset_of (pos (base_of whence at_offset (length file)) +ℤ offset)) _
           (λ to _. shows-offset t s key to d all shows got)
       by_content (Pipe bytes) = tt
       by_content (Pair p) = tt
@@ -255,10 +275,10 @@ module _ (t : TableState) (s : State) (sound : IsSound t) (all : AreSound t.desc
       bound (Stays t) (λ e. tt) (position_of position) _
       (λ start _. by_length file start (file_is (content_of s (birth_at t d.node)) ESPIPE file is) (length bytes == 0))))))
     where
-      by_length : (file : List ℕ) (start : ℕ) → content_of s (birth_at t d.node) ≡ File file → (b : Bool) → Stays t (if b then Ok (Completes s (reply.Count 0)) else write_at s (birth_at t d.node) file start bytes)
+      by_length : (file : List ℕ) (start : ℕ) → content_of s (birth_at t d.node) ≡ File file → (b : Bool) → StaysBy t (if b then Ok (Completes s (reply.Count 0)) else write_at s (birth_at t d.node) file start bytes)
       by_length file start is true = shows
       by_length file start is false =
-          bound (Stays t) (λ e. tt) (written file start bytes) _
+          bound (StaysBy t) (λ e. tt) (written file start bytes) _
           (λ w _. shows-content t s (birth_at t d.node) (File w.0) shows (object_there key d got)
           (alike_file (content_of s (birth_at t d.node)) w.0 file is))
 
@@ -276,7 +296,7 @@ module _ (t : TableState) (s : State) (sound : IsSound t) (all : AreSound t.desc
   stays-shutdown descriptor how (Shut table state) = rw state tt
   stays-shutdown descriptor how (Open key d offset at got there table state) = rw state (by_content (content_of s (birth_at t d.node)) refl)
     where
-      by_content : (c : Content) → content_of s (birth_at t d.node) ≡ c → Stays t (shuttable c >>= (λ _. Ok (shut_content s (shown t d offset) how c)))
+      by_content : (c : Content) → content_of s (birth_at t d.node) ≡ c → Stays t (shuttable c >>= (λ _. Ok (locking (birth_at t d.node) (Ok (shut_content s (shown t d offset) how c)))))
       by_content (File bytes) is = tt
       by_content (Pipe bytes) is = tt
       by_content (Pair p) is = shows-content t s (birth_at t d.node) (Pair (shut p (side_of d.«end») how)) shows (object_there key d got) (alike_pair (content_of s (birth_at t d.node)) (shut p (side_of d.«end») how) p is)
@@ -300,7 +320,7 @@ module _ (t : TableState) (s : State) (sound : IsSound t) (all : AreSound t.desc
   follows-dup descriptor (Shut table state) = rw (table, state) tt
   follows-dup descriptor (Open key d offset at got there table state) = rw (table, state, lowest_shown t s 32 0 shows) (by_number (lowest_from t.descriptors 32 0) (λ n is. lowest_below t.descriptors 32 0 n is))
     where
-      by_number : (o : Option ℕ) → ((n : ℕ) → o ≡ Some n → n < 0 + 32) → Follows (some_or o EMFILE >>= (λ n. Ok (shared t n key))) (some_or o EMFILE >>= (λ n. Ok (Completes (duplicates.shared s n d.birth) (reply.Number (pos n)))))
+      by_number : (o : Option ℕ) → ((n : ℕ) → o ≡ Some n → n < 0 + 32) → Follows (some_or o EMFILE >>= (λ n. Ok (shared t n key))) (some_or o EMFILE >>= (λ n. Ok (alone (duplicates.shared s n d.birth) (reply.Number (pos n)))))
       by_number None below = tt
       by_number (Some n) below = let inside : n < 0 + 32 = below n refl in shows-shared t s n key d all shows (omega (arith, inside, long)) got
 
@@ -309,11 +329,11 @@ module _ (t : TableState) (s : State) (sound : IsSound t) (all : AreSound t.desc
   follows-dup_from descriptor least (Shut table state) = rw (table, state) tt
   follows-dup_from descriptor least (Open key d offset at got there table state) = rw (table, state) (by_first (descriptor_number least EINVAL) (λ first is. number_below least EINVAL first is))
     where
-      by_number : (o : Option ℕ) → ((n : ℕ) → o ≡ Some n → n < 32) → Follows (some_or o EMFILE >>= (λ n. Ok (shared t n key))) (some_or o EMFILE >>= (λ n. Ok (Completes (duplicates.shared s n d.birth) (reply.Number (pos n)))))
+      by_number : (o : Option ℕ) → ((n : ℕ) → o ≡ Some n → n < 32) → Follows (some_or o EMFILE >>= (λ n. Ok (shared t n key))) (some_or o EMFILE >>= (λ n. Ok (alone (duplicates.shared s n d.birth) (reply.Number (pos n)))))
       by_number None below = tt
       by_number (Some n) below = let inside : n < 32 = below n refl in shows-shared t s n key d all shows (omega (arith, inside, long)) got
 
-      by_first : (r : Result ℕ Errno) → ((first : ℕ) → r ≡ Ok first → first < 32) → Follows (r >>= (λ first. some_or (lowest_from t.descriptors (32 - first) first) EMFILE >>= (λ n. Ok (shared t n key)))) (r >>= (λ first. some_or (posix.lowest_from s (32 - first) first) EMFILE >>= (λ n. Ok (Completes (duplicates.shared s n d.birth) (reply.Number (pos n))))))
+      by_first : (r : Result ℕ Errno) → ((first : ℕ) → r ≡ Ok first → first < 32) → Follows (r >>= (λ first. some_or (lowest_from t.descriptors (32 - first) first) EMFILE >>= (λ n. Ok (shared t n key)))) (r >>= (λ first. some_or (posix.lowest_from s (32 - first) first) EMFILE >>= (λ n. Ok (alone (duplicates.shared s n d.birth) (reply.Number (pos n))))))
       by_first (Ok first) below =
           let low : first < 32 = below first refl in
           rw (lowest_shown t s (32 - first) first shows) (by_number (lowest_from t.descriptors (32 - first) first) (λ n is. let h : n < first + (32 - first) = lowest_below t.descriptors (32 - first) first n is in omega arith))
@@ -335,7 +355,7 @@ module _ (t : TableState) (s : State) (sound : IsSound t) (all : AreSound t.desc
       rw (table, state, within n (omega (arith, inside, long))) (by_door (posix.ends_door s (pos n) (d.birth, shown t d offset)) (closed_as keep n key d offset at got))
     where
       -- a door is closed outside, and the descriptor is free whatever comes of that
-      by_door : {u : TableState} {after : State} (b : Bool) → Shows u after → Follows (Ok u) (Ok (if b then asks_of after out.Close 0 false (λ value bytes. reply.Done) else Completes after reply.Done))
+      by_door : {u : TableState} {after : State} (b : Bool) → Shows u after → FollowsBy (Ok u) (Ok (if b then asks_of after out.Close 0 false (λ value bytes. reply.Done) else Completes after reply.Done))
       by_door true left = ((left, λ value bytes. left), refl)
       by_door false left = left
 
@@ -404,11 +424,11 @@ module _ (t : TableState) (s : State) (sound : IsSound t) (all : AreSound t.desc
           same_Some _ _ (sym later ∙ stays ∙ before) ∙ ap (λ (x : Description). x.birth) (description_got t.descriptions key d got)
 
   -- where it is planned
-  abbrev FollowsPlan : Result Plan Errno → Result TableState Errno → Result Effect Errno → Type 0
+  abbrev FollowsPlan : Result Plan Errno → Result TableState Errno → Result Decision Errno → Type 0
   FollowsPlan (Ok p) u does = Follows u does
   FollowsPlan (Err e) u does = Unit {0}
 
-  pub follows_plan : (p : Result Plan Errno) (u : Result TableState Errno) (does : Result Effect Errno) → FollowsPlan p u does → is_refused (answered p) ≡ false → Follows u does
+  pub follows_plan : (p : Result Plan Errno) (u : Result TableState Errno) (does : Result Decision Errno) → FollowsPlan p u does → is_refused (answered p) ≡ false → Follows u does
   follows_plan (Ok p) u does follows made = follows
   follows_plan (Err e) u does follows made = absurd (true≢false made)
 
@@ -423,7 +443,7 @@ module _ (t : TableState) (s : State) (sound : IsSound t) (all : AreSound t.desc
 
       by_door : (b c : Bool) → b ≡ c → int_eq descriptor (pos m) ≡ false → m < 32
           → FollowsPlan (refuse_if b EBUSY >>= (λ _. Ok (replaced (described t (pos m)) (reply.Number (pos m))))) (Ok (shared (closed_if_open t m (described t (pos m))) m key))
-          (refuse_if c EBUSY >>= (λ _. Ok (Completes (duplicates.shared (duplicates.closed s (pos m) (posix.described s (pos m))) m d.birth) (reply.Number (pos m)))))
+          (refuse_if c EBUSY >>= (λ _. Ok (duplicates.replaced s (pos m) m d.birth)))
       by_door true c same is inside = tt
       by_door false true same is inside = absurd (false≢true same)
       by_door false false same is inside = replaced_as keep descriptor m key d inside (apart_by descriptor m is) at got (other m)
@@ -431,29 +451,29 @@ module _ (t : TableState) (s : State) (sound : IsSound t) (all : AreSound t.desc
       by_same : (b : Bool) → int_eq descriptor (pos m) ≡ b → m < 32
           → FollowsPlan (refuse_if (not b && ends_a_door (described t (pos m))) EBUSY >>= (λ _. Ok (if b then plan.Reply (reply.Number (pos m)) else replaced (described t (pos m)) (reply.Number (pos m)))))
           (Ok (if b then t else shared (closed_if_open t m (described t (pos m))) m key))
-          (refuse_if (not b && duplicates.ends_a_door s (pos m) (posix.described s (pos m))) EBUSY >>= (λ _. Ok (Completes (if b then s else duplicates.shared (duplicates.closed s (pos m) (posix.described s (pos m))) m d.birth) (reply.Number (pos m)))))
+          (refuse_if (not b && duplicates.ends_a_door s (pos m) (posix.described s (pos m))) EBUSY >>= (λ _. Ok (if b then alone s (reply.Number (pos m)) else duplicates.replaced s (pos m) m d.birth)))
       by_same true is inside = shows
       by_same false is inside = by_door (ends_a_door (described t (pos m))) (duplicates.ends_a_door s (pos m) (posix.described s (pos m))) (sym (ends_shown t s sound all shows (pos m) (other m))) is inside
 
       by_inside : (b : Bool) → nat_lt m 32 ≡ b
           → FollowsPlan ((if b then Ok m else Err EBADF) >>= (λ _. refuse_if (not (int_eq descriptor (pos m)) && ends_a_door (described t (pos m))) EBUSY >>= (λ _. Ok (if int_eq descriptor (pos m) then plan.Reply (reply.Number (pos m)) else replaced (described t (pos m)) (reply.Number (pos m))))))
           ((if b then Ok m else Err EBADF) >>= (λ n. Ok (if int_eq descriptor (pos m) then t else shared (closed_if_open t n (described t (pos m))) n key)))
-          ((if b then Ok m else Err EBADF) >>= (λ n. refuse_if (not (int_eq descriptor (pos m)) && duplicates.ends_a_door s (pos m) (posix.described s (pos m))) EBUSY >>= (λ _. Ok (Completes (if int_eq descriptor (pos m) then s else duplicates.shared (duplicates.closed s (pos m) (posix.described s (pos m))) n d.birth) (reply.Number (pos m))))))
+          ((if b then Ok m else Err EBADF) >>= (λ n. refuse_if (not (int_eq descriptor (pos m)) && duplicates.ends_a_door s (pos m) (posix.described s (pos m))) EBUSY >>= (λ _. Ok (if int_eq descriptor (pos m) then alone s (reply.Number (pos m)) else duplicates.replaced s (pos m) n d.birth))))
       by_inside true h = by_same (int_eq descriptor (pos m)) refl (below m h)
       by_inside false h = tt
 
   -- ## Names
 
-  follows-add : (path : List ℕ) (node : Node) → ((n : ℕ) → node ≡ FileNode n → is_of part.Only (content_of s (birth_at t n)) ≡ true) → Follows (added t.paths path node >>= (λ paths. Ok (with_paths t paths))) (added s.paths path (shown_node t node) >>= (λ paths. Ok (Completes (names.with_paths s paths) reply.Done)))
+  follows-add : (path : List ℕ) (node : Node) → ((n : ℕ) → node ≡ FileNode n → is_of part.Only (content_of s (birth_at t n)) ≡ true) → Follows (added t.paths path node >>= (λ paths. Ok (with_paths t paths))) (added s.paths path (shown_node t node) >>= (λ paths. Ok (alone (names.with_paths s paths) reply.Done)))
   unfolding added
   follows-add path node file = rw (resolved_shown t s path shows) (by_path (resolved t.paths path))
     where
-      by_refusals : (components : List (List ℕ)) (a b : Bool) → Follows ((refuse_if a EEXIST >>= (λ _. refuse_if b ENOSPC >>= (λ _. Ok (fin.insert t.paths components node)))) >>= (λ paths. Ok (with_paths t paths))) ((refuse_if a EEXIST >>= (λ _. refuse_if b ENOSPC >>= (λ _. Ok (fin.insert s.paths components (shown_node t node))))) >>= (λ paths. Ok (Completes (names.with_paths s paths) reply.Done)))
+      by_refusals : (components : List (List ℕ)) (a b : Bool) → Follows ((refuse_if a EEXIST >>= (λ _. refuse_if b ENOSPC >>= (λ _. Ok (fin.insert t.paths components node)))) >>= (λ paths. Ok (with_paths t paths))) ((refuse_if a EEXIST >>= (λ _. refuse_if b ENOSPC >>= (λ _. Ok (fin.insert s.paths components (shown_node t node))))) >>= (λ paths. Ok (alone (names.with_paths s paths) reply.Done)))
       by_refusals components true b = tt
       by_refusals components false true = tt
       by_refusals components false false = shows-name t s components node shows file
 
-      by_path : (r : Result (List (List ℕ)) Errno) → Follows ((r >>= (λ components. refuse_if (is_some (node_at t.paths components)) EEXIST >>= (λ _. refuse_if (nat_le 64 (fin.len t.paths)) ENOSPC >>= (λ _. Ok (fin.insert t.paths components node))))) >>= (λ paths. Ok (with_paths t paths))) ((r >>= (λ components. refuse_if (is_some (node_at s.paths components)) EEXIST >>= (λ _. refuse_if (nat_le 64 (fin.len s.paths)) ENOSPC >>= (λ _. Ok (fin.insert s.paths components (shown_node t node)))))) >>= (λ paths. Ok (Completes (names.with_paths s paths) reply.Done)))
+      by_path : (r : Result (List (List ℕ)) Errno) → Follows ((r >>= (λ components. refuse_if (is_some (node_at t.paths components)) EEXIST >>= (λ _. refuse_if (nat_le 64 (fin.len t.paths)) ENOSPC >>= (λ _. Ok (fin.insert t.paths components node))))) >>= (λ paths. Ok (with_paths t paths))) ((r >>= (λ components. refuse_if (is_some (node_at s.paths components)) EEXIST >>= (λ _. refuse_if (nat_le 64 (fin.len s.paths)) ENOSPC >>= (λ _. Ok (fin.insert s.paths components (shown_node t node)))))) >>= (λ paths. Ok (alone (names.with_paths s paths) reply.Done)))
       by_path (Err e) = tt
       by_path (Ok components) = rw (node_shown t s components shows, some_shown t s sound all shows (node_at t.paths components), names_shown t s shows) (by_refusals components (is_some (node_at t.paths components)) (nat_le 64 (fin.len t.paths)))
 
@@ -468,7 +488,7 @@ module _ (t : TableState) (s : State) (sound : IsSound t) (all : AreSound t.desc
       named_file : (node : ℕ) → file_named t.paths old_path ≡ Ok node → is_of part.Only (content_of s (birth_at t node)) ≡ true
       named_file node is = let at = named_as t.paths old_path node is in file_at_name t s at.0 node shows at.1
 
-      by_file : (r : Result ℕ Errno) → file_named t.paths old_path ≡ r → Follows (r >>= (λ node. added t.paths new_path (FileNode node) >>= (λ paths. Ok (with_paths t paths)))) ((r >>= (λ node. Ok (birth_at t node))) >>= (λ object. added s.paths new_path (FileNode object) >>= (λ paths. Ok (Completes (names.with_paths s paths) reply.Done))))
+      by_file : (r : Result ℕ Errno) → file_named t.paths old_path ≡ r → Follows (r >>= (λ node. added t.paths new_path (FileNode node) >>= (λ paths. Ok (with_paths t paths)))) ((r >>= (λ node. Ok (birth_at t node))) >>= (λ object. added s.paths new_path (FileNode object) >>= (λ paths. Ok (alone (names.with_paths s paths) reply.Done))))
       by_file (Ok node) is =
           follows-add new_path (FileNode node)
           (λ n e. subst (λ (k : ℕ). is_of part.Only (content_of s (birth_at t k)) ≡ true) (same_file node n e) (named_file node is))
@@ -478,17 +498,17 @@ module _ (t : TableState) (s : State) (sound : IsSound t) (all : AreSound t.desc
   unfolding rmdir_change rmdir_result removed_dir
   follows-rmdir path = rw (resolved_shown t s path shows) (by_path (resolved t.paths path))
     where
-      by_refusals : (components : List (List ℕ)) (a b : Bool) → Follows ((refuse_if a EBUSY >>= (λ _. refuse_if b ENOTEMPTY >>= (λ _. Ok (fin.remove t.paths components)))) >>= (λ paths. Ok (with_paths t paths))) ((refuse_if a EBUSY >>= (λ _. refuse_if b ENOTEMPTY >>= (λ _. Ok (fin.remove s.paths components)))) >>= (λ paths. Ok (Completes (names.with_paths s paths) reply.Done)))
+      by_refusals : (components : List (List ℕ)) (a b : Bool) → Follows ((refuse_if a EBUSY >>= (λ _. refuse_if b ENOTEMPTY >>= (λ _. Ok (fin.remove t.paths components)))) >>= (λ paths. Ok (with_paths t paths))) ((refuse_if a EBUSY >>= (λ _. refuse_if b ENOTEMPTY >>= (λ _. Ok (fin.remove s.paths components)))) >>= (λ paths. Ok (alone (names.with_paths s paths) reply.Done)))
       by_refusals components true b = tt
       by_refusals components false true = tt
       by_refusals components false false = shows-without_name t s components shows
 
-      by_node : (components : List (List ℕ)) (o : Option Node) → Follows (removed_dir_at t.paths components o >>= (λ paths. Ok (with_paths t paths))) (removed_dir_at s.paths components (option_map (shown_node t) o) >>= (λ paths. Ok (Completes (names.with_paths s paths) reply.Done)))
+      by_node : (components : List (List ℕ)) (o : Option Node) → Follows (removed_dir_at t.paths components o >>= (λ paths. Ok (with_paths t paths))) (removed_dir_at s.paths components (option_map (shown_node t) o) >>= (λ paths. Ok (alone (names.with_paths s paths) reply.Done)))
       by_node components None = tt
       by_node components (Some (FileNode node)) = tt
       by_node components (Some Directory) = rw (has_entries_shown t s components shows) (by_refusals components (length components == 0) (has_entries t.paths components))
 
-      by_path : (r : Result (List (List ℕ)) Errno) → Follows ((r >>= (λ components. removed_dir_at t.paths components (node_at t.paths components))) >>= (λ paths. Ok (with_paths t paths))) ((r >>= (λ components. removed_dir_at s.paths components (node_at s.paths components))) >>= (λ paths. Ok (Completes (names.with_paths s paths) reply.Done)))
+      by_path : (r : Result (List (List ℕ)) Errno) → Follows ((r >>= (λ components. removed_dir_at t.paths components (node_at t.paths components))) >>= (λ paths. Ok (with_paths t paths))) ((r >>= (λ components. removed_dir_at s.paths components (node_at s.paths components))) >>= (λ paths. Ok (alone (names.with_paths s paths) reply.Done)))
       by_path (Ok components) = rw (node_shown t s components shows) (by_node components (node_at t.paths components))
       by_path (Err e) = tt
 
@@ -497,6 +517,14 @@ module _ (t : TableState) (s : State) (sound : IsSound t) (all : AreSound t.desc
 
   abbrev state_without : List (List ℕ) → ℕ → Result (PathMap × ℕ) Errno
   state_without components node = Ok (fin.remove s.paths components, node)
+
+  -- what is decided of a file that loses a name
+  abbrev unnamed : PathMap × ℕ → Decision
+  unnamed without =
+      record {
+        locks = names.unnamed_object (names.with_paths s without.0) without.1;
+        does = Ok (Completes (posix.without_unused (names.with_paths s without.0) without.1) reply.Done);
+      }
 
   pub follows-unlink : (path : List ℕ) → Follows (unlink_change t path) (unlink_result s path)
   unfolding unlink_change unlink_result removed
@@ -509,26 +537,29 @@ module _ (t : TableState) (s : State) (sound : IsSound t) (all : AreSound t.desc
 
       by_node : (components : List (List ℕ)) (o : Option Node) → node_at t.paths components ≡ o
           → Follows ((file_node o >>= (λ node. table_without components node)) >>= (λ without. Ok (without_gone (with_paths t without.0) without.1)))
-          ((file_node (option_map (shown_node t) o) >>= (λ object. state_without components object)) >>= (λ without. Ok (Completes (posix.without_unused (names.with_paths s without.0) without.1) reply.Done)))
+          ((file_node (option_map (shown_node t) o) >>= (λ object. state_without components object)) >>= (λ without. Ok (unnamed without)))
       by_node components None at = tt
       by_node components (Some Directory) at = tt
       by_node components (Some (FileNode node)) at = unlinked components node at
 
       by_path : (r : Result (List (List ℕ)) Errno) → Follows ((r >>= (λ components. file_node (node_at t.paths components) >>= (λ node. table_without components node))) >>= (λ without. Ok (without_gone (with_paths t without.0) without.1)))
-          ((r >>= (λ components. file_node (node_at s.paths components) >>= (λ object. state_without components object))) >>= (λ without. Ok (Completes (posix.without_unused (names.with_paths s without.0) without.1) reply.Done)))
+          ((r >>= (λ components. file_node (node_at s.paths components) >>= (λ object. state_without components object))) >>= (λ without. Ok (unnamed without)))
       by_path (Ok components) = rw (node_shown t s components shows) (by_node components (node_at t.paths components) refl)
       by_path (Err e) = tt
 
   -- ## Opening
 
   -- a call that is planned is made, under any key that is free, and then the table shows the state after
-  abbrev pub OpensAs : Access → OpenFlags → Result Plan Errno → Result Opening Errno → Result Effect Errno → Type 0
-  OpensAs access flags (Ok p) (Ok o) (Ok (Completes after r)) = ((key : ℕ) → fin.get t.descriptions.by_key key ≡ None → Shows (opened o.ready o.number key o.node part.Only access (status_flags flags)) after) × (r ≡ reply.Number (pos o.number))
-  OpensAs access flags (Ok p) (Ok o) (Ok Blocks) = ⊥
-  OpensAs access flags (Ok p) (Ok o) (Ok (Asks a)) = ⊥
-  OpensAs access flags (Ok p) (Ok o) (Err e) = ⊥
-  OpensAs access flags (Ok p) (Err e) does = ⊥
-  OpensAs access flags (Err e) o does = Unit {0}
+  abbrev pub OpensBy : Access → OpenFlags → Result Plan Errno → Result Opening Errno → Result Effect Errno → Type 0
+  OpensBy access flags (Ok p) (Ok o) (Ok (Completes after r)) = ((key : ℕ) → fin.get t.descriptions.by_key key ≡ None → Shows (opened o.ready o.number key o.node part.Only access (status_flags flags)) after) × (r ≡ reply.Number (pos o.number))
+  OpensBy access flags (Ok p) (Ok o) (Ok Blocks) = ⊥
+  OpensBy access flags (Ok p) (Ok o) (Ok (Asks a)) = ⊥
+  OpensBy access flags (Ok p) (Ok o) (Err e) = ⊥
+  OpensBy access flags (Ok p) (Err e) does = ⊥
+  OpensBy access flags (Err e) o does = Unit {0}
+
+  abbrev pub OpensAs : Access → OpenFlags → Result Plan Errno → Result Opening Errno → Result Decision Errno → Type 0
+  OpensAs access flags p o decided = OpensBy access flags p o (does_of decided)
 
   truncated_shown : (node : ℕ) (b : Bool) → is_used t node ≡ true → is_of part.Only (content_of s (birth_at t node)) ≡ true → Shows t (posix.truncated s (birth_at t node) b)
   truncated_shown node true used file = shows-content t s (birth_at t node) (File []) shows (shows.objects node (birth_at t node) (birth_is t node used)) (file_alike (content_of s (birth_at t node)) [] file)
@@ -547,7 +578,7 @@ module _ (t : TableState) (s : State) (sound : IsSound t) (all : AreSound t.desc
     where
       by_refusal : (b : Bool) (o : Option ℕ) → ((n : ℕ) → o ≡ Some n → n < 0 + 32) → OpensAs access flags (refuse_if b EEXIST >>= (λ _. some_or o EMFILE >>= (λ _. Ok (locks node (op.Open flags.truncate)))))
           (some_or o EMFILE >>= (λ n. Ok (record { number = n; node = node; ready = t })))
-          (refuse_if b EEXIST >>= (λ _. some_or o EMFILE >>= (λ n. Ok (Completes (posix.opened (posix.truncated s (birth_at t node) flags.truncate) n (birth_at t node) part.Only access flags.append flags.nonblock) (reply.Number (pos n))))))
+          (refuse_if b EEXIST >>= (λ _. some_or o EMFILE >>= (λ n. Ok (locking (birth_at t node) (Ok (Completes (posix.opened (posix.truncated s (birth_at t node) flags.truncate) n (birth_at t node) part.Only access flags.append flags.nonblock) (reply.Number (pos n))))))))
       by_refusal true o below = tt
       by_refusal false None below = tt
       by_refusal false (Some n) below = (
@@ -571,7 +602,7 @@ module _ (t : TableState) (s : State) (sound : IsSound t) (all : AreSound t.desc
           → ((node : ℕ) → adding node ≡ (refuse_if b ENOSPC >>= (λ _. Ok (fin.insert t.paths components (FileNode node)))))
           → OpensAs access flags (refuse_if a ENOENT >>= (λ _. refuse_if b ENOSPC >>= (λ _. some_or o ENOSPC >>= (λ node. some_or number EMFILE >>= (λ _. Ok (locks node (op.Open true)))))))
           (some_or number EMFILE >>= (λ n. (some_or o ENOSPC >>= (λ node. adding node >>= (λ paths. made_file paths node))) >>= (λ (file : TableState × ℕ). Ok (record { number = n; node = file.1; ready = file.0 }))))
-          (refuse_if a ENOENT >>= (λ _. refuse_if (b || not (is_some o)) ENOSPC >>= (λ _. some_or number EMFILE >>= (λ n. Ok (Completes (posix.opened (posix.with_file s components) n s.next_object part.Only access flags.append flags.nonblock) (reply.Number (pos n)))))))
+          (refuse_if a ENOENT >>= (λ _. refuse_if (b || not (is_some o)) ENOSPC >>= (λ _. some_or number EMFILE >>= (λ n. Ok (locking s.next_object (Ok (Completes (posix.opened (posix.with_file s components) n s.next_object part.Only access flags.append flags.nonblock) (reply.Number (pos n)))))))))
       by_rest true b o number free below adds = tt
       by_rest false true o number free below adds = tt
       by_rest false false None number free below adds = tt
@@ -600,7 +631,7 @@ module _ (t : TableState) (s : State) (sound : IsSound t) (all : AreSound t.desc
   unfolding open_plan opening found_or_made looked_up open_result
   opens path access flags = rw (resolved_shown t s path shows) (by_path (resolved t.paths path) refl)
     where
-      by_refused : (b : Bool) (e : Errno) (o : Result Opening Errno) (does : Result Effect Errno) → OpensAs access flags (refuse_if b EINVAL >>= (λ _. Err e)) o does
+      by_refused : (b : Bool) (e : Errno) (o : Result Opening Errno) (does : Result Decision Errno) → OpensAs access flags (refuse_if b EINVAL >>= (λ _. Err e)) o does
       by_refused true e o does = tt
       by_refused false e o does = tt
 
@@ -619,5 +650,5 @@ module _ (t : TableState) (s : State) (sound : IsSound t) (all : AreSound t.desc
           → OpensAs access flags (refuse_if (flags.truncate && not (can_write access)) EINVAL >>= (λ _. r >>= (λ components. open_node t (node_at t.paths components) flags)))
           (some_or (lowest_from t.descriptors 32 0) EMFILE >>= (λ n. ((r >>= (λ components. Ok (node_at t.paths components))) >>= (λ node. file_at t path node)) >>= (λ (file : TableState × ℕ). Ok (record { number = n; node = file.1; ready = file.0 }))))
           (refuse_if (flags.truncate && not (can_write access)) EINVAL >>= (λ _. r >>= (λ components. posix.open_node s components (node_at s.paths components) access flags)))
-      by_path (Err e) is = by_refused (flags.truncate && not (can_write access)) e _ _
+      by_path (Err e) is = by_refused (flags.truncate && not (can_write access)) e _ (refuse_if (flags.truncate && not (can_write access)) EINVAL >>= (λ _. Err e))
       by_path (Ok components) is = rw (node_shown t s components shows) (by_node components (flags.truncate && not (can_write access)) (node_at t.paths components) is refl)

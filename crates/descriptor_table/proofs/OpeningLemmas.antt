@@ -12,7 +12,7 @@ use Rattle.posix_terms.specs.Calls.{can_write}
 use Rattle.sequential_object.specs.Descriptors as posix
 use Rattle.sequential_object.specs.Descriptors.{open_result, opened, truncated, with_file}
 use Rattle.sequential_object.specs.Doors.{NewDoor, opens}
-use Rattle.sequential_object.specs.Effects.{Effect, Asking, Asks, Completes}
+use Rattle.sequential_object.specs.Effects.{Decision, Asking, Asks, Completes, locking}
 use Rattle.sequential_object.specs.Object.{State, Content, Pair, DoorTo, Node, FileNode, Directory}
 use Rattle.sequential_object.specs.Paths.{node_at, resolved}
 use Rattle.sequential_object.specs.Refusals.{◌>>=◌, refuse_if, some_or}
@@ -186,33 +186,33 @@ module _ (t : TableState) (s : State) (sound : IsSound t) (all : AreSound t.desc
 -- ## What holds of a refusal, and of what is opened, holds of the call
 
 module _ (t : TableState) (s : State) (sound : IsSound t) (all : AreSound t.descriptions) (shows : Shows t s)
-    (P : Result Plan Errno → Result Effect Errno → Type 0) (refused : (e : Errno) → P (Err e) (Err e)) where
+    (P : Result Plan Errno → Result Decision Errno → Type 0) (refused : (e : Errno) → P (Err e) (Err e)) where
   -- it holds of a file that is there
   abbrev pub OverThere : Access → OpenFlags → Type 0
   OverThere access flags =
       (n node : ℕ)
       → P (Ok (locks node (op.Open flags.truncate)))
-      (Ok (Completes
+      (Ok (locking (birth_at t node) (Ok (Completes
       (posix.opened (posix.truncated s (birth_at t node) flags.truncate) n (birth_at t node) part.Only access flags.append flags.nonblock)
-      (reply.Number (pos n))))
+      (reply.Number (pos n))))))
 
   -- and of a new one
   abbrev pub OverNew : Access → OpenFlags → Type 0
   OverNew access flags =
       (components : List (List ℕ)) (n node : ℕ) → birth_at t node ≡ s.next_object
       → P (Ok (locks node (op.Open true)))
-      (Ok (Completes (posix.opened (posix.with_file s components) n s.next_object part.Only access flags.append flags.nonblock)
-      (reply.Number (pos n))))
+      (Ok (locking s.next_object (Ok (Completes (posix.opened (posix.with_file s components) n s.next_object part.Only access flags.append flags.nonblock)
+      (reply.Number (pos n))))))
 
   -- the state counts where the table looks for a number
-  bound_room : (o : Option ℕ) (e : Errno) (f : ℕ → Result Plan Errno) (does : Result Effect Errno)
+  bound_room : (o : Option ℕ) (e : Errno) (f : ℕ → Result Plan Errno) (does : Result Decision Errno)
       → ((node : ℕ) → o ≡ Some node → P (f node) does)
       → P (some_or o e >>= f) (refuse_if (not (is_some o)) e >>= (λ _. does))
   bound_room None e f does made = refused e
   bound_room (Some node) e f does made = made node refl
 
   -- room for a name too
-  bound_name : (b : Bool) (o : Option ℕ) (f : ℕ → Result Plan Errno) (does : Result Effect Errno)
+  bound_name : (b : Bool) (o : Option ℕ) (f : ℕ → Result Plan Errno) (does : Result Decision Errno)
       → ((node : ℕ) → o ≡ Some node → P (f node) does)
       → P (refuse_if b ENOSPC >>= (λ _. some_or o ENOSPC >>= f)) (refuse_if (b || not (is_some o)) ENOSPC >>= (λ _. does))
   bound_name true o f does made = refused ENOSPC
@@ -252,7 +252,7 @@ module _ (t : TableState) (s : State) (sound : IsSound t) (all : AreSound t.desc
   -- both ends of a new object
   pub over_two_ends : (act : Op) (content : Content) (one other : NewEnd)
       → ((two : ℕ × ℕ) (node : ℕ) → free_object t ≡ Some node → birth_at t node ≡ s.next_object
-      → P (Ok (locks node act)) (Ok (Completes (with_both s content one other two) (reply.Pair (pos two.0) (pos two.1)))))
+      → P (Ok (locks node act)) (Ok (locking s.next_object (Ok (Completes (with_both s content one other two) (reply.Pair (pos two.0) (pos two.1)))))))
       → P (two_ends_plan t act) (sockets.two_ends s content one other)
   over_two_ends act content one other made =
       rw (two_shown t s sound all shows, full_shown t s sound all shows)
@@ -263,7 +263,7 @@ module _ (t : TableState) (s : State) (sound : IsSound t) (all : AreSound t.desc
   pub over_opens : (o : NewDoor) (listener : Option ℕ)
       → ((n node : ℕ) → birth_at t node ≡ s.next_object
       → P (Ok (plan.Node node (op.Ask (record { kind = o.kind; asked = o.asked; waits = o.waits; door = listener })) true))
-      (Ok (Asks (asking_of s o n))))
+      (Ok (locking s.next_object (Ok (Asks (asking_of s o n))))))
       → P (opens_plan t o.kind o.asked o.waits listener) (opens s o)
   over_opens o listener made =
       rw (lowest_shown t s 32 0 shows, full_shown t s sound all shows)

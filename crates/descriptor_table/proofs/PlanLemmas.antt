@@ -16,9 +16,9 @@ use Rattle.sequential_object.specs.Doors.{NewDoor, opens}
 use Rattle.sequential_object.specs.Duplicates as duplicates
 use Rattle.sequential_object.specs.Duplicates.{dup_result, dup_from_result, dup2_result, closed, descriptor_number, shared}
 use Rattle.posix_terms.specs.Ends.{is_end}
-use Rattle.sequential_object.specs.Effects.{Effect, Asks, Blocks, Completes, asks_of}
-use Rattle.sequential_object.specs.Locked.{closed_object, keeps_table, locked, locked_by_new, locked_object, unless_refused, unnamed_object}
-use Rattle.sequential_object.specs.Names.{PathMap, added, file_named, file_node, link_result, mkdir_result, removed, removed_dir, removed_dir_at, rmdir_result, unlink_result, has_entries, links_of, with_paths}
+use Rattle.sequential_object.specs.Effects.{Decision, Effect, Asks, Blocks, Completes, alone, asks_of, does_of, locking, locks_of}
+use Rattle.sequential_object.specs.Locked.{keeps_table, locked_object}
+use Rattle.sequential_object.specs.Names.{PathMap, added, file_named, file_node, link_result, mkdir_result, removed, removed_dir, removed_dir_at, rmdir_result, unlink_result, unnamed_object, has_entries, links_of, with_paths}
 use Rattle.sequential_object.specs.Object.{State, Content, Pipe, Pair, DoorTo, Node, FileNode, Directory}
 use Rattle.sequential_object.specs.Paths.{node_at, resolved}
 use Rattle.sequential_object.specs.Refusals.{◌>>=◌, refuse_if, some_or}
@@ -26,7 +26,7 @@ use Rattle.sequential_object.specs.Sockets as sockets
 use Rattle.sequential_object.specs.Sockets.{NewEnd, pipe_result, shutdown_result, socketpair_result}
 use Rattle.sequential_object.specs.Streams.{new_pair}
 use Rattle.sequential_object.specs.Status.{fstat_result, getfl_result, setfl_result}
-use Rattle.sequential_object.specs.Step.{Carried, concluded, effect_of, nothing_carried, request_of}
+use Rattle.sequential_object.specs.Step.{Carried, concluded, decided, effect_of, request_of}
 use Rattle.posix_terms.specs.declared.outcome.Outcome.{Outcome}
 use Rattle.posix_terms.specs.declared.transcript.Settings.{Settings}
 use Rattle.sequential_object.specs.Transfers as transfers
@@ -79,9 +79,9 @@ answer_of (Ok Blocks) = answer.Again
 answer_of (Ok (Asks asking)) = answer.Again
 answer_of (Err e) = answer.Reply (reply.Fail e)
 
--- a plan, the object that is locked, what is asked outside and what is done agree
-abbrev pub Ties : TableState → Call → Result Plan Errno → Result (Option ℕ) Errno → Result Effect Errno → Type 0
-Ties t c p object does = AgreesOn t c (answered p) (unless_refused object) (request_of c does) (answer_of does)
+-- a plan agrees with what is decided: the object that is locked, what is asked outside and what is answered
+abbrev pub Ties : TableState → Call → Result Plan Errno → Result Decision Errno → Type 0
+Ties t c p decided = AgreesOn t c (answered p) (locks_of decided) (request_of c (does_of decided)) (answer_of (does_of decided))
 
 -- ## What an object is, by its end and by its content
 
@@ -135,17 +135,17 @@ shows-without_name t s path shows =
     moved false o = refl
 
 module _ (t : TableState) (s : State) (sound : IsSound t) (all : AreSound t.descriptions) (shows : Shows t s) where
-  ties-getfl : (descriptor : ℤ) → RefersAlike t s descriptor → Ties t (call.Getfl descriptor) (getfl_plan t descriptor) (locked s (call.Getfl descriptor) nothing_carried) (getfl_result s descriptor)
+  ties-getfl : (descriptor : ℤ) → RefersAlike t s descriptor → Ties t (call.Getfl descriptor) (getfl_plan t descriptor) (getfl_result s descriptor)
   unfolding getfl_plan getfl_result
   ties-getfl descriptor (Shut table state) = rw (table, state) (refl, (refl, refl))
   ties-getfl descriptor (Open key d offset at got there table state) = rw (table, state) (refl, (refl, refl))
 
-  ties-setfl : (descriptor : ℤ) (append nonblock : Bool) → RefersAlike t s descriptor → Ties t (call.Setfl descriptor append nonblock) (setfl_plan t descriptor) (locked s (call.Setfl descriptor append nonblock) nothing_carried) (setfl_result s descriptor append nonblock)
+  ties-setfl : (descriptor : ℤ) (append nonblock : Bool) → RefersAlike t s descriptor → Ties t (call.Setfl descriptor append nonblock) (setfl_plan t descriptor) (setfl_result s descriptor append nonblock)
   unfolding setfl_plan setfl_result
   ties-setfl descriptor append nonblock (Shut table state) = rw (table, state) (refl, (refl, refl))
   ties-setfl descriptor append nonblock (Open key d offset at got there table state) = rw (table, state) (refl, (refl, refl))
 
-  ties-lseek : (descriptor offset : ℤ) (whence : Whence) → RefersAlike t s descriptor → Ties t (call.Lseek descriptor offset whence) (lseek_plan t descriptor offset whence) (locked s (call.Lseek descriptor offset whence) nothing_carried) (lseek_result s descriptor offset whence)
+  ties-lseek : (descriptor offset : ℤ) (whence : Whence) → RefersAlike t s descriptor → Ties t (call.Lseek descriptor offset whence) (lseek_plan t descriptor offset whence) (lseek_result s descriptor offset whence)
   unfolding lseek_plan lseek_result
   ties-lseek descriptor offset whence (Shut table state) = rw (table, state) (refl, (refl, refl))
   ties-lseek descriptor offset whence (Open key d at_offset at got there table state) = by_kind (kind_at t s shows key d got)
@@ -154,137 +154,137 @@ module _ (t : TableState) (s : State) (sound : IsSound t) (all : AreSound t.desc
       by_file (Ok to) = refl
       by_file (Err e) = refl
 
-      by_offset : (r : Result (Unit {0}) Errno) → Ties t (call.Lseek descriptor offset whence) (r >>= (λ _. Ok (locks d.node (errand d out.Seek 0 false)))) (r >>= (λ _. Ok (Some (birth_at t d.node)))) (r >>= (λ _. Ok (asks_of s out.Seek 0 false (λ value bytes. reply.Number (pos value)))))
+      by_offset : (r : Result (Unit {0}) Errno) → Ties t (call.Lseek descriptor offset whence) (r >>= (λ _. Ok (locks d.node (errand d out.Seek 0 false)))) (r >>= (λ _. Ok (locking (birth_at t d.node) (Ok (asks_of s out.Seek 0 false (λ value bytes. reply.Number (pos value)))))))
       by_offset (Ok u) = (refl, (refl, refl))
       by_offset (Err e) = (refl, (refl, refl))
 
-      by_door : (door : Door) → d.«end» ≡ part.Door door → content_of s (birth_at t d.node) ≡ DoorTo door → Ties t (call.Lseek descriptor offset whence) (lseek_plan t descriptor offset whence) (locked s (call.Lseek descriptor offset whence) nothing_carried) (lseek_result s descriptor offset whence)
+      by_door : (door : Door) → d.«end» ≡ part.Door door → content_of s (birth_at t d.node) ≡ DoorTo door → Ties t (call.Lseek descriptor offset whence) (lseek_plan t descriptor offset whence) (lseek_result s descriptor offset whence)
       by_door door.HostFile its is = rw (table, state, its, is) (by_offset (host_offset offset whence))
       by_door (door.Listener port) its is = rw (table, state, its, is) (refl, (refl, refl))
       by_door door.Stream its is = rw (table, state, its, is) (refl, (refl, refl))
 
-      by_kind : Kind d.«end» (content_of s (birth_at t d.node)) → Ties t (call.Lseek descriptor offset whence) (lseek_plan t descriptor offset whence) (locked s (call.Lseek descriptor offset whence) nothing_carried) (lseek_result s descriptor offset whence)
+      by_kind : Kind d.«end» (content_of s (birth_at t d.node)) → Ties t (call.Lseek descriptor offset whence) (lseek_plan t descriptor offset whence) (lseek_result s descriptor offset whence)
       by_kind (IsFile file its is) = rw (table, state, its, is) (refl, (by_file (transfers.offset_of (pos (transfers.base_of whence at_offset (length file)) +ℤ offset)), refl))
       by_kind (IsPipe waiting pipe is) = rw (table, state, pipe.no_offset offset whence, is) (refl, (refl, refl))
       by_kind (IsPair p side its is) = rw (table, state, its, is) (refl, (refl, refl))
       by_kind (IsDoor d its is) = by_door d its is
 
-  ties-fstat : (descriptor : ℤ) → RefersAlike t s descriptor → Ties t (call.Fstat descriptor) (fstat_plan t descriptor) (locked s (call.Fstat descriptor) nothing_carried) (fstat_result s descriptor)
+  ties-fstat : (descriptor : ℤ) → RefersAlike t s descriptor → Ties t (call.Fstat descriptor) (fstat_plan t descriptor) (fstat_result s descriptor)
   unfolding fstat_plan fstat_result
   ties-fstat descriptor (Shut table state) = rw (table, state) (refl, (refl, refl))
   ties-fstat descriptor (Open key d at_offset at got there table state) = by_kind (kind_at t s shows key d got)
     where
-      by_door : (door : Door) → d.«end» ≡ part.Door door → content_of s (birth_at t d.node) ≡ DoorTo door → Ties t (call.Fstat descriptor) (fstat_plan t descriptor) (locked s (call.Fstat descriptor) nothing_carried) (fstat_result s descriptor)
+      by_door : (door : Door) → d.«end» ≡ part.Door door → content_of s (birth_at t d.node) ≡ DoorTo door → Ties t (call.Fstat descriptor) (fstat_plan t descriptor) (fstat_result s descriptor)
       by_door door.HostFile its is = grind (arith, table, state, its, is)
       by_door (door.Listener port) its is = grind (arith, table, state, its, is)
       by_door door.Stream its is = grind (arith, table, state, its, is)
 
-      by_kind : Kind d.«end» (content_of s (birth_at t d.node)) → Ties t (call.Fstat descriptor) (fstat_plan t descriptor) (locked s (call.Fstat descriptor) nothing_carried) (fstat_result s descriptor)
+      by_kind : Kind d.«end» (content_of s (birth_at t d.node)) → Ties t (call.Fstat descriptor) (fstat_plan t descriptor) (fstat_result s descriptor)
       by_kind (IsFile file its is) = grind (arith, table, state, its, is)
       by_kind (IsPipe waiting pipe is) = grind (arith, table, state, pipe.stream, pipe.told, pipe.inside, pipe.transfers, is)
       by_kind (IsPair p side its is) = grind (arith, table, state, its, is)
       by_kind (IsDoor d its is) = by_door d its is
 
-  ties-read : (descriptor count : ℤ) → RefersAlike t s descriptor → Ties t (call.Read descriptor count) (read_plan t descriptor count) (locked s (call.Read descriptor count) nothing_carried) (read_result s descriptor count)
+  ties-read : (descriptor count : ℤ) → RefersAlike t s descriptor → Ties t (call.Read descriptor count) (read_plan t descriptor count) (read_result s descriptor count)
   unfolding read_plan read_result
   ties-read descriptor count (Shut table state) = rw (table, state) (refl, (refl, refl))
   ties-read descriptor count (Open key d at_offset at got there table state) = by_kind (kind_at t s shows key d got)
     where
-      by_door : (door : Door) → d.«end» ≡ part.Door door → content_of s (birth_at t d.node) ≡ DoorTo door → Ties t (call.Read descriptor count) (read_plan t descriptor count) (locked s (call.Read descriptor count) nothing_carried) (read_result s descriptor count)
+      by_door : (door : Door) → d.«end» ≡ part.Door door → content_of s (birth_at t d.node) ≡ DoorTo door → Ties t (call.Read descriptor count) (read_plan t descriptor count) (read_result s descriptor count)
       by_door door.HostFile its is = grind (arith, table, state, its, is)
       by_door (door.Listener port) its is = grind (arith, table, state, its, is)
       by_door door.Stream its is = grind (arith, table, state, its, is)
 
-      by_kind : Kind d.«end» (content_of s (birth_at t d.node)) → Ties t (call.Read descriptor count) (read_plan t descriptor count) (locked s (call.Read descriptor count) nothing_carried) (read_result s descriptor count)
+      by_kind : Kind d.«end» (content_of s (birth_at t d.node)) → Ties t (call.Read descriptor count) (read_plan t descriptor count) (read_result s descriptor count)
       by_kind (IsFile file its is) = grind (arith, table, state, its, is)
       by_kind (IsPipe waiting pipe is) = grind (arith, table, state, pipe.stream, pipe.told, pipe.inside, pipe.transfers, is)
       by_kind (IsPair p side its is) = grind (arith, table, state, its, is)
       by_kind (IsDoor d its is) = by_door d its is
 
-  ties-write : (descriptor : ℤ) (bytes : List ℕ) → RefersAlike t s descriptor → Ties t (call.Write descriptor bytes) (write_plan t descriptor (length bytes)) (locked s (call.Write descriptor bytes) nothing_carried) (write_result s descriptor bytes)
+  ties-write : (descriptor : ℤ) (bytes : List ℕ) → RefersAlike t s descriptor → Ties t (call.Write descriptor bytes) (write_plan t descriptor (length bytes)) (write_result s descriptor bytes)
   unfolding write_plan write_result
   ties-write descriptor bytes (Shut table state) = rw (table, state) (refl, (refl, refl))
   ties-write descriptor bytes (Open key d at_offset at got there table state) = by_kind (kind_at t s shows key d got)
     where
-      by_door : (door : Door) → d.«end» ≡ part.Door door → content_of s (birth_at t d.node) ≡ DoorTo door → Ties t (call.Write descriptor bytes) (write_plan t descriptor (length bytes)) (locked s (call.Write descriptor bytes) nothing_carried) (write_result s descriptor bytes)
+      by_door : (door : Door) → d.«end» ≡ part.Door door → content_of s (birth_at t d.node) ≡ DoorTo door → Ties t (call.Write descriptor bytes) (write_plan t descriptor (length bytes)) (write_result s descriptor bytes)
       by_door door.HostFile its is = grind (arith, table, state, its, is)
       by_door (door.Listener port) its is = grind (arith, table, state, its, is)
       by_door door.Stream its is = grind (arith, table, state, its, is)
 
-      by_kind : Kind d.«end» (content_of s (birth_at t d.node)) → Ties t (call.Write descriptor bytes) (write_plan t descriptor (length bytes)) (locked s (call.Write descriptor bytes) nothing_carried) (write_result s descriptor bytes)
+      by_kind : Kind d.«end» (content_of s (birth_at t d.node)) → Ties t (call.Write descriptor bytes) (write_plan t descriptor (length bytes)) (write_result s descriptor bytes)
       by_kind (IsFile file its is) = grind (arith, table, state, its, is)
       by_kind (IsPipe waiting pipe is) = grind (arith, table, state, pipe.stream, pipe.told, pipe.inside, pipe.transfers, is)
       by_kind (IsPair p side its is) = grind (arith, table, state, its, is)
       by_kind (IsDoor d its is) = by_door d its is
 
-  ties-pread : (descriptor count position : ℤ) → RefersAlike t s descriptor → Ties t (call.Pread descriptor count position) (pread_plan t descriptor count position) (locked s (call.Pread descriptor count position) nothing_carried) (pread_result s descriptor count position)
+  ties-pread : (descriptor count position : ℤ) → RefersAlike t s descriptor → Ties t (call.Pread descriptor count position) (pread_plan t descriptor count position) (pread_result s descriptor count position)
   unfolding pread_plan pread_result
   ties-pread descriptor count position (Shut table state) = rw (table, state) (refl, (refl, refl))
   ties-pread descriptor count position (Open key d at_offset at got there table state) = by_kind (kind_at t s shows key d got)
     where
-      by_kind : Kind d.«end» (content_of s (birth_at t d.node)) → Ties t (call.Pread descriptor count position) (pread_plan t descriptor count position) (locked s (call.Pread descriptor count position) nothing_carried) (pread_result s descriptor count position)
+      by_kind : Kind d.«end» (content_of s (birth_at t d.node)) → Ties t (call.Pread descriptor count position) (pread_plan t descriptor count position) (pread_result s descriptor count position)
       by_kind (IsFile file its is) = grind (arith, table, state, its, is)
       by_kind (IsPipe waiting pipe is) = grind (arith, table, state, pipe.stream, pipe.told, pipe.inside, pipe.transfers, is)
       by_kind (IsPair p side its is) = grind (arith, table, state, its, is)
       by_kind (IsDoor d its is) = grind (arith, table, state, its, is)
 
-  ties-pwrite : (descriptor : ℤ) (bytes : List ℕ) (position : ℤ) → RefersAlike t s descriptor → Ties t (call.Pwrite descriptor bytes position) (pwrite_plan t descriptor (length bytes) position) (locked s (call.Pwrite descriptor bytes position) nothing_carried) (pwrite_result s descriptor bytes position)
+  ties-pwrite : (descriptor : ℤ) (bytes : List ℕ) (position : ℤ) → RefersAlike t s descriptor → Ties t (call.Pwrite descriptor bytes position) (pwrite_plan t descriptor (length bytes) position) (pwrite_result s descriptor bytes position)
   unfolding pwrite_plan pwrite_result
   ties-pwrite descriptor bytes position (Shut table state) = rw (table, state) (refl, (refl, refl))
   ties-pwrite descriptor bytes position (Open key d at_offset at got there table state) = by_kind (kind_at t s shows key d got)
     where
-      by_kind : Kind d.«end» (content_of s (birth_at t d.node)) → Ties t (call.Pwrite descriptor bytes position) (pwrite_plan t descriptor (length bytes) position) (locked s (call.Pwrite descriptor bytes position) nothing_carried) (pwrite_result s descriptor bytes position)
+      by_kind : Kind d.«end» (content_of s (birth_at t d.node)) → Ties t (call.Pwrite descriptor bytes position) (pwrite_plan t descriptor (length bytes) position) (pwrite_result s descriptor bytes position)
       by_kind (IsFile file its is) = grind (arith, table, state, its, is)
       by_kind (IsPipe waiting pipe is) = grind (arith, table, state, pipe.stream, pipe.told, pipe.inside, pipe.transfers, is)
       by_kind (IsPair p side its is) = grind (arith, table, state, its, is)
       by_kind (IsDoor d its is) = grind (arith, table, state, its, is)
 
-  ties-ftruncate : (descriptor size : ℤ) → RefersAlike t s descriptor → Ties t (call.Ftruncate descriptor size) (ftruncate_plan t descriptor size) (locked s (call.Ftruncate descriptor size) nothing_carried) (ftruncate_result s descriptor size)
+  ties-ftruncate : (descriptor size : ℤ) → RefersAlike t s descriptor → Ties t (call.Ftruncate descriptor size) (ftruncate_plan t descriptor size) (ftruncate_result s descriptor size)
   unfolding ftruncate_plan ftruncate_result
   ties-ftruncate descriptor size (Shut table state) = rw (table, state) (refl, (refl, refl))
   ties-ftruncate descriptor size (Open key d at_offset at got there table state) = by_kind (kind_at t s shows key d got)
     where
-      by_kind : Kind d.«end» (content_of s (birth_at t d.node)) → Ties t (call.Ftruncate descriptor size) (ftruncate_plan t descriptor size) (locked s (call.Ftruncate descriptor size) nothing_carried) (ftruncate_result s descriptor size)
+      by_kind : Kind d.«end» (content_of s (birth_at t d.node)) → Ties t (call.Ftruncate descriptor size) (ftruncate_plan t descriptor size) (ftruncate_result s descriptor size)
       by_kind (IsFile file its is) = grind (arith, table, state, its, is)
       by_kind (IsPipe waiting pipe is) = grind (arith, table, state, pipe.stream, pipe.told, pipe.inside, pipe.transfers, is)
       by_kind (IsPair p side its is) = grind (arith, table, state, its, is)
       by_kind (IsDoor d its is) = grind (arith, table, state, its, is)
 
-  ties-shutdown : (descriptor : ℤ) (how : ShutdownHow) → RefersAlike t s descriptor → Ties t (call.Shutdown descriptor how) (shutdown_plan t descriptor how) (locked s (call.Shutdown descriptor how) nothing_carried) (shutdown_result s descriptor how)
+  ties-shutdown : (descriptor : ℤ) (how : ShutdownHow) → RefersAlike t s descriptor → Ties t (call.Shutdown descriptor how) (shutdown_plan t descriptor how) (shutdown_result s descriptor how)
   unfolding shutdown_plan shutdown_result
   ties-shutdown descriptor how (Shut table state) = rw (table, state) (refl, (refl, refl))
   ties-shutdown descriptor how (Open key d at_offset at got there table state) = by_kind (kind_at t s shows key d got)
     where
-      by_door : (door : Door) → d.«end» ≡ part.Door door → content_of s (birth_at t d.node) ≡ DoorTo door → Ties t (call.Shutdown descriptor how) (shutdown_plan t descriptor how) (locked s (call.Shutdown descriptor how) nothing_carried) (shutdown_result s descriptor how)
+      by_door : (door : Door) → d.«end» ≡ part.Door door → content_of s (birth_at t d.node) ≡ DoorTo door → Ties t (call.Shutdown descriptor how) (shutdown_plan t descriptor how) (shutdown_result s descriptor how)
       by_door door.HostFile its is = grind (arith, table, state, its, is)
       by_door (door.Listener port) its is = grind (arith, table, state, its, is)
       by_door door.Stream its is = grind (arith, table, state, its, is)
 
-      by_kind : Kind d.«end» (content_of s (birth_at t d.node)) → Ties t (call.Shutdown descriptor how) (shutdown_plan t descriptor how) (locked s (call.Shutdown descriptor how) nothing_carried) (shutdown_result s descriptor how)
+      by_kind : Kind d.«end» (content_of s (birth_at t d.node)) → Ties t (call.Shutdown descriptor how) (shutdown_plan t descriptor how) (shutdown_result s descriptor how)
       by_kind (IsFile file its is) = grind (arith, table, state, its, is)
       by_kind (IsPipe waiting pipe is) = grind (arith, table, state, pipe.stream, pipe.told, pipe.inside, pipe.transfers, is)
       by_kind (IsPair p side its is) = grind (arith, table, state, its, is)
       by_kind (IsDoor d its is) = by_door d its is
 
-  ties-dup : (descriptor : ℤ) → RefersAlike t s descriptor → Ties t (call.Dup descriptor) (dup_plan t descriptor) (locked s (call.Dup descriptor) nothing_carried) (dup_result s descriptor)
+  ties-dup : (descriptor : ℤ) → RefersAlike t s descriptor → Ties t (call.Dup descriptor) (dup_plan t descriptor) (dup_result s descriptor)
   unfolding dup_plan dup_result
   ties-dup descriptor (Shut table state) = rw (table, state) (refl, (refl, refl))
   ties-dup descriptor (Open key d offset at got there table state) = rw (table, state, lowest_shown t s 32 0 shows) (by_number (lowest_from t.descriptors 32 0))
     where
-      by_number : (o : Option ℕ) → Ties t (call.Dup descriptor) (some_or o EMFILE >>= (λ n. Ok (plan.Reply (reply.Number (pos n))))) (Ok None) (some_or o EMFILE >>= (λ n. Ok (Completes (shared s n d.birth) (reply.Number (pos n)))))
+      by_number : (o : Option ℕ) → Ties t (call.Dup descriptor) (some_or o EMFILE >>= (λ n. Ok (plan.Reply (reply.Number (pos n))))) (some_or o EMFILE >>= (λ n. Ok (alone (shared s n d.birth) (reply.Number (pos n)))))
       by_number None = (refl, (refl, refl))
       by_number (Some n) = (refl, (refl, refl))
 
-  ties-dup_from : (descriptor least : ℤ) → RefersAlike t s descriptor → Ties t (call.DupFrom descriptor least) (dup_from_plan t descriptor least) (locked s (call.DupFrom descriptor least) nothing_carried) (dup_from_result s descriptor least)
+  ties-dup_from : (descriptor least : ℤ) → RefersAlike t s descriptor → Ties t (call.DupFrom descriptor least) (dup_from_plan t descriptor least) (dup_from_result s descriptor least)
   unfolding dup_from_plan dup_from_result
   ties-dup_from descriptor least (Shut table state) = rw (table, state) (refl, (refl, refl))
   ties-dup_from descriptor least (Open key d offset at got there table state) = rw (table, state) (by_first (descriptor_number least EINVAL))
     where
-      by_number : (o : Option ℕ) → Ties t (call.DupFrom descriptor least) (some_or o EMFILE >>= (λ n. Ok (plan.Reply (reply.Number (pos n))))) (Ok None) (some_or o EMFILE >>= (λ n. Ok (Completes (shared s n d.birth) (reply.Number (pos n)))))
+      by_number : (o : Option ℕ) → Ties t (call.DupFrom descriptor least) (some_or o EMFILE >>= (λ n. Ok (plan.Reply (reply.Number (pos n))))) (some_or o EMFILE >>= (λ n. Ok (alone (shared s n d.birth) (reply.Number (pos n)))))
       by_number None = (refl, (refl, refl))
       by_number (Some n) = (refl, (refl, refl))
 
-      by_first : (r : Result ℕ Errno) → Ties t (call.DupFrom descriptor least) (r >>= (λ first. some_or (lowest_from t.descriptors (32 - first) first) EMFILE >>= (λ n. Ok (plan.Reply (reply.Number (pos n)))))) (Ok None) (r >>= (λ first. some_or (posix.lowest_from s (32 - first) first) EMFILE >>= (λ n. Ok (Completes (shared s n d.birth) (reply.Number (pos n))))))
+      by_first : (r : Result ℕ Errno) → Ties t (call.DupFrom descriptor least) (r >>= (λ first. some_or (lowest_from t.descriptors (32 - first) first) EMFILE >>= (λ n. Ok (plan.Reply (reply.Number (pos n)))))) (r >>= (λ first. some_or (posix.lowest_from s (32 - first) first) EMFILE >>= (λ n. Ok (alone (shared s n d.birth) (reply.Number (pos n))))))
       by_first (Ok first) = rw (lowest_shown t s (32 - first) first shows) (by_number (lowest_from t.descriptors (32 - first) first))
       by_first (Err e) = (refl, (refl, refl))
 
@@ -296,7 +296,7 @@ module _ (t : TableState) (s : State) (sound : IsSound t) (all : AreSound t.desc
   pub outside_at : (key : ℕ) (d : Description) → fin.get t.descriptions.by_key key ≡ Some d → is_door (content_of s (birth_at t d.node)) ≡ leads_outside d.«end»
   outside_at key d got = outside_by d.«end» (content_of s (birth_at t d.node)) (kind_at t s shows key d got)
 
-  ties-close : (descriptor : ℤ) → RefersAlike t s descriptor → Ties t (call.Close descriptor) (close_plan t descriptor) (locked s (call.Close descriptor) nothing_carried) (close_result s descriptor)
+  ties-close : (descriptor : ℤ) → RefersAlike t s descriptor → Ties t (call.Close descriptor) (close_plan t descriptor) (close_result s descriptor)
   unfolding close_plan close_result
   ties-close descriptor (Shut table state) = rw (table, state) (refl, (refl, refl))
   ties-close descriptor (Open key d offset at got there table state) =
@@ -306,8 +306,10 @@ module _ (t : TableState) (s : State) (sound : IsSound t) (all : AreSound t.desc
       -- whether the description has another descriptor and is of a door, in the state; whether it is its last and leads outside, in the table
       by_tests : (after : State) (other is_of_door last outside : Bool) → other ≡ not last → is_of_door ≡ outside
           → Ties t (call.Close descriptor) (Ok (if last then locks d.node (if outside then errand d out.Close 0 false else op.Release) else plan.Reply reply.Done))
-          (Ok (if other then None else Some (birth_at t d.node)))
-          (Ok (if is_of_door && not other then asks_of after out.Close 0 false (λ value bytes. reply.Done) else Completes after reply.Done))
+          (Ok (record {
+            locks = if other then None else Some (birth_at t d.node);
+            does = Ok (if is_of_door && not other then asks_of after out.Close 0 false (λ value bytes. reply.Done) else Completes after reply.Done);
+          }))
       by_tests after other is_of_door true true one both_are = rw (one, both_are) (refl, (refl, refl))
       by_tests after other is_of_door true false one both_are = rw (one, both_are) (refl, (refl, refl))
       by_tests after other is_of_door false true one both_are = rw (one, both_are) (refl, (refl, refl))
@@ -322,7 +324,7 @@ module _ (t : TableState) (s : State) (sound : IsSound t) (all : AreSound t.desc
       by_last true = refl
       by_last false = refl
 
-  ties-dup2 : (descriptor target : ℤ) → RefersAlike t s descriptor → RefersAlike t s target → Ties t (call.Dup2 descriptor target) (dup2_plan t descriptor target) (locked s (call.Dup2 descriptor target) nothing_carried) (dup2_result s descriptor target)
+  ties-dup2 : (descriptor target : ℤ) → RefersAlike t s descriptor → RefersAlike t s target → Ties t (call.Dup2 descriptor target) (dup2_plan t descriptor target) (dup2_result s descriptor target)
   unfolding dup2_plan dup2_result
   ties-dup2 descriptor target (Shut table state) other = rw (table, state) (refl, (refl, refl))
   ties-dup2 descriptor target (Open key d offset at got there table state) other = rw (table, state, ends_shown target other) (by_number (descriptor_number target EBADF))
@@ -330,27 +332,25 @@ module _ (t : TableState) (s : State) (sound : IsSound t) (all : AreSound t.desc
       -- what is not the last descriptor of a door
       by_tests : (e : Description) (after : State) (has last outside : Bool) → has ≡ not last → (outside && last) ≡ false
           → Ties t (call.Dup2 descriptor target) (Ok (if last then locks e.node (if outside then errand e out.Close 0 false else op.Release) else plan.Reply (reply.Number target)))
-          (Ok (if has then None else Some (birth_at t e.node))) (Ok (Completes after (reply.Number target)))
+          (Ok (record { locks = if has then None else Some (birth_at t e.node); does = Ok (Completes after (reply.Number target)) }))
       by_tests e after has true true one no_door = absurd (true≢false no_door)
       by_tests e after has true false one no_door = rw one (refl, (refl, refl))
       by_tests e after has false true one no_door = rw one (refl, (refl, refl))
       by_tests e after has false false one no_door = rw one (refl, (refl, refl))
 
-      by_target : (after : State) → RefersAlike t s target → ends_a_door (described t target) ≡ false → Ties t (call.Dup2 descriptor target) (Ok (replaced (described t target) (reply.Number target))) (Ok (closed_object s target (posix.described s target))) (Ok (Completes after (reply.Number target)))
+      by_target : (after : State) → RefersAlike t s target → ends_a_door (described t target) ≡ false → Ties t (call.Dup2 descriptor target) (Ok (replaced (described t target) (reply.Number target))) (Ok (record { locks = duplicates.closed_object s target (posix.described s target); does = Ok (Completes after (reply.Number target)) }))
       by_target after (Shut none nothing) ends = rw (none, nothing) (refl, (refl, refl))
       by_target after (Open k e o its is there found shown_is) ends =
           rw (found, shown_is) (by_tests e after (posix.has_descriptor (posix.freed s target) e.birth) (e.holders == 1) (leads_outside e.«end») (last_open target k e its is) (sym (ap ends_a_door found) ∙ ends))
 
       by_same : (n : ℕ) (same ends : Bool) → ends_a_door (described t target) ≡ ends → Ties t (call.Dup2 descriptor target) (refuse_if (not same && ends) EBUSY >>= (λ _. Ok (if same then plan.Reply (reply.Number target) else replaced (described t target) (reply.Number target))))
-          (refuse_if (not same && ends) EBUSY >>= (λ _. Ok (if same then None else closed_object s target (posix.described s target))))
-          (refuse_if (not same && ends) EBUSY >>= (λ _. Ok (Completes (if same then s else shared (closed s target (posix.described s target)) n d.birth) (reply.Number target))))
+          (refuse_if (not same && ends) EBUSY >>= (λ _. Ok (if same then alone s (reply.Number target) else duplicates.replaced s target n d.birth)))
       by_same n true ends is = (refl, (refl, refl))
       by_same n false true is = (refl, (refl, refl))
       by_same n false false is = by_target (shared (closed s target (posix.described s target)) n d.birth) other is
 
       by_number : (r : Result ℕ Errno) → Ties t (call.Dup2 descriptor target) (r >>= (λ n. refuse_if (not (int_eq descriptor target) && ends_a_door (described t target)) EBUSY >>= (λ _. Ok (if int_eq descriptor target then plan.Reply (reply.Number target) else replaced (described t target) (reply.Number target)))))
-          (r >>= (λ n. refuse_if (not (int_eq descriptor target) && ends_a_door (described t target)) EBUSY >>= (λ _. Ok (if int_eq descriptor target then None else closed_object s target (posix.described s target)))))
-          (r >>= (λ n. refuse_if (not (int_eq descriptor target) && ends_a_door (described t target)) EBUSY >>= (λ _. Ok (Completes (if int_eq descriptor target then s else shared (closed s target (posix.described s target)) n d.birth) (reply.Number target)))))
+          (r >>= (λ n. refuse_if (not (int_eq descriptor target) && ends_a_door (described t target)) EBUSY >>= (λ _. Ok (if int_eq descriptor target then alone s (reply.Number target) else duplicates.replaced s target n d.birth))))
       by_number (Ok n) = by_same n (int_eq descriptor target) (ends_a_door (described t target)) refl
       by_number (Err e) = (refl, (refl, refl))
 
@@ -360,20 +360,20 @@ module _ (t : TableState) (s : State) (sound : IsSound t) (all : AreSound t.desc
   some_shown None = refl
   some_shown (Some node) = refl
 
-  ties-add : (c : Call) (path : List ℕ) (node : Node) → Ties t c (addable t.paths path >>= (λ _. Ok (plan.Reply reply.Done))) (Ok None) (added s.paths path node >>= (λ paths. Ok (Completes (with_paths s paths) reply.Done)))
+  ties-add : (c : Call) (path : List ℕ) (node : Node) → Ties t c (addable t.paths path >>= (λ _. Ok (plan.Reply reply.Done))) (added s.paths path node >>= (λ paths. Ok (alone (with_paths s paths) reply.Done)))
   unfolding addable added
   ties-add c path node = rw (resolved_shown t s path shows) (by_path (resolved t.paths path))
     where
-      by_refusals : (components : List (List ℕ)) (a b : Bool) → Ties t c ((refuse_if a EEXIST >>= (λ _. refuse_if b ENOSPC)) >>= (λ _. Ok (plan.Reply reply.Done))) (Ok None) ((refuse_if a EEXIST >>= (λ _. refuse_if b ENOSPC >>= (λ _. Ok (fin.insert s.paths components node)))) >>= (λ paths. Ok (Completes (with_paths s paths) reply.Done)))
+      by_refusals : (components : List (List ℕ)) (a b : Bool) → Ties t c ((refuse_if a EEXIST >>= (λ _. refuse_if b ENOSPC)) >>= (λ _. Ok (plan.Reply reply.Done))) ((refuse_if a EEXIST >>= (λ _. refuse_if b ENOSPC >>= (λ _. Ok (fin.insert s.paths components node)))) >>= (λ paths. Ok (alone (with_paths s paths) reply.Done)))
       by_refusals components true b = (refl, (refl, refl))
       by_refusals components false true = (refl, (refl, refl))
       by_refusals components false false = (refl, (refl, refl))
 
-      by_path : (r : Result (List (List ℕ)) Errno) → Ties t c ((r >>= (λ components. refuse_if (is_some (node_at t.paths components)) EEXIST >>= (λ _. refuse_if (nat_le 64 (fin.len t.paths)) ENOSPC))) >>= (λ _. Ok (plan.Reply reply.Done))) (Ok None) ((r >>= (λ components. refuse_if (is_some (node_at s.paths components)) EEXIST >>= (λ _. refuse_if (nat_le 64 (fin.len s.paths)) ENOSPC >>= (λ _. Ok (fin.insert s.paths components node))))) >>= (λ paths. Ok (Completes (with_paths s paths) reply.Done)))
+      by_path : (r : Result (List (List ℕ)) Errno) → Ties t c ((r >>= (λ components. refuse_if (is_some (node_at t.paths components)) EEXIST >>= (λ _. refuse_if (nat_le 64 (fin.len t.paths)) ENOSPC))) >>= (λ _. Ok (plan.Reply reply.Done))) ((r >>= (λ components. refuse_if (is_some (node_at s.paths components)) EEXIST >>= (λ _. refuse_if (nat_le 64 (fin.len s.paths)) ENOSPC >>= (λ _. Ok (fin.insert s.paths components node))))) >>= (λ paths. Ok (alone (with_paths s paths) reply.Done)))
       by_path (Err e) = (refl, (refl, refl))
       by_path (Ok components) = rw (node_shown t s components shows, some_shown (node_at t.paths components), names_shown t s shows) (by_refusals components (is_some (node_at t.paths components)) (nat_le 64 (fin.len t.paths)))
 
-  ties-mkdir : (path : List ℕ) → Ties t (call.Mkdir path) (mkdir_plan t path) (locked s (call.Mkdir path) nothing_carried) (mkdir_result s path)
+  ties-mkdir : (path : List ℕ) → Ties t (call.Mkdir path) (mkdir_plan t path) (mkdir_result s path)
   unfolding mkdir_plan mkdir_result
   ties-mkdir path = ties-add (call.Mkdir path) path Directory
 
@@ -390,29 +390,29 @@ module _ (t : TableState) (s : State) (sound : IsSound t) (all : AreSound t.desc
       by_path (Ok components) = ap file_node (node_shown t s components shows) ∙ file_node_shown (node_at t.paths components)
       by_path (Err e) = refl
 
-  ties-link : (old_path new_path : List ℕ) → Ties t (call.Link old_path new_path) (link_plan t old_path new_path) (locked s (call.Link old_path new_path) nothing_carried) (link_result s old_path new_path)
+  ties-link : (old_path new_path : List ℕ) → Ties t (call.Link old_path new_path) (link_plan t old_path new_path) (link_result s old_path new_path)
   unfolding link_plan link_result
   ties-link old_path new_path = rw (named_shown old_path) (by_file (file_named t.paths old_path))
     where
-      by_file : (r : Result ℕ Errno) → Ties t (call.Link old_path new_path) (r >>= (λ node. addable t.paths new_path >>= (λ _. Ok (plan.Reply reply.Done)))) (Ok None) ((r >>= (λ node. Ok (birth_at t node))) >>= (λ object. added s.paths new_path (FileNode object) >>= (λ paths. Ok (Completes (with_paths s paths) reply.Done))))
+      by_file : (r : Result ℕ Errno) → Ties t (call.Link old_path new_path) (r >>= (λ node. addable t.paths new_path >>= (λ _. Ok (plan.Reply reply.Done)))) ((r >>= (λ node. Ok (birth_at t node))) >>= (λ object. added s.paths new_path (FileNode object) >>= (λ paths. Ok (alone (with_paths s paths) reply.Done))))
       by_file (Ok node) = ties-add (call.Link old_path new_path) new_path (FileNode (birth_at t node))
       by_file (Err e) = (refl, (refl, refl))
 
-  ties-rmdir : (path : List ℕ) → Ties t (call.Rmdir path) (rmdir_plan t path) (locked s (call.Rmdir path) nothing_carried) (rmdir_result s path)
+  ties-rmdir : (path : List ℕ) → Ties t (call.Rmdir path) (rmdir_plan t path) (rmdir_result s path)
   unfolding rmdir_plan rmdir_result removed_dir
   ties-rmdir path = rw (resolved_shown t s path shows) (by_path (resolved t.paths path))
     where
-      by_refusals : (components : List (List ℕ)) (a b : Bool) → Ties t (call.Rmdir path) ((refuse_if a EBUSY >>= (λ _. refuse_if b ENOTEMPTY >>= (λ _. Ok (fin.remove t.paths components)))) >>= (λ _. Ok (plan.Reply reply.Done))) (Ok None) ((refuse_if a EBUSY >>= (λ _. refuse_if b ENOTEMPTY >>= (λ _. Ok (fin.remove s.paths components)))) >>= (λ paths. Ok (Completes (with_paths s paths) reply.Done)))
+      by_refusals : (components : List (List ℕ)) (a b : Bool) → Ties t (call.Rmdir path) ((refuse_if a EBUSY >>= (λ _. refuse_if b ENOTEMPTY >>= (λ _. Ok (fin.remove t.paths components)))) >>= (λ _. Ok (plan.Reply reply.Done))) ((refuse_if a EBUSY >>= (λ _. refuse_if b ENOTEMPTY >>= (λ _. Ok (fin.remove s.paths components)))) >>= (λ paths. Ok (alone (with_paths s paths) reply.Done)))
       by_refusals components true b = (refl, (refl, refl))
       by_refusals components false true = (refl, (refl, refl))
       by_refusals components false false = (refl, (refl, refl))
 
-      by_node : (components : List (List ℕ)) (o : Option Node) → Ties t (call.Rmdir path) (removed_dir_at t.paths components o >>= (λ _. Ok (plan.Reply reply.Done))) (Ok None) (removed_dir_at s.paths components (option_map (shown_node t) o) >>= (λ paths. Ok (Completes (with_paths s paths) reply.Done)))
+      by_node : (components : List (List ℕ)) (o : Option Node) → Ties t (call.Rmdir path) (removed_dir_at t.paths components o >>= (λ _. Ok (plan.Reply reply.Done))) (removed_dir_at s.paths components (option_map (shown_node t) o) >>= (λ paths. Ok (alone (with_paths s paths) reply.Done)))
       by_node components None = (refl, (refl, refl))
       by_node components (Some (FileNode node)) = (refl, (refl, refl))
       by_node components (Some Directory) = rw (has_entries_shown t s components shows) (by_refusals components (length components == 0) (has_entries t.paths components))
 
-      by_path : (r : Result (List (List ℕ)) Errno) → Ties t (call.Rmdir path) ((r >>= (λ components. removed_dir_at t.paths components (node_at t.paths components))) >>= (λ _. Ok (plan.Reply reply.Done))) (Ok None) ((r >>= (λ components. removed_dir_at s.paths components (node_at s.paths components))) >>= (λ paths. Ok (Completes (with_paths s paths) reply.Done)))
+      by_path : (r : Result (List (List ℕ)) Errno) → Ties t (call.Rmdir path) ((r >>= (λ components. removed_dir_at t.paths components (node_at t.paths components))) >>= (λ _. Ok (plan.Reply reply.Done))) ((r >>= (λ components. removed_dir_at s.paths components (node_at s.paths components))) >>= (λ paths. Ok (alone (with_paths s paths) reply.Done)))
       by_path (Ok components) = rw (node_shown t s components shows) (by_node components (node_at t.paths components))
       by_path (Err e) = (refl, (refl, refl))
 
@@ -458,81 +458,60 @@ module _ (t : TableState) (s : State) (sound : IsSound t) (all : AreSound t.desc
   abbrev without_at : List (List ℕ) → ℕ → Result (PathMap × ℕ) Errno
   without_at components object = Ok (fin.remove s.paths components, object)
 
-  ties-unlink : (path : List ℕ) → Ties t (call.Unlink path) (unlink_plan t path) (locked s (call.Unlink path) nothing_carried) (unlink_result s path)
+  -- what is decided of a file that loses a name
+  abbrev unnamed : PathMap × ℕ → Decision
+  unnamed without =
+      record {
+        locks = unnamed_object (with_paths s without.0) without.1;
+        does = Ok (Completes (without_unused (with_paths s without.0) without.1) reply.Done);
+      }
+
+  ties-unlink : (path : List ℕ) → Ties t (call.Unlink path) (unlink_plan t path) (unlink_result s path)
   unfolding unlink_plan unlink_result file_named removed
   ties-unlink path = rw (resolved_shown t s path shows) (by_path (resolved t.paths path))
     where
       by_node : (components : List (List ℕ)) (o : Option Node) → node_at t.paths components ≡ o
           → Ties t (call.Unlink path) (file_node o >>= (λ node. Ok (if is_last_name t node then locks node op.Release else plan.Reply reply.Done)))
-          ((file_node (option_map (shown_node t) o) >>= (λ object. without_at components object)) >>= (λ without. Ok (unnamed_object (with_paths s without.0) without.1)))
-          ((file_node (option_map (shown_node t) o) >>= (λ object. without_at components object)) >>= (λ without. Ok (Completes (without_unused (with_paths s without.0) without.1) reply.Done)))
+          ((file_node (option_map (shown_node t) o) >>= (λ object. without_at components object)) >>= (λ without. Ok (unnamed without)))
       by_node components None at = (refl, (refl, refl))
       by_node components (Some Directory) at = (refl, (refl, refl))
       by_node components (Some (FileNode node)) at = last_name path components node at
 
       by_path : (r : Result (List (List ℕ)) Errno) → Ties t (call.Unlink path) ((r >>= (λ components. file_node (node_at t.paths components))) >>= (λ node. Ok (if is_last_name t node then locks node op.Release else plan.Reply reply.Done)))
-          ((r >>= (λ components. file_node (node_at s.paths components) >>= (λ object. without_at components object))) >>= (λ without. Ok (unnamed_object (with_paths s without.0) without.1)))
-          ((r >>= (λ components. file_node (node_at s.paths components) >>= (λ object. without_at components object))) >>= (λ without. Ok (Completes (without_unused (with_paths s without.0) without.1) reply.Done)))
+          ((r >>= (λ components. file_node (node_at s.paths components) >>= (λ object. without_at components object))) >>= (λ without. Ok (unnamed without)))
       by_path (Ok components) = rw (node_shown t s components shows) (by_node components (node_at t.paths components) refl)
       by_path (Err e) = (refl, (refl, refl))
 
   -- ## Opening
 
-  abbrev TiesOpen : Call → Result Plan Errno → Result Effect Errno → Type 0
-  TiesOpen c p does = Ties t c p (locked_by_new s does) does
-
-  made_here : (object n : ℕ) (which : End) (access : Access) (append nonblock b : Bool) → option_map (λ (d : Object.Description). d.object) (fin.get (opened (truncated s object b) n object which access append nonblock).descriptions s.next_description) ≡ Some object
-  made_here object n which access append nonblock true = ap (option_map (λ (d : Object.Description). d.object)) (get-insert_same s.descriptions s.next_description (record { object = object; «end» = which; access = access; offset = 0; append = append; nonblock = nonblock }))
-  made_here object n which access append nonblock false = ap (option_map (λ (d : Object.Description). d.object)) (get-insert_same s.descriptions s.next_description (record { object = object; «end» = which; access = access; offset = 0; append = append; nonblock = nonblock }))
-
   ties-open : (path : List ℕ) (access : Access) (flags : OpenFlags)
-      → TiesOpen (call.Open path access flags) (open_plan t path access flags) (open_result s path access flags)
+      → Ties t (call.Open path access flags) (open_plan t path access flags) (open_result s path access flags)
   ties-open path access flags =
-      over_open t s sound all shows (TiesOpen (call.Open path access flags)) (λ e. (refl, (refl, refl))) path access flags
-      (λ n node. (made_here (birth_at t node) n part.Only access flags.append flags.nonblock flags.truncate, (refl, refl)))
-      (λ components n node at. (
-        ap (option_map (λ (d : Object.Description). d.object)) (get-insert_same s.descriptions s.next_description new)
-            ∙ ap (λ (b : ℕ). Some b) (sym at),
-        (refl, refl),
-      ))
-    where
-      new : Object.Description
-      new = record {
-        object = s.next_object;
-        «end» = part.Only;
-        access = access;
-        offset = 0;
-        append = flags.append;
-        nonblock = flags.nonblock;
-      }
+      over_open t s sound all shows (Ties t (call.Open path access flags)) (λ e. (refl, (refl, refl))) path access flags
+      (λ n node. (refl, (refl, refl)))
+      (λ components n node at. (ap (λ (b : ℕ). Some b) (sym at), (refl, refl)))
 
-  ties-two_ends : (c : Call) (act : Op) (content : Content) (one other : NewEnd) → keeps_table c ≡ false → agreement.request_of c act ≡ None → TiesOpen c (two_ends_plan t act) (sockets.two_ends s content one other)
+  ties-two_ends : (c : Call) (act : Op) (content : Content) (one other : NewEnd) → keeps_table c ≡ false → agreement.request_of c act ≡ None → Ties t c (two_ends_plan t act) (sockets.two_ends s content one other)
   ties-two_ends c act content one other frees alone =
-      over_two_ends t s sound all shows (TiesOpen c) (λ e. (refl, (refl, refl))) act content one other
-      (λ two node is at. (first_made two ∙ ap (λ (b : ℕ). Some b) (sym at), (sym alone, sym frees)))
-    where
-      first_made : (two : ℕ × ℕ) → option_map (λ (d : Object.Description). d.object) (fin.get (opened (opened (Object.with_object s content) two.0 s.next_object one.which one.access false false) two.1 s.next_object other.which other.access false false).descriptions s.next_description) ≡ Some s.next_object
-      first_made two =
-          let first : Object.Description = record { object = s.next_object; «end» = one.which; access = one.access; offset = 0; append = false; nonblock = false } in
-          let second : Object.Description = record { object = s.next_object; «end» = other.which; access = other.access; offset = 0; append = false; nonblock = false } in
-          ap (option_map (λ (d : Object.Description). d.object)) (get-insert_other (fin.insert s.descriptions s.next_description first) (s.next_description + 1) second s.next_description (λ same. absurd (omega (arith, same))) ∙ get-insert_same s.descriptions s.next_description first)
+      over_two_ends t s sound all shows (Ties t c) (λ e. (refl, (refl, refl))) act content one other
+      (λ two node is at. (ap (λ (b : ℕ). Some b) (sym at), (sym alone, sym frees)))
 
-  ties-pipe : Ties t call.Pipe (two_ends_plan t op.Pipe) (locked s call.Pipe nothing_carried) (pipe_result s)
+  ties-pipe : Ties t call.Pipe (two_ends_plan t op.Pipe) (pipe_result s)
   unfolding pipe_result
   ties-pipe = ties-two_ends call.Pipe op.Pipe (Pipe []) (record { which = part.Read; access = ReadOnly }) (record { which = part.Write; access = WriteOnly }) refl refl
 
-  ties-socketpair : Ties t call.Socketpair (two_ends_plan t op.Socketpair) (locked s call.Socketpair nothing_carried) (socketpair_result s)
+  ties-socketpair : Ties t call.Socketpair (two_ends_plan t op.Socketpair) (socketpair_result s)
   unfolding socketpair_result
   ties-socketpair = ties-two_ends call.Socketpair op.Socketpair (Pair new_pair) (record { which = part.Socket Side0; access = ReadWrite }) (record { which = part.Socket Side1; access = ReadWrite }) refl refl
 
   -- ## Opening a door
 
-  ties-opens : (c : Call) (o : NewDoor) (listener : Option ℕ) → keeps_table c ≡ true → TiesOpen c (opens_plan t o.kind o.asked o.waits listener) (opens s o)
+  ties-opens : (c : Call) (o : NewDoor) (listener : Option ℕ) → keeps_table c ≡ true → Ties t c (opens_plan t o.kind o.asked o.waits listener) (opens s o)
   ties-opens c o listener keeps =
-      over_opens t s sound all shows (TiesOpen c) (λ e. (refl, (refl, refl))) o listener
+      over_opens t s sound all shows (Ties t c) (λ e. (refl, (refl, refl))) o listener
       (λ n node at. (ap (λ (b : ℕ). Some b) (sym at), (refl, sym keeps)))
 
-  ties-call : (c : Call) (carried : Carried) → Ties t c (plan_of t c) (locked s c carried) (effect_of s c carried)
+  ties-call : (c : Call) (carried : Carried) → Ties t c (plan_of t c) (decided s c carried)
   ties-call (call.Open path access flags) carried = ties-open path access flags
   ties-call (call.Close descriptor) carried = ties-close descriptor (found_both t s descriptor sound shows)
   ties-call (call.Read descriptor count) carried = ties-read descriptor count (found_both t s descriptor sound shows)
@@ -555,16 +534,16 @@ module _ (t : TableState) (s : State) (sound : IsSound t) (all : AreSound t.desc
   ties-call call.Socketpair carried = ties-socketpair
   ties-call (call.Shutdown descriptor how) carried = ties-shutdown descriptor how (found_both t s descriptor sound shows)
   ties-call (call.HostOpen path access flags) carried =
-      over_host_open t s (TiesOpen (call.HostOpen path access flags)) (λ e. (refl, (refl, refl))) path access flags
+      over_host_open t s (Ties t (call.HostOpen path access flags)) (λ e. (refl, (refl, refl))) path access flags
       (ties-opens (call.HostOpen path access flags) (host_door access flags) None refl)
   ties-call (call.TcpListen port) carried =
-      over_listen t s (TiesOpen (call.TcpListen port)) (λ e. (refl, (refl, refl))) port
+      over_listen t s (Ties t (call.TcpListen port)) (λ e. (refl, (refl, refl))) port
       (λ asked. ties-opens (call.TcpListen port) (listener_door asked) None refl)
   ties-call (call.TcpConnect port) carried =
-      over_connect t s (TiesOpen (call.TcpConnect port)) (λ e. (refl, (refl, refl))) port
+      over_connect t s (Ties t (call.TcpConnect port)) (λ e. (refl, (refl, refl))) port
       (λ asked. ties-opens (call.TcpConnect port) (stream_door asked) None refl)
   ties-call (call.TcpAccept descriptor) carried =
-      over_accept t s (TiesOpen (call.TcpAccept descriptor)) (λ e. (refl, (refl, refl))) descriptor shows
+      over_accept t s (Ties t (call.TcpAccept descriptor)) (λ e. (refl, (refl, refl))) descriptor shows
       (found_both t s descriptor sound shows) (λ d. ties-opens (call.TcpAccept descriptor) (accepted_door d) (Some d.node) refl)
 
 -- what has to wait, or goes outside, is not answered by the table
@@ -579,4 +558,4 @@ concluded_agrees t settings s c outcome carried p object (Err e) agrees = agrees
 pub plans-as_step : (t : TableState) (c : Call) → IsSound t → AreSound t.descriptions → PlansAsStep t c (planned t c)
 unfolding locked_object
 plans-as_step t c sound all settings s outcome carried shows =
-    concluded_agrees t settings s c outcome carried (planned t c) (unless_refused (locked s c carried)) (effect_of s c carried) (ties-call t s sound all shows c carried)
+    concluded_agrees t settings s c outcome carried (planned t c) (locked_object s c carried) (effect_of s c carried) (ties-call t s sound all shows c carried)

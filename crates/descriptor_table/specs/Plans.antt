@@ -80,7 +80,7 @@ not_listener e = Ok tt
 abbrev pub of_file : Description → Errno → Result (Unit {0}) Errno
 of_file d e = refuse_if (not (is_end d.«end» part.Only)) e
 
--- a call that moves so many bytes: of a stream none are moved without a lock, and then this is its reply
+-- a call that moves so many bytes: where there are none, and it is no file, it takes no lock, and this is its reply
 abbrev pub moves : Description → ℕ → Reply → Op → Plan
 moves d count none act = if (count == 0) && not (is_end d.«end» part.Only) then plan.Reply none else locks d.node act
 

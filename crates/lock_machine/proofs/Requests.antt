@@ -13,8 +13,8 @@ use Rattle.posix_terms.specs.declared.request.Request.{Request}
 use Rattle.std.specs.Prelude.{if◌then◌else◌}
 use Rattle.sequential_object.specs.Descriptors.{open_result, close_result, described, ends_door, freed, released}
 use Rattle.sequential_object.specs.Doors.{host_open_result, tcp_accept_result, tcp_connect_result, tcp_listen_result}
-use Rattle.sequential_object.specs.Duplicates.{dup_result, dup_from_result, dup2_result, descriptor_number, ends_a_door}
-use Rattle.sequential_object.specs.Effects.{Effect, Completes, asks_of}
+use Rattle.sequential_object.specs.Duplicates.{dup_result, dup_from_result, dup2_result, descriptor_number, ends_a_door, replaced}
+use Rattle.sequential_object.specs.Effects.{Decision, Completes, asks_of, alone, does_of}
 use Rattle.sequential_object.specs.Names.{link_result, unlink_result, mkdir_result, rmdir_result}
 use Rattle.sequential_object.specs.Object.{State}
 use Rattle.sequential_object.specs.Status.{fstat_result, getfl_result, setfl_result}
@@ -44,7 +44,8 @@ within_a_record kind.Accept asked h = h
 within_a_record kind.Shutdown asked h = h
 within_a_record kind.Close asked h = h
 
-through : (c : Call) {A : Type 0} (r : Result A Errno) (f : A → Result Effect Errno) → ((x : A) → Suits c (request_of c (f x))) → Suits c (request_of c (r >>= f))
+through : (c : Call) {A : Type 0} (r : Result A Errno) (f : A → Result Decision Errno) → ((x : A) → Suits c (request_of c (does_of (f x))))
+    → Suits c (request_of c (does_of (r >>= f)))
 through c (Ok x) f each = each x
 through c (Err e) f each = (tt, tt)
 
@@ -101,7 +102,11 @@ suits-dup2 : (s : State) (carried : Carried) (descriptor target : ℤ) → Suits
 unfolding dup2_result
 suits-dup2 s carried descriptor target =
     through (call.Dup2 descriptor target) (described s descriptor) _ (λ found. through (call.Dup2 descriptor target) (descriptor_number target EBADF) _ (λ n.
-    through (call.Dup2 descriptor target) (refuse_if (not (int_eq descriptor target) && ends_a_door s target (described s target)) EBUSY) _ (λ _. (tt, tt))))
+    through (call.Dup2 descriptor target) (refuse_if (not (int_eq descriptor target) && ends_a_door s target (described s target)) EBUSY) _ (λ _. by_same n found.0 (int_eq descriptor target))))
+  where
+    by_same : (n key : ℕ) (b : Bool) → Suits (call.Dup2 descriptor target) (request_of (call.Dup2 descriptor target) (does_of (Ok (if b then alone s (reply.Number target) else replaced s target n key))))
+    by_same n key true = (tt, tt)
+    by_same n key false = (tt, tt)
 
 suits-getfl : (s : State) (carried : Carried) (descriptor : ℤ) → Suits (call.Getfl descriptor) (asks s (call.Getfl descriptor) carried)
 unfolding getfl_result

@@ -14,15 +14,15 @@ use Rattle.std.specs.Prelude.{is_ok}
 use Rattle.std.specs.declared.cmp.Ordering.{Ordering}
 use Rattle.std.specs.declared.cmp.Ordering.TheVariants.{Equal, Greater, Less}
 use Rattle.object_store.specs.Errands.{door_taken, object_found}
-use Rattle.sequential_object.specs.Descriptors.{close_result, described, ends_door, freed, has_description, has_descriptor, has_path, is_file, is_of, lowest_free, opened, released}
+use Rattle.sequential_object.specs.Descriptors.{close_result, described, ended_object, ends_door, freed, has_description, has_descriptor, has_path, is_file, is_of, lowest_free, opened, released}
 use Rattle.sequential_object.specs.Doors.{NewDoor, host_open_result, host_path, listener_in, opens, port_of, tcp_accept_result, tcp_connect_result, tcp_listen_result}
-use Rattle.sequential_object.specs.Effects.{Asking, Asks, Completes, Effect, asks_of}
-use Rattle.sequential_object.specs.Locked.{ended_object, if_file, if_moved, keeps_table, locked, locked_object, unless_refused}
+use Rattle.sequential_object.specs.Effects.{Decision, Asking, Asks, Completes, Effect, asks_of, alone, does_of, locking, locks_of}
+use Rattle.sequential_object.specs.Locked.{keeps_table, locked_object}
 use Rattle.sequential_object.specs.Object.{Content, Description, Directory, DoorTo, File, FileNode, Node, Pair, Pipe, State, any_below, content_of, path_cmp, with_object}
 use Rattle.posix_terms.specs.Calls.{can_write}
 use Rattle.sequential_object.specs.Refusals.{◌>>=◌, count_of, refuse_if, some_or}
-use Rattle.sequential_object.specs.Sockets.{shuttable}
-use Rattle.sequential_object.specs.Transfers.{not_listener, readable, seekable, writable}
+use Rattle.sequential_object.specs.Sockets.{shuttable, shutdown_result}
+use Rattle.sequential_object.specs.Transfers.{lseek_result, moving, not_listener, read_content, read_result, readable, seekable, writable, write_content, write_result}
 use Rattle.sequential_object.specs.Step.{Carried, Stepped, asks, concluded, is_again, nothing_carried, request_of, step}
 use Rattle.posix_terms.specs.declared.call.Access.TheVariants.{ReadWrite}
 use Rattle.posix_terms.specs.declared.call.ShutdownHow.{ShutdownHow}
@@ -40,6 +40,7 @@ use Rattle.posix_terms.specs.declared.outcome.Outcome.{Outcome}
 use Rattle.posix_terms.specs.declared.outcome.Outcome.TheVariants as outcome
 use Rattle.posix_terms.specs.declared.reply.Answer.TheVariants as answer
 use Rattle.posix_terms.specs.declared.reply.Reply.TheVariants as reply
+use Rattle.posix_terms.specs.declared.reply.Reply.{Reply}
 use Rattle.posix_terms.specs.declared.request.Request.{Request}
 use Rattle.posix_terms.specs.declared.transcript.Settings.{Settings}
 use Rattle.logged_machine.specs.Doors as doors
@@ -161,33 +162,30 @@ close_leaves settings s descriptor carried r k d plain one asked taken at = by_f
     by_last : ℕ × Description → Bool → Result Effect Errno
     by_last found b = Ok (if b then asks_of (after found) kind.Close 0 false (λ value bytes. reply.Done) else Completes (after found) reply.Done)
 
-    effect : ℕ × Description → Result Effect Errno
-    effect found = by_last found (ends_door s descriptor found)
-
-    ends : ℕ × Description → Result (Option ℕ) Errno
-    ends found = Ok (ended_object s descriptor found)
+    decision : ℕ × Description → Result Decision Errno
+    decision found = Ok (record { locks = ended_object s descriptor found; does = by_last found (ends_door s descriptor found) })
 
     left : Result Effect Errno → State
     left x = let stepped : Stepped = concluded settings s None carried x in stepped.after
 
-    by_found : (x : Result (ℕ × Description) Errno) → described s descriptor ≡ x → (let a : State = left (close_result s descriptor) in fin.get a.objects k ≡ None)
-    by_found (Err e) is = absurd (none-some r (sym (ap (λ (y : Result (ℕ × Description) Errno). request_of (call.Close descriptor) (y >>= effect)) is) ∙ asked))
+    by_found : (x : Result (ℕ × Description) Errno) → described s descriptor ≡ x → (let a : State = left (does_of (close_result s descriptor)) in fin.get a.objects k ≡ None)
+    by_found (Err e) is = absurd (none-some r (sym (ap (λ (y : Result (ℕ × Description) Errno). request_of (call.Close descriptor) (does_of (y >>= decision))) is) ∙ asked))
     by_found (Ok found) is = by_test (ends_door s descriptor found) refl
       where
         e : Description
         e = found.1
 
-        is_effect : close_result s descriptor ≡ effect found
-        is_effect = ap (λ (y : Result (ℕ × Description) Errno). y >>= effect) is
+        is_effect : does_of (close_result s descriptor) ≡ by_last found (ends_door s descriptor found)
+        is_effect = ap (λ (y : Result (ℕ × Description) Errno). does_of (y >>= decision)) is
 
         locked_is : ended_object s descriptor found ≡ Some k
-        locked_is = sym (ap (λ (y : Result (ℕ × Description) Errno). unless_refused (y >>= ends)) is) ∙ taken
+        locked_is = sym (ap (λ (y : Result (ℕ × Description) Errno). locks_of (y >>= decision)) is) ∙ taken
 
         by_descriptor : (b : Bool) → has_descriptor (freed s descriptor) found.0 ≡ b → (has_descriptor (freed s descriptor) found.0 ≡ false) × (e.object ≡ k)
         by_descriptor true t = absurd (none-some k (sym (ap (λ (b : Bool). if b then None else Some e.object) t) ∙ locked_is))
         by_descriptor false t = (t, same_Some e.object k (sym (ap (λ (b : Bool). if b then None else Some e.object) t) ∙ locked_is))
 
-        by_test : (b : Bool) → ends_door s descriptor found ≡ b → (let a : State = left (close_result s descriptor) in fin.get a.objects k ≡ None)
+        by_test : (b : Bool) → ends_door s descriptor found ≡ b → (let a : State = left (does_of (close_result s descriptor)) in fin.get a.objects k ≡ None)
         by_test false t = absurd (none-some r (sym (ap (request_of (call.Close descriptor)) (is_effect ∙ ap (by_last found) t)) ∙ asked))
         by_test true t =
             let last = by_descriptor (has_descriptor (freed s descriptor) found.0) refl in
@@ -200,60 +198,82 @@ close_leaves settings s descriptor carried r k d plain one asked taken at = by_f
 pub content_at : (s : State) (k : ℕ) (c : Content) → fin.get s.objects k ≡ Some c → content_of s k ≡ c
 content_at s k c at = ap (λ (o : Option Content). unwrap_or o (File [])) at
 
-moved_is : (c : Content) (n object k : ℕ) → if_moved c n object ≡ Some k → object ≡ k
-moved_is c n object k h = by_test (n == 0) c h
-  where
-    by_test : (b : Bool) (x : Content) → (if b then if_file x object else Some object) ≡ Some k → object ≡ k
-    by_test false x h = same_Some object k h
-    by_test true (File bytes) h = same_Some object k h
-    by_test true (Pipe bytes) h = absurd (none-some k h)
-    by_test true (Pair p) h = absurd (none-some k h)
-    by_test true (DoorTo x) h = absurd (none-some k h)
+-- a call that takes a lock was not refused
+locks_as : (r : Result Decision Errno) (k : ℕ) → locks_of r ≡ Some k → (d : Decision) × ((r ≡ Ok d) × (d.locks ≡ Some k))
+locks_as (Ok d) k h = (d, (refl, h))
+locks_as (Err e) k h = absurd (none-some k h)
 
-locks_of : (r : Result (Option ℕ) Errno) (k : ℕ) → unless_refused r ≡ Some k → r ≡ Ok (Some k)
-locks_of (Ok o) k h = ap Ok h
-locks_of (Err e) k h = absurd (none-some k h)
+-- and its object is the one that is locked
+locks_own : (d e : Decision) (object k : ℕ) → d.locks ≡ Some object → ◌≡◌ {A = Result Decision Errno} (Ok d) (Ok e) → e.locks ≡ Some k → object ≡ k
+locks_own d e object k own same h = same_Some object k (sym own ∙ ap (λ (x : Decision). x.locks) (same_ok d e same) ∙ h)
+
+moved_is : (s : State) (d : Description) (n : ℕ) (none : Reply) (does : Result Effect Errno) (k : ℕ) → (let m = moving s d n none does in m.locks ≡ Some k) → d.object ≡ k
+moved_is s d n none does k h = by_test (n == 0) h
+  where
+    by_test : (b : Bool) → (let m : Decision = if b then alone s none else locking d.object does in m.locks ≡ Some k) → d.object ≡ k
+    by_test false h = same_Some d.object k h
+    by_test true h = absurd (none-some k h)
+
+read_is : (s : State) (key : ℕ) (d : Description) (n k : ℕ) (c : Content) → (let r = read_content s key d n c in r.locks ≡ Some k) → d.object ≡ k
+read_is s key d n k (File bytes) h = same_Some d.object k h
+read_is s key d n k (Pipe bytes) h = moved_is s d n _ _ k h
+read_is s key d n k (Pair p) h = moved_is s d n _ _ k h
+read_is s key d n k (DoorTo x) h = moved_is s d n _ _ k h
+
+written_is : (s : State) (key : ℕ) (d : Description) (bytes : List ℕ) (k : ℕ) (c : Content) → (let w = write_content s key d bytes c in w.locks ≡ Some k) → d.object ≡ k
+written_is s key d bytes k (File file) h = same_Some d.object k h
+written_is s key d bytes k (Pipe waiting) h = moved_is s d (length bytes) _ _ k h
+written_is s key d bytes k (Pair p) h = moved_is s d (length bytes) _ _ k h
+written_is s key d bytes k (DoorTo x) h = moved_is s d (length bytes) _ _ k h
 
 refused_at : {A : Type 0} (s : State) (object k port : ℕ) (test : Content → Result (Unit {0}) Errno) → is_ok (test (DoorTo (door.Listener port))) ≡ false → test (content_of s object) ≡ Ok tt → object ≡ k → fin.get s.objects k ≡ Some (DoorTo (door.Listener port)) → A
 refused_at s object k port test refuses fine same at = absurd (true≢false (sym (ap is_ok fine) ∙ ap (λ (n : ℕ). is_ok (test (content_of s n))) same ∙ ap (λ (c : Content). is_ok (test c)) (content_at s k (DoorTo (door.Listener port)) at) ∙ refuses))
 
 pub read_no_listener : {A : Type 0} (s : State) (descriptor count : ℤ) (carried : Carried) (k port : ℕ) → locked_object s (call.Read descriptor count) carried ≡ Some k → fin.get s.objects k ≡ Some (DoorTo (door.Listener port)) → A
-unfolding locked_object
+unfolding locked_object read_result
 read_no_listener s descriptor count carried k port taken at =
-    let one = gave (readable s descriptor) _ (Some k) (locks_of (locked s (call.Read descriptor count) carried) k taken) in
+    let it = locks_as (read_result s descriptor count) k taken in
+    let one = gave (readable s descriptor) _ it.0 it.1.0 in
     let d = one.0.1 in
-    let two = gave (count_of count) _ (Some k) one.1.1 in
-    refused_at s d.object k port not_listener refl (readable_described s descriptor one.0 one.1.0).1 (moved_is (content_of s d.object) two.0 d.object k (same_ok (if_moved (content_of s d.object) two.0 d.object) (Some k) two.1.1)) at
+    let two = gave (count_of count) _ it.0 one.1.1 in
+    let decided = read_content s one.0.0 d two.0 (content_of s d.object) in
+    let own : d.object ≡ k = read_is s one.0.0 d two.0 k (content_of s d.object) (ap (λ (x : Decision). x.locks) (same_ok decided it.0 two.1.1) ∙ it.1.1) in
+    refused_at s d.object k port not_listener refl (readable_described s descriptor one.0 one.1.0).1 own at
 
 pub write_no_listener : {A : Type 0} (s : State) (descriptor : ℤ) (bytes : List ℕ) (carried : Carried) (k port : ℕ) → locked_object s (call.Write descriptor bytes) carried ≡ Some k → fin.get s.objects k ≡ Some (DoorTo (door.Listener port)) → A
-unfolding locked_object
+unfolding locked_object write_result
 write_no_listener s descriptor bytes carried k port taken at =
-    let one = gave (writable s descriptor bytes) _ (Some k) (locks_of (locked s (call.Write descriptor bytes) carried) k taken) in
+    let it = locks_as (write_result s descriptor bytes) k taken in
+    let one = gave (writable s descriptor bytes) _ it.0 it.1.0 in
     let d = one.0.1 in
-    refused_at s d.object k port not_listener refl (writable_described s descriptor bytes one.0 one.1.0).1 (moved_is (content_of s d.object) (length bytes) d.object k (same_ok (if_moved (content_of s d.object) (length bytes) d.object) (Some k) one.1.1)) at
+    let decided = write_content s one.0.0 d bytes (content_of s d.object) in
+    let own : d.object ≡ k = written_is s one.0.0 d bytes k (content_of s d.object) (ap (λ (x : Decision). x.locks) (same_ok decided it.0 one.1.1) ∙ it.1.1) in
+    refused_at s d.object k port not_listener refl (writable_described s descriptor bytes one.0 one.1.0).1 own at
 
 pub lseek_no_listener : {A : Type 0} (s : State) (descriptor offset : ℤ) (from : Whence) (carried : Carried) (k port : ℕ) → locked_object s (call.Lseek descriptor offset from) carried ≡ Some k → fin.get s.objects k ≡ Some (DoorTo (door.Listener port)) → A
-unfolding locked_object
+unfolding locked_object lseek_result
 lseek_no_listener s descriptor offset from carried k port taken at =
-    let one = gave (described s descriptor) _ (Some k) (locks_of (locked s (call.Lseek descriptor offset from) carried) k taken) in
+    let it = locks_as (lseek_result s descriptor offset from) k taken in
+    let one = gave (described s descriptor) _ it.0 it.1.0 in
     let d = one.0.1 in
-    let two = gave (seekable (content_of s d.object) offset from) _ (Some k) one.1.1 in
-    refused_at s d.object k port (λ c. seekable c offset from) refl two.1.0 (same_Some d.object k (same_ok (Some d.object) (Some k) two.1.1)) at
+    let two = gave (seekable (content_of s d.object) offset from) _ it.0 one.1.1 in
+    refused_at s d.object k port (λ c. seekable c offset from) refl two.1.0 (locks_own _ it.0 d.object k refl two.1.1 it.1.1) at
 
 pub shutdown_no_listener : {A : Type 0} (s : State) (descriptor : ℤ) (how : ShutdownHow) (carried : Carried) (k port : ℕ) → locked_object s (call.Shutdown descriptor how) carried ≡ Some k → fin.get s.objects k ≡ Some (DoorTo (door.Listener port)) → A
-unfolding locked_object
+unfolding locked_object shutdown_result
 shutdown_no_listener s descriptor how carried k port taken at =
-    let one = gave (described s descriptor) _ (Some k) (locks_of (locked s (call.Shutdown descriptor how) carried) k taken) in
+    let it = locks_as (shutdown_result s descriptor how) k taken in
+    let one = gave (described s descriptor) _ it.0 it.1.0 in
     let d = one.0.1 in
-    let two = gave (shuttable (content_of s d.object)) _ (Some k) one.1.1 in
-    refused_at s d.object k port shuttable refl two.1.0 (same_Some d.object k (same_ok (Some d.object) (Some k) two.1.1)) at
+    let two = gave (shuttable (content_of s d.object)) _ it.0 one.1.1 in
+    refused_at s d.object k port shuttable refl two.1.0 (locks_own _ it.0 d.object k refl two.1.1 it.1.1) at
 
 -- an accept is on a listener
 pub accepts_at : (s : State) (descriptor : ℤ) (carried : Carried) (r : Request) (k : ℕ) → asks s (call.TcpAccept descriptor) carried ≡ Some r → object_found (described s descriptor) ≡ Some k → (port : ℕ) × (fin.get s.objects k ≡ Some (DoorTo (door.Listener port)))
 unfolding tcp_accept_result
 accepts_at s descriptor carried r k asked taken = by_found (described s descriptor) refl
   where
-    tests : ℕ × Description → Result Effect Errno
+    tests : ℕ × Description → Result Decision Errno
     tests found = listener_in (content_of s (let d = found.1 in d.object)) >>= (λ (u : Unit {0}). opens s (record { kind = kind.Accept; asked = 0; door = λ value. door.Stream; access = ReadWrite; append = false; waits = not (let d = found.1 in d.nonblock) }))
 
     by_listener : (object : ℕ) (x : Option Content) → fin.get s.objects object ≡ x → is_ok (listener_in (unwrap_or x (File []))) ≡ true → (port : ℕ) × (fin.get s.objects object ≡ Some (DoorTo (door.Listener port)))
@@ -268,8 +288,8 @@ accepts_at s descriptor carried r k asked taken = by_found (described s descript
     fine_by : (found : ℕ × Description) (x : Result (Unit {0}) Errno) → listener_in (content_of s (let d = found.1 in d.object)) ≡ x → described s descriptor ≡ Ok found → is_ok (listener_in (content_of s (let d = found.1 in d.object))) ≡ true
     fine_by found (Ok u) is at = ap is_ok is
     fine_by found (Err e) is at =
-        let none : request_of (call.TcpAccept descriptor) (tests found) ≡ None = ap (λ (y : Result (Unit {0}) Errno). request_of (call.TcpAccept descriptor) (y >>= (λ (u : Unit {0}). opens s (record { kind = kind.Accept; asked = 0; door = λ value. door.Stream; access = ReadWrite; append = false; waits = not (let d = found.1 in d.nonblock) })))) is in
-        absurd (none-some r (sym none ∙ sym (ap (λ (y : Result (ℕ × Description) Errno). request_of (call.TcpAccept descriptor) (y >>= tests)) at) ∙ asked))
+        let none : request_of (call.TcpAccept descriptor) (does_of (tests found)) ≡ None = ap (λ (y : Result (Unit {0}) Errno). request_of (call.TcpAccept descriptor) (does_of (y >>= (λ (u : Unit {0}). opens s (record { kind = kind.Accept; asked = 0; door = λ value. door.Stream; access = ReadWrite; append = false; waits = not (let d = found.1 in d.nonblock) }))))) is in
+        absurd (none-some r (sym none ∙ sym (ap (λ (y : Result (ℕ × Description) Errno). request_of (call.TcpAccept descriptor) (does_of (y >>= tests))) at) ∙ asked))
 
     by_found : (x : Result (ℕ × Description) Errno) → described s descriptor ≡ x → (port : ℕ) × (fin.get s.objects k ≡ Some (DoorTo (door.Listener port)))
     by_found (Err e) is = absurd (none-some k (sym (ap object_found is) ∙ taken))
@@ -293,10 +313,10 @@ pub record OpensNext (s after : State) : Type 0 where
 abbrev pub Opened : State → Outcome → State → Type 0
 Opened s x after = (after ≡ s) ⊎ ((doors.is_ok x ≡ true) × OpensNext s after)
 
-abbrev OpenedBy : Settings → State → Carried → Outcome → Result Effect Errno → Type 0
-OpenedBy settings s carried x r = let stepped : Stepped = concluded settings s (Some x) carried r in Opened s x stepped.after
+abbrev OpenedBy : Settings → State → Carried → Outcome → Result Decision Errno → Type 0
+OpenedBy settings s carried x r = let stepped : Stepped = concluded settings s (Some x) carried (does_of r) in Opened s x stepped.after
 
-chain_opened : {A : Type 0} (settings : Settings) (s : State) (carried : Carried) (x : Outcome) (r : Result A Errno) (f : A → Result Effect Errno) → ((a : A) → OpenedBy settings s carried x (f a)) → OpenedBy settings s carried x (r >>= f)
+chain_opened : {A : Type 0} (settings : Settings) (s : State) (carried : Carried) (x : Outcome) (r : Result A Errno) (f : A → Result Decision Errno) → ((a : A) → OpenedBy settings s carried x (f a)) → OpenedBy settings s carried x (r >>= f)
 chain_opened settings s carried x (Ok a) f h = h a
 chain_opened settings s carried x (Err e) f h = inl refl
 
@@ -318,7 +338,7 @@ opened_by settings s carried x o = chain_opened settings s carried x (some_or (l
     by_wait true false e = refl
     by_wait false c e = refl
 
-    by_outcome : (n : ℕ) (y : Outcome) → OpenedBy settings s carried y (Ok (Asks (asking n)))
+    by_outcome : (n : ℕ) (y : Outcome) → OpenedBy settings s carried y (Ok (locking s.next_object (Ok (Asks (asking n)))))
     by_outcome n (outcome.Ok value bytes) =
         let which = part.Door (o.door value) in
         inr (

@@ -14,16 +14,16 @@ use Rattle.std.specs.declared.cmp.Ordering.TheVariants.{Equal}
 use Rattle.sequential_object.specs.Descriptors.{close_result, described, ends_door, freed, has_description, has_descriptor, has_path, key_at, lowest_free, lowest_from, open_node, open_result, open_there, opened, released, truncated, with_file, without_unused}
 use Rattle.sequential_object.specs.Doors.{NewDoor, host_open_result, host_path, listener_in, opens, port_of, tcp_accept_result, tcp_connect_result, tcp_listen_result}
 use Rattle.sequential_object.specs.Duplicates.{closed, descriptor_number, dup_from_result, ends_a_door, dup_result, dup2_result, shared}
-use Rattle.sequential_object.specs.Effects.{Asks, Blocks, Completes, Effect, asks_of}
+use Rattle.sequential_object.specs.Effects.{Decision, Asks, Blocks, Completes, Effect, asks_of, does_of}
 use Rattle.sequential_object.specs.Names.{added, file_named, link_result, mkdir_result, removed, removed_dir, rmdir_result, unlink_result, with_paths}
 use Rattle.sequential_object.specs.Object.{Content, Description, Directory, DoorTo, File, FileNode, Node, Pair, Pipe, State, content_of, is_door, with_content, with_object}
 use Rattle.sequential_object.specs.Paths.{node_at, resolved}
 use Rattle.sequential_object.specs.Refusals.{◌>>=◌, count_of, position_of, refuse_if, some_or}
 use Rattle.sequential_object.specs.Sockets.{NewEnd, pipe_result, shut_content, shuttable, shutdown_result, socketpair_result, two_ends, two_numbers}
-use Rattle.sequential_object.specs.Status.{fstat_result, getfl_result, setfl_result}
+use Rattle.sequential_object.specs.Status.{fstat_result, getfl_result, setfl_result, stat_content}
 use Rattle.sequential_object.specs.Step.{Carried, Stepped, concluded, effect_of, nothing_carried, step}
 use Rattle.sequential_object.specs.Streams.{Breaks, Ends, NoRoom, NothingYet, Reading, Reads, Writes, Writing, new_pair}
-use Rattle.sequential_object.specs.Transfers.{base_of, file_in, ftruncate_result, host_offset, lseek_result, not_listener, offset_of, pread_result, pwrite_result, read_content, read_done, read_result, readable, seek_content, size_of, start_of, writable, write_content, write_done, write_result}
+use Rattle.sequential_object.specs.Transfers.{base_of, file_in, ftruncate_result, lseek_result, not_listener, offset_of, pread_result, pwrite_result, read_content, read_done, read_result, readable, seek_content, size_of, start_of, writable, write_content, write_done, write_result, seekable, write_file}
 use Rattle.posix_terms.specs.declared.call.Access.{Access}
 use Rattle.posix_terms.specs.Calls.{Call}
 use Rattle.posix_terms.specs.declared.call.Call.TheVariants as call
@@ -188,6 +188,10 @@ chain : {A : Type 0} (s : State) (r : Result A Errno) (f : A → Result Effect E
 chain s (Ok a) f h = h a refl
 chain s (Err e) f h = record { it = tt }
 
+decides : {A : Type 0} (s : State) (r : Result A Errno) (f : A → Result Decision Errno) → ((a : A) → r ≡ Ok a → AddsBy s (does_of (f a))) → AddsBy s (does_of (r >>= f))
+decides s (Ok a) f h = h a refl
+decides s (Err e) f h = record { it = tt }
+
 either : (s : State) (b : Bool) (x y : Result Effect Errno) → AddsBy s x → AddsBy s y → AddsBy s (if b then x else y)
 either s true x y hx hy = hx
 either s false x y hx hy = hy
@@ -195,6 +199,10 @@ either s false x y hx hy = hy
 either_effect : (s : State) (b : Bool) (x y : Effect) → AddsBy s (Ok x) → AddsBy s (Ok y) → AddsBy s (Ok (if b then x else y))
 either_effect s true x y hx hy = hx
 either_effect s false x y hx hy = hy
+
+either_decision : (s : State) (b : Bool) (x y : Decision) → AddsBy s x.does → AddsBy s y.does → AddsBy s (does_of (Ok (if b then x else y)))
+either_decision s true x y hx hy = hx
+either_decision s false x y hx hy = hy
 
 -- ## Chains that gave something
 
@@ -248,25 +256,25 @@ adds_cut : (s : State) (b : Bool) (object : ℕ) → AddsNone s (truncated s obj
 adds_cut s true object = adds_content s s object (File []) refl (adds_none s)
 adds_cut s false object = adds_none s
 
-by_there : (s : State) (comps : List (List ℕ)) (node : Node) (access : Access) (flags : OpenFlags) → IsPlain s → node_at s.paths comps ≡ Some node → AddsBy s (open_there s node access flags)
+by_there : (s : State) (comps : List (List ℕ)) (node : Node) (access : Access) (flags : OpenFlags) → IsPlain s → node_at s.paths comps ≡ Some node → AddsBy s (does_of (open_there s node access flags))
 by_there s comps Directory access flags h is = record { it = tt }
 by_there s comps (FileNode object) access flags h is =
-    chain s (some_or (lowest_free s) EMFILE) _ (λ n _. record { it = adds_opened s (truncated s object flags.truncate) n object part.Only access flags.append flags.nonblock (λ d at. no_door s comps object d h is at) (adds_cut s flags.truncate object) })
+    decides s (some_or (lowest_free s) EMFILE) _ (λ n _. record { it = adds_opened s (truncated s object flags.truncate) n object part.Only access flags.append flags.nonblock (λ d at. no_door s comps object d h is at) (adds_cut s flags.truncate object) })
 
-by_node : (s : State) (comps : List (List ℕ)) (o : Option Node) (access : Access) (flags : OpenFlags) → IsPlain s → node_at s.paths comps ≡ o → AddsBy s (open_node s comps o access flags)
+by_node : (s : State) (comps : List (List ℕ)) (o : Option Node) (access : Access) (flags : OpenFlags) → IsPlain s → node_at s.paths comps ≡ o → AddsBy s (does_of (open_node s comps o access flags))
 by_node s comps None access flags h is =
-    chain s (refuse_if (not flags.create) ENOENT) _ (λ _ _. chain s (refuse_if (nat_le limit.NAMES (fin.len s.paths) || nat_le limit.OBJECTS (fin.len s.objects)) ENOSPC) _ (λ _ _. chain s (some_or (lowest_free s) EMFILE) _ (λ n _.
+    decides s (refuse_if (not flags.create) ENOENT) _ (λ _ _. decides s (refuse_if (nat_le limit.NAMES (fin.len s.paths) || nat_le limit.OBJECTS (fin.len s.objects)) ENOSPC) _ (λ _ _. decides s (some_or (lowest_free s) EMFILE) _ (λ n _.
     record { it = adds_opened s (with_file s comps) n s.next_object part.Only access flags.append flags.nonblock (λ d. fresh s d h) (adds_file s comps) })))
-by_node s comps (Some node) access flags h is = chain s (refuse_if (flags.create && flags.exclusive) EEXIST) _ (λ _ _. by_there s comps node access flags h is)
+by_node s comps (Some node) access flags h is = decides s (refuse_if (flags.create && flags.exclusive) EEXIST) _ (λ _ _. by_there s comps node access flags h is)
 
-by_open : (s : State) (path : List ℕ) (access : Access) (flags : OpenFlags) → IsPlain s → AddsBy s (open_result s path access flags)
+by_open : (s : State) (path : List ℕ) (access : Access) (flags : OpenFlags) → IsPlain s → AddsBy s (does_of (open_result s path access flags))
 unfolding open_result
-by_open s path access flags h = chain s (refuse_if (flags.truncate && not (can_write access)) EINVAL) _ (λ _ _. chain s (resolved s.paths path) _ (λ comps _. by_node s comps (node_at s.paths comps) access flags h refl))
+by_open s path access flags h = decides s (refuse_if (flags.truncate && not (can_write access)) EINVAL) _ (λ _ _. decides s (resolved s.paths path) _ (λ comps _. by_node s comps (node_at s.paths comps) access flags h refl))
 
-by_close : (s : State) (descriptor : ℤ) → AddsBy s (close_result s descriptor)
+by_close : (s : State) (descriptor : ℤ) → AddsBy s (does_of (close_result s descriptor))
 unfolding close_result
 by_close s descriptor =
-    chain s (described s descriptor) _ (λ found _.
+    decides s (described s descriptor) _ (λ found _.
     let after = released (freed s descriptor) found.0 found.1 in
     let adds = adds_released s (freed s descriptor) found.0 found.1 (adds_freed s descriptor) in
     either_effect s (ends_door s descriptor found) (asks_of after kind.Close 0 false (λ value bytes. reply.Done)) (Completes after reply.Done) (record { it = adds }) (record { it = adds }))
@@ -276,73 +284,79 @@ by_reading s d content (Reads bytes left) plain = record { it = adds_content s s
 by_reading s d content Ends plain = record { it = adds_none s }
 by_reading s d content NothingYet plain = either s d.nonblock _ _ (record { it = tt }) (record { it = tt })
 
-by_read_content : (s : State) (key : ℕ) (d : Description) (n : ℕ) (c : Content) → fin.get s.descriptions key ≡ Some d → AddsBy s (read_content s key d n c)
+by_read_content : (s : State) (key : ℕ) (d : Description) (n : ℕ) (c : Content) → fin.get s.descriptions key ≡ Some d → AddsBy s (does_of (Ok (read_content s key d n c)))
 by_read_content s key d n (File file) there = record { it = adds_own s key d _ there refl }
-by_read_content s key d n (Pipe bytes) there = either s (n == 0) _ _ (record { it = adds_none s }) (by_reading s d Pipe _ (λ left. refl))
-by_read_content s key d n (Pair p) there = either s (n == 0) _ _ (record { it = adds_none s }) (by_reading s d _ _ (λ left. refl))
-by_read_content s key d n (DoorTo x) there = either_effect s (n == 0) _ _ (record { it = adds_none s }) (record { it = adds_none s })
+by_read_content s key d n (Pipe bytes) there = either_decision s (n == 0) _ _ (record { it = adds_none s }) (by_reading s d Pipe _ (λ left. refl))
+by_read_content s key d n (Pair p) there = either_decision s (n == 0) _ _ (record { it = adds_none s }) (by_reading s d _ _ (λ left. refl))
+by_read_content s key d n (DoorTo x) there = either_decision s (n == 0) _ _ (record { it = adds_none s }) (record { it = adds_none s })
 
-by_read : (s : State) (descriptor count : ℤ) → AddsBy s (read_result s descriptor count)
+by_read : (s : State) (descriptor count : ℤ) → AddsBy s (does_of (read_result s descriptor count))
 unfolding read_result
-by_read s descriptor count = chain s (readable s descriptor) _ (λ found is. chain s (count_of count) _ (λ n _. by_read_content s found.0 found.1 n (content_of s (let d = found.1 in d.object)) (is_described s descriptor found (readable_described s descriptor found is).0)))
+by_read s descriptor count = decides s (readable s descriptor) _ (λ found is. decides s (count_of count) _ (λ n _. by_read_content s found.0 found.1 n (content_of s (let d = found.1 in d.object)) (is_described s descriptor found (readable_described s descriptor found is).0)))
 
 by_writing : (s : State) (d : Description) (n : ℕ) (content : List ℕ → Content) (writing : Writing) → ((left : List ℕ) → is_door (content left) ≡ false) → AddsBy s (write_done s d n content writing)
 by_writing s d n content (Writes left) plain = record { it = adds_content s s d.object (content left) (plain left) (adds_none s) }
 by_writing s d n content Breaks plain = record { it = tt }
 by_writing s d n content NoRoom plain = either s d.nonblock _ _ (record { it = tt }) (record { it = tt })
 
-by_write_content : (s : State) (key : ℕ) (d : Description) (bytes : List ℕ) (c : Content) → fin.get s.descriptions key ≡ Some d → AddsBy s (write_content s key d bytes c)
-by_write_content s key d bytes (File file) there = chain s (written file (start_of d file) bytes) _ (λ w _. record { it = adds_content s _ d.object (File w.0) refl (adds_own s key d _ there refl) })
-by_write_content s key d bytes (Pipe waiting) there = by_writing s d _ Pipe _ (λ left. refl)
-by_write_content s key d bytes (Pair p) there = by_writing s d _ _ _ (λ left. refl)
-by_write_content s key d bytes (DoorTo x) there = record { it = adds_none s }
+by_write_content : (s : State) (key : ℕ) (d : Description) (bytes : List ℕ) (c : Content) → fin.get s.descriptions key ≡ Some d → AddsBy s (does_of (Ok (write_content s key d bytes c)))
+by_write_content s key d bytes (File file) there = either s (length bytes == 0) _ _ (record { it = adds_none s }) (chain s (written file (start_of d file) bytes) _ (λ w _. record { it = adds_content s _ d.object (File w.0) refl (adds_own s key d _ there refl) }))
+by_write_content s key d bytes (Pipe waiting) there = either_decision s (length bytes == 0) _ _ (record { it = adds_none s }) (by_writing s d _ Pipe _ (λ left. refl))
+by_write_content s key d bytes (Pair p) there = either_decision s (length bytes == 0) _ _ (record { it = adds_none s }) (by_writing s d _ _ _ (λ left. refl))
+by_write_content s key d bytes (DoorTo x) there = either_decision s (length bytes == 0) _ _ (record { it = adds_none s }) (record { it = adds_none s })
 
-by_write : (s : State) (descriptor : ℤ) (bytes : List ℕ) → AddsBy s (write_result s descriptor bytes)
+by_write : (s : State) (descriptor : ℤ) (bytes : List ℕ) → AddsBy s (does_of (write_result s descriptor bytes))
 unfolding write_result
 by_write s descriptor bytes =
-    chain s (writable s descriptor bytes) _ (λ found is. either s (length bytes == 0) _ _ (record { it = adds_none s }) (by_write_content s found.0 found.1 bytes (content_of s (let d = found.1 in d.object)) (is_described s descriptor found (writable_described s descriptor bytes found is).0)))
+    decides s (writable s descriptor bytes) _ (λ found is. by_write_content s found.0 found.1 bytes (content_of s (let d = found.1 in d.object)) (is_described s descriptor found (writable_described s descriptor bytes found is).0))
 
-by_pread : (s : State) (descriptor count position : ℤ) → AddsBy s (pread_result s descriptor count position)
+by_pread : (s : State) (descriptor count position : ℤ) → AddsBy s (does_of (pread_result s descriptor count position))
 unfolding pread_result
 by_pread s descriptor count position =
-    chain s (described s descriptor) _ (λ found _. chain s (file_in (content_of s (let d = found.1 in d.object)) ESPIPE) _ (λ _ _. chain s (refuse_if (not (can_read (let d = found.1 in d.access))) EBADF) _ (λ _ _. chain s (count_of count) _ (λ _ _. chain s (position_of position) _ (λ _ _. record { it = adds_none s })))))
+    decides s (described s descriptor) _ (λ found _. decides s (file_in (content_of s (let d = found.1 in d.object)) ESPIPE) _ (λ _ _. decides s (refuse_if (not (can_read (let d = found.1 in d.access))) EBADF) _ (λ _ _. decides s (count_of count) _ (λ _ _. decides s (position_of position) _ (λ _ _. record { it = adds_none s })))))
 
-by_pwrite : (s : State) (descriptor : ℤ) (bytes : List ℕ) (position : ℤ) → AddsBy s (pwrite_result s descriptor bytes position)
+by_pwrite : (s : State) (descriptor : ℤ) (bytes : List ℕ) (position : ℤ) → AddsBy s (does_of (pwrite_result s descriptor bytes position))
 unfolding pwrite_result
 by_pwrite s descriptor bytes position =
-    chain s (described s descriptor) _ (λ found _. let d = found.1 in
-    chain s (file_in (content_of s d.object) ESPIPE) _ (λ file _. chain s (refuse_if (not (can_write d.access)) EBADF) _ (λ _ _. chain s (refuse_if (nat_lt limit.COUNT (length bytes)) EINVAL) _ (λ _ _. chain s (position_of position) _ (λ start _.
+    decides s (described s descriptor) _ (λ found _. let d = found.1 in
+    decides s (file_in (content_of s d.object) ESPIPE) _ (λ file _. decides s (refuse_if (not (can_write d.access)) EBADF) _ (λ _ _. decides s (refuse_if (nat_lt limit.COUNT (length bytes)) EINVAL) _ (λ _ _. decides s (position_of position) _ (λ start _.
     either s (length bytes == 0) _ _ (record { it = adds_none s }) (chain s (written file start bytes) _ (λ w _. record { it = adds_content s s d.object (File w.0) refl (adds_none s) })))))))
 
 by_seek : (s : State) (key : ℕ) (d : Description) (offset : ℤ) (from : Whence) (c : Content) → fin.get s.descriptions key ≡ Some d → AddsBy s (seek_content s key d offset from c)
 by_seek s key d offset from (File file) there = chain s (offset_of (pos (base_of from d.offset (length file)) +ℤ offset)) _ (λ to _. record { it = adds_own s key d _ there refl })
-by_seek s key d offset from (DoorTo door.HostFile) there = chain s (host_offset offset from) _ (λ _ _. record { it = adds_none s })
-by_seek s key d offset from (DoorTo (door.Listener port)) there = record { it = tt }
-by_seek s key d offset from (DoorTo door.Stream) there = record { it = tt }
-by_seek s key d offset from (Pipe bytes) there = record { it = tt }
-by_seek s key d offset from (Pair p) there = record { it = tt }
+by_seek s key d offset from (DoorTo x) there = record { it = adds_none s }
+by_seek s key d offset from (Pipe bytes) there = record { it = adds_none s }
+by_seek s key d offset from (Pair p) there = record { it = adds_none s }
 
-by_lseek : (s : State) (descriptor offset : ℤ) (from : Whence) → AddsBy s (lseek_result s descriptor offset from)
+by_lseek : (s : State) (descriptor offset : ℤ) (from : Whence) → AddsBy s (does_of (lseek_result s descriptor offset from))
 unfolding lseek_result
-by_lseek s descriptor offset from = chain s (described s descriptor) _ (λ found is. by_seek s found.0 found.1 offset from (content_of s (let d = found.1 in d.object)) (is_described s descriptor found is))
+by_lseek s descriptor offset from =
+    decides s (described s descriptor) _ (λ found is. let d = found.1 in
+    decides s (seekable (content_of s d.object) offset from) _ (λ _ _. by_seek s found.0 d offset from (content_of s d.object) (is_described s descriptor found is)))
 
-by_ftruncate : (s : State) (descriptor size : ℤ) → AddsBy s (ftruncate_result s descriptor size)
+by_ftruncate : (s : State) (descriptor size : ℤ) → AddsBy s (does_of (ftruncate_result s descriptor size))
 unfolding ftruncate_result
 by_ftruncate s descriptor size =
-    chain s (described s descriptor) _ (λ found _. let d = found.1 in
-    chain s (refuse_if (not (can_write d.access)) EINVAL) _ (λ _ _. chain s (file_in (content_of s d.object) EINVAL) _ (λ file _. chain s (size_of size) _ (λ n _. record { it = adds_content s s d.object (File (resized file n)) refl (adds_none s) }))))
+    decides s (described s descriptor) _ (λ found _. let d = found.1 in
+    decides s (refuse_if (not (can_write d.access)) EINVAL) _ (λ _ _. decides s (file_in (content_of s d.object) EINVAL) _ (λ file _. decides s (size_of size) _ (λ n _. record { it = adds_content s s d.object (File (resized file n)) refl (adds_none s) }))))
 
-by_fstat : (s : State) (descriptor : ℤ) → AddsBy s (fstat_result s descriptor)
+by_stat : (s : State) (object : ℕ) (c : Content) → AddsBy s (does_of (Ok (stat_content s object c)))
+by_stat s object (File file) = record { it = adds_none s }
+by_stat s object (Pipe bytes) = record { it = adds_none s }
+by_stat s object (Pair p) = record { it = adds_none s }
+by_stat s object (DoorTo x) = record { it = adds_none s }
+
+by_fstat : (s : State) (descriptor : ℤ) → AddsBy s (does_of (fstat_result s descriptor))
 unfolding fstat_result
-by_fstat s descriptor = chain s (described s descriptor) _ (λ _ _. record { it = adds_none s })
+by_fstat s descriptor = decides s (described s descriptor) _ (λ found _. let d = found.1 in by_stat s d.object (content_of s d.object))
 
-by_dup : (s : State) (descriptor : ℤ) → AddsBy s (dup_result s descriptor)
+by_dup : (s : State) (descriptor : ℤ) → AddsBy s (does_of (dup_result s descriptor))
 unfolding dup_result
-by_dup s descriptor = chain s (described s descriptor) _ (λ found _. chain s (some_or (lowest_free s) EMFILE) _ (λ n _. record { it = adds_same s (shared s n found.0) refl refl }))
+by_dup s descriptor = decides s (described s descriptor) _ (λ found _. decides s (some_or (lowest_free s) EMFILE) _ (λ n _. record { it = adds_same s (shared s n found.0) refl refl }))
 
-by_dup_from : (s : State) (descriptor least : ℤ) → AddsBy s (dup_from_result s descriptor least)
+by_dup_from : (s : State) (descriptor least : ℤ) → AddsBy s (does_of (dup_from_result s descriptor least))
 unfolding dup_from_result
-by_dup_from s descriptor least = chain s (described s descriptor) _ (λ found _. chain s (descriptor_number least EINVAL) _ (λ first _. chain s (some_or (lowest_from s (limit.DESCRIPTORS - first) first) EMFILE) _ (λ n _. record { it = adds_same s (shared s n found.0) refl refl })))
+by_dup_from s descriptor least = decides s (described s descriptor) _ (λ found _. decides s (descriptor_number least EINVAL) _ (λ first _. decides s (some_or (lowest_from s (limit.DESCRIPTORS - first) first) EMFILE) _ (λ n _. record { it = adds_same s (shared s n found.0) refl refl })))
 
 adds_closed : (s : State) (target : ℤ) (r : Result (ℕ × Description) Errno) → AddsNone s (closed s target r)
 adds_closed s target (Ok found) = adds_released s (freed s target) found.0 found.1 (adds_freed s target)
@@ -351,46 +365,47 @@ adds_closed s target (Err e) = adds_none s
 adds_shared : (s base : State) (n key : ℕ) → AddsNone s base → AddsNone s (shared base n key)
 adds_shared s base n key h = record { objects = h.objects; descriptions = h.descriptions }
 
-by_dup2 : (s : State) (descriptor target : ℤ) → AddsBy s (dup2_result s descriptor target)
+by_dup2 : (s : State) (descriptor target : ℤ) → AddsBy s (does_of (dup2_result s descriptor target))
 unfolding dup2_result
 by_dup2 s descriptor target =
-    chain s (described s descriptor) _ (λ found _. chain s (descriptor_number target EBADF) _ (λ n _. chain s (refuse_if (not (int_eq descriptor target) && ends_a_door s target (described s target)) EBUSY) _ (λ _ _.
-    record { it = adds_if s (int_eq descriptor target) s (shared (closed s target (described s target)) n found.0) (adds_none s) (adds_shared s (closed s target (described s target)) n found.0 (adds_closed s target (described s target))) })))
+    decides s (described s descriptor) _ (λ found _. decides s (descriptor_number target EBADF) _ (λ n _. decides s (refuse_if (not (int_eq descriptor target) && ends_a_door s target (described s target)) EBUSY) _ (λ _ _.
+    either_decision s (int_eq descriptor target) _ _ (record { it = adds_none s })
+    (record { it = adds_shared s (closed s target (described s target)) n found.0 (adds_closed s target (described s target)) }))))
 
-by_getfl : (s : State) (descriptor : ℤ) → AddsBy s (getfl_result s descriptor)
+by_getfl : (s : State) (descriptor : ℤ) → AddsBy s (does_of (getfl_result s descriptor))
 unfolding getfl_result
-by_getfl s descriptor = chain s (described s descriptor) _ (λ _ _. record { it = adds_none s })
+by_getfl s descriptor = decides s (described s descriptor) _ (λ _ _. record { it = adds_none s })
 
-by_setfl : (s : State) (descriptor : ℤ) (append nonblock : Bool) → AddsBy s (setfl_result s descriptor append nonblock)
+by_setfl : (s : State) (descriptor : ℤ) (append nonblock : Bool) → AddsBy s (does_of (setfl_result s descriptor append nonblock))
 unfolding setfl_result
-by_setfl s descriptor append nonblock = chain s (described s descriptor) _ (λ found is. record { it = adds_own s found.0 found.1 (record found.1 { append = append; nonblock = nonblock }) (is_described s descriptor found is) refl })
+by_setfl s descriptor append nonblock = decides s (described s descriptor) _ (λ found is. record { it = adds_own s found.0 found.1 (record found.1 { append = append; nonblock = nonblock }) (is_described s descriptor found is) refl })
 
-by_link : (s : State) (old_path new_path : List ℕ) → AddsBy s (link_result s old_path new_path)
+by_link : (s : State) (old_path new_path : List ℕ) → AddsBy s (does_of (link_result s old_path new_path))
 unfolding link_result
-by_link s old_path new_path = chain s (file_named s.paths old_path) _ (λ object _. chain s (added s.paths new_path (FileNode object)) _ (λ paths _. record { it = adds_same s (with_paths s paths) refl refl }))
+by_link s old_path new_path = decides s (file_named s.paths old_path) _ (λ object _. decides s (added s.paths new_path (FileNode object)) _ (λ paths _. record { it = adds_same s (with_paths s paths) refl refl }))
 
-by_unlink : (s : State) (path : List ℕ) → AddsBy s (unlink_result s path)
+by_unlink : (s : State) (path : List ℕ) → AddsBy s (does_of (unlink_result s path))
 unfolding unlink_result
-by_unlink s path = chain s (removed s.paths path) _ (λ without _. record { it = adds_unused s (with_paths s without.0) without.1 (adds_same s (with_paths s without.0) refl refl) })
+by_unlink s path = decides s (removed s.paths path) _ (λ without _. record { it = adds_unused s (with_paths s without.0) without.1 (adds_same s (with_paths s without.0) refl refl) })
 
-by_mkdir : (s : State) (path : List ℕ) → AddsBy s (mkdir_result s path)
+by_mkdir : (s : State) (path : List ℕ) → AddsBy s (does_of (mkdir_result s path))
 unfolding mkdir_result
-by_mkdir s path = chain s (added s.paths path Directory) _ (λ paths _. record { it = adds_same s (with_paths s paths) refl refl })
+by_mkdir s path = decides s (added s.paths path Directory) _ (λ paths _. record { it = adds_same s (with_paths s paths) refl refl })
 
-by_rmdir : (s : State) (path : List ℕ) → AddsBy s (rmdir_result s path)
+by_rmdir : (s : State) (path : List ℕ) → AddsBy s (does_of (rmdir_result s path))
 unfolding rmdir_result
-by_rmdir s path = chain s (removed_dir s.paths path) _ (λ paths _. record { it = adds_same s (with_paths s paths) refl refl })
+by_rmdir s path = decides s (removed_dir s.paths path) _ (λ paths _. record { it = adds_same s (with_paths s paths) refl refl })
 
-by_two_ends : (s : State) (c : Content) (one other : NewEnd) → IsPlain s → is_door c ≡ false → AddsBy s (two_ends s c one other)
+by_two_ends : (s : State) (c : Content) (one other : NewEnd) → IsPlain s → is_door c ≡ false → AddsBy s (does_of (two_ends s c one other))
 by_two_ends s c one other h plain =
-    chain s (two_numbers s) _ (λ numbers _. chain s (refuse_if (nat_le limit.OBJECTS (fin.len s.objects)) ENFILE) _ (λ _ _.
+    decides s (two_numbers s) _ (λ numbers _. decides s (refuse_if (nat_le limit.OBJECTS (fin.len s.objects)) ENFILE) _ (λ _ _.
     record { it = adds_opened s (opened (with_object s c) numbers.0 s.next_object one.which one.access false false) numbers.1 s.next_object other.which other.access false false (λ d. fresh s d h) (adds_opened s (with_object s c) numbers.0 s.next_object one.which one.access false false (λ d. fresh s d h) (adds_object s c plain)) }))
 
-by_pipe : (s : State) → IsPlain s → AddsBy s (pipe_result s)
+by_pipe : (s : State) → IsPlain s → AddsBy s (does_of (pipe_result s))
 unfolding pipe_result
 by_pipe s h = by_two_ends s (Pipe []) _ _ h refl
 
-by_socketpair : (s : State) → IsPlain s → AddsBy s (socketpair_result s)
+by_socketpair : (s : State) → IsPlain s → AddsBy s (does_of (socketpair_result s))
 unfolding socketpair_result
 by_socketpair s h = by_two_ends s (Pair new_pair) _ _ h refl
 
@@ -400,28 +415,28 @@ by_shut s d how (File bytes) = record { it = adds_none s }
 by_shut s d how (Pipe bytes) = record { it = adds_none s }
 by_shut s d how (DoorTo x) = record { it = adds_none s }
 
-by_shutdown : (s : State) (descriptor : ℤ) (how : ShutdownHow) → AddsBy s (shutdown_result s descriptor how)
+by_shutdown : (s : State) (descriptor : ℤ) (how : ShutdownHow) → AddsBy s (does_of (shutdown_result s descriptor how))
 unfolding shutdown_result
-by_shutdown s descriptor how = chain s (described s descriptor) _ (λ found _. let d = found.1 in chain s (shuttable (content_of s d.object)) _ (λ _ _. by_shut s d how (content_of s d.object)))
+by_shutdown s descriptor how = decides s (described s descriptor) _ (λ found _. let d = found.1 in decides s (shuttable (content_of s d.object)) _ (λ _ _. by_shut s d how (content_of s d.object)))
 
-by_opens : (s : State) (o : NewDoor) → AddsBy s (opens s o)
-by_opens s o = chain s (some_or (lowest_free s) EMFILE) _ (λ _ _. chain s (refuse_if (nat_le limit.OBJECTS (fin.len s.objects)) ENFILE) _ (λ _ _. record { it = adds_none s }))
+by_opens : (s : State) (o : NewDoor) → AddsBy s (does_of (opens s o))
+by_opens s o = decides s (some_or (lowest_free s) EMFILE) _ (λ _ _. decides s (refuse_if (nat_le limit.OBJECTS (fin.len s.objects)) ENFILE) _ (λ _ _. record { it = adds_none s }))
 
-by_host_open : (s : State) (path : List ℕ) (access : Access) (flags : OpenFlags) → AddsBy s (host_open_result s path access flags)
+by_host_open : (s : State) (path : List ℕ) (access : Access) (flags : OpenFlags) → AddsBy s (does_of (host_open_result s path access flags))
 unfolding host_open_result
-by_host_open s path access flags = chain s (refuse_if (flags.truncate && not (can_write access)) EINVAL) _ (λ _ _. chain s (host_path path) _ (λ _ _. by_opens s _))
+by_host_open s path access flags = decides s (refuse_if (flags.truncate && not (can_write access)) EINVAL) _ (λ _ _. decides s (host_path path) _ (λ _ _. by_opens s _))
 
-by_listen : (s : State) (port : ℤ) → AddsBy s (tcp_listen_result s port)
+by_listen : (s : State) (port : ℤ) → AddsBy s (does_of (tcp_listen_result s port))
 unfolding tcp_listen_result
-by_listen s port = chain s (port_of 0 port) _ (λ _ _. by_opens s _)
+by_listen s port = decides s (port_of 0 port) _ (λ _ _. by_opens s _)
 
-by_connect : (s : State) (port : ℤ) → AddsBy s (tcp_connect_result s port)
+by_connect : (s : State) (port : ℤ) → AddsBy s (does_of (tcp_connect_result s port))
 unfolding tcp_connect_result
-by_connect s port = chain s (port_of 1 port) _ (λ _ _. by_opens s _)
+by_connect s port = decides s (port_of 1 port) _ (λ _ _. by_opens s _)
 
-by_accept : (s : State) (descriptor : ℤ) → AddsBy s (tcp_accept_result s descriptor)
+by_accept : (s : State) (descriptor : ℤ) → AddsBy s (does_of (tcp_accept_result s descriptor))
 unfolding tcp_accept_result
-by_accept s descriptor = chain s (described s descriptor) _ (λ found _. chain s (listener_in (content_of s (let d = found.1 in d.object))) _ (λ _ _. by_opens s _))
+by_accept s descriptor = decides s (described s descriptor) _ (λ found _. decides s (listener_in (content_of s (let d = found.1 in d.object))) _ (λ _ _. by_opens s _))
 
 by_call : (s : State) (c : Call) (carried : Carried) → IsPlain s → AddsBy s (effect_of s c carried)
 by_call s (call.Open path access flags) carried h = by_open s path access flags h

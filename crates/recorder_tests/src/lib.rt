@@ -1,5 +1,5 @@
 //! The tests of recorded runs, over outsides that are lists of outcomes; of replays by threads, of runs that were recorded and of logs that are
-//! written down here; and of `comparator`.
+//! written down here; of runs in which something goes wrong (`hostile`); and of `comparator`.
 #![tactic(auto)]
 
 #[cfg(test)]
@@ -8,6 +8,8 @@ mod comparisons;
 mod full_clock;
 #[cfg(test)]
 mod generated;
+#[cfg(test)]
+mod hostile;
 #[cfg(test)]
 mod outcomes;
 #[cfg(test)]

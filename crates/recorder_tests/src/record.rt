@@ -26,7 +26,7 @@ impl Run<'_> {
 }
 
 // A script that is good, or there is no memory for it.
-fn script(alloc: Global, text: &[u8]) -> Result<Script, AllocError> {
+pub(crate) fn script(alloc: Global, text: &[u8]) -> Result<Script, AllocError> {
     match parse(alloc, text) {
         Ok(script) => Ok(script),
         Err(_) => Err(AllocError),

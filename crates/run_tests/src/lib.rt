@@ -23,5 +23,3 @@ mod refused_memory;
 mod replays;
 #[cfg(test)]
 mod seen;
-#[cfg(test)]
-mod slow_table;

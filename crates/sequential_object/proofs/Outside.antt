@@ -5,7 +5,7 @@ use Rattle.std.specs.Prelude.{IfOk, ◌+◌, if◌then◌else◌, is_some, nat_l
 use Rattle.sequential_object.specs.Descriptors.{open_result, close_result}
 use Rattle.sequential_object.specs.Doors.{host_open_result, tcp_accept_result, tcp_connect_result, tcp_listen_result}
 use Rattle.sequential_object.specs.Duplicates.{dup_result, dup_from_result, dup2_result}
-use Rattle.sequential_object.specs.Effects.{Effect, Asks, Blocks, Completes}
+use Rattle.sequential_object.specs.Effects.{Blocks, Asks, Completes, Effect, does_of}
 use Rattle.sequential_object.specs.Locked.{keeps_table, locked_object, locks_door}
 use Rattle.sequential_object.specs.Names.{link_result, unlink_result, mkdir_result, rmdir_result}
 use Rattle.sequential_object.specs.Object.{State}
@@ -217,87 +217,87 @@ IsSteady s (Completes after r) = Unit {0}
 IsSteady s Blocks = Unit {0}
 IsSteady s (Asks a) = ((value : ℕ) (bytes : List ℕ) → (a.succeeds value bytes).0 ≡ a.otherwise) × (a.waits ≡ true → a.otherwise ≡ s)
 
-steady-open : (s : State) (path : List ℕ) (access : Access) (flags : OpenFlags) → IfOk (open_result s path access flags) (IsSteady s)
+steady-open : (s : State) (path : List ℕ) (access : Access) (flags : OpenFlags) → IfOk (does_of (open_result s path access flags)) (IsSteady s)
 unfolding open_result
 steady-open s path access flags = grind arith
 
-steady-close : (s : State) (descriptor : ℤ) → IfOk (close_result s descriptor) (IsSteady s)
+steady-close : (s : State) (descriptor : ℤ) → IfOk (does_of (close_result s descriptor)) (IsSteady s)
 unfolding close_result
 steady-close s descriptor = grind arith
 
-steady-read : (s : State) (descriptor count : ℤ) → IfOk (read_result s descriptor count) (IsSteady s)
+steady-read : (s : State) (descriptor count : ℤ) → IfOk (does_of (read_result s descriptor count)) (IsSteady s)
 unfolding read_result
 steady-read s descriptor count = grind arith
 
-steady-write : (s : State) (descriptor : ℤ) (bytes : List ℕ) → IfOk (write_result s descriptor bytes) (IsSteady s)
+steady-write : (s : State) (descriptor : ℤ) (bytes : List ℕ) → IfOk (does_of (write_result s descriptor bytes)) (IsSteady s)
 unfolding write_result
 steady-write s descriptor bytes = grind arith
 
-steady-pread : (s : State) (descriptor count position : ℤ) → IfOk (pread_result s descriptor count position) (IsSteady s)
+steady-pread : (s : State) (descriptor count position : ℤ) → IfOk (does_of (pread_result s descriptor count position)) (IsSteady s)
 unfolding pread_result
 steady-pread s descriptor count position = grind arith
 
-steady-pwrite : (s : State) (descriptor : ℤ) (bytes : List ℕ) (position : ℤ) → IfOk (pwrite_result s descriptor bytes position) (IsSteady s)
+steady-pwrite : (s : State) (descriptor : ℤ) (bytes : List ℕ) (position : ℤ) → IfOk (does_of (pwrite_result s descriptor bytes position)) (IsSteady s)
 unfolding pwrite_result
 steady-pwrite s descriptor bytes position = grind arith
 
-steady-lseek : (s : State) (descriptor offset : ℤ) (whence : Whence) → IfOk (lseek_result s descriptor offset whence) (IsSteady s)
+steady-lseek : (s : State) (descriptor offset : ℤ) (whence : Whence) → IfOk (does_of (lseek_result s descriptor offset whence)) (IsSteady s)
 unfolding lseek_result
 steady-lseek s descriptor offset whence = grind arith
 
-steady-ftruncate : (s : State) (descriptor size : ℤ) → IfOk (ftruncate_result s descriptor size) (IsSteady s)
+steady-ftruncate : (s : State) (descriptor size : ℤ) → IfOk (does_of (ftruncate_result s descriptor size)) (IsSteady s)
 unfolding ftruncate_result
 steady-ftruncate s descriptor size = grind arith
 
-steady-fstat : (s : State) (descriptor : ℤ) → IfOk (fstat_result s descriptor) (IsSteady s)
+steady-fstat : (s : State) (descriptor : ℤ) → IfOk (does_of (fstat_result s descriptor)) (IsSteady s)
 unfolding fstat_result
 steady-fstat s descriptor = grind arith
 
-steady-dup : (s : State) (descriptor : ℤ) → IfOk (dup_result s descriptor) (IsSteady s)
+steady-dup : (s : State) (descriptor : ℤ) → IfOk (does_of (dup_result s descriptor)) (IsSteady s)
 unfolding dup_result
 steady-dup s descriptor = grind arith
 
-steady-dup_from : (s : State) (descriptor least : ℤ) → IfOk (dup_from_result s descriptor least) (IsSteady s)
+steady-dup_from : (s : State) (descriptor least : ℤ) → IfOk (does_of (dup_from_result s descriptor least)) (IsSteady s)
 unfolding dup_from_result
 steady-dup_from s descriptor least = grind arith
 
-steady-dup2 : (s : State) (descriptor target : ℤ) → IfOk (dup2_result s descriptor target) (IsSteady s)
+steady-dup2 : (s : State) (descriptor target : ℤ) → IfOk (does_of (dup2_result s descriptor target)) (IsSteady s)
 unfolding dup2_result
 steady-dup2 s descriptor target = grind arith
 
-steady-getfl : (s : State) (descriptor : ℤ) → IfOk (getfl_result s descriptor) (IsSteady s)
+steady-getfl : (s : State) (descriptor : ℤ) → IfOk (does_of (getfl_result s descriptor)) (IsSteady s)
 unfolding getfl_result
 steady-getfl s descriptor = grind arith
 
-steady-setfl : (s : State) (descriptor : ℤ) (append nonblock : Bool) → IfOk (setfl_result s descriptor append nonblock) (IsSteady s)
+steady-setfl : (s : State) (descriptor : ℤ) (append nonblock : Bool) → IfOk (does_of (setfl_result s descriptor append nonblock)) (IsSteady s)
 unfolding setfl_result
 steady-setfl s descriptor append nonblock = grind arith
 
-steady-link : (s : State) (old_path new_path : List ℕ) → IfOk (link_result s old_path new_path) (IsSteady s)
+steady-link : (s : State) (old_path new_path : List ℕ) → IfOk (does_of (link_result s old_path new_path)) (IsSteady s)
 unfolding link_result
 steady-link s old_path new_path = grind arith
 
-steady-unlink : (s : State) (path : List ℕ) → IfOk (unlink_result s path) (IsSteady s)
+steady-unlink : (s : State) (path : List ℕ) → IfOk (does_of (unlink_result s path)) (IsSteady s)
 unfolding unlink_result
 steady-unlink s path = grind arith
 
-steady-mkdir : (s : State) (path : List ℕ) → IfOk (mkdir_result s path) (IsSteady s)
+steady-mkdir : (s : State) (path : List ℕ) → IfOk (does_of (mkdir_result s path)) (IsSteady s)
 unfolding mkdir_result
 steady-mkdir s path = grind arith
 
-steady-rmdir : (s : State) (path : List ℕ) → IfOk (rmdir_result s path) (IsSteady s)
+steady-rmdir : (s : State) (path : List ℕ) → IfOk (does_of (rmdir_result s path)) (IsSteady s)
 unfolding rmdir_result
 steady-rmdir s path = grind arith
 
-steady-pipe : (s : State) → IfOk (pipe_result s) (IsSteady s)
+steady-pipe : (s : State) → IfOk (does_of (pipe_result s)) (IsSteady s)
 unfolding pipe_result
 steady-pipe s = grind arith
 
-steady-socketpair : (s : State) → IfOk (socketpair_result s) (IsSteady s)
+steady-socketpair : (s : State) → IfOk (does_of (socketpair_result s)) (IsSteady s)
 unfolding socketpair_result
 steady-socketpair s = grind arith
 
-steady-shutdown : (s : State) (descriptor : ℤ) (how : ShutdownHow) → IfOk (shutdown_result s descriptor how) (IsSteady s)
+steady-shutdown : (s : State) (descriptor : ℤ) (how : ShutdownHow) → IfOk (does_of (shutdown_result s descriptor how)) (IsSteady s)
 unfolding shutdown_result
 steady-shutdown s descriptor how = grind arith
 

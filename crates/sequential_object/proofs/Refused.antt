@@ -5,7 +5,7 @@ use Rattle.std.specs.Prelude.{IfOk, ◌+◌, if◌then◌else◌, is_some, nat_l
 use Rattle.sequential_object.specs.Descriptors.{open_result, close_result}
 use Rattle.sequential_object.specs.Duplicates.{dup_result, dup_from_result, dup2_result}
 use Rattle.sequential_object.specs.Doors.{host_open_result, tcp_accept_result, tcp_connect_result, tcp_listen_result}
-use Rattle.sequential_object.specs.Effects.{Effect, Asks, Blocks, Completes}
+use Rattle.sequential_object.specs.Effects.{Blocks, Asks, Completes, Effect, does_of}
 use Rattle.sequential_object.specs.Names.{link_result, unlink_result, mkdir_result, rmdir_result}
 use Rattle.sequential_object.specs.Object.{State}
 use Rattle.sequential_object.specs.Status.{fstat_result, getfl_result, setfl_result}
@@ -37,7 +37,7 @@ IsGranted s (Completes after r) = is_failure r ≡ false
 IsGranted s Blocks = Unit {0}
 IsGranted s (Asks a) = ((value : ℕ) (bytes : List ℕ) → is_failure (a.succeeds value bytes).1 ≡ false) × (a.otherwise ≡ s)
 
-granted-open : (s : State) (path : List ℕ) (access : Access) (flags : OpenFlags) → IfOk (open_result s path access flags) (IsGranted s)
+granted-open : (s : State) (path : List ℕ) (access : Access) (flags : OpenFlags) → IfOk (does_of (open_result s path access flags)) (IsGranted s)
 unfolding open_result
 granted-open s path access flags = grind arith
 
@@ -47,106 +47,106 @@ IsClosed (Completes after r) = is_failure r ≡ false
 IsClosed Blocks = Unit {0}
 IsClosed (Asks a) = Unit {0}
 
-granted-close : (s : State) (descriptor : ℤ) → IfOk (close_result s descriptor) IsClosed
+granted-close : (s : State) (descriptor : ℤ) → IfOk (does_of (close_result s descriptor)) IsClosed
 unfolding close_result
 granted-close s descriptor = grind arith
 
-granted-read : (s : State) (descriptor count : ℤ) → IfOk (read_result s descriptor count) (IsGranted s)
+granted-read : (s : State) (descriptor count : ℤ) → IfOk (does_of (read_result s descriptor count)) (IsGranted s)
 unfolding read_result
 granted-read s descriptor count = grind arith
 
-granted-write : (s : State) (descriptor : ℤ) (bytes : List ℕ) → IfOk (write_result s descriptor bytes) (IsGranted s)
+granted-write : (s : State) (descriptor : ℤ) (bytes : List ℕ) → IfOk (does_of (write_result s descriptor bytes)) (IsGranted s)
 unfolding write_result
 granted-write s descriptor bytes = grind arith
 
-granted-lseek : (s : State) (descriptor offset : ℤ) (whence : Whence) → IfOk (lseek_result s descriptor offset whence) (IsGranted s)
+granted-lseek : (s : State) (descriptor offset : ℤ) (whence : Whence) → IfOk (does_of (lseek_result s descriptor offset whence)) (IsGranted s)
 unfolding lseek_result
 granted-lseek s descriptor offset whence = grind arith
 
-granted-pread : (s : State) (descriptor count position : ℤ) → IfOk (pread_result s descriptor count position) (IsGranted s)
+granted-pread : (s : State) (descriptor count position : ℤ) → IfOk (does_of (pread_result s descriptor count position)) (IsGranted s)
 unfolding pread_result
 granted-pread s descriptor count position = grind arith
 
-granted-pwrite : (s : State) (descriptor : ℤ) (bytes : List ℕ) (position : ℤ) → IfOk (pwrite_result s descriptor bytes position) (IsGranted s)
+granted-pwrite : (s : State) (descriptor : ℤ) (bytes : List ℕ) (position : ℤ) → IfOk (does_of (pwrite_result s descriptor bytes position)) (IsGranted s)
 unfolding pwrite_result
 granted-pwrite s descriptor bytes position = grind arith
 
-granted-ftruncate : (s : State) (descriptor size : ℤ) → IfOk (ftruncate_result s descriptor size) (IsGranted s)
+granted-ftruncate : (s : State) (descriptor size : ℤ) → IfOk (does_of (ftruncate_result s descriptor size)) (IsGranted s)
 unfolding ftruncate_result
 granted-ftruncate s descriptor size = grind arith
 
-granted-fstat : (s : State) (descriptor : ℤ) → IfOk (fstat_result s descriptor) (IsGranted s)
+granted-fstat : (s : State) (descriptor : ℤ) → IfOk (does_of (fstat_result s descriptor)) (IsGranted s)
 unfolding fstat_result
 granted-fstat s descriptor = grind arith
 
-granted-dup : (s : State) (descriptor : ℤ) → IfOk (dup_result s descriptor) (IsGranted s)
+granted-dup : (s : State) (descriptor : ℤ) → IfOk (does_of (dup_result s descriptor)) (IsGranted s)
 unfolding dup_result
 granted-dup s descriptor = grind arith
 
-granted-dup_from : (s : State) (descriptor least : ℤ) → IfOk (dup_from_result s descriptor least) (IsGranted s)
+granted-dup_from : (s : State) (descriptor least : ℤ) → IfOk (does_of (dup_from_result s descriptor least)) (IsGranted s)
 unfolding dup_from_result
 granted-dup_from s descriptor least = grind arith
 
-granted-dup2 : (s : State) (descriptor target : ℤ) → IfOk (dup2_result s descriptor target) (IsGranted s)
+granted-dup2 : (s : State) (descriptor target : ℤ) → IfOk (does_of (dup2_result s descriptor target)) (IsGranted s)
 unfolding dup2_result
 granted-dup2 s descriptor target = grind arith
 
-granted-getfl : (s : State) (descriptor : ℤ) → IfOk (getfl_result s descriptor) (IsGranted s)
+granted-getfl : (s : State) (descriptor : ℤ) → IfOk (does_of (getfl_result s descriptor)) (IsGranted s)
 unfolding getfl_result
 granted-getfl s descriptor = grind arith
 
-granted-setfl : (s : State) (descriptor : ℤ) (append nonblock : Bool) → IfOk (setfl_result s descriptor append nonblock) (IsGranted s)
+granted-setfl : (s : State) (descriptor : ℤ) (append nonblock : Bool) → IfOk (does_of (setfl_result s descriptor append nonblock)) (IsGranted s)
 unfolding setfl_result
 granted-setfl s descriptor append nonblock = grind arith
 
-granted-link : (s : State) (old_path new_path : List ℕ) → IfOk (link_result s old_path new_path) (IsGranted s)
+granted-link : (s : State) (old_path new_path : List ℕ) → IfOk (does_of (link_result s old_path new_path)) (IsGranted s)
 unfolding link_result
 granted-link s old_path new_path = grind arith
 
-granted-unlink : (s : State) (path : List ℕ) → IfOk (unlink_result s path) (IsGranted s)
+granted-unlink : (s : State) (path : List ℕ) → IfOk (does_of (unlink_result s path)) (IsGranted s)
 unfolding unlink_result
 granted-unlink s path = grind arith
 
-granted-mkdir : (s : State) (path : List ℕ) → IfOk (mkdir_result s path) (IsGranted s)
+granted-mkdir : (s : State) (path : List ℕ) → IfOk (does_of (mkdir_result s path)) (IsGranted s)
 unfolding mkdir_result
 granted-mkdir s path = grind arith
 
-granted-rmdir : (s : State) (path : List ℕ) → IfOk (rmdir_result s path) (IsGranted s)
+granted-rmdir : (s : State) (path : List ℕ) → IfOk (does_of (rmdir_result s path)) (IsGranted s)
 unfolding rmdir_result
 granted-rmdir s path = grind arith
 
-granted-pipe : (s : State) → IfOk (pipe_result s) (IsGranted s)
+granted-pipe : (s : State) → IfOk (does_of (pipe_result s)) (IsGranted s)
 unfolding pipe_result
 granted-pipe s = grind arith
 
-granted-socketpair : (s : State) → IfOk (socketpair_result s) (IsGranted s)
+granted-socketpair : (s : State) → IfOk (does_of (socketpair_result s)) (IsGranted s)
 unfolding socketpair_result
 granted-socketpair s = grind arith
 
-granted-shutdown : (s : State) (descriptor : ℤ) (how : ShutdownHow) → IfOk (shutdown_result s descriptor how) (IsGranted s)
+granted-shutdown : (s : State) (descriptor : ℤ) (how : ShutdownHow) → IfOk (does_of (shutdown_result s descriptor how)) (IsGranted s)
 unfolding shutdown_result
 granted-shutdown s descriptor how = grind arith
 
-granted-host_open : (s : State) (path : List ℕ) (access : Access) (flags : OpenFlags) → IfOk (host_open_result s path access flags) (IsGranted s)
+granted-host_open : (s : State) (path : List ℕ) (access : Access) (flags : OpenFlags) → IfOk (does_of (host_open_result s path access flags)) (IsGranted s)
 unfolding host_open_result
 granted-host_open s path access flags = grind arith
 
-granted-listen : (s : State) (port : ℤ) → IfOk (tcp_listen_result s port) (IsGranted s)
+granted-listen : (s : State) (port : ℤ) → IfOk (does_of (tcp_listen_result s port)) (IsGranted s)
 unfolding tcp_listen_result
 granted-listen s port = grind arith
 
-granted-connect : (s : State) (port : ℤ) → IfOk (tcp_connect_result s port) (IsGranted s)
+granted-connect : (s : State) (port : ℤ) → IfOk (does_of (tcp_connect_result s port)) (IsGranted s)
 unfolding tcp_connect_result
 granted-connect s port = grind arith
 
-granted-accept : (s : State) (descriptor : ℤ) → IfOk (tcp_accept_result s descriptor) (IsGranted s)
+granted-accept : (s : State) (descriptor : ℤ) → IfOk (does_of (tcp_accept_result s descriptor)) (IsGranted s)
 unfolding tcp_accept_result
 granted-accept s descriptor = grind arith
 
 -- any call but a `close` that goes outside
 granted : (s : State) (c : Call) (carried : Carried) → closes_door s c carried ≡ false → IfOk (effect_of s c carried) (IsGranted s)
 granted s (call.Open path access flags) carried alone = granted-open s path access flags
-granted s (call.Close descriptor) carried alone = by_effect (close_result s descriptor) (granted-close s descriptor) alone
+granted s (call.Close descriptor) carried alone = by_effect (does_of (close_result s descriptor)) (granted-close s descriptor) alone
   where
     by_effect : (r : Result Effect Errno) → IfOk r IsClosed → is_some (request_of (call.Close descriptor) r) ≡ false → IfOk r (IsGranted s)
     by_effect (Ok (Completes after x)) closed alone = closed

@@ -10,17 +10,17 @@ use Rattle.posix_terms.specs.Calls.{can_read, can_write}
 use Rattle.sequential_object.specs.Descriptors.{close_result, described, ends_door, freed, has_description, has_descriptor, has_path, key_at, lowest_free, lowest_from, open_node, open_result, open_there, opened, released, truncated, with_file}
 use Rattle.sequential_object.specs.Doors.{NewDoor, host_open_result, host_path, listener_in, opens, port_of, tcp_accept_result, tcp_connect_result, tcp_listen_result}
 use Rattle.sequential_object.specs.Duplicates.{closed, descriptor_number, dup_from_result, ends_a_door, dup_result, dup2_result, shared}
-use Rattle.sequential_object.specs.Effects.{Asks, Blocks, Completes, Effect, asks_of}
+use Rattle.sequential_object.specs.Effects.{Asks, Blocks, Completes, Decision, Effect, asks_of, does_of}
 use Rattle.sequential_object.specs.Files.{resized, written}
 use Rattle.sequential_object.specs.Names.{PathMap, added, file_named, file_node, has_entries, link_result, mkdir_result, removed, removed_dir, removed_dir_at, rmdir_result, unlink_result, with_paths}
 use Rattle.sequential_object.specs.Object.{Content, Description, Directory, DoorTo, File, FileNode, Node, Pair, Pipe, State, content_of, with_content, with_object}
 use Rattle.sequential_object.specs.Paths.{node_at, resolved}
 use Rattle.sequential_object.specs.Refusals.{◌>>=◌, count_of, position_of, refuse_if, some_or}
 use Rattle.sequential_object.specs.Sockets.{NewEnd, pipe_result, shut_content, shuttable, shutdown_result, socketpair_result, two_ends, two_numbers}
-use Rattle.sequential_object.specs.Status.{fstat_result, getfl_result, setfl_result}
+use Rattle.sequential_object.specs.Status.{fstat_result, getfl_result, setfl_result, stat_content}
 use Rattle.sequential_object.specs.Step.{Carried, concluded, effect_of, failed, is_again, step, waited}
 use Rattle.sequential_object.specs.Streams.{Breaks, Ends, NoRoom, NothingYet, Reading, Reads, Writes, Writing, new_pair}
-use Rattle.sequential_object.specs.Transfers.{base_of, file_in, ftruncate_result, host_offset, lseek_result, not_listener, offset_of, pread_result, pwrite_result, read_content, read_done, read_result, readable, seek_content, size_of, start_of, with_offset, writable, write_content, write_done, write_result}
+use Rattle.sequential_object.specs.Transfers.{base_of, file_in, ftruncate_result, lseek_result, not_listener, offset_of, pread_result, pwrite_result, read_content, read_done, read_result, readable, seek_content, seekable, size_of, start_of, with_offset, writable, write_content, write_done, write_file, write_result}
 use Rattle.sequential_object.specs.Unused.{HoldsNothingUnused}
 use Rattle.posix_terms.specs.declared.call.Access.{Access}
 use Rattle.posix_terms.specs.Calls.{Call}
@@ -58,6 +58,10 @@ chain : {A : Type 0} (r : Result A Errno) (f : A → Result Effect Errno) → ((
 chain (Ok a) f h = h a refl
 chain (Err e) f h = record { it = tt }
 
+decides : {A : Type 0} (r : Result A Errno) (f : A → Result Decision Errno) → ((a : A) → r ≡ Ok a → TidyBy (does_of (f a))) → TidyBy (does_of (r >>= f))
+decides (Ok a) f h = h a refl
+decides (Err e) f h = record { it = tt }
+
 either : (b : Bool) (x y : Result Effect Errno) → TidyBy x → TidyBy y → TidyBy (if b then x else y)
 either true x y hx hy = hx
 either false x y hx hy = hy
@@ -66,9 +70,9 @@ either_effect : (b : Bool) (x y : Effect) → TidyBy (Ok x) → TidyBy (Ok y) �
 either_effect true x y hx hy = hx
 either_effect false x y hx hy = hy
 
-either_state : (b : Bool) (x y : State) → IsTidy x → IsTidy y → IsTidy (if b then x else y)
-either_state true x y hx hy = hx
-either_state false x y hx hy = hy
+either_decision : (b : Bool) (x y : Decision) → TidyBy x.does → TidyBy y.does → TidyBy (does_of (Ok (if b then x else y)))
+either_decision true x y hx hy = hx
+either_decision false x y hx hy = hy
 
 -- ## Chains that gave something
 
@@ -296,27 +300,27 @@ two_free s numbers h =
 
 -- ## Each call
 
-by_there : (s : State) (node : Node) (access : Access) (flags : OpenFlags) → IsTidy s → TidyBy (open_there s node access flags)
+by_there : (s : State) (node : Node) (access : Access) (flags : OpenFlags) → IsTidy s → TidyBy (does_of (open_there s node access flags))
 by_there s Directory access flags h = record { it = tt }
 by_there s (FileNode object) access flags h =
-    chain (some_or (lowest_free s) EMFILE) _ (λ n is.
+    decides (some_or (lowest_free s) EMFILE) _ (λ n is.
     record { it = opened_tidy (truncated s object flags.truncate) n object part.Only access flags.append flags.nonblock (cut_free s object flags.truncate n (free_is s n is)) (cut_tidy s object flags.truncate h) })
 
-by_node : (s : State) (components : List (List ℕ)) (o : Option Node) (access : Access) (flags : OpenFlags) → IsTidy s → node_at s.paths components ≡ o → TidyBy (open_node s components o access flags)
+by_node : (s : State) (components : List (List ℕ)) (o : Option Node) (access : Access) (flags : OpenFlags) → IsTidy s → node_at s.paths components ≡ o → TidyBy (does_of (open_node s components o access flags))
 by_node s components None access flags h none =
-    chain (refuse_if (not flags.create) ENOENT) _ (λ _ _. chain (refuse_if (nat_le limit.NAMES (fin.len s.paths) || nat_le limit.OBJECTS (fin.len s.objects)) ENOSPC) _ (λ _ _. chain (some_or (lowest_free s) EMFILE) _ (λ n is.
+    decides (refuse_if (not flags.create) ENOENT) _ (λ _ _. decides (refuse_if (nat_le limit.NAMES (fin.len s.paths) || nat_le limit.OBJECTS (fin.len s.objects)) ENOSPC) _ (λ _ _. decides (some_or (lowest_free s) EMFILE) _ (λ n is.
     let f = free_is s n is in
     record { it = opened_tidy (with_file s components) n s.next_object part.Only access flags.append flags.nonblock (record { free = f.free; below = f.below }) (file_tidy s components (no_node s.paths components none) h) })))
-by_node s components (Some node) access flags h is = chain (refuse_if (flags.create && flags.exclusive) EEXIST) _ (λ _ _. by_there s node access flags h)
+by_node s components (Some node) access flags h is = decides (refuse_if (flags.create && flags.exclusive) EEXIST) _ (λ _ _. by_there s node access flags h)
 
-by_open : (s : State) (path : List ℕ) (access : Access) (flags : OpenFlags) → IsTidy s → TidyBy (open_result s path access flags)
+by_open : (s : State) (path : List ℕ) (access : Access) (flags : OpenFlags) → IsTidy s → TidyBy (does_of (open_result s path access flags))
 unfolding open_result
-by_open s path access flags h = chain (refuse_if (flags.truncate && not (can_write access)) EINVAL) _ (λ _ _. chain (resolved s.paths path) _ (λ components _. by_node s components (node_at s.paths components) access flags h refl))
+by_open s path access flags h = decides (refuse_if (flags.truncate && not (can_write access)) EINVAL) _ (λ _ _. decides (resolved s.paths path) _ (λ components _. by_node s components (node_at s.paths components) access flags h refl))
 
-by_close : (s : State) (descriptor : ℤ) → IsTidy s → TidyBy (close_result s descriptor)
+by_close : (s : State) (descriptor : ℤ) → IsTidy s → TidyBy (does_of (close_result s descriptor))
 unfolding close_result
 by_close s descriptor h =
-    chain (described s descriptor) _ (λ found is.
+    decides (described s descriptor) _ (λ found is.
     let after = released (freed s descriptor) found.0 found.1 in
     let tidy = closed_tidy s descriptor found (is_found s descriptor found is) h in
     either_effect (ends_door s descriptor found) (asks_of after kind.Close 0 false (λ value bytes. reply.Done)) (Completes after reply.Done) (record { it = ((λ value bytes. tidy), tidy) }) (record { it = tidy }))
@@ -326,16 +330,16 @@ by_reading s key d content (Reads bytes left) there h = record { it = content_ti
 by_reading s key d content Ends there h = record { it = h }
 by_reading s key d content NothingYet there h = either d.nonblock _ _ (record { it = tt }) (record { it = tt })
 
-by_read_content : (s : State) (key : ℕ) (d : Description) (n : ℕ) (c : Content) → fin.get s.descriptions key ≡ Some d → IsTidy s → TidyBy (read_content s key d n c)
+by_read_content : (s : State) (key : ℕ) (d : Description) (n : ℕ) (c : Content) → fin.get s.descriptions key ≡ Some d → IsTidy s → TidyBy (does_of (Ok (read_content s key d n c)))
 by_read_content s key d n (File file) there h = record { it = own_tidy s key d _ there refl h }
-by_read_content s key d n (Pipe bytes) there h = either (n == 0) _ _ (record { it = h }) (by_reading s key d Pipe _ there h)
-by_read_content s key d n (Pair p) there h = either (n == 0) _ _ (record { it = h }) (by_reading s key d _ _ there h)
-by_read_content s key d n (DoorTo x) there h = either_effect (n == 0) _ _ (record { it = h }) (record { it = ((λ value bytes. h), h) })
+by_read_content s key d n (Pipe bytes) there h = either_decision (n == 0) _ _ (record { it = h }) (by_reading s key d Pipe _ there h)
+by_read_content s key d n (Pair p) there h = either_decision (n == 0) _ _ (record { it = h }) (by_reading s key d _ _ there h)
+by_read_content s key d n (DoorTo x) there h = either_decision (n == 0) _ _ (record { it = h }) (record { it = ((λ value bytes. h), h) })
 
-by_read : (s : State) (descriptor count : ℤ) → IsTidy s → TidyBy (read_result s descriptor count)
+by_read : (s : State) (descriptor count : ℤ) → IsTidy s → TidyBy (does_of (read_result s descriptor count))
 unfolding read_result
 by_read s descriptor count h =
-    chain (readable s descriptor) _ (λ found is. chain (count_of count) _ (λ n _.
+    decides (readable s descriptor) _ (λ found is. decides (count_of count) _ (λ n _.
     by_read_content s found.0 found.1 n (content_of s (let d = found.1 in d.object)) (let its = readable_found s descriptor found is in its.there) h))
 
 by_writing : (s : State) (key : ℕ) (d : Description) (n : ℕ) (content : List ℕ → Content) (writing : Writing) → fin.get s.descriptions key ≡ Some d → IsTidy s → TidyBy (write_done s d n content writing)
@@ -348,100 +352,110 @@ written_tidy s key d offset c there h =
     let moved : Description = record d { offset = offset } in
     content_tidy (with_offset s key d offset) d.object c (own_used (with_offset s key d offset) key moved (insert_same s.descriptions key moved)) (own_tidy s key d moved there refl h)
 
-by_write_content : (s : State) (key : ℕ) (d : Description) (bytes : List ℕ) (c : Content) → fin.get s.descriptions key ≡ Some d → IsTidy s → TidyBy (write_content s key d bytes c)
-by_write_content s key d bytes (File file) there h = chain (written file (start_of d file) bytes) _ (λ w _. record { it = written_tidy s key d (start_of d file + w.1) (File w.0) there h })
-by_write_content s key d bytes (Pipe waiting) there h = by_writing s key d _ Pipe _ there h
-by_write_content s key d bytes (Pair p) there h = by_writing s key d _ _ _ there h
-by_write_content s key d bytes (DoorTo x) there h = record { it = ((λ value sent. h), h) }
+by_write_content : (s : State) (key : ℕ) (d : Description) (bytes : List ℕ) (c : Content) → fin.get s.descriptions key ≡ Some d → IsTidy s → TidyBy (does_of (Ok (write_content s key d bytes c)))
+by_write_content s key d bytes (File file) there h =
+    either (length bytes == 0) _ _ (record { it = h })
+    (chain (written file (start_of d file) bytes) _ (λ w _. record { it = written_tidy s key d (start_of d file + w.1) (File w.0) there h }))
+by_write_content s key d bytes (Pipe waiting) there h = either_decision (length bytes == 0) _ _ (record { it = h }) (by_writing s key d _ Pipe _ there h)
+by_write_content s key d bytes (Pair p) there h = either_decision (length bytes == 0) _ _ (record { it = h }) (by_writing s key d _ _ _ there h)
+by_write_content s key d bytes (DoorTo x) there h = either_decision (length bytes == 0) _ _ (record { it = h }) (record { it = ((λ value sent. h), h) })
 
-by_write : (s : State) (descriptor : ℤ) (bytes : List ℕ) → IsTidy s → TidyBy (write_result s descriptor bytes)
+by_write : (s : State) (descriptor : ℤ) (bytes : List ℕ) → IsTidy s → TidyBy (does_of (write_result s descriptor bytes))
 unfolding write_result
 by_write s descriptor bytes h =
-    chain (writable s descriptor bytes) _ (λ found is. either (length bytes == 0) _ _ (record { it = h })
-    (by_write_content s found.0 found.1 bytes (content_of s (let d = found.1 in d.object)) (let its = writable_found s descriptor bytes found is in its.there) h))
+    decides (writable s descriptor bytes) _ (λ found is.
+    by_write_content s found.0 found.1 bytes (content_of s (let d = found.1 in d.object)) (let its = writable_found s descriptor bytes found is in its.there) h)
 
-by_pread : (s : State) (descriptor count position : ℤ) → IsTidy s → TidyBy (pread_result s descriptor count position)
+by_pread : (s : State) (descriptor count position : ℤ) → IsTidy s → TidyBy (does_of (pread_result s descriptor count position))
 unfolding pread_result
 by_pread s descriptor count position h =
-    chain (described s descriptor) _ (λ found _. chain (file_in (content_of s (let d = found.1 in d.object)) ESPIPE) _ (λ _ _. chain (refuse_if (not (can_read (let d = found.1 in d.access))) EBADF) _ (λ _ _. chain (count_of count) _ (λ _ _. chain (position_of position) _ (λ _ _. record { it = h })))))
+    decides (described s descriptor) _ (λ found _. decides (file_in (content_of s (let d = found.1 in d.object)) ESPIPE) _ (λ _ _. decides (refuse_if (not (can_read (let d = found.1 in d.access))) EBADF) _ (λ _ _. decides (count_of count) _ (λ _ _. decides (position_of position) _ (λ _ _. record { it = h })))))
 
-by_pwrite : (s : State) (descriptor : ℤ) (bytes : List ℕ) (position : ℤ) → IsTidy s → TidyBy (pwrite_result s descriptor bytes position)
+by_pwrite : (s : State) (descriptor : ℤ) (bytes : List ℕ) (position : ℤ) → IsTidy s → TidyBy (does_of (pwrite_result s descriptor bytes position))
 unfolding pwrite_result
 by_pwrite s descriptor bytes position h =
-    chain (described s descriptor) _ (λ found is. let d = found.1 in
-    chain (file_in (content_of s d.object) ESPIPE) _ (λ file _. chain (refuse_if (not (can_write d.access)) EBADF) _ (λ _ _. chain (refuse_if (nat_lt limit.COUNT (length bytes)) EINVAL) _ (λ _ _. chain (position_of position) _ (λ start _.
+    decides (described s descriptor) _ (λ found is. let d = found.1 in
+    decides (file_in (content_of s d.object) ESPIPE) _ (λ file _. decides (refuse_if (not (can_write d.access)) EBADF) _ (λ _ _. decides (refuse_if (nat_lt limit.COUNT (length bytes)) EINVAL) _ (λ _ _. decides (position_of position) _ (λ start _.
     either (length bytes == 0) _ _ (record { it = h }) (chain (written file start bytes) _ (λ w _. record { it = content_tidy s d.object (File w.0) (own_used s found.0 d (let its = is_found s descriptor found is in its.there)) h })))))))
 
 by_seek : (s : State) (key : ℕ) (d : Description) (offset : ℤ) (from : Whence) (c : Content) → fin.get s.descriptions key ≡ Some d → IsTidy s → TidyBy (seek_content s key d offset from c)
 by_seek s key d offset from (File file) there h = chain (offset_of (pos (base_of from d.offset (length file)) +ℤ offset)) _ (λ to _. record { it = own_tidy s key d _ there refl h })
-by_seek s key d offset from (DoorTo door.HostFile) there h = chain (host_offset offset from) _ (λ _ _. record { it = ((λ value bytes. h), h) })
-by_seek s key d offset from (DoorTo (door.Listener port)) there h = record { it = tt }
-by_seek s key d offset from (DoorTo door.Stream) there h = record { it = tt }
-by_seek s key d offset from (Pipe bytes) there h = record { it = tt }
-by_seek s key d offset from (Pair p) there h = record { it = tt }
+by_seek s key d offset from (DoorTo x) there h = record { it = ((λ value bytes. h), h) }
+by_seek s key d offset from (Pipe bytes) there h = record { it = ((λ value bytes. h), h) }
+by_seek s key d offset from (Pair p) there h = record { it = ((λ value bytes. h), h) }
 
-by_lseek : (s : State) (descriptor offset : ℤ) (from : Whence) → IsTidy s → TidyBy (lseek_result s descriptor offset from)
+by_lseek : (s : State) (descriptor offset : ℤ) (from : Whence) → IsTidy s → TidyBy (does_of (lseek_result s descriptor offset from))
 unfolding lseek_result
-by_lseek s descriptor offset from h = chain (described s descriptor) _ (λ found is. by_seek s found.0 found.1 offset from (content_of s (let d = found.1 in d.object)) (let its = is_found s descriptor found is in its.there) h)
+by_lseek s descriptor offset from h =
+    decides (described s descriptor) _ (λ found is. let d = found.1 in
+    decides (seekable (content_of s d.object) offset from) _ (λ _ _.
+    by_seek s found.0 d offset from (content_of s d.object) (let its = is_found s descriptor found is in its.there) h))
 
-by_ftruncate : (s : State) (descriptor size : ℤ) → IsTidy s → TidyBy (ftruncate_result s descriptor size)
+by_ftruncate : (s : State) (descriptor size : ℤ) → IsTidy s → TidyBy (does_of (ftruncate_result s descriptor size))
 unfolding ftruncate_result
 by_ftruncate s descriptor size h =
-    chain (described s descriptor) _ (λ found is. let d = found.1 in
-    chain (refuse_if (not (can_write d.access)) EINVAL) _ (λ _ _. chain (file_in (content_of s d.object) EINVAL) _ (λ file _. chain (size_of size) _ (λ n _.
+    decides (described s descriptor) _ (λ found is. let d = found.1 in
+    decides (refuse_if (not (can_write d.access)) EINVAL) _ (λ _ _. decides (file_in (content_of s d.object) EINVAL) _ (λ file _. decides (size_of size) _ (λ n _.
     record { it = content_tidy s d.object (File (resized file n)) (own_used s found.0 d (let its = is_found s descriptor found is in its.there)) h }))))
 
-by_fstat : (s : State) (descriptor : ℤ) → IsTidy s → TidyBy (fstat_result s descriptor)
+by_stat : (s : State) (object : ℕ) (c : Content) → IsTidy s → TidyBy (does_of (Ok (stat_content s object c)))
+by_stat s object (File file) h = record { it = h }
+by_stat s object (Pipe bytes) h = record { it = h }
+by_stat s object (Pair p) h = record { it = h }
+by_stat s object (DoorTo door) h = record { it = h }
+
+by_fstat : (s : State) (descriptor : ℤ) → IsTidy s → TidyBy (does_of (fstat_result s descriptor))
 unfolding fstat_result
-by_fstat s descriptor h = chain (described s descriptor) _ (λ _ _. record { it = h })
+by_fstat s descriptor h = decides (described s descriptor) _ (λ found _. let d = found.1 in by_stat s d.object (content_of s d.object) h)
 
 -- one more descriptor of a description, at a number that is free
 free_shared : (s : State) (n key : ℕ) → fin.get s.descriptors n ≡ None → IsTidy s → IsTidy (shared s n key)
 free_shared s n key free h = shared_tidy s n key (λ other d there at. none-some other (sym free ∙ at)) h
 
-by_dup : (s : State) (descriptor : ℤ) → IsTidy s → TidyBy (dup_result s descriptor)
+by_dup : (s : State) (descriptor : ℤ) → IsTidy s → TidyBy (does_of (dup_result s descriptor))
 unfolding dup_result
 by_dup s descriptor h =
-    chain (described s descriptor) _ (λ found _. chain (some_or (lowest_free s) EMFILE) _ (λ n is.
+    decides (described s descriptor) _ (λ found _. decides (some_or (lowest_free s) EMFILE) _ (λ n is.
     record { it = free_shared s n found.0 (let f = free_is s n is in f.free) h }))
 
-by_dup_from : (s : State) (descriptor least : ℤ) → IsTidy s → TidyBy (dup_from_result s descriptor least)
+by_dup_from : (s : State) (descriptor least : ℤ) → IsTidy s → TidyBy (does_of (dup_from_result s descriptor least))
 unfolding dup_from_result
 by_dup_from s descriptor least h =
-    chain (described s descriptor) _ (λ found _. chain (descriptor_number least EINVAL) _ (λ first _. chain (some_or (lowest_from s (limit.DESCRIPTORS - first) first) EMFILE) _ (λ n is.
+    decides (described s descriptor) _ (λ found _. decides (descriptor_number least EINVAL) _ (λ first _. decides (some_or (lowest_from s (limit.DESCRIPTORS - first) first) EMFILE) _ (λ n is.
     record { it = free_shared s n found.0 (let f = lowest_is s (limit.DESCRIPTORS - first) first n (some_gave (lowest_from s (limit.DESCRIPTORS - first) first) EMFILE n is) in f.free) h })))
 
-by_dup2 : (s : State) (descriptor target : ℤ) → IsTidy s → TidyBy (dup2_result s descriptor target)
+by_dup2 : (s : State) (descriptor target : ℤ) → IsTidy s → TidyBy (does_of (dup2_result s descriptor target))
 unfolding dup2_result
 by_dup2 s descriptor target h =
-    chain (described s descriptor) _ (λ found _. chain (descriptor_number target EBADF) _ (λ n is. chain (refuse_if (not (int_eq descriptor target) && ends_a_door s target (described s target)) EBUSY) _ (λ _ _.
-    record { it = either_state (int_eq descriptor target) s (shared (closed s target (described s target)) n found.0) h (subst (λ (to : ℤ). IsTidy (shared (closed s to (described s to)) n found.0)) (sym (number_is target EBADF n is)) (target_tidy s n found.0 h)) })))
+    decides (described s descriptor) _ (λ found _. decides (descriptor_number target EBADF) _ (λ n is. decides (refuse_if (not (int_eq descriptor target) && ends_a_door s target (described s target)) EBUSY) _ (λ _ _.
+    either_decision (int_eq descriptor target) _ _ (record { it = h })
+    (record { it = subst (λ (to : ℤ). IsTidy (shared (closed s to (described s to)) n found.0)) (sym (number_is target EBADF n is)) (target_tidy s n found.0 h) }))))
 
-by_getfl : (s : State) (descriptor : ℤ) → IsTidy s → TidyBy (getfl_result s descriptor)
+by_getfl : (s : State) (descriptor : ℤ) → IsTidy s → TidyBy (does_of (getfl_result s descriptor))
 unfolding getfl_result
-by_getfl s descriptor h = chain (described s descriptor) _ (λ _ _. record { it = h })
+by_getfl s descriptor h = decides (described s descriptor) _ (λ _ _. record { it = h })
 
-by_setfl : (s : State) (descriptor : ℤ) (append nonblock : Bool) → IsTidy s → TidyBy (setfl_result s descriptor append nonblock)
+by_setfl : (s : State) (descriptor : ℤ) (append nonblock : Bool) → IsTidy s → TidyBy (does_of (setfl_result s descriptor append nonblock))
 unfolding setfl_result
 by_setfl s descriptor append nonblock h =
-    chain (described s descriptor) _ (λ found is.
+    decides (described s descriptor) _ (λ found is.
     record { it = own_tidy s found.0 found.1 (record found.1 { append = append; nonblock = nonblock }) (let its = is_found s descriptor found is in its.there) refl h })
 
-by_link : (s : State) (old_path new_path : List ℕ) → IsTidy s → TidyBy (link_result s old_path new_path)
+by_link : (s : State) (old_path new_path : List ℕ) → IsTidy s → TidyBy (does_of (link_result s old_path new_path))
 unfolding link_result
-by_link s old_path new_path h = chain (file_named s.paths old_path) _ (λ object _. chain (added s.paths new_path (FileNode object)) _ (λ paths is. record { it = paths_tidy s paths (added_keeps s.paths new_path (FileNode object) paths is) h }))
+by_link s old_path new_path h = decides (file_named s.paths old_path) _ (λ object _. decides (added s.paths new_path (FileNode object)) _ (λ paths is. record { it = paths_tidy s paths (added_keeps s.paths new_path (FileNode object) paths is) h }))
 
-by_unlink : (s : State) (path : List ℕ) → IsTidy s → TidyBy (unlink_result s path)
+by_unlink : (s : State) (path : List ℕ) → IsTidy s → TidyBy (does_of (unlink_result s path))
 unfolding unlink_result
-by_unlink s path h = chain (removed s.paths path) _ (λ without is. record { it = unused_tidy (with_paths s without.0) without.1 (unnamed_tidy s without.0 without.1 (removed_keeps s.paths path without is) h) })
+by_unlink s path h = decides (removed s.paths path) _ (λ without is. record { it = unused_tidy (with_paths s without.0) without.1 (unnamed_tidy s without.0 without.1 (removed_keeps s.paths path without is) h) })
 
-by_mkdir : (s : State) (path : List ℕ) → IsTidy s → TidyBy (mkdir_result s path)
+by_mkdir : (s : State) (path : List ℕ) → IsTidy s → TidyBy (does_of (mkdir_result s path))
 unfolding mkdir_result
-by_mkdir s path h = chain (added s.paths path Directory) _ (λ paths is. record { it = paths_tidy s paths (added_keeps s.paths path Directory paths is) h })
+by_mkdir s path h = decides (added s.paths path Directory) _ (λ paths is. record { it = paths_tidy s paths (added_keeps s.paths path Directory paths is) h })
 
-by_rmdir : (s : State) (path : List ℕ) → IsTidy s → TidyBy (rmdir_result s path)
+by_rmdir : (s : State) (path : List ℕ) → IsTidy s → TidyBy (does_of (rmdir_result s path))
 unfolding rmdir_result
-by_rmdir s path h = chain (removed_dir s.paths path) _ (λ paths is. record { it = paths_tidy s paths (dir_keeps s.paths path paths is) h })
+by_rmdir s path h = decides (removed_dir s.paths path) _ (λ paths is. record { it = paths_tidy s paths (dir_keeps s.paths path paths is) h })
 
 ends_tidy : (s : State) (c : Content) (numbers : ℕ × ℕ) (one other : NewEnd) → AreFree s numbers → IsTidy s
     → IsTidy (opened (opened (with_object s c) numbers.0 s.next_object one.which one.access false false) numbers.1 s.next_object other.which other.access false false)
@@ -454,16 +468,16 @@ ends_tidy s c numbers one other free h =
     (record { free = insert_other s.descriptors numbers.0 s.next_description numbers.1 free.apart ∙ second.free; below = second.below })
     (but_one between s.next_object tidy)
 
-by_two_ends : (s : State) (c : Content) (one other : NewEnd) → IsTidy s → TidyBy (two_ends s c one other)
+by_two_ends : (s : State) (c : Content) (one other : NewEnd) → IsTidy s → TidyBy (does_of (two_ends s c one other))
 by_two_ends s c one other h =
-    chain (two_numbers s) _ (λ numbers is. chain (refuse_if (nat_le limit.OBJECTS (fin.len s.objects)) ENFILE) _ (λ _ _.
+    decides (two_numbers s) _ (λ numbers is. decides (refuse_if (nat_le limit.OBJECTS (fin.len s.objects)) ENFILE) _ (λ _ _.
     record { it = ends_tidy s c numbers one other (two_free s numbers is) h }))
 
-by_pipe : (s : State) → IsTidy s → TidyBy (pipe_result s)
+by_pipe : (s : State) → IsTidy s → TidyBy (does_of (pipe_result s))
 unfolding pipe_result
 by_pipe s h = by_two_ends s (Pipe []) _ _ h
 
-by_socketpair : (s : State) → IsTidy s → TidyBy (socketpair_result s)
+by_socketpair : (s : State) → IsTidy s → TidyBy (does_of (socketpair_result s))
 unfolding socketpair_result
 by_socketpair s h = by_two_ends s (Pair new_pair) _ _ h
 
@@ -473,31 +487,31 @@ by_shut s key d how (File bytes) there h = record { it = ((λ value bytes. h), h
 by_shut s key d how (Pipe bytes) there h = record { it = ((λ value bytes. h), h) }
 by_shut s key d how (DoorTo x) there h = record { it = ((λ value bytes. h), h) }
 
-by_shutdown : (s : State) (descriptor : ℤ) (how : ShutdownHow) → IsTidy s → TidyBy (shutdown_result s descriptor how)
+by_shutdown : (s : State) (descriptor : ℤ) (how : ShutdownHow) → IsTidy s → TidyBy (does_of (shutdown_result s descriptor how))
 unfolding shutdown_result
-by_shutdown s descriptor how h = chain (described s descriptor) _ (λ found is. let d = found.1 in chain (shuttable (content_of s d.object)) _ (λ _ _. by_shut s found.0 d how (content_of s d.object) (let its = is_found s descriptor found is in its.there) h))
+by_shutdown s descriptor how h = decides (described s descriptor) _ (λ found is. let d = found.1 in decides (shuttable (content_of s d.object)) _ (λ _ _. by_shut s found.0 d how (content_of s d.object) (let its = is_found s descriptor found is in its.there) h))
 
-by_opens : (s : State) (o : NewDoor) → IsTidy s → TidyBy (opens s o)
+by_opens : (s : State) (o : NewDoor) → IsTidy s → TidyBy (does_of (opens s o))
 by_opens s o h =
-    chain (some_or (lowest_free s) EMFILE) _ (λ n is. chain (refuse_if (nat_le limit.OBJECTS (fin.len s.objects)) ENFILE) _ (λ _ _.
+    decides (some_or (lowest_free s) EMFILE) _ (λ n is. decides (refuse_if (nat_le limit.OBJECTS (fin.len s.objects)) ENFILE) _ (λ _ _.
     let f = free_is s n is in
     record { it = ((λ value bytes. opened_tidy (with_object s (DoorTo (o.door value))) n s.next_object (part.Door (o.door value)) o.access o.append false (record { free = f.free; below = f.below }) (object_tidy s (DoorTo (o.door value)) h)), h) }))
 
-by_host_open : (s : State) (path : List ℕ) (access : Access) (flags : OpenFlags) → IsTidy s → TidyBy (host_open_result s path access flags)
+by_host_open : (s : State) (path : List ℕ) (access : Access) (flags : OpenFlags) → IsTidy s → TidyBy (does_of (host_open_result s path access flags))
 unfolding host_open_result
-by_host_open s path access flags h = chain (refuse_if (flags.truncate && not (can_write access)) EINVAL) _ (λ _ _. chain (host_path path) _ (λ _ _. by_opens s _ h))
+by_host_open s path access flags h = decides (refuse_if (flags.truncate && not (can_write access)) EINVAL) _ (λ _ _. decides (host_path path) _ (λ _ _. by_opens s _ h))
 
-by_listen : (s : State) (port : ℤ) → IsTidy s → TidyBy (tcp_listen_result s port)
+by_listen : (s : State) (port : ℤ) → IsTidy s → TidyBy (does_of (tcp_listen_result s port))
 unfolding tcp_listen_result
-by_listen s port h = chain (port_of 0 port) _ (λ _ _. by_opens s _ h)
+by_listen s port h = decides (port_of 0 port) _ (λ _ _. by_opens s _ h)
 
-by_connect : (s : State) (port : ℤ) → IsTidy s → TidyBy (tcp_connect_result s port)
+by_connect : (s : State) (port : ℤ) → IsTidy s → TidyBy (does_of (tcp_connect_result s port))
 unfolding tcp_connect_result
-by_connect s port h = chain (port_of 1 port) _ (λ _ _. by_opens s _ h)
+by_connect s port h = decides (port_of 1 port) _ (λ _ _. by_opens s _ h)
 
-by_accept : (s : State) (descriptor : ℤ) → IsTidy s → TidyBy (tcp_accept_result s descriptor)
+by_accept : (s : State) (descriptor : ℤ) → IsTidy s → TidyBy (does_of (tcp_accept_result s descriptor))
 unfolding tcp_accept_result
-by_accept s descriptor h = chain (described s descriptor) _ (λ found _. chain (listener_in (content_of s (let d = found.1 in d.object))) _ (λ _ _. by_opens s _ h))
+by_accept s descriptor h = decides (described s descriptor) _ (λ found _. decides (listener_in (content_of s (let d = found.1 in d.object))) _ (λ _ _. by_opens s _ h))
 
 by_call : (s : State) (c : Call) (carried : Carried) → IsTidy s → TidyBy (effect_of s c carried)
 by_call s (call.Open path access flags) carried h = by_open s path access flags h

@@ -5,7 +5,7 @@ use Rattle.std.specs.Prelude.{ℕ, zero, suc, ◌+◌, ℤ, pos, negsuc, List, [
 use Rattle.std.specs.List.{list_any}
 use Rattle.std.specs.FinMap as map
 use Rattle.posix_terms.specs.Calls.{can_write}
-use Rattle.sequential_object.specs.Effects.{Effect, Completes, asks_of}
+use Rattle.sequential_object.specs.Effects.{Decision, Completes, asks_of, locking}
 use Rattle.posix_terms.specs.Ends.{is_end}
 use Rattle.sequential_object.specs.Object.{State, Description, File, Node, FileNode, Directory, any_below, content_of, is_door, with_content}
 use Rattle.sequential_object.specs.Paths.{node_at, resolved}
@@ -65,28 +65,28 @@ truncated s object true = with_content s object (File [])
 truncated s object false = s
 
 -- `open` of a path that names something
-abbrev pub open_there : State → Node → Access → OpenFlags → Result Effect Errno
+abbrev pub open_there : State → Node → Access → OpenFlags → Result Decision Errno
 open_there s Directory access flags = Err EISDIR
 open_there s (FileNode object) access flags = do
   n ← some_or (lowest_free s) EMFILE
-  Ok (Completes (opened (truncated s object flags.truncate) n object part.Only access flags.append flags.nonblock) (reply.Number (pos n)))
+  Ok (locking object (Ok (Completes (opened (truncated s object flags.truncate) n object part.Only access flags.append flags.nonblock) (reply.Number (pos n)))))
 
 -- `open` of a path that names nothing
-abbrev pub open_new : State → List (List ℕ) → Access → OpenFlags → Result Effect Errno
+abbrev pub open_new : State → List (List ℕ) → Access → OpenFlags → Result Decision Errno
 open_new s components access flags = do
   _ ← refuse_if (not flags.create) ENOENT
   _ ← refuse_if (nat_le limit.NAMES (map.len s.paths) || nat_le limit.OBJECTS (map.len s.objects)) ENOSPC
   n ← some_or (lowest_free s) EMFILE
-  Ok (Completes (opened (with_file s components) n s.next_object part.Only access flags.append flags.nonblock) (reply.Number (pos n)))
+  Ok (locking s.next_object (Ok (Completes (opened (with_file s components) n s.next_object part.Only access flags.append flags.nonblock) (reply.Number (pos n)))))
 
-abbrev pub open_node : State → List (List ℕ) → Option Node → Access → OpenFlags → Result Effect Errno
+abbrev pub open_node : State → List (List ℕ) → Option Node → Access → OpenFlags → Result Decision Errno
 open_node s components None access flags = open_new s components access flags
 open_node s components (Some node) access flags = do
   _ ← refuse_if (flags.create && flags.exclusive) EEXIST
   open_there s node access flags
 
 -- `open`; O_EXCL without O_CREAT is ignored
-unfoldable pub open_result : State → List ℕ → Access → OpenFlags → Result Effect Errno
+unfoldable pub open_result : State → List ℕ → Access → OpenFlags → Result Decision Errno
 open_result s path access flags = do
   _ ← refuse_if (flags.truncate && not (can_write access)) EINVAL
   components ← resolved s.paths path
@@ -146,9 +146,16 @@ is_last s descriptor key = not (has_descriptor (freed s descriptor) key)
 abbrev pub ends_door : State → ℤ → ℕ × Description → Bool
 ends_door s descriptor (key, d) = is_door (content_of s d.object) && is_last s descriptor key
 
+-- the object of a description that ends with this descriptor
+abbrev pub ended_object : State → ℤ → ℕ × Description → Option ℕ
+ended_object s descriptor (key, d) = if has_descriptor (freed s descriptor) key then None else Some d.object
+
 -- `close`. A door is closed outside with its last descriptor, which is free whatever comes of that
-unfoldable pub close_result : State → ℤ → Result Effect Errno
+unfoldable pub close_result : State → ℤ → Result Decision Errno
 close_result s descriptor = do
   found ← described s descriptor
   let after = released (freed s descriptor) found.0 found.1 in
-      Ok (if ends_door s descriptor found then asks_of after kind.Close 0 false (λ value bytes. reply.Done) else Completes after reply.Done)
+      Ok (record {
+        locks = ended_object s descriptor found;
+        does = Ok (if ends_door s descriptor found then asks_of after kind.Close 0 false (λ value bytes. reply.Done) else Completes after reply.Done);
+      })

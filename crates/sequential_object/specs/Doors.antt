@@ -7,7 +7,7 @@ use Rattle.std.specs.List.{list_any}
 use Rattle.std.specs.Str.{is_utf8}
 use Rattle.posix_terms.specs.Calls.{can_write}
 use Rattle.sequential_object.specs.Descriptors.{described, lowest_free, opened}
-use Rattle.sequential_object.specs.Effects.{Effect, Asks}
+use Rattle.sequential_object.specs.Effects.{Decision, Asks, locking}
 use Rattle.sequential_object.specs.Object.{State, Content, Pair, DoorTo, content_of, with_object}
 use Rattle.sequential_object.specs.Refusals.{◌>>=◌, refuse_if, some_or}
 use Rattle.posix_terms.specs.declared.call.Access.{Access}
@@ -33,17 +33,17 @@ pub record NewDoor : Type 0 where
   pub waits : Bool
 
 -- there is a new door only where it was opened outside
-abbrev pub opens : State → NewDoor → Result Effect Errno
+abbrev pub opens : State → NewDoor → Result Decision Errno
 opens s o = do
   n ← some_or (lowest_free s) EMFILE
   _ ← refuse_if (nat_le limit.OBJECTS (map.len s.objects)) ENFILE
-  Ok (Asks (record {
+  Ok (locking s.next_object (Ok (Asks (record {
     kind = o.kind;
     asked = o.asked;
     succeeds = λ value bytes. (opened (with_object s (DoorTo (o.door value))) n s.next_object (part.Door (o.door value)) o.access o.append false, reply.Number (pos n));
     otherwise = s;
     waits = o.waits;
-  }))
+  }))))
 
 -- a path that can be handed to the host
 abbrev pub host_path : List ℕ → Result (Unit {0}) Errno
@@ -53,7 +53,7 @@ host_path path = do
   refuse_if (list_any (λ b. b == 0) path || not (is_utf8 path)) EINVAL
 
 -- `host_open`
-unfoldable pub host_open_result : State → List ℕ → Access → OpenFlags → Result Effect Errno
+unfoldable pub host_open_result : State → List ℕ → Access → OpenFlags → Result Decision Errno
 host_open_result s path access flags = do
   _ ← refuse_if (flags.truncate && not (can_write access)) EINVAL
   _ ← host_path path
@@ -65,13 +65,13 @@ port_of least (pos n) = if nat_le least n && nat_le n limit.PORT then Ok n else 
 port_of least (negsuc n) = Err EINVAL
 
 -- `tcp_listen`; at port 0 the outcome names the port
-unfoldable pub tcp_listen_result : State → ℤ → Result Effect Errno
+unfoldable pub tcp_listen_result : State → ℤ → Result Decision Errno
 tcp_listen_result s port = do
   asked ← port_of 0 port
   opens s (record { kind = kind.Listen; asked = asked; door = door.Listener; access = ReadWrite; append = false; waits = false })
 
 -- `tcp_connect`
-unfoldable pub tcp_connect_result : State → ℤ → Result Effect Errno
+unfoldable pub tcp_connect_result : State → ℤ → Result Decision Errno
 tcp_connect_result s port = do
   asked ← port_of 1 port
   opens s (record { kind = kind.Connect; asked = asked; door = λ value. door.Stream; access = ReadWrite; append = false; waits = false })
@@ -84,7 +84,7 @@ listener_in (DoorTo door.Stream) = Err EINVAL
 listener_in c = Err ENOTSOCK
 
 -- `tcp_accept`
-unfoldable pub tcp_accept_result : State → ℤ → Result Effect Errno
+unfoldable pub tcp_accept_result : State → ℤ → Result Decision Errno
 tcp_accept_result s descriptor = do
   found ← described s descriptor
   _ ← listener_in (content_of s found.1.object)

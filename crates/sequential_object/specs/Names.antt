@@ -1,13 +1,13 @@
 -- Believed: a contract of the headline stands on it.
 -- What paths name, and the calls that change it.
 -- POSIX.1-2017, System Interfaces: `link`, `unlink`, `mkdir`, `rmdir`.
-use Rattle.std.specs.Prelude.{ℕ, List, length, take, Bool, ◌&&◌, ◌==◌, nat_lt, nat_le, nat_eq, Result, Ok, Err, Option, Some, None, is_some, count_by}
+use Rattle.std.specs.Prelude.{ℕ, List, length, take, Bool, ◌&&◌, ◌||◌, ◌==◌, nat_lt, nat_le, nat_eq, Result, Ok, Err, Option, Some, None, is_some, if◌then◌else◌, count_by}
 use Rattle.std.specs.Cmp.Lexicographic.{pointwise}
 use Rattle.std.specs.FinMap as map
 use Rattle.std.specs.FinMap.{FinMap}
 use Rattle.std.specs.List.{list_any}
-use Rattle.sequential_object.specs.Descriptors.{is_file, without_unused}
-use Rattle.sequential_object.specs.Effects.{Effect, Completes}
+use Rattle.sequential_object.specs.Descriptors.{has_description, has_path, is_file, without_unused}
+use Rattle.sequential_object.specs.Effects.{Decision, Completes, alone}
 use Rattle.sequential_object.specs.Object.{State, Node, FileNode, Directory, path_cmp}
 use Rattle.sequential_object.specs.Paths.{node_at, resolved}
 use Rattle.sequential_object.specs.Refusals.{◌>>=◌, refuse_if}
@@ -77,26 +77,34 @@ abbrev pub with_paths : State → PathMap → State
 with_paths s paths = record s { paths = paths }
 
 -- `link`; a directory has one name
-unfoldable pub link_result : State → List ℕ → List ℕ → Result Effect Errno
+unfoldable pub link_result : State → List ℕ → List ℕ → Result Decision Errno
 link_result s old_path new_path = do
   object ← file_named s.paths old_path
   paths ← added s.paths new_path (FileNode object)
-  Ok (Completes (with_paths s paths) reply.Done)
+  Ok (alone (with_paths s paths) reply.Done)
+
+-- the file that ends without this name
+abbrev pub unnamed_object : State → ℕ → Option ℕ
+unnamed_object s object = if has_description s object || has_path s object then None else Some object
 
 -- `unlink`: the file ends with its last name, if no description refers to it
-unfoldable pub unlink_result : State → List ℕ → Result Effect Errno
+unfoldable pub unlink_result : State → List ℕ → Result Decision Errno
 unlink_result s path = do
   without ← removed s.paths path
-  Ok (Completes (without_unused (with_paths s without.0) without.1) reply.Done)
+  let unnamed = with_paths s without.0 in
+      Ok (record {
+        locks = unnamed_object unnamed without.1;
+        does = Ok (Completes (without_unused unnamed without.1) reply.Done);
+      })
 
 -- `mkdir`
-unfoldable pub mkdir_result : State → List ℕ → Result Effect Errno
+unfoldable pub mkdir_result : State → List ℕ → Result Decision Errno
 mkdir_result s path = do
   paths ← added s.paths path Directory
-  Ok (Completes (with_paths s paths) reply.Done)
+  Ok (alone (with_paths s paths) reply.Done)
 
 -- `rmdir`
-unfoldable pub rmdir_result : State → List ℕ → Result Effect Errno
+unfoldable pub rmdir_result : State → List ℕ → Result Decision Errno
 rmdir_result s path = do
   paths ← removed_dir s.paths path
-  Ok (Completes (with_paths s paths) reply.Done)
+  Ok (alone (with_paths s paths) reply.Done)

@@ -4,7 +4,7 @@
 use Rattle.std.specs.Prelude.{ℕ, ◌+◌, ◌-◌, ℤ, pos, [], false, nat_le, Result, Ok, Err}
 use Rattle.std.specs.FinMap as map
 use Rattle.sequential_object.specs.Descriptors.{described, lowest_free, lowest_from, opened}
-use Rattle.sequential_object.specs.Effects.{Effect, Completes, asks_of}
+use Rattle.sequential_object.specs.Effects.{Decision, Effect, Completes, asks_of, locking}
 use Rattle.posix_terms.specs.Ends.{side_of}
 use Rattle.sequential_object.specs.Object.{State, Description, Content, Pipe, Pair, DoorTo, content_of, with_content, with_object}
 use Rattle.sequential_object.specs.Refusals.{◌>>=◌, refuse_if, some_or}
@@ -35,18 +35,18 @@ pub record NewEnd : Type 0 where
   pub access : Access
 
 -- a new object, to whose ends two numbers refer
-abbrev pub two_ends : State → Content → NewEnd → NewEnd → Result Effect Errno
+abbrev pub two_ends : State → Content → NewEnd → NewEnd → Result Decision Errno
 two_ends s content one other = do
   numbers ← two_numbers s
   _ ← refuse_if (nat_le limit.OBJECTS (map.len s.objects)) ENFILE
-  Ok (Completes (opened (opened (with_object s content) numbers.0 s.next_object one.which one.access false false) numbers.1 s.next_object other.which other.access false false) (reply.Pair (pos numbers.0) (pos numbers.1)))
+  Ok (locking s.next_object (Ok (Completes (opened (opened (with_object s content) numbers.0 s.next_object one.which one.access false false) numbers.1 s.next_object other.which other.access false false) (reply.Pair (pos numbers.0) (pos numbers.1)))))
 
 -- `pipe`: the lower number reads, the other one writes
-unfoldable pub pipe_result : State → Result Effect Errno
+unfoldable pub pipe_result : State → Result Decision Errno
 pipe_result s = two_ends s (Pipe []) (record { which = part.Read; access = ReadOnly }) (record { which = part.Write; access = WriteOnly })
 
 -- `socketpair`
-unfoldable pub socketpair_result : State → Result Effect Errno
+unfoldable pub socketpair_result : State → Result Decision Errno
 socketpair_result s = two_ends s (Pair new_pair) (record { which = part.Socket Side0; access = ReadWrite }) (record { which = part.Socket Side1; access = ReadWrite })
 
 -- an object that can be shut
@@ -61,8 +61,8 @@ shut_content s d how (Pair p) = Completes (with_content s d.object (Pair (shut p
 shut_content s d how c = asks_of s kind.Shutdown 0 false (λ value bytes. reply.Done)
 
 -- `shutdown`; of a pair it is done again, or when the peer is closed, too
-unfoldable pub shutdown_result : State → ℤ → ShutdownHow → Result Effect Errno
+unfoldable pub shutdown_result : State → ℤ → ShutdownHow → Result Decision Errno
 shutdown_result s descriptor how = do
   found ← described s descriptor
   _ ← shuttable (content_of s found.1.object)
-  Ok (shut_content s found.1 how (content_of s found.1.object))
+  Ok (locking found.1.object (Ok (shut_content s found.1 how (content_of s found.1.object))))

@@ -4,7 +4,7 @@ use Rattle.std.specs.Prelude.{◌≡◌, ◌+◌, Bool, true, false, ◌&&◌, R
 use Rattle.sequential_object.specs.Descriptors.{open_result, close_result}
 use Rattle.sequential_object.specs.Duplicates.{dup_result, dup_from_result, dup2_result}
 use Rattle.sequential_object.specs.Doors.{host_open_result, tcp_accept_result, tcp_connect_result, tcp_listen_result}
-use Rattle.sequential_object.specs.Effects.{Effect, Asking, Asks, Blocks, Completes}
+use Rattle.sequential_object.specs.Effects.{Decision, Effect, Asking, Asks, Blocks, Completes, does_of}
 use Rattle.sequential_object.specs.Names.{link_result, unlink_result, mkdir_result, rmdir_result}
 use Rattle.sequential_object.specs.Object.{State}
 use Rattle.sequential_object.specs.Sockets.{pipe_result, socketpair_result, shutdown_result}
@@ -27,33 +27,37 @@ use Rattle.posix_terms.specs.declared.transcript.Settings.{Settings}
 abbrev pub nothing_carried : Carried
 nothing_carried = record { turns = 0 }
 
--- what a call does, by the rows of the call table
+-- what is decided of a call, by the rows of the call table
+abbrev pub decided : State → Call → Carried → Result Decision Errno
+decided s (call.Open path access flags) carried = open_result s path access flags
+decided s (call.Close descriptor) carried = close_result s descriptor
+decided s (call.Read descriptor count) carried = read_result s descriptor count
+decided s (call.Write descriptor bytes) carried = write_result s descriptor bytes
+decided s (call.Pread descriptor count position) carried = pread_result s descriptor count position
+decided s (call.Pwrite descriptor bytes position) carried = pwrite_result s descriptor bytes position
+decided s (call.Lseek descriptor offset whence) carried = lseek_result s descriptor offset whence
+decided s (call.Ftruncate descriptor size) carried = ftruncate_result s descriptor size
+decided s (call.Fstat descriptor) carried = fstat_result s descriptor
+decided s (call.Dup descriptor) carried = dup_result s descriptor
+decided s (call.DupFrom descriptor least) carried = dup_from_result s descriptor least
+decided s (call.Dup2 descriptor target) carried = dup2_result s descriptor target
+decided s (call.Getfl descriptor) carried = getfl_result s descriptor
+decided s (call.Setfl descriptor append nonblock) carried = setfl_result s descriptor append nonblock
+decided s (call.Link old_path new_path) carried = link_result s old_path new_path
+decided s (call.Unlink path) carried = unlink_result s path
+decided s (call.Mkdir path) carried = mkdir_result s path
+decided s (call.Rmdir path) carried = rmdir_result s path
+decided s call.Pipe carried = pipe_result s
+decided s call.Socketpair carried = socketpair_result s
+decided s (call.Shutdown descriptor how) carried = shutdown_result s descriptor how
+decided s (call.HostOpen path access flags) carried = host_open_result s path access flags
+decided s (call.TcpListen port) carried = tcp_listen_result s port
+decided s (call.TcpConnect port) carried = tcp_connect_result s port
+decided s (call.TcpAccept descriptor) carried = tcp_accept_result s descriptor
+
+-- what it then does, or its refusal, by the table or under the lock
 abbrev pub effect_of : State → Call → Carried → Result Effect Errno
-effect_of s (call.Open path access flags) carried = open_result s path access flags
-effect_of s (call.Close descriptor) carried = close_result s descriptor
-effect_of s (call.Read descriptor count) carried = read_result s descriptor count
-effect_of s (call.Write descriptor bytes) carried = write_result s descriptor bytes
-effect_of s (call.Pread descriptor count position) carried = pread_result s descriptor count position
-effect_of s (call.Pwrite descriptor bytes position) carried = pwrite_result s descriptor bytes position
-effect_of s (call.Lseek descriptor offset whence) carried = lseek_result s descriptor offset whence
-effect_of s (call.Ftruncate descriptor size) carried = ftruncate_result s descriptor size
-effect_of s (call.Fstat descriptor) carried = fstat_result s descriptor
-effect_of s (call.Dup descriptor) carried = dup_result s descriptor
-effect_of s (call.DupFrom descriptor least) carried = dup_from_result s descriptor least
-effect_of s (call.Dup2 descriptor target) carried = dup2_result s descriptor target
-effect_of s (call.Getfl descriptor) carried = getfl_result s descriptor
-effect_of s (call.Setfl descriptor append nonblock) carried = setfl_result s descriptor append nonblock
-effect_of s (call.Link old_path new_path) carried = link_result s old_path new_path
-effect_of s (call.Unlink path) carried = unlink_result s path
-effect_of s (call.Mkdir path) carried = mkdir_result s path
-effect_of s (call.Rmdir path) carried = rmdir_result s path
-effect_of s call.Pipe carried = pipe_result s
-effect_of s call.Socketpair carried = socketpair_result s
-effect_of s (call.Shutdown descriptor how) carried = shutdown_result s descriptor how
-effect_of s (call.HostOpen path access flags) carried = host_open_result s path access flags
-effect_of s (call.TcpListen port) carried = tcp_listen_result s port
-effect_of s (call.TcpConnect port) carried = tcp_connect_result s port
-effect_of s (call.TcpAccept descriptor) carried = tcp_accept_result s descriptor
+effect_of s c carried = does_of (decided s c carried)
 
 -- what a call asks of the outside, if it goes there
 abbrev pub request_of : Call → Result Effect Errno → Option Request

@@ -5,7 +5,7 @@ use Rattle.std.specs.Prelude.{ℕ, ◌+◌, ◌^◌, ℤ, pos, negsuc, ◌+ℤ�
 use Rattle.std.specs.FinMap as map
 use Rattle.posix_terms.specs.Calls.{can_read, can_write}
 use Rattle.sequential_object.specs.Descriptors.{described, has_end}
-use Rattle.sequential_object.specs.Effects.{Effect, Completes, Blocks, asks_of}
+use Rattle.sequential_object.specs.Effects.{Decision, Effect, Completes, Blocks, alone, asks_of, locking}
 use Rattle.posix_terms.specs.Ends.{side_of, peer_of}
 use Rattle.sequential_object.specs.Files.{bytes_at, resized, written}
 use Rattle.sequential_object.specs.Object.{State, Description, Content, File, Pipe, Pair, DoorTo, content_of, with_content}
@@ -19,6 +19,7 @@ use Rattle.posix_terms.specs.declared.limits.TheConstants.Limits as limit
 use Rattle.posix_terms.specs.declared.object.End.TheVariants as part
 use Rattle.posix_terms.specs.declared.outcome.OutKind.TheVariants as kind
 use Rattle.posix_terms.specs.declared.object.Side.{Side}
+use Rattle.posix_terms.specs.declared.reply.Reply.{Reply}
 use Rattle.posix_terms.specs.declared.reply.Reply.TheVariants as reply
 use Rattle.posix_terms.specs.declared.object.Door.TheVariants as door
 
@@ -35,24 +36,25 @@ read_done s d content (Reads bytes left) = Ok (Completes (with_content s d.objec
 read_done s d content Ends = Ok (Completes s (reply.Data []))
 read_done s d content NothingYet = blocked d
 
--- a read of no bytes of a stream does nothing
-abbrev pub read_stream : State → Description → ℕ → (List ℕ → Content) → Reading → Result Effect Errno
-read_stream s d count content reading = if count == 0 then Ok (Completes s (reply.Data [])) else read_done s d content reading
+-- a call that moves so many bytes of a pipe, a pair or a door: where there are none it takes no lock, and this is its reply
+abbrev pub moving : State → Description → ℕ → Reply → Result Effect Errno → Decision
+moving s d count none does = if count == 0 then alone s none else locking d.object does
 
 -- whether the peer of a socket is open
 abbrev pub has_peer : State → ℕ → Side → Bool
 has_peer s object side = has_end s object (part.Socket (peer_of side))
 
-abbrev pub read_content : State → ℕ → Description → ℕ → Content → Result Effect Errno
+abbrev pub read_content : State → ℕ → Description → ℕ → Content → Decision
 read_content s key d count (File file) =
     let bytes = bytes_at file d.offset count in
-    Ok (Completes (with_offset s key d (d.offset + length bytes)) (reply.Data bytes))
-read_content s key d count (Pipe bytes) = read_stream s d count Pipe (stream_read bytes count (has_end s d.object part.Write))
+    locking d.object (Ok (Completes (with_offset s key d (d.offset + length bytes)) (reply.Data bytes)))
+read_content s key d count (Pipe bytes) =
+    moving s d count (reply.Data []) (read_done s d Pipe (stream_read bytes count (has_end s d.object part.Write)))
 read_content s key d count (Pair p) =
     let side = side_of d.«end» in
-    read_stream s d count (λ left. Pair (with_waiting p side left)) (pair_read p side count (has_peer s d.object side))
+    moving s d count (reply.Data []) (read_done s d (λ left. Pair (with_waiting p side left)) (pair_read p side count (has_peer s d.object side)))
 read_content s key d count door =
-    Ok (if count == 0 then Completes s (reply.Data []) else asks_of s kind.Read count (not d.nonblock) (λ value bytes. reply.Data bytes))
+    moving s d count (reply.Data []) (Ok (asks_of s kind.Read count (not d.nonblock) (λ value bytes. reply.Data bytes)))
 
 -- a listener takes part in no transfer
 abbrev pub not_listener : Content → Result (Unit {0}) Errno
@@ -68,11 +70,11 @@ readable s descriptor = do
   Ok found
 
 -- `read`
-unfoldable pub read_result : State → ℤ → ℤ → Result Effect Errno
+unfoldable pub read_result : State → ℤ → ℤ → Result Decision Errno
 read_result s descriptor count = do
   found ← readable s descriptor
   n ← count_of count
-  read_content s found.0 found.1 n (content_of s found.1.object)
+  Ok (read_content s found.0 found.1 n (content_of s found.1.object))
 
 -- where a write starts: with O_APPEND at the end
 abbrev pub start_of : Description → List ℕ → ℕ
@@ -84,15 +86,23 @@ write_done s d count content (Writes left) = Ok (Completes (with_content s d.obj
 write_done s d count content Breaks = Err EPIPE
 write_done s d count content NoRoom = blocked d
 
-abbrev pub write_content : State → ℕ → Description → List ℕ → Content → Result Effect Errno
-write_content s key d bytes (File file) = do
+-- a write of some bytes to a file
+abbrev pub write_file : State → ℕ → Description → List ℕ → List ℕ → Result Effect Errno
+write_file s key d bytes file = do
   w ← written file (start_of d file) bytes
   Ok (Completes (with_content (with_offset s key d (start_of d file + w.1)) d.object (File w.0)) (reply.Count w.1))
-write_content s key d bytes (Pipe waiting) = write_done s d (length bytes) Pipe (pipe_write waiting bytes (has_end s d.object part.Read))
+
+abbrev pub write_content : State → ℕ → Description → List ℕ → Content → Decision
+write_content s key d bytes (File file) =
+    locking d.object (if length bytes == 0 then Ok (Completes s (reply.Count 0)) else write_file s key d bytes file)
+write_content s key d bytes (Pipe waiting) =
+    moving s d (length bytes) (reply.Count 0) (write_done s d (length bytes) Pipe (pipe_write waiting bytes (has_end s d.object part.Read)))
 write_content s key d bytes (Pair p) =
     let side = side_of d.«end» in
-    write_done s d (length bytes) (λ left. Pair (with_waiting p (peer_of side) left)) (pair_write p side bytes (has_peer s d.object side))
-write_content s key d bytes door = Ok (asks_of s kind.Write (length bytes) (not d.nonblock) (λ value sent. reply.Count value))
+    moving s d (length bytes) (reply.Count 0)
+    (write_done s d (length bytes) (λ left. Pair (with_waiting p (peer_of side) left)) (pair_write p side bytes (has_peer s d.object side)))
+write_content s key d bytes door =
+    moving s d (length bytes) (reply.Count 0) (Ok (asks_of s kind.Write (length bytes) (not d.nonblock) (λ value sent. reply.Count value)))
 
 -- the description of a descriptor that is open for writing, where a call can write these bytes
 abbrev pub writable : State → ℤ → List ℕ → Result (ℕ × Description) Errno
@@ -104,10 +114,10 @@ writable s descriptor bytes = do
   Ok found
 
 -- `write`; of no bytes it does nothing, and with O_APPEND too leaves the offset
-unfoldable pub write_result : State → ℤ → List ℕ → Result Effect Errno
+unfoldable pub write_result : State → ℤ → List ℕ → Result Decision Errno
 write_result s descriptor bytes = do
   found ← writable s descriptor bytes
-  if length bytes == 0 then Ok (Completes s (reply.Count 0)) else write_content s found.0 found.1 bytes (content_of s found.1.object)
+  Ok (write_content s found.0 found.1 bytes (content_of s found.1.object))
 
 -- an offset is a number below 2^63
 abbrev pub offset_of : ℤ → Result ℕ Errno
@@ -130,20 +140,19 @@ seekable (File file) offset from = Ok tt
 seekable (DoorTo door.HostFile) offset from = host_offset offset from
 seekable c offset from = Err ESPIPE
 
+-- of a file, or of a file of the host: other objects were refused before
 abbrev pub seek_content : State → ℕ → Description → ℤ → Whence → Content → Result Effect Errno
 seek_content s key d offset from (File file) = do
   to ← offset_of (pos (base_of from d.offset (length file)) +ℤ offset)
   Ok (Completes (with_offset s key d to) (reply.Number (pos to)))
-seek_content s key d offset from (DoorTo door.HostFile) = do
-  _ ← host_offset offset from
-  Ok (asks_of s kind.Seek 0 false (λ value bytes. reply.Number (pos value)))
-seek_content s key d offset from c = Err ESPIPE
+seek_content s key d offset from host_file = Ok (asks_of s kind.Seek 0 false (λ value bytes. reply.Number (pos value)))
 
 -- `lseek`
-unfoldable pub lseek_result : State → ℤ → ℤ → Whence → Result Effect Errno
+unfoldable pub lseek_result : State → ℤ → ℤ → Whence → Result Decision Errno
 lseek_result s descriptor offset from = do
   found ← described s descriptor
-  seek_content s found.0 found.1 offset from (content_of s found.1.object)
+  _ ← seekable (content_of s found.1.object) offset from
+  Ok (locking found.1.object (seek_content s found.0 found.1 offset from (content_of s found.1.object)))
 
 -- the bytes of a regular file; another object is refused
 abbrev pub file_in : Content → Errno → Result (List ℕ) Errno
@@ -151,14 +160,14 @@ file_in (File file) e = Ok file
 file_in c e = Err e
 
 -- `pread`: the offset stays
-unfoldable pub pread_result : State → ℤ → ℤ → ℤ → Result Effect Errno
+unfoldable pub pread_result : State → ℤ → ℤ → ℤ → Result Decision Errno
 pread_result s descriptor count position = do
   found ← described s descriptor
   file ← file_in (content_of s found.1.object) ESPIPE
   _ ← refuse_if (not (can_read found.1.access)) EBADF
   n ← count_of count
   start ← position_of position
-  Ok (Completes s (reply.Data (bytes_at file start n)))
+  Ok (locking found.1.object (Ok (Completes s (reply.Data (bytes_at file start n)))))
 
 -- a write at a position, which is no matter of the offset or of O_APPEND
 abbrev pub write_at : State → ℕ → List ℕ → ℕ → List ℕ → Result Effect Errno
@@ -167,14 +176,14 @@ write_at s object file start bytes = do
   Ok (Completes (with_content s object (File w.0)) (reply.Count w.1))
 
 -- `pwrite`; of no bytes it does nothing
-unfoldable pub pwrite_result : State → ℤ → List ℕ → ℤ → Result Effect Errno
+unfoldable pub pwrite_result : State → ℤ → List ℕ → ℤ → Result Decision Errno
 pwrite_result s descriptor bytes position = do
   found ← described s descriptor
   file ← file_in (content_of s found.1.object) ESPIPE
   _ ← refuse_if (not (can_write found.1.access)) EBADF
   _ ← refuse_if (nat_lt limit.COUNT (length bytes)) EINVAL
   start ← position_of position
-  if length bytes == 0 then Ok (Completes s (reply.Count 0)) else write_at s found.1.object file start bytes
+  Ok (locking found.1.object (if length bytes == 0 then Ok (Completes s (reply.Count 0)) else write_at s found.1.object file start bytes))
 
 -- a length that a file can have
 abbrev pub size_of : ℤ → Result ℕ Errno
@@ -182,10 +191,10 @@ size_of (pos n) = if nat_lt limit.FILE_BYTES n then Err EFBIG else Ok n
 size_of (negsuc n) = Err EINVAL
 
 -- `ftruncate`; the offset stays
-unfoldable pub ftruncate_result : State → ℤ → ℤ → Result Effect Errno
+unfoldable pub ftruncate_result : State → ℤ → ℤ → Result Decision Errno
 ftruncate_result s descriptor size = do
   found ← described s descriptor
   _ ← refuse_if (not (can_write found.1.access)) EINVAL
   file ← file_in (content_of s found.1.object) EINVAL
   n ← size_of size
-  Ok (Completes (with_content s found.1.object (File (resized file n))) reply.Done)
+  Ok (locking found.1.object (Ok (Completes (with_content s found.1.object (File (resized file n))) reply.Done)))

@@ -5,10 +5,10 @@
 //! its answer and the state that it leaves. The files beside it hold the rows by subject, each with
 //! the section of POSIX.1-2017 that it follows: `Descriptors`, `Duplicates`, `Transfers`, `Names`,
 //! `Status`, `Sockets`, `Doors`. `Legal` says when a history of turns is the object's, `Locked`
-//! which object a call is about, `Worlds` and `Numbers` which number that object has, and `Answers`
-//! how a turn ends. Each function here is a law or a list of worked examples: it has an empty body,
-//! takes no memory and asks for nothing, and whoever calls it knows from there on what its contract
-//! says. [`TurnEnd`] is how a turn of a call ended.
+//! which object's lock a call takes, `Worlds` and `Numbers` which number that object has, and
+//! `Answers` how a turn ends. Each function here is a law or a list of worked examples: it has an
+//! empty body, takes no memory and asks for nothing, and whoever calls it knows from there on what
+//! its contract says. [`TurnEnd`] is how a turn of a call ended.
 //!
 //! ```rust
 //! ghost use Rattle.sequential_object.specs.Step.{FailChangesNothing};

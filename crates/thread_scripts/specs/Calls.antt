@@ -140,9 +140,9 @@ opening (a ∷ b ∷ words) = do
 opening _ = None
 
 -- a call without operands
-abbrev pub alone : CallLine → List (List ℕ) → Option CallLine
-alone c [] = Some c
-alone c _ = None
+abbrev pub without_operands : CallLine → List (List ℕ) → Option CallLine
+without_operands c [] = Some c
+without_operands c _ = None
 
 -- flags that can be set later: those for opening alone are not among them
 abbrev pub status_flags : OpenFlags → Option OpenFlags
@@ -171,8 +171,8 @@ call_line kind.Link operands = option_map (λ o. call.Link o.0 o.1) (two_paths o
 call_line kind.Unlink operands = option_map call.Unlink (one_path operands)
 call_line kind.Mkdir operands = option_map call.Mkdir (one_path operands)
 call_line kind.Rmdir operands = option_map call.Rmdir (one_path operands)
-call_line kind.Pipe operands = alone call.Pipe operands
-call_line kind.Socketpair operands = alone call.Socketpair operands
+call_line kind.Pipe operands = without_operands call.Pipe operands
+call_line kind.Socketpair operands = without_operands call.Socketpair operands
 call_line kind.Shutdown operands = option_map (λ o. call.Shutdown o.0 o.1) (number_and_how operands)
 call_line kind.HostOpen operands = do
   o ← opening operands

@@ -1,5 +1,5 @@
 ghost use Rattle.std.specs.Prelude.{◌≡◌, map};
-ghost use Rattle.thread_scripts.specs.Calls.{alone, bytes_at, call_line, data_operand, kind_among, kind_named, number_and_bytes, number_and_flags, number_and_how, number_operand, one_number, one_path, opening, seek, status_flags, three_numbers, two_numbers, two_paths};
+ghost use Rattle.thread_scripts.specs.Calls.{without_operands, bytes_at, call_line, data_operand, kind_among, kind_named, number_and_bytes, number_and_flags, number_and_how, number_operand, one_number, one_path, opening, seek, status_flags, three_numbers, two_numbers, two_paths};
 ghost use Rattle.thread_scripts.specs.Faults.{Reads};
 
 use crate::fault::LineFault;
@@ -186,8 +186,8 @@ fn opening(alloc: Global, operands: &[&[u8]]) -> Result<(Bytes, Access, OpenFlag
 }
 
 /// A call without operands.
-fn alone(operands: &[&[u8]], call: CallLine) -> Result<CallLine, LineFault>
-    ensures { Reads result (alone call (map (λ w. w.now) operands.now)) }
+fn without_operands(operands: &[&[u8]], call: CallLine) -> Result<CallLine, LineFault>
+    ensures { Reads result (without_operands call (map (λ w. w.now) operands.now)) }
 {
     if operands.is_empty() {
         Ok(call)
@@ -310,8 +310,8 @@ pub(crate) fn read_call(
             let path = one_path(alloc, operands)?;
             Call::Rmdir { path }
         }
-        CallKind::Pipe => alone(operands, Call::Pipe)?,
-        CallKind::Socketpair => alone(operands, Call::Socketpair)?,
+        CallKind::Pipe => without_operands(operands, Call::Pipe)?,
+        CallKind::Socketpair => without_operands(operands, Call::Socketpair)?,
         CallKind::Shutdown => {
             let (descriptor, how) = number_and_how(operands)?;
             Call::Shutdown { descriptor, how }

@@ -5,7 +5,7 @@ use Rattle.std.proofs.lemmas.Option.{none-some}
 use Rattle.lock_machine.specs.Requests.{AskTheirKind, IsOfKind, kind_asked}
 use Rattle.sequential_object.specs.Descriptors.{close_result, described, ends_door, freed, released}
 use Rattle.sequential_object.specs.Doors.{host_open_result, tcp_accept_result, tcp_connect_result, tcp_listen_result}
-use Rattle.sequential_object.specs.Effects.{Effect, Completes, asks_of}
+use Rattle.sequential_object.specs.Effects.{Decision, Completes, asks_of, does_of}
 use Rattle.sequential_object.specs.Object as object
 use Rattle.sequential_object.specs.Object.{State}
 use Rattle.sequential_object.specs.Refusals.{◌>>=◌}
@@ -29,7 +29,8 @@ abbrev IsOf : Call → Option Request → Type 0
 IsOf c (Some r) = request_for c ≡ Some r
 IsOf c None = Unit {0}
 
-through : (c : Call) {A : Type 0} (r : Result A Errno) (f : A → Result Effect Errno) → ((x : A) → IsOf c (request_of c (f x))) → IsOf c (request_of c (r >>= f))
+through : (c : Call) {A : Type 0} (r : Result A Errno) (f : A → Result Decision Errno) → ((x : A) → IsOf c (request_of c (does_of (f x))))
+    → IsOf c (request_of c (does_of (r >>= f)))
 through c (Ok x) f each = each x
 through c (Err e) f each = tt
 

@@ -1,0 +1,357 @@
+use crate::tables::table::outcome;
+use descriptor_table::{Errand, read_count};
+use object_store::{AtTable, Store, TurnEnd, TurnStart, end_outside};
+use posix_terms::{Access, Bytes, Call, Carried, Errno, OpenFlags, OutKind, Outcome, Reply};
+use std::alloc::{AllocError, Global};
+use std::process::Abort;
+use std::test::Fail;
+
+const HOST_FILE: OpenFlags = OpenFlags {
+    create: true,
+    exclusive: false,
+    truncate: false,
+    append: false,
+    nonblock: false,
+};
+
+// A call, in short.
+enum Ask {
+    Pipe,
+    // A read of four bytes at descriptor 0.
+    Read,
+    Write(i64, &'static [u8]),
+    Close(i64),
+    // Opens a file of the host for writing.
+    HostOpen,
+    // Listens at any port.
+    Listen,
+    // Accepts at descriptor 0.
+    Accept,
+}
+
+fn call_of(alloc: Global, ask: &Ask) -> Result<Call, AllocError> {
+    Ok(match ask {
+        Ask::Pipe => Call::Pipe,
+        Ask::Read => Call::Read {
+            descriptor: 0,
+            count: 4,
+        },
+        Ask::Write(descriptor, bytes) => Call::Write {
+            descriptor: *descriptor,
+            bytes: Bytes::from_slice(alloc, bytes)?,
+        },
+        Ask::Close(descriptor) => Call::Close {
+            descriptor: *descriptor,
+        },
+        Ask::HostOpen => Call::HostOpen {
+            path: Bytes::from_slice(alloc, b"out")?,
+            access: Access::WriteOnly,
+            flags: HOST_FILE,
+        },
+        Ask::Listen => Call::TcpListen { port: 0 },
+        Ask::Accept => Call::TcpAccept { descriptor: 0 },
+    })
+}
+
+// How a turn ends.
+enum End {
+    Count(u64),
+    Number(i64),
+    Pair(i64, i64),
+    Data(&'static [u8]),
+    Fail(Errno),
+    // It was not answered, and blocked for so many turns then.
+    Blocked(u32),
+}
+
+// Whether a turn ended with this reply.
+fn replied(reply: &Reply, wanted: &End) -> bool {
+    match (reply, wanted) {
+        (Reply::Count(count), End::Count(wanted)) => count == wanted,
+        (Reply::Number(number), End::Number(wanted)) => number == wanted,
+        (Reply::Pair(first, second), End::Pair(one, other)) => first == one && second == other,
+        (Reply::Data(bytes), End::Data(wanted)) => bytes.as_slice() == *wanted,
+        (Reply::Fail(error), End::Fail(wanted)) => error == wanted,
+        _ => false,
+    }
+}
+
+// Whether a turn ended so.
+fn ended(end: &TurnEnd, wanted: &End) -> bool {
+    match (end, wanted) {
+        (TurnEnd::Reply(reply), _) => replied(reply, wanted),
+        (TurnEnd::Blocked(carried), End::Blocked(wanted)) => carried.turns == *wanted,
+        _ => false,
+    }
+}
+
+// What becomes of a call, where the patience is 3.
+enum Turn {
+    // Its turn, where it was blocked for so many before, ends so.
+    Ends(u32, End),
+    // Its turn asks this outside.
+    Asks(Errand),
+    // It asked this outside, where it was blocked for so many turns before, and ends so by this outcome.
+    Comes(Errand, Result<u64, Errno>, u32, End),
+    // It opens a door, with this outcome outside, and ends so.
+    Opens(Result<u64, Errno>, End),
+    // It takes the lock of the object of this number.
+    Locks(usize),
+}
+
+// Whether a turn of a call ends so, where it was blocked for so many before, or asks this outside.
+fn makes(
+    alloc: Global,
+    store: &mut Store,
+    call: &Call,
+    turns: u32,
+    end: Option<&End>,
+    errand: Option<Errand>,
+) -> Result<bool, AllocError> {
+    let (descriptions, objects) = store.table.made();
+    if descriptions >= 1_000 || objects >= 1_000 {
+        return Ok(false);
+    }
+    let mut room = vec![in alloc; 0; read_count(call)]?;
+    Ok(match store.make(call, 3, Carried { turns }, &mut room) {
+        TurnStart::Ended(found) => match end {
+            Some(wanted) => ended(&found, wanted),
+            None => false,
+        },
+        TurnStart::GoesOut(found) => errand == Some(found),
+    })
+}
+
+// Whether a call opens a door with this outcome outside, and ends so.
+fn opens(store: &mut Store, call: &Call, outcome: &Outcome, wanted: &End) -> bool {
+    let (descriptions, objects) = store.table.made();
+    if descriptions >= 1_000 || objects >= 1_000 {
+        return false;
+    }
+    ended(
+        &store.open_door(call, outcome, 3, Carried { turns: 0 }),
+        wanted,
+    )
+}
+
+// Whether a call takes the lock of this object.
+fn locks(store: &mut Store, call: &Call, wanted: usize) -> bool {
+    let (descriptions, objects) = store.table.made();
+    if descriptions >= 1_000 || objects >= 1_000 {
+        return false;
+    }
+    match store.settle_or_lock(call, Carried { turns: 0 }) {
+        AtTable::Locks(object) => object == wanted,
+        AtTable::Answers(_) => false,
+    }
+}
+
+// Whether this becomes of a call.
+fn becomes(alloc: Global, store: &mut Store, call: &Call, turn: &Turn) -> Result<bool, AllocError> {
+    Ok(match turn {
+        Turn::Ends(turns, wanted) => makes(alloc, store, call, *turns, Some(wanted), None)?,
+        Turn::Asks(errand) => makes(alloc, store, call, 0, None, Some(*errand))?,
+        Turn::Comes(errand, came, turns, wanted) => {
+            let outcome = outcome(alloc, *came);
+            let mut room = Vec::new(alloc);
+            let carried = Carried { turns: *turns };
+            ended(
+                &end_outside(*errand, &outcome, 3, carried, &mut room),
+                wanted,
+            )
+        }
+        Turn::Opens(came, wanted) => opens(store, call, &outcome(alloc, *came), wanted),
+        Turn::Locks(wanted) => locks(store, call, *wanted),
+    })
+}
+
+// The same of a call in short.
+fn holds(alloc: Global, store: &mut Store, ask: &Ask, turn: &Turn) -> Result<bool, AllocError> {
+    let call = call_of(alloc, ask)?;
+    becomes(alloc, store, &call, turn)
+}
+
+// Asserts that this becomes of these calls, one after another.
+fn assert_turns(
+    rt: &impl Abort,
+    alloc: Global,
+    store: &mut Store,
+    rows: &[(Ask, Turn)],
+) -> Result<(), Fail> {
+    for (number, (ask, turn)) in rows.iter().enumerate() {
+        assert!(rt; holds(alloc, store, ask, turn)?, "at row {number}");
+    }
+    Ok(())
+}
+
+// The same in a new store.
+fn assert_store(rt: &impl Abort, alloc: Global, rows: &[(Ask, Turn)]) -> Result<(), Fail> {
+    let mut store = Store::new(alloc)?;
+    assert_turns(rt, alloc, &mut store, rows)
+}
+
+const LOCKS: &[(Ask, Turn)] = &[
+    (Ask::Pipe, Turn::Ends(0, End::Pair(0, 1))),
+    (Ask::Read, Turn::Locks(0)),
+    (Ask::Pipe, Turn::Locks(1)),
+];
+
+#[test]
+fn a_call_locks_its_object(rt: HostRuntime) -> Result<(), Fail> {
+    assert_store(&rt, rt.alloc(), LOCKS)
+}
+
+const EMPTY_PIPE: &[(Ask, Turn)] = &[
+    (Ask::Pipe, Turn::Ends(0, End::Pair(0, 1))),
+    (Ask::Read, Turn::Ends(0, End::Blocked(1))),
+    (Ask::Read, Turn::Ends(1, End::Blocked(2))),
+    (Ask::Read, Turn::Ends(2, End::Fail(Errno::EINTR))),
+];
+
+#[test]
+fn a_read_of_an_empty_pipe_waits(rt: HostRuntime) -> Result<(), Fail> {
+    assert_store(&rt, rt.alloc(), EMPTY_PIPE)
+}
+
+const WRITTEN_PIPE: &[(Ask, Turn)] = &[
+    (Ask::Pipe, Turn::Ends(0, End::Pair(0, 1))),
+    (Ask::Write(1, b"abc"), Turn::Ends(0, End::Count(3))),
+    (Ask::Read, Turn::Ends(1, End::Data(b"abc"))),
+];
+
+#[test]
+fn what_was_written_is_read(rt: HostRuntime) -> Result<(), Fail> {
+    assert_store(&rt, rt.alloc(), WRITTEN_PIPE)
+}
+
+const OPEN: Errand = Errand {
+    kind: OutKind::Open,
+    asked: 0,
+    waits: false,
+    door: None,
+};
+
+const FAILED_DOOR: &[(Ask, Turn)] = &[
+    (Ask::HostOpen, Turn::Asks(OPEN)),
+    (
+        Ask::HostOpen,
+        Turn::Opens(Err(Errno::EACCES), End::Fail(Errno::EACCES)),
+    ),
+    (Ask::HostOpen, Turn::Opens(Ok(0), End::Number(0))),
+];
+
+#[test]
+fn a_door_that_fails_leaves_no_number(rt: HostRuntime) -> Result<(), Fail> {
+    assert_store(&rt, rt.alloc(), FAILED_DOOR)
+}
+
+// What a write of three bytes to a door asks.
+const WRITE: Errand = Errand {
+    kind: OutKind::Write,
+    asked: 3,
+    waits: true,
+    door: Some(0),
+};
+
+const WRITTEN_DOOR: &[(Ask, Turn)] = &[
+    (Ask::HostOpen, Turn::Asks(OPEN)),
+    (Ask::HostOpen, Turn::Opens(Ok(0), End::Number(0))),
+    (Ask::Write(0, b"abc"), Turn::Asks(WRITE)),
+    (
+        Ask::Write(0, b"abc"),
+        Turn::Comes(WRITE, Ok(2), 0, End::Count(2)),
+    ),
+];
+
+#[test]
+fn a_door_is_written(rt: HostRuntime) -> Result<(), Fail> {
+    assert_store(&rt, rt.alloc(), WRITTEN_DOOR)
+}
+
+const WAITING_DOOR: &[(Ask, Turn)] = &[
+    (Ask::HostOpen, Turn::Asks(OPEN)),
+    (Ask::HostOpen, Turn::Opens(Ok(0), End::Number(0))),
+    (Ask::Write(0, b"abc"), Turn::Asks(WRITE)),
+    (
+        Ask::Write(0, b"abc"),
+        Turn::Comes(WRITE, Err(Errno::EAGAIN), 0, End::Blocked(1)),
+    ),
+    (
+        Ask::Write(0, b"abc"),
+        Turn::Comes(WRITE, Err(Errno::EAGAIN), 2, End::Fail(Errno::EINTR)),
+    ),
+];
+
+#[test]
+fn a_door_that_is_not_ready_waits(rt: HostRuntime) -> Result<(), Fail> {
+    assert_store(&rt, rt.alloc(), WAITING_DOOR)
+}
+
+const CLOSE: Errand = Errand {
+    kind: OutKind::Close,
+    asked: 0,
+    waits: false,
+    door: Some(0),
+};
+
+const CLOSED_DOOR: &[(Ask, Turn)] = &[
+    (Ask::HostOpen, Turn::Asks(OPEN)),
+    (Ask::HostOpen, Turn::Opens(Ok(0), End::Number(0))),
+    (Ask::Close(0), Turn::Asks(CLOSE)),
+];
+
+const FAILED_CLOSE: &[(Ask, Turn)] = &[(
+    Ask::Close(0),
+    Turn::Comes(CLOSE, Err(Errno::EIO), 0, End::Fail(Errno::EIO)),
+)];
+
+// Its number is free whatever comes of the close.
+#[test]
+fn a_door_is_closed(rt: HostRuntime) -> Result<(), Fail> {
+    let alloc = rt.alloc();
+    let mut store = Store::new(alloc)?;
+    assert_turns(&rt, alloc, &mut store, CLOSED_DOOR)?;
+    assert!(rt; store.table.lowest_free(0) == Some(0));
+    assert_turns(&rt, alloc, &mut store, FAILED_CLOSE)
+}
+
+const LISTENER: &[(Ask, Turn)] = &[
+    (
+        Ask::Listen,
+        Turn::Asks(Errand {
+            kind: OutKind::Listen,
+            asked: 0,
+            waits: false,
+            door: None,
+        }),
+    ),
+    (Ask::Listen, Turn::Opens(Ok(8_080), End::Number(0))),
+];
+
+#[test]
+fn a_listener_is_opened_at_its_port(rt: HostRuntime) -> Result<(), Fail> {
+    assert_store(&rt, rt.alloc(), LISTENER)
+}
+
+const ACCEPTED: &[(Ask, Turn)] = &[
+    (Ask::Listen, Turn::Opens(Ok(8_080), End::Number(0))),
+    (
+        Ask::Accept,
+        Turn::Asks(Errand {
+            kind: OutKind::Accept,
+            asked: 0,
+            waits: true,
+            door: Some(0),
+        }),
+    ),
+    (
+        Ask::Accept,
+        Turn::Opens(Err(Errno::EAGAIN), End::Blocked(1)),
+    ),
+    (Ask::Accept, Turn::Opens(Ok(0), End::Number(1))),
+];
+
+#[test]
+fn a_listener_accepts(rt: HostRuntime) -> Result<(), Fail> {
+    assert_store(&rt, rt.alloc(), ACCEPTED)
+}

@@ -1,0 +1,191 @@
+use crate::outcomes::{Came, outcomes};
+use crate::record::script;
+use input_log::LogFault;
+use logged_machine::Stop;
+use posix_terms::{Errno, OutKind, Outcomes, Reply, Row, Transcripts};
+use std::alloc::{AllocError, Global};
+use thread_scripts::ScriptActor;
+
+// ## Runs and what is wanted of them
+
+// A reply, in short.
+#[derive(Clone, Copy)]
+pub(crate) enum Seen {
+    Count(u64),
+    // data of one byte
+    Byte(u8),
+    // data of none
+    NoData,
+    Number(i64),
+    Pair(i64, i64),
+    Done,
+    Fail(Errno),
+}
+
+// A run whose scripts and outcomes are written down here.
+pub(crate) type Run = crate::record::Run<'static>;
+
+// What each thread saw: replies with the clocks at which they were granted.
+pub(crate) type Rows = &'static [&'static [(u64, Seen)]];
+
+// How a run or a replay ends: to its end, or stopped; or the bytes are no log.
+#[derive(Clone, Copy, PartialEq, Eq)]
+pub(crate) enum End {
+    Whole,
+    Stop(Stop),
+    NoLog(LogFault),
+}
+
+// How a run is to end, what its threads are to see, and the log that it is to write.
+#[derive(Clone, Copy)]
+pub(crate) struct Wanted {
+    pub end: End,
+    pub rows: Rows,
+    pub log: &'static [u8],
+}
+
+// ## Worked runs
+
+pub(crate) const PATIENCE_ON_A_PIPE: Run = Run {
+    scripts: &[b"pipe\nread 0 4\nsetfl 0 nonblock\nread 0 4\nclose 1\nread 0 4\n"],
+    came: &[],
+    patience: 3,
+};
+
+pub(crate) const PATIENCE_SEEN: Wanted = Wanted {
+    end: End::Whole,
+    rows: &[&[
+        (1, Seen::Pair(0, 1)),
+        (13, Seen::Fail(Errno::EINTR)),
+        (17, Seen::Done),
+        (19, Seen::Fail(Errno::EAGAIN)),
+        (23, Seen::Done),
+        (27, Seen::NoData),
+    ]],
+    log: b"DIOL\0\x01\0\x01\0\0\0\x03\0\0\0\x64E\0\0\0\0",
+};
+
+pub(crate) const SHORT_HOST_WRITE: Run = Run {
+    scripts: &[b"host_open out w create\nwrite 0 x0001020304050607\nwrite 0 x0304\n"],
+    came: &[&[
+        Came::Ok(OutKind::Open, 0, b""),
+        Came::Ok(OutKind::Write, 3, b""),
+        Came::Fail(OutKind::Write, Errno::EIO),
+    ]],
+    patience: 1000,
+};
+
+// The log of an open, a short write and a write that failed, by one thread.
+pub(crate) const SHORT_LOG: &[u8] = b"DIOL\0\x01\0\x01\0\0\x03\xe8\0\0\0\x64\
+    R\0\0\0\0\0\0\x01\0\0\0\0\0\0\0\0\0\0\0\
+    R\0\0\0\0\0\x01\x03\0\0\0\0\0\0\0\0\x03\0\0\
+    R\0\0\0\0\0\x02\x03\x09\0\0\0\0\0\0\0\0\0\0\
+    E\0\0\0\x03";
+
+pub(crate) const SHORT_SEEN: Wanted = Wanted {
+    end: End::Whole,
+    rows: SHORT_ROWS,
+    log: SHORT_LOG,
+};
+
+pub(crate) const SHORT_ROWS: Rows = &[&[
+    (1, Seen::Number(0)),
+    (105, Seen::Count(3)),
+    (209, Seen::Fail(Errno::EIO)),
+]];
+
+pub(crate) const READER_WAITS: Run = Run {
+    scripts: &[b"pipe\nwork 20\nwrite 1 x7a\n", b"work 5\nread 0 1\n"],
+    came: &[],
+    patience: 1000,
+};
+
+pub(crate) const READER_SEEN: Wanted = Wanted {
+    end: End::Whole,
+    rows: &[
+        &[(1, Seen::Pair(0, 1)), (25, Seen::Count(1))],
+        &[(28, Seen::Byte(b'z'))],
+    ],
+    log: b"DIOL\0\x01\0\x02\0\0\x03\xe8\0\0\0\x64E\0\0\0\0",
+};
+
+pub(crate) const CLOSE_AND_REOPEN: Run = Run {
+    scripts: &[
+        b"open /a rw create\nwrite 0 x61\n",
+        b"work 6\nclose 0\nopen /a r\nread 0 1\n",
+    ],
+    came: &[],
+    patience: 1000,
+};
+
+pub(crate) const REOPEN_SEEN: Wanted = Wanted {
+    end: End::Whole,
+    rows: &[
+        &[(1, Seen::Number(0)), (5, Seen::Count(1))],
+        &[
+            (8, Seen::Done),
+            (12, Seen::Number(0)),
+            (16, Seen::Byte(b'a')),
+        ],
+    ],
+    log: b"DIOL\0\x01\0\x02\0\0\x03\xe8\0\0\0\x64E\0\0\0\0",
+};
+
+// ## What is made of them
+
+// What comes for each thread.
+pub(crate) fn lists(alloc: Global, run: Run) -> Result<Vec<Outcomes>, AllocError> {
+    outcomes(alloc, run.scripts.len(), run.came)
+}
+
+pub(crate) fn actors(alloc: Global, texts: &[&[u8]]) -> Result<Vec<ScriptActor>, AllocError> {
+    let mut actors = Vec::new(alloc);
+    for text in texts {
+        actors.push(ScriptActor::new(script(alloc, text)?))?;
+    }
+    Ok(actors)
+}
+
+// ## What was seen
+
+pub(crate) fn is_reply(reply: &Reply, seen: Seen) -> bool {
+    match (reply, seen) {
+        (Reply::Count(count), Seen::Count(wanted)) => *count == wanted,
+        (Reply::Data(data), Seen::Byte(wanted)) => data.as_slice() == [wanted].as_slice(),
+        (Reply::Data(data), Seen::NoData) => data.as_slice().is_empty(),
+        (Reply::Number(number), Seen::Number(wanted)) => *number == wanted,
+        (Reply::Pair(one, other), Seen::Pair(first, second)) => {
+            *one == first && *other == second
+        }
+        (Reply::Done, Seen::Done) => true,
+        (Reply::Fail(error), Seen::Fail(wanted)) => *error == wanted,
+        _ => false,
+    }
+}
+
+// Whether the first rows of a thread are these, as far as there are any.
+fn begin(rows: &[Row], wanted: &[(u64, Seen)]) -> bool {
+    rows.len() <= wanted.len()
+        && rows.iter().zip(wanted).all(|(row, (clock, seen))| row.turn.clock == *clock
+            && is_reply(&row.reply, *seen))
+}
+
+// Whether each thread saw a beginning of this.
+pub(crate) fn saw_beginning(transcripts: &Transcripts, wanted: Rows) -> bool {
+    let threads = transcripts.threads();
+    threads.len() == wanted.len()
+        && threads
+            .iter()
+            .zip(wanted)
+            .all(|(transcript, rows)| begin(transcript.rows(), rows))
+}
+
+// Whether each thread saw this.
+pub(crate) fn saw(transcripts: &Transcripts, wanted: Rows) -> bool {
+    saw_beginning(transcripts, wanted)
+        && transcripts
+            .threads()
+            .iter()
+            .zip(wanted)
+            .all(|(transcript, rows)| transcript.rows().len() == rows.len())
+}

@@ -1,0 +1,201 @@
+ghost use Rattle.std.specs.Prelude.{◌≤◌};
+
+use crate::hostile::runs::{End, Run, Wanted, actors, lists, saw, saw_beginning};
+use crate::outcomes::doors;
+use crate::record::scripts;
+use call_machine::{PlainFault, plain_run};
+use host_doors::{NoGate, ScriptDoors};
+use input_log::{MemorySink, ShortSink};
+use logged_machine::Stop;
+use posix_terms::Transcripts;
+use recorder::{BoxedActor, Ended, NotStarted, StartFault, run_recorded};
+use replayer::{ReplayFault, replay, replay_threads};
+use std::alloc::{AllocError, Global};
+use std::sync::Wait;
+use std::thread::Threads;
+use thread_scripts::ScriptActor;
+
+// What a run or a replay told: all that is wanted of it; that there is no memory, and what came before is a beginning of what is wanted;
+// or something else.
+#[derive(Clone, Copy, Debug, PartialEq, Eq)]
+pub(crate) enum Told {
+    Whole,
+    Memory,
+    Wrong,
+}
+
+pub(crate) fn whole_if(whole: bool) -> Told {
+    if whole { Told::Whole } else { Told::Wrong }
+}
+
+pub(crate) fn memory_if(beginning: bool) -> Told {
+    if beginning { Told::Memory } else { Told::Wrong }
+}
+
+fn end_of(stop: Option<Stop>) -> End {
+    match stop {
+        None => End::Whole,
+        Some(stop) => End::Stop(stop),
+    }
+}
+
+// What a run tells that stopped so, whose threads saw this and which wrote this log. Where it was stopped for memory there may be no transcripts.
+fn shows(wanted: Wanted, stop: Option<Stop>, transcripts: &Transcripts, log: &[u8]) -> Told {
+    if stop == Some(Stop::Memory) {
+        let beginning = transcripts.threads().is_empty() || saw_beginning(transcripts, wanted.rows);
+        return memory_if(beginning && wanted.log.starts_with(log));
+    }
+    whole_if(end_of(stop) == wanted.end && saw(transcripts, wanted.rows) && log == wanted.log)
+}
+
+// The plain run.
+pub(crate) fn plain(alloc: Global, run: Run, wanted: Wanted) -> Result<Told, AllocError> {
+    let scripts = scripts(alloc, run.scripts)?;
+    let lists = lists(alloc, run)?;
+    Ok(match plain_run(alloc, scripts, lists, run.settings()) {
+        Ok(plain) => shows(wanted, plain.stop, &plain.transcripts, plain.log.as_slice()),
+        Err(fault) => memory_if(fault == PlainFault::Memory),
+    })
+}
+
+type Over = Ended<BoxedActor, ScriptDoors<NoGate>, MemorySink>;
+
+type NoRun = NotStarted<BoxedActor, ScriptDoors<NoGate>, MemorySink>;
+
+// Of a recorded run that is over all actors and outsides come back.
+fn told_at_end(wanted: Wanted, threads: usize, over: &Over) -> Told {
+    if over.actors.len() != threads || over.outsides.len() != threads {
+        return Told::Wrong;
+    }
+    shows(wanted, over.stop, &over.transcripts, over.sink.bytes())
+}
+
+// Where it was not started, they do too, and the sink, which has the log's header at most.
+fn not_started(wanted: Wanted, threads: usize, refused: &NoRun) -> Told {
+    let taken = refused.sink.bytes();
+    memory_if(
+        refused.fault == StartFault::Memory
+            && refused.actors.len() == threads
+            && refused.outsides.len() == threads
+            && taken.len() <= 16
+            && wanted.log.starts_with(taken),
+    )
+}
+
+// The recorded run, into a log that has so much room.
+pub(crate) fn recorded<R: Threads + Wait + Sync>(
+    rt: &R,
+    alloc: Global,
+    run: Run,
+    room: usize,
+    wanted: Wanted,
+) -> Result<Told, AllocError> {
+    let mut actors: Vec<BoxedActor> = Vec::new(alloc);
+    for script in scripts(alloc, run.scripts)? {
+        actors.push(Box::new(alloc, ScriptActor::new(script))?)?;
+    }
+    let doors = doors(alloc, lists(alloc, run)?)?;
+    let sink = MemorySink::new(alloc, room)?;
+    Ok(
+        match run_recorded(rt, alloc, actors, doors, sink, run.settings()) {
+            Ok(over) => told_at_end(wanted, run.scripts.len(), &over),
+            Err(refused) => not_started(wanted, run.scripts.len(), &refused),
+        },
+    )
+}
+
+// The recorded run, into a sink that takes at most so many bytes at a time, and fails at the write with this number.
+pub(crate) fn recorded_short<R: Threads + Wait + Sync>(
+    rt: &R,
+    alloc: Global,
+    run: Run,
+    most: usize,
+    fail_at: Option<u64>,
+    wanted: Wanted,
+) -> Result<Told, AllocError>
+    requires { 1 ≤ most }
+{
+    let mut actors: Vec<BoxedActor> = Vec::new(alloc);
+    for script in scripts(alloc, run.scripts)? {
+        actors.push(Box::new(alloc, ScriptActor::new(script))?)?;
+    }
+    let doors = doors(alloc, lists(alloc, run)?)?;
+    let sink = ShortSink::new(alloc, 100, most, fail_at)?;
+    match run_recorded(rt, alloc, actors, doors, sink, run.settings()) {
+        Ok(over) => Ok(shows(wanted, over.stop, &over.transcripts, over.sink.bytes())),
+        Err(_) => Err(AllocError),
+    }
+}
+
+// What a replay tells that ended so.
+fn ends(wanted: Wanted, end: End, transcripts: &Transcripts) -> Told {
+    whole_if(end == wanted.end && saw(transcripts, wanted.rows))
+}
+
+fn fault(wanted: Wanted, fault: &ReplayFault) -> Told {
+    match fault {
+        ReplayFault::Memory => Told::Memory,
+        ReplayFault::Log(fault) => whole_if(End::NoLog(*fault) == wanted.end),
+        ReplayFault::EndOfLog(thread, seen) => {
+            ends(wanted, End::Stop(Stop::EndOfLog(*thread)), seen)
+        }
+        ReplayFault::Diverged(thread, number, seen) => {
+            ends(wanted, End::Stop(Stop::Diverged(*thread, *number)), seen)
+        }
+        _ => Told::Wrong,
+    }
+}
+
+// The replay of a log, on one thread.
+pub(crate) fn replayed(
+    alloc: Global,
+    log: &[u8],
+    run: Run,
+    wanted: Wanted,
+) -> Result<Told, AllocError> {
+    Ok(match replay(alloc, log, scripts(alloc, run.scripts)?) {
+        Ok(replayed) => ends(wanted, End::Whole, &replayed.transcripts),
+        Err(told) => fault(wanted, &told),
+    })
+}
+
+// The replay of a log by threads, which writes a log of its own.
+pub(crate) fn replayed_by_threads<R: Threads + Wait + Sync>(
+    rt: &R,
+    alloc: Global,
+    log: &[u8],
+    run: Run,
+    wanted: Wanted,
+) -> Result<Told, AllocError> {
+    let actors = actors(alloc, run.scripts)?;
+    Ok(match replay_threads(rt, alloc, log, actors) {
+        Ok(over) => shows(wanted, over.stop, &over.transcripts, over.sink.bytes()),
+        Err(refused) if refused.actors.len() == run.scripts.len() => fault(wanted, &refused.fault),
+        Err(_) => Told::Wrong,
+    })
+}
+
+// Both replays of a log.
+pub(crate) fn is_replayed<R: Threads + Wait + Sync>(
+    rt: &R,
+    alloc: Global,
+    log: &[u8],
+    run: Run,
+    wanted: Wanted,
+) -> Result<bool, AllocError> {
+    let on_one = replayed(alloc, log, run, wanted)?;
+    let by_threads = replayed_by_threads(rt, alloc, log, run, wanted)?;
+    Ok(on_one == Told::Whole && by_threads == Told::Whole)
+}
+
+// Whether the plain run and the recorded one are all that is wanted.
+pub(crate) fn is_run<R: Threads + Wait + Sync>(
+    rt: &R,
+    alloc: Global,
+    run: Run,
+    wanted: Wanted,
+) -> Result<bool, AllocError> {
+    let plain = plain(alloc, run, wanted)?;
+    let recorded = recorded(rt, alloc, run, 100, wanted)?;
+    Ok(plain == Told::Whole && recorded == Told::Whole)
+}
