@@ -1,4 +1,4 @@
-"""How the tools run the program: where it stands, and one run of it with a limit of time."""
+"""How the tools run the program: where it stands, one run of it with a limit of time, and many runs, several at a time."""
 import multiprocessing
 import os
 import subprocess
@@ -30,7 +30,7 @@ def answer(words, folder, more=None, seconds=SECONDS):
 
 
 def in_parts(name, work, program, asked, size):
-    """Has a function make the runs that are asked for, so many at a time, and yields what it answers of each part of them.
+    """Has `work` make the runs that are asked for, asked.jobs parts of `size` runs at a time, and yields what it answers of each.
     It is called with the program, the seed and the numbers; the last that it answers is a failure, which ends all, or None."""
     begun, told, last = time.time(), 0, asked.first + asked.count
     parts = [range(at, min(at + size, last)) for at in range(asked.first, last, size)]

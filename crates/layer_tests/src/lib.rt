@@ -1,4 +1,4 @@
-//! The tests of the layers below the lock machine, each layer by itself. They stand in a crate of their own since a crate
+//! The tests of the crates before the lock machine, each layer by itself. They stand in a crate of their own since a crate
 //! with tests is proved twice.
 #![tactic(auto)]
 

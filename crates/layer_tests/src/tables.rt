@@ -1,5 +1,5 @@
-//! What the table of descriptors is made of: locks and clocks, the bytes of files, pipes and sockets, open file
-//! descriptions, names, the table itself, and the table with the bodies.
+//! The table of descriptors, alone and with the bodies; what it is made of: the bytes of files, pipes and sockets, open
+//! file descriptions, names; and locks and clocks.
 
 mod bodies;
 mod clocks;

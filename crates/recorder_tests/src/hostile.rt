@@ -4,6 +4,6 @@
 mod cuts;
 mod outside;
 mod refused_memory;
-mod runs;
+pub(crate) mod runs;
 mod stops;
-mod ways;
+pub(crate) mod ways;

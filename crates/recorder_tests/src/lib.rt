@@ -21,6 +21,8 @@ mod replay;
 #[cfg(test)]
 mod runs;
 #[cfg(test)]
+mod seen;
+#[cfg(test)]
 mod short_write;
 #[cfg(test)]
 mod stops;

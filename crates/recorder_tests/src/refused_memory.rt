@@ -1,3 +1,4 @@
+use crate::hostile::ways::Told;
 use crate::record::{actors, scripts};
 use comparator::{Verdict, compare, prefix_of};
 use logged_machine::Stop;
@@ -20,14 +21,6 @@ const LOG: &[u8] = b"DIOL\0\x01\0\x02\0\0\0\x03\0\0\0\x64\
     R\0\0\0\0\0\x01\x03\0\0\0\0\0\0\0\0\x03\0\0\
     R\0\0\0\0\0\x02\x03\x09\0\0\0\0\0\0\0\0\0\0\
     E\0\0\0\x03";
-
-// What a replay by threads tells: all that is wanted of it; that there is no memory; or something else.
-#[derive(Clone, Copy, PartialEq, Eq)]
-enum Told {
-    Whole,
-    Memory,
-    Wrong,
-}
 
 // What one tells that stopped so and whose log is this.
 fn told_of(stop: Option<Stop>, log: &[u8]) -> Told {

@@ -1,21 +1,16 @@
+use crate::hostile::runs::{SHORT_LOG, SHORT_ROW};
 use crate::record::{actors, scripts};
 use crate::runs::SHORT_WRITE;
+use crate::seen::{End, Seen, are_seen, end_of};
 use input_log::LogFault;
 use logged_machine::Stop;
-use posix_terms::{Errno, Reply, Row, Transcripts};
+use posix_terms::Transcripts;
 use recorder::BoxedActor;
 use replayer::{NotReplayed, ReplayFault, replay, replay_threads};
 use std::alloc::{AllocError, Global};
 use std::sync::Wait;
 use std::test::Fail;
 use std::thread::Threads;
-
-// The log of an open, a short write and a write that failed, by one thread.
-const LOG: &[u8] = b"DIOL\0\x01\0\x01\0\0\x03\xe8\0\0\0\x64\
-    R\0\0\0\0\0\0\x01\0\0\0\0\0\0\0\0\0\0\0\
-    R\0\0\0\0\0\x01\x03\0\0\0\0\0\0\0\0\x03\0\0\
-    R\0\0\0\0\0\x02\x03\x09\0\0\0\0\0\0\0\0\0\0\
-    E\0\0\0\x03";
 
 // Its first record and 7 bytes of the second.
 const TORN_RECORD: &[u8] = b"DIOL\0\x01\0\x01\0\0\x03\xe8\0\0\0\x64\
@@ -31,37 +26,6 @@ pub(crate) const SHORTER: &[u8] = b"host_open out w create\nwrite 0 x0001\nwrite
 
 const NO_THIRD: &[u8] = b"host_open out w create\nwrite 0 x0001020304050607\n";
 
-// A reply that owns nothing.
-#[derive(Clone, Copy)]
-pub(crate) enum Seen {
-    Number(i64),
-    Count(u64),
-    Fail(Errno),
-}
-
-// What the thread saw, with the clocks of the turns.
-const SEEN: &[(u64, Seen)] = &[
-    (1, Seen::Number(0)),
-    (105, Seen::Count(3)),
-    (209, Seen::Fail(Errno::EIO)),
-];
-
-// Whether the reply is this one.
-fn is_seen(reply: &Reply, wanted: Seen) -> bool {
-    match (reply, wanted) {
-        (Reply::Number(number), Seen::Number(other)) => *number == other,
-        (Reply::Count(count), Seen::Count(other)) => *count == other,
-        (Reply::Fail(error), Seen::Fail(other)) => *error == other,
-        _ => false,
-    }
-}
-
-fn are_seen(rows: &[Row], wanted: &[(u64, Seen)]) -> bool {
-    rows.len() == wanted.len()
-        && rows.iter().zip(wanted).all(|(row, (clock, reply))| row.turn.clock == *clock
-            && is_seen(&row.reply, *reply))
-}
-
 // Whether the first thread saw these replies at these clocks.
 pub(crate) fn saw(transcripts: &Transcripts, wanted: &[(u64, Seen)]) -> bool {
     match transcripts.threads().first() {
@@ -70,22 +34,13 @@ pub(crate) fn saw(transcripts: &Transcripts, wanted: &[(u64, Seen)]) -> bool {
     }
 }
 
-// How a replay by threads ends; or why nobody is started.
-#[derive(Clone, Copy, PartialEq, Eq)]
-enum End {
-    Whole,
-    Stop(Stop),
-    NoLog(LogFault),
-    OtherNumber,
-}
-
 // Replays: the scripts, the log, how it ends, and how many of the replies the thread sees.
 const REPLAYS: &[(&[&[u8]], &[u8], End, usize)] = &[
-    (&[SHORT_WRITE], LOG, End::Whole, 3),
+    (&[SHORT_WRITE], SHORT_LOG, End::Whole, 3),
     (&[SHORT_WRITE], TORN_RECORD, End::Stop(Stop::EndOfLog(0)), 1),
-    (&[OTHER_KIND], LOG, End::Stop(Stop::Diverged(0, 1)), 1),
-    (&[SHORTER], LOG, End::Stop(Stop::Diverged(0, 1)), 1),
-    (&[NO_THIRD], LOG, End::Stop(Stop::Diverged(0, 2)), 2),
+    (&[OTHER_KIND], SHORT_LOG, End::Stop(Stop::Diverged(0, 1)), 1),
+    (&[SHORTER], SHORT_LOG, End::Stop(Stop::Diverged(0, 1)), 1),
+    (&[NO_THIRD], SHORT_LOG, End::Stop(Stop::Diverged(0, 2)), 2),
     (&[SHORT_WRITE], &[0; 16], End::NoLog(LogFault::BadMagic), 0),
     (
         &[SHORT_WRITE],
@@ -93,16 +48,9 @@ const REPLAYS: &[(&[&[u8]], &[u8], End, usize)] = &[
         End::NoLog(LogFault::Torn(0, 0)),
         0,
     ),
-    (&[], LOG, End::OtherNumber, 0),
-    (&[SHORT_WRITE, SHORT_WRITE], LOG, End::OtherNumber, 0),
+    (&[], SHORT_LOG, End::OtherNumber, 0),
+    (&[SHORT_WRITE, SHORT_WRITE], SHORT_LOG, End::OtherNumber, 0),
 ];
-
-fn end_of(stop: Option<Stop>) -> End {
-    match stop {
-        None => End::Whole,
-        Some(stop) => End::Stop(stop),
-    }
-}
 
 // Whether nobody was started for this reason, and all actors come back.
 fn is_refused(refused: &NotReplayed<BoxedActor>, actors: usize, wanted: End) -> bool {
@@ -131,7 +79,7 @@ fn ends<R: Threads + Wait + Sync>(
 
 // So many of the replies.
 fn first(count: usize) -> &'static [(u64, Seen)] {
-    SEEN.get(..count).unwrap_or(SEEN)
+    SHORT_ROW.get(..count).unwrap_or(SHORT_ROW)
 }
 
 #[test]
@@ -147,7 +95,7 @@ fn it_is_replayed_from_its_bytes(rt: HostRuntime) -> Result<(), Fail> {
 
 // Whether the replay on one thread with this script diverges at the record of thread 0 with this number.
 fn diverges_on_one(alloc: Global, script: &[u8], number: u32) -> Result<bool, AllocError> {
-    match replay(alloc, LOG, scripts(alloc, &[script])?) {
+    match replay(alloc, SHORT_LOG, scripts(alloc, &[script])?) {
         Err(ReplayFault::Diverged(0, found, _)) => Ok(found == number),
         _ => Ok(false),
     }

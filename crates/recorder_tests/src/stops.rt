@@ -1,7 +1,8 @@
 use crate::outcomes::Came;
 use crate::record::{NoRun, Over, Run, record};
 use crate::runs::{SHORT_WRITE, WRITTEN};
-use crate::short_write::{OTHER_KIND, SHORTER, Seen, saw};
+use crate::seen::Seen;
+use crate::short_write::{OTHER_KIND, SHORTER, saw};
 use logged_machine::Stop;
 use posix_terms::OutKind;
 use recorder::StartFault;

@@ -95,7 +95,7 @@ fn three(alloc: Global) -> Result<Outcomes, AllocError> {
     Ok(Outcomes::from_vec(list))
 }
 
-fn given(kind: OutKind, outcome: Outcome) -> Given {
+pub(crate) fn given(kind: OutKind, outcome: Outcome) -> Given {
     Given { kind, outcome }
 }
 

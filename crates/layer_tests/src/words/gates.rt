@@ -1,9 +1,9 @@
 ghost use Rattle.std.specs.Prelude.{◌≡◌, ◌<◌, IfOk};
 
-use crate::words::doors::{Came, is_so, plain};
+use crate::words::doors::{Came, given, is_so, plain};
 use crate::words::outcomes::success;
 use host_doors::{DoorStop, Outside, PairGate, Place, ScriptDoor, ScriptDoors};
-use posix_terms::{Errno, Given, OutKind, Outcome, Outcomes};
+use posix_terms::{Errno, OutKind, Outcome, Outcomes};
 use std::alloc::{AllocError, Global};
 use std::io;
 use std::sync::Arc;
@@ -22,10 +22,6 @@ const SECOND: Place = Place {
     thread: 1,
     number: 0,
 };
-
-fn given(kind: OutKind, outcome: Outcome) -> Given {
-    Given { kind, outcome }
-}
 
 /// So many openings, and then a read of these bytes.
 fn openings_and_a_read(alloc: Global, openings: u64, bytes: &[u8]) -> Result<Outcomes, AllocError> {

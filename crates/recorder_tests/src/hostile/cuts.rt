@@ -1,7 +1,6 @@
-use crate::hostile::runs::{
-    End, Rows, SHORT_HOST_WRITE, SHORT_LOG, SHORT_ROWS, SHORT_SEEN, Seen, Wanted,
-};
+use crate::hostile::runs::{SHORT_HOST_WRITE, SHORT_LOG, SHORT_ROWS, SHORT_SEEN, Wanted};
 use crate::hostile::ways::{Told, is_replayed, recorded, recorded_short};
+use crate::seen::{End, Rows, Seen};
 use input_log::{LogFault, decode};
 use logged_machine::Stop;
 use std::alloc::{AllocError, Global};

@@ -1,6 +1,7 @@
-use crate::hostile::runs::{End, Run, SHORT_HOST_WRITE, Seen, Wanted};
+use crate::hostile::runs::{Run, SHORT_HOST_WRITE, Wanted};
 use crate::hostile::ways::{is_replayed, is_run};
 use crate::outcomes::Came;
+use crate::seen::{End, Seen};
 use logged_machine::Stop;
 use posix_terms::{Errno, OutKind};
 use std::alloc::{AllocError, Global};

@@ -1,40 +1,15 @@
 use crate::outcomes::{Came, outcomes};
 use crate::record::script;
-use input_log::LogFault;
-use logged_machine::Stop;
-use posix_terms::{Errno, OutKind, Outcomes, Reply, Row, Transcripts};
+use crate::runs::{SHORT_WRITE, WRITTEN};
+use crate::seen::{End, Rows, Seen};
+use posix_terms::{Errno, Outcomes};
 use std::alloc::{AllocError, Global};
 use thread_scripts::ScriptActor;
 
 // ## Runs and what is wanted of them
 
-// A reply, in short.
-#[derive(Clone, Copy)]
-pub(crate) enum Seen {
-    Count(u64),
-    // data of one byte
-    Byte(u8),
-    // data of none
-    NoData,
-    Number(i64),
-    Pair(i64, i64),
-    Done,
-    Fail(Errno),
-}
-
 // A run whose scripts and outcomes are written down here.
 pub(crate) type Run = crate::record::Run<'static>;
-
-// What each thread saw: replies with the clocks at which they were granted.
-pub(crate) type Rows = &'static [&'static [(u64, Seen)]];
-
-// How a run or a replay ends: to its end, or stopped; or the bytes are no log.
-#[derive(Clone, Copy, PartialEq, Eq)]
-pub(crate) enum End {
-    Whole,
-    Stop(Stop),
-    NoLog(LogFault),
-}
 
 // How a run is to end, what its threads are to see, and the log that it is to write.
 #[derive(Clone, Copy)]
@@ -66,12 +41,8 @@ pub(crate) const PATIENCE_SEEN: Wanted = Wanted {
 };
 
 pub(crate) const SHORT_HOST_WRITE: Run = Run {
-    scripts: &[b"host_open out w create\nwrite 0 x0001020304050607\nwrite 0 x0304\n"],
-    came: &[&[
-        Came::Ok(OutKind::Open, 0, b""),
-        Came::Ok(OutKind::Write, 3, b""),
-        Came::Fail(OutKind::Write, Errno::EIO),
-    ]],
+    scripts: &[SHORT_WRITE],
+    came: &[WRITTEN],
     patience: 1000,
 };
 
@@ -88,11 +59,14 @@ pub(crate) const SHORT_SEEN: Wanted = Wanted {
     log: SHORT_LOG,
 };
 
-pub(crate) const SHORT_ROWS: Rows = &[&[
+// What its thread saw, with the clocks of the turns.
+pub(crate) const SHORT_ROW: &[(u64, Seen)] = &[
     (1, Seen::Number(0)),
     (105, Seen::Count(3)),
     (209, Seen::Fail(Errno::EIO)),
-]];
+];
+
+pub(crate) const SHORT_ROWS: Rows = &[SHORT_ROW];
 
 pub(crate) const READER_WAITS: Run = Run {
     scripts: &[b"pipe\nwork 20\nwrite 1 x7a\n", b"work 5\nread 0 1\n"],
@@ -144,48 +118,4 @@ pub(crate) fn actors(alloc: Global, texts: &[&[u8]]) -> Result<Vec<ScriptActor>,
         actors.push(ScriptActor::new(script(alloc, text)?))?;
     }
     Ok(actors)
-}
-
-// ## What was seen
-
-pub(crate) fn is_reply(reply: &Reply, seen: Seen) -> bool {
-    match (reply, seen) {
-        (Reply::Count(count), Seen::Count(wanted)) => *count == wanted,
-        (Reply::Data(data), Seen::Byte(wanted)) => data.as_slice() == [wanted].as_slice(),
-        (Reply::Data(data), Seen::NoData) => data.as_slice().is_empty(),
-        (Reply::Number(number), Seen::Number(wanted)) => *number == wanted,
-        (Reply::Pair(one, other), Seen::Pair(first, second)) => {
-            *one == first && *other == second
-        }
-        (Reply::Done, Seen::Done) => true,
-        (Reply::Fail(error), Seen::Fail(wanted)) => *error == wanted,
-        _ => false,
-    }
-}
-
-// Whether the first rows of a thread are these, as far as there are any.
-fn begin(rows: &[Row], wanted: &[(u64, Seen)]) -> bool {
-    rows.len() <= wanted.len()
-        && rows.iter().zip(wanted).all(|(row, (clock, seen))| row.turn.clock == *clock
-            && is_reply(&row.reply, *seen))
-}
-
-// Whether each thread saw a beginning of this.
-pub(crate) fn saw_beginning(transcripts: &Transcripts, wanted: Rows) -> bool {
-    let threads = transcripts.threads();
-    threads.len() == wanted.len()
-        && threads
-            .iter()
-            .zip(wanted)
-            .all(|(transcript, rows)| begin(transcript.rows(), rows))
-}
-
-// Whether each thread saw this.
-pub(crate) fn saw(transcripts: &Transcripts, wanted: Rows) -> bool {
-    saw_beginning(transcripts, wanted)
-        && transcripts
-            .threads()
-            .iter()
-            .zip(wanted)
-            .all(|(transcript, rows)| transcript.rows().len() == rows.len())
 }

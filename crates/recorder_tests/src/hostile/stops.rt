@@ -1,12 +1,12 @@
 ghost use Rattle.std.specs.Prelude.{◌<◌, length};
 
 use crate::hostile::runs::{
-    CLOSE_AND_REOPEN, REOPEN_SEEN, Run, SHORT_HOST_WRITE, SHORT_SEEN, Seen, Wanted, actors,
-    is_reply, saw_beginning,
+    CLOSE_AND_REOPEN, REOPEN_SEEN, Run, SHORT_HOST_WRITE, SHORT_SEEN, Wanted, actors,
 };
 use crate::hostile::ways::{Told, memory_if, whole_if};
 use crate::outcomes::Came;
 use crate::record::scripts;
+use crate::seen::{Seen, is_reply, saw_beginning};
 use input_log::{Header, LogFault, LogText, LogWriter, MemorySink, decode};
 use lock_machine::Phase;
 use logged_machine::{Finished, Machine, Refused, Stop};

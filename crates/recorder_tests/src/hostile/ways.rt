@@ -1,19 +1,18 @@
 ghost use Rattle.std.specs.Prelude.{◌≤◌};
 
-use crate::hostile::runs::{End, Run, Wanted, actors, lists, saw, saw_beginning};
+use crate::hostile::runs::{Run, Wanted, actors, lists};
 use crate::outcomes::doors;
-use crate::record::scripts;
+use crate::record::{NoRun, Over, actors as boxed, record, scripts};
+use crate::seen::{End, end_of, saw, saw_beginning};
 use call_machine::{PlainFault, plain_run};
-use host_doors::{NoGate, ScriptDoors};
-use input_log::{MemorySink, ShortSink};
+use input_log::ShortSink;
 use logged_machine::Stop;
 use posix_terms::Transcripts;
-use recorder::{BoxedActor, Ended, NotStarted, StartFault, run_recorded};
+use recorder::{StartFault, run_recorded};
 use replayer::{ReplayFault, replay, replay_threads};
 use std::alloc::{AllocError, Global};
 use std::sync::Wait;
 use std::thread::Threads;
-use thread_scripts::ScriptActor;
 
 // What a run or a replay told: all that is wanted of it; that there is no memory, and what came before is a beginning of what is wanted;
 // or something else.
@@ -30,13 +29,6 @@ pub(crate) fn whole_if(whole: bool) -> Told {
 
 pub(crate) fn memory_if(beginning: bool) -> Told {
     if beginning { Told::Memory } else { Told::Wrong }
-}
-
-fn end_of(stop: Option<Stop>) -> End {
-    match stop {
-        None => End::Whole,
-        Some(stop) => End::Stop(stop),
-    }
 }
 
 // What a run tells that stopped so, whose threads saw this and which wrote this log. Where it was stopped for memory there may be no transcripts.
@@ -57,10 +49,6 @@ pub(crate) fn plain(alloc: Global, run: Run, wanted: Wanted) -> Result<Told, All
         Err(fault) => memory_if(fault == PlainFault::Memory),
     })
 }
-
-type Over = Ended<BoxedActor, ScriptDoors<NoGate>, MemorySink>;
-
-type NoRun = NotStarted<BoxedActor, ScriptDoors<NoGate>, MemorySink>;
 
 // Of a recorded run that is over all actors and outsides come back.
 fn told_at_end(wanted: Wanted, threads: usize, over: &Over) -> Told {
@@ -90,18 +78,11 @@ pub(crate) fn recorded<R: Threads + Wait + Sync>(
     room: usize,
     wanted: Wanted,
 ) -> Result<Told, AllocError> {
-    let mut actors: Vec<BoxedActor> = Vec::new(alloc);
-    for script in scripts(alloc, run.scripts)? {
-        actors.push(Box::new(alloc, ScriptActor::new(script))?)?;
-    }
-    let doors = doors(alloc, lists(alloc, run)?)?;
-    let sink = MemorySink::new(alloc, room)?;
-    Ok(
-        match run_recorded(rt, alloc, actors, doors, sink, run.settings()) {
-            Ok(over) => told_at_end(wanted, run.scripts.len(), &over),
-            Err(refused) => not_started(wanted, run.scripts.len(), &refused),
-        },
-    )
+    let threads = run.scripts.len();
+    Ok(match record(rt, alloc, run, threads, room)? {
+        Ok(over) => told_at_end(wanted, threads, &over),
+        Err(refused) => not_started(wanted, threads, &refused),
+    })
 }
 
 // The recorded run, into a sink that takes at most so many bytes at a time, and fails at the write with this number.
@@ -115,10 +96,7 @@ pub(crate) fn recorded_short<R: Threads + Wait + Sync>(
 ) -> Result<Told, AllocError>
     requires { 1 ≤ most }
 {
-    let mut actors: Vec<BoxedActor> = Vec::new(alloc);
-    for script in scripts(alloc, run.scripts)? {
-        actors.push(Box::new(alloc, ScriptActor::new(script))?)?;
-    }
+    let actors = boxed(alloc, run.scripts)?;
     let doors = doors(alloc, lists(alloc, run)?)?;
     let sink = ShortSink::new(alloc, 100, most, fail_at)?;
     match run_recorded(rt, alloc, actors, doors, sink, run.settings()) {
