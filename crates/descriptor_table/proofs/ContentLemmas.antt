@@ -1,5 +1,5 @@
 -- What an object holds after a change, and how many names a file has.
-use Rattle.std.proofs.Common.{◌≡◌, ℕ, ◌+◌, ◌==◌, ◌||◌, List, [], ◌∷◌, map, Option, Some, unwrap_or, Result, Ok, Bool, true, false, cond, not, count_by, refl, sym, ap, ◌∙◌}
+use Rattle.std.proofs.Common.{◌≡◌, ℕ, ◌+◌, ◌==◌, ◌||◌, List, [], ◌∷◌, map, Option, Some, unwrap_or, Result, Ok, Err, Bool, true, false, cond, not, if◌then◌else◌, count_by, refl, sym, ap, ◌∙◌}
 use Rattle.std.proofs.lemmas.Bool.{false≢true, true≢false}
 use Rattle.std.proofs.lemmas.List.Sums.{sum_by-cons}
 use Rattle.std.proofs.lemmas.Option.{same_Some}
@@ -8,7 +8,8 @@ use Rattle.std.specs.List.{list_any}
 use Rattle.std.specs.Prelude.{ℤ, pos, negsuc}
 use Rattle.sequential_object.specs.Descriptors as posix
 use Rattle.sequential_object.specs.Descriptors.{is_file}
-use Rattle.sequential_object.specs.Names.{PathMap, links_of}
+use Rattle.sequential_object.specs.Duplicates as duplicates
+use Rattle.sequential_object.specs.Names.{links_of}
 use Rattle.sequential_object.specs.Object.{State, Content, File, Node, FileNode, Directory, with_content, content_of}
 use Rattle.sequential_object.specs.Object as object
 use Rattle.posix_terms.specs.declared.errno.Errno.{Errno}
@@ -45,6 +46,21 @@ released_content s key birth d content holds =
 pub freed_content : (s : State) (descriptor : ℤ) (birth : ℕ) (content : Content) → Holds s birth content → Holds (posix.freed s descriptor) birth content
 freed_content s (pos n) birth content holds = holds
 freed_content s (negsuc n) birth content holds = holds
+
+pub closed_content : (s : State) (target : ℤ) (birth : ℕ) (content : Content) (r : Result (ℕ × object.Description) Errno) → Holds s birth content → Holds (duplicates.closed s target r) birth content
+closed_content s target birth content (Ok found) holds = released_content (posix.freed s target) found.0 birth found.1 content (freed_content s target birth content holds)
+closed_content s target birth content (Err e) holds = holds
+
+pub truncated_content : (s : State) (birth : ℕ) (content : Content) (cut : Bool) → content_of s birth ≡ content → Holds (posix.truncated s birth cut) birth (if cut then File [] else content)
+truncated_content s birth content true holds = put_content s birth (File [])
+truncated_content s birth content false holds = same_content s birth content holds
+
+-- what is made is under the next number
+pub content_made : (t : TableState) (s : State) (node : ℕ) (content now : Content) → birth_at t node ≡ s.next_object
+    → fin.get (fin.insert s.objects s.next_object content) (birth_at t node) ≡ Some now → now ≡ content
+content_made t s node content now at is =
+    same_Some _ _
+    (sym is ∙ ap (fin.get (fin.insert s.objects s.next_object content)) at ∙ get-insert_same s.objects s.next_object content)
 
 -- ## How many names a file has
 
@@ -93,6 +109,3 @@ links_shown t s node sound shows used =
     none_differs true is =
         let at = standing_in paths_total (λ (e : List (List ℕ) × Node). differs (is_file (shown_node t e.1) (birth_at t node)) (is_file e.1 node)) t.paths is in
         absurd (false≢true (sym (same_there at.0 at.1 at.2) ∙ at.3))
-
-abbrev pub without_name : State → List (List ℕ) → ℕ → Result (PathMap × ℕ) Errno
-without_name s components object = Ok (fin.remove s.paths components, object)

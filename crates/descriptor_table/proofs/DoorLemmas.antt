@@ -1,29 +1,26 @@
 -- The four calls that open a door: each looks for its own refusals, in the plan as in the state, and then opens its door.
-use Rattle.std.proofs.Common.{◌≡◌, ◌&&◌, ℕ, ℤ, List, Option, Some, None, Result, Err, false, not, refl, sym, ap, ◌∙◌}
+use Rattle.std.proofs.Common.{arith, true, ◌≡◌, ◌&&◌, ℕ, ℤ, List, Option, Some, None, Result, Err, false, not}
 use Rattle.posix_terms.specs.Calls.{can_write}
 use Rattle.sequential_object.specs.Doors.{NewDoor, host_open_result, host_path, listener_in, opens, port_of, tcp_accept_result, tcp_connect_result, tcp_listen_result}
 use Rattle.sequential_object.specs.Effects.{Decision}
-use Rattle.sequential_object.specs.Object.{State, Content, DoorTo, content_of}
+use Rattle.sequential_object.specs.Object.{State, Content, content_of}
 use Rattle.sequential_object.specs.Refusals.{refuse_if}
 use Rattle.posix_terms.specs.declared.call.Access.{Access}
 use Rattle.posix_terms.specs.declared.call.Access.TheVariants.{ReadWrite}
 use Rattle.posix_terms.specs.declared.call.OpenFlags.{OpenFlags}
 use Rattle.posix_terms.specs.declared.errno.Errno.{Errno}
 use Rattle.posix_terms.specs.declared.errno.Errno.TheVariants.{EBADF, EINVAL}
-use Rattle.posix_terms.specs.declared.object.Door.{Door}
 use Rattle.posix_terms.specs.declared.object.Door.TheVariants as door
 use Rattle.posix_terms.specs.declared.object.End.{End}
-use Rattle.posix_terms.specs.declared.object.End.TheVariants as part
 use Rattle.posix_terms.specs.declared.outcome.OutKind.TheVariants as out
 use Rattle.file_descriptions.specs.declared.description.Description.{Description}
 use Rattle.descriptor_table.proofs.Binding.{bound_both}
-use Rattle.descriptor_table.proofs.EndLemmas.{Kind, IsDoor, IsFile, IsPipe, IsPair, kind_at}
 use Rattle.descriptor_table.specs.Laws.{RefersAlike}
 use Rattle.descriptor_table.specs.Laws.RefersAlike.{Open, Shut}
-use Rattle.descriptor_table.specs.Plans.{host_open_plan, of_listener, opens_plan, tcp_accept_plan, tcp_connect_plan, tcp_listen_plan}
-use Rattle.descriptor_table.specs.Shows.{Shows, birth_at}
+use Rattle.descriptor_table.specs.Plans.{host_open_decided, of_listener, opening, opens_door, tcp_accept_decided, tcp_connect_decided, tcp_listen_decided}
+use Rattle.descriptor_table.specs.Shows.{Shows, birth_at, is_of}
 use Rattle.descriptor_table.specs.Table.{TableState}
-use Rattle.descriptor_table.specs.declared.plan.Plan.{Plan}
+use Rattle.descriptor_table.specs.declared.plan.Decided.{Decided}
 
 -- ## The doors
 
@@ -68,44 +65,36 @@ accepted_door d = record {
 }
 
 -- a listener is one by its end and by its content
-listener_by : (e : End) (c : Content) → Kind e c → listener_in c ≡ of_listener e
-listener_by e c (IsFile file its is) = ap listener_in is ∙ sym (ap of_listener its)
-listener_by e c (IsPipe waiting pipe is) = ap listener_in is ∙ sym pipe.no_listener
-listener_by e c (IsPair p side its is) = ap listener_in is ∙ sym (ap of_listener its)
-listener_by e c (IsDoor d its is) = ap listener_in is ∙ by_door d ∙ sym (ap of_listener its)
-  where
-    by_door : (d : Door) → listener_in (DoorTo d) ≡ of_listener (part.Door d)
-    by_door door.HostFile = refl
-    by_door (door.Listener port) = refl
-    by_door door.Stream = refl
+listener_by : (e : End) (c : Content) → is_of e c ≡ true → listener_in c ≡ of_listener e
+listener_by e c has = grind (arith, has)
 
 -- ## What holds of a refusal, and of the door of a call that is not refused, holds of the call
 
-module _ (t : TableState) (s : State) (P : Result Plan Errno → Result Decision Errno → Type 0)
+module _ (t : TableState) (s : State) (P : Result Decided Errno → Result Decision Errno → Type 0)
     (refused : (e : Errno) → P (Err e) (Err e)) where
   -- it holds of this door, and of the listener that is taken along
   abbrev pub Over : NewDoor → Option ℕ → Type 0
-  Over o listener = P (opens_plan t o.kind o.asked o.waits listener) (opens s o)
+  Over o listener = P (opens_door t (opening o.kind o.asked o.waits listener) o.access o.append) (opens s o)
 
   pub over_host_open : (path : List ℕ) (access : Access) (flags : OpenFlags) → Over (host_door access flags) None
-      → P (host_open_plan t path access flags) (host_open_result s path access flags)
-  unfolding host_open_plan host_open_result
+      → P (host_open_decided t path access flags) (host_open_result s path access flags)
+  unfolding host_open_decided host_open_result
   over_host_open path access flags over =
       bound_both P refused (refuse_if (flags.truncate && not (can_write access)) EINVAL) _ _ (λ _ _.
       bound_both P refused (host_path path) _ _ (λ _ _. over))
 
-  pub over_listen : (port : ℤ) → ((asked : ℕ) → Over (listener_door asked) None) → P (tcp_listen_plan t port) (tcp_listen_result s port)
-  unfolding tcp_listen_plan tcp_listen_result
+  pub over_listen : (port : ℤ) → ((asked : ℕ) → Over (listener_door asked) None) → P (tcp_listen_decided t port) (tcp_listen_result s port)
+  unfolding tcp_listen_decided tcp_listen_result
   over_listen port over = bound_both P refused (port_of 0 port) _ _ (λ asked _. over asked)
 
-  pub over_connect : (port : ℤ) → ((asked : ℕ) → Over (stream_door asked) None) → P (tcp_connect_plan t port) (tcp_connect_result s port)
-  unfolding tcp_connect_plan tcp_connect_result
+  pub over_connect : (port : ℤ) → ((asked : ℕ) → Over (stream_door asked) None) → P (tcp_connect_decided t port) (tcp_connect_result s port)
+  unfolding tcp_connect_decided tcp_connect_result
   over_connect port over = bound_both P refused (port_of 1 port) _ _ (λ asked _. over asked)
 
   pub over_accept : (descriptor : ℤ) → Shows t s → RefersAlike t s descriptor → ((d : Description) → Over (accepted_door d) (Some d.node))
-      → P (tcp_accept_plan t descriptor) (tcp_accept_result s descriptor)
-  unfolding tcp_accept_plan tcp_accept_result
+      → P (tcp_accept_decided t descriptor) (tcp_accept_result s descriptor)
+  unfolding tcp_accept_decided tcp_accept_result
   over_accept descriptor shows (Shut table state) over = rw (table, state) (refused EBADF)
   over_accept descriptor shows (Open key d offset at got there table state) over =
-      rw (table, state, listener_by d.«end» (content_of s (birth_at t d.node)) (kind_at t s shows key d got))
+      rw (table, state, listener_by d.«end» (content_of s (birth_at t d.node)) (shows.ends key d got))
       (bound_both P refused (of_listener d.«end») _ _ (λ _ _. over d))

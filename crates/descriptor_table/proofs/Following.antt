@@ -1,30 +1,28 @@
 -- What each table plans and changes is what the sequential object does.
 use Rattle.std.proofs.Common.{ℕ, None, refl}
-use Rattle.sequential_object.specs.Step.{FailChangesNothing}
 use Rattle.posix_terms.specs.Calls.{Call}
 use Rattle.file_descriptions.specs.Descriptions.{AreSound, ContainsKey, description_at}
 use Rattle.file_descriptions.specs.declared.description.Description.{Description}
 use Rattle.file_descriptions.specs.Laws.{ChangesKeepSound}
 use Rattle.descriptor_table.specs.Laws.{FollowsStep, OffsetIsFree, TableFollows}
+use Rattle.descriptor_table.specs.Plans.{change_of}
 use Rattle.descriptor_table.specs.Table.{IsSound, TableState}
-use Rattle.descriptor_table.proofs.ActLemmas.{acts-as_step}
 use Rattle.descriptor_table.proofs.ChangeLemmas.{shows-set_offset}
-use Rattle.descriptor_table.proofs.CallLemmas.{changes-as_step}
+use Rattle.descriptor_table.proofs.BesideLemmas.{acts-as_step, changes-as_step, plans-as_step, stays-as_step}
 use Rattle.descriptor_table.proofs.EndLemmas.{one_door}
-use Rattle.descriptor_table.proofs.KnownLemmas.{known-planned}
-use Rattle.descriptor_table.proofs.OtherLemmas.{stays-as_step}
-use Rattle.descriptor_table.proofs.PlanLemmas.{plans-as_step}
-use Rattle.descriptor_table.proofs.ShownLemmas.{found_both}
-use Rattle.descriptor_table.proofs.SoundLemmas.{known_at, sound-kept, used-named}
+use Rattle.descriptor_table.proofs.KnownLemmas.{known-change, known-planned}
+use Rattle.descriptor_table.proofs.ShownLemmas.{found_both, shows-empty}
+use Rattle.descriptor_table.proofs.SoundLemmas.{known_at, sound-empty, sound-kept, used-named}
 
-follows-step : ChangesKeepSound → FailChangesNothing → (t : TableState) (c : Call) → IsSound t → AreSound t.descriptions → FollowsStep t c
-follows-step keep fails t c sound all =
+follows-step : ChangesKeepSound → (t : TableState) (c : Call) → IsSound t → AreSound t.descriptions → FollowsStep t c
+follows-step keep t c sound all =
     record {
       known = known-planned t c sound;
-      plans = plans-as_step t c sound all;
-      acts = acts-as_step t c sound all;
-      stays = stays-as_step t c sound all;
-      unchanged = λ same. changes-as_step keep fails t c None t sound all (λ refused. refl) (λ made. same);
+      can = known-change t c sound;
+      plans = plans-as_step keep t c sound all;
+      acts = acts-as_step keep t c sound all;
+      stays = stays-as_step keep t c sound all;
+      unchanged = λ same. changes-as_step keep t c sound all (change_of t c) None t refl same;
     }
 
 offset-free : ChangesKeepSound → (t : TableState) (key offset : ℕ) → IsSound t → AreSound t.descriptions → ContainsKey t.descriptions key
@@ -38,10 +36,11 @@ offset-free keep t key offset sound all there =
       shows = λ s shows. shows-set_offset t s key offset all there shows;
     }
 
-pub table_follows : ChangesKeepSound → FailChangesNothing → TableFollows
-table_follows keep fails =
+pub table_follows : ChangesKeepSound → TableFollows
+table_follows keep =
     record {
-      calls = follows-step keep fails;
+      first = (sound-empty, shows-empty);
+      calls = follows-step keep;
       found = found_both;
       named = λ t path node sound is. used-named t path node is sound;
       doors = one_door;

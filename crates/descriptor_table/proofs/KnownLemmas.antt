@@ -1,9 +1,9 @@
 -- Each call locks an object that is there, or the one that a new file becomes, and reads no more bytes than it may.
-use Rattle.std.proofs.Common.{◌≡◌, ℕ, zero, suc, ◌+◌, ◌<◌, inl, inr, List, [], length, Option, Some, None, is_some, Result, Ok, Err, Bool, true, false, not, ◌&&◌, ◌==◌, ◌≤◌, subst, refl, sym, ap, ◌∙◌, arith, if◌then◌else◌}
+use Rattle.std.proofs.Common.{◌≡◌, ◌≢◌, ℕ, ◌+◌, ◌<◌, inl, inr, List, [], length, Option, Some, None, Result, Ok, Err, Bool, true, false, not, ◌&&◌, ◌==◌, ◌≤◌, subst, refl, sym, ap, ◌∙◌, arith, if◌then◌else◌}
 use Rattle.std.proofs.lemmas.Bool.Decides.{nat_tests}
 use Rattle.std.specs.FinMap as fin
 use Rattle.std.specs.Ordering.{int_eq}
-use Rattle.std.specs.Prelude.{ℤ, pos, negsuc, IfOk, nat_le, nat_lt, slice_index_or}
+use Rattle.std.specs.Prelude.{ℤ, pos, negsuc, IfOk, nat_le, nat_lt}
 use Rattle.posix_terms.specs.Calls.{can_read, can_write}
 use Rattle.sequential_object.specs.Doors.{host_path, port_of}
 use Rattle.sequential_object.specs.Duplicates.{descriptor_number}
@@ -14,403 +14,380 @@ use Rattle.sequential_object.specs.Paths.{node_at, resolved}
 use Rattle.sequential_object.specs.Refusals.{◌>>=◌, count_of, position_of, refuse_if, some_or}
 use Rattle.sequential_object.specs.Transfers.{size_of}
 use Rattle.posix_terms.specs.declared.call.Access.{Access}
+use Rattle.posix_terms.specs.declared.call.Access.TheVariants.{ReadWrite}
 use Rattle.posix_terms.specs.Calls.{Call}
 use Rattle.posix_terms.specs.declared.call.Call.TheVariants as call
 use Rattle.posix_terms.specs.declared.call.OpenFlags.{OpenFlags}
-use Rattle.posix_terms.specs.declared.call.ShutdownHow.{ShutdownHow}
-use Rattle.posix_terms.specs.declared.call.Whence.{Whence}
 use Rattle.posix_terms.specs.declared.object.Door.TheVariants as door
 use Rattle.posix_terms.specs.declared.object.End.{End}
 use Rattle.posix_terms.specs.declared.object.End.TheVariants as part
-use Rattle.posix_terms.specs.declared.outcome.OutKind.{OutKind}
 use Rattle.posix_terms.specs.declared.outcome.OutKind.TheVariants as out
 use Rattle.posix_terms.specs.declared.reply.ObjectKind.{ObjectKind}
 use Rattle.posix_terms.specs.declared.errno.Errno.{Errno}
 use Rattle.posix_terms.specs.declared.limits.TheConstants.Limits as limit
-use Rattle.posix_terms.specs.declared.errno.Errno.TheVariants.{EBADF, EBUSY, EFBIG, EINVAL, EEXIST, EMFILE, ENFILE, ENOENT, ENOSPC, ESPIPE}
+use Rattle.posix_terms.specs.declared.errno.Errno.TheVariants.{EBADF, EBUSY, EINVAL, EEXIST, EMFILE, ENFILE, ENOENT, ENOSPC, ESPIPE}
 use Rattle.posix_terms.specs.declared.reply.Reply.{Reply}
 use Rattle.posix_terms.specs.declared.reply.Reply.TheVariants as reply
 use Rattle.file_descriptions.specs.Descriptions.{ContainsKey, description_at}
 use Rattle.file_descriptions.specs.declared.description.Description.{Description}
 use Rattle.descriptor_table.proofs.Binding.{bound}
-use Rattle.descriptor_table.proofs.SoundLemmas.{known_of, named_at, ok_same, used_of, used-named, some_inside}
-use Rattle.descriptor_table.specs.Plans.{IsKnownNumber, IsThere, LocksKnown, MovesKnown, act_or_ask, addable, answered, bytes_of_kind, close_plan, dup2_plan, dup_from_plan, dup_plan, ends_a_door, errand, fstat_plan, ftruncate_plan, getfl_plan, host_open_plan, leads_outside, link_plan, lseek_plan, mkdir_plan, moves, not_listener, of_file, of_listener, open_new, open_node, open_plan, open_there, opens_plan, or_none, plan_of, planned, pread_plan, pwrite_plan, read_count, read_plan, release, replaced, reply_bytes, rmdir_plan, seekable, seen, setfl_plan, shut_act, shutdown_plan, stat_by, stat_plan, tcp_accept_plan, tcp_connect_plan, tcp_listen_plan, two_ends_plan, unlink_plan, write_plan}
-use Rattle.descriptor_table.specs.Table.{TableState, IsSound, described, free_object, is_last_name, is_used, key_at, lowest_free, lowest_from, two_numbers}
+use Rattle.descriptor_table.proofs.SoundLemmas.{closed_other, known_of, named_at, sound-closed, used_of, used-named, some_inside}
+use Rattle.descriptor_table.proofs.FreeLemmas.{AreFree, addable_free, apart_by, free_number, free_path, lowest_below, next_object, not_refused, number_below, number_is, two_free, was_some}
+use Rattle.descriptor_table.specs.Changes.{CanChange, IsFreeNumber, Refers, closed}
+use Rattle.descriptor_table.specs.Plans.{IsKnownNumber, IsThere, LocksKnown, MovesKnown, act_or_ask, addable, answered, bytes_asked, change_of, close_decided, decided_of, dup2_decided, dup_decided, dup_from_decided, ends_a_door, errand, fstat_plan, ftruncate_plan, getfl_plan, host_open_decided, leads_outside, leaves, link_decided, lseek_plan, mkdir_decided, moves, new_pair, not_listener, of_file, of_listener, open_decided, open_new, open_node, open_there, opening, opens_door, or_none, planned, pread_plan, pwrite_plan, read_count, read_plan, release, replaces, reply_bytes, rmdir_decided, seekable, setfl_decided, shut_act, shutdown_plan, stat_by, stat_plan, tcp_accept_decided, tcp_connect_decided, tcp_listen_decided, tells, unlink_decided, write_plan}
+use Rattle.descriptor_table.specs.Table.{TableState, IsSound, described, free_object, is_last_name, is_used, key_at, lowest_free, two_numbers}
+use Rattle.descriptor_table.specs.declared.plan.Change.TheVariants as change
+use Rattle.descriptor_table.specs.declared.plan.Decided.{Decided}
+use Rattle.descriptor_table.specs.declared.plan.Errand.{Errand}
+use Rattle.descriptor_table.specs.declared.plan.NewPair.{NewPair}
 use Rattle.descriptor_table.specs.declared.plan.Op.{Op}
 use Rattle.descriptor_table.specs.declared.plan.Op.TheVariants as op
 use Rattle.descriptor_table.specs.declared.plan.Plan.{Plan}
 use Rattle.descriptor_table.specs.declared.plan.Plan.TheVariants as plan
 
--- ## Which numbers are known
-
--- the lowest of some numbers is one of them
-pub lowest_below : {X : Type 0} (slots : List (Option X)) (left from n : ℕ) → lowest_from slots left from ≡ Some n → n < from + left
-unfolding lowest_from
-lowest_below slots zero from n is = cc
-lowest_below slots (suc left) from n is = by_test (is_some (slice_index_or slots from None)) refl (λ later. lowest_below slots left (from + 1) n later)
-  where
-    by_test : (b : Bool) → is_some (slice_index_or slots from None) ≡ b → (lowest_from slots left (from + 1) ≡ Some n → n < from + 1 + left) → n < from + suc left
-    by_test true taken later =
-        let h : n < from + 1 + left = later (sym (ap (λ (b : Bool). if b then lowest_from slots left (from + 1) else Some from) taken) ∙ is) in
-        omega arith
-    by_test false free later =
-        let h : Some from ≡ Some n = sym (ap (λ (b : Bool). if b then lowest_from slots left (from + 1) else Some from) free) ∙ is in
-        let same : from ≡ n = cc in
-        omega arith
-
-pub lowest_above : {X : Type 0} (slots : List (Option X)) (left from n : ℕ) → lowest_from slots left from ≡ Some n → from ≤ n
-unfolding lowest_from
-lowest_above slots zero from n is = cc
-lowest_above slots (suc left) from n is = by_test (is_some (slice_index_or slots from None)) refl (λ later. lowest_above slots left (from + 1) n later)
-  where
-    by_test : (b : Bool) → is_some (slice_index_or slots from None) ≡ b → (lowest_from slots left (from + 1) ≡ Some n → from + 1 ≤ n) → from ≤ n
-    by_test true taken later =
-        let h : from + 1 ≤ n = later (sym (ap (λ (b : Bool). if b then lowest_from slots left (from + 1) else Some from) taken) ∙ is) in
-        omega arith
-    by_test false free later =
-        let h : Some from ≡ Some n = sym (ap (λ (b : Bool). if b then lowest_from slots left (from + 1) else Some from) free) ∙ is in
-        let same : from ≡ n = cc in
-        omega arith
-
-pub used_known : (t : TableState) (node : ℕ) → IsSound t → is_used t node ≡ true → IsKnownNumber t node
-used_known t node sound used =
-    let inside : node < length t.objects = some_inside t.objects node used in
-    let long : length t.objects ≡ 48 = sound.object_numbers in
-    (omega arith, inl used)
-
-pub free_known : (t : TableState) (node : ℕ) → free_object t ≡ Some node → IsKnownNumber t node
-free_known t node is = let h : node < 0 + 48 = lowest_below t.objects 48 0 node is in (omega arith, inr is)
-
-key_used : (t : TableState) (descriptor : ℤ) (key : ℕ) → IsSound t → key_at t descriptor ≡ Some key → is_used t (let d : Description = description_at t.descriptions key in d.node) ≡ true
-key_used t (pos n) key sound is = used_of t key sound (known_of t n key sound is)
-key_used t (negsuc n) key sound is = cc
-
--- what is found is the description under the key that stands there
-pub found_is : (t : TableState) (descriptor : ℤ) (found : ℕ × Description) → described t descriptor ≡ Ok found
-    → (key_at t descriptor ≡ Some found.0) × (description_at t.descriptions found.0 ≡ found.1)
-found_is t descriptor found is = by_key (key_at t descriptor) refl is
-  where
-    by_key : (o : Option ℕ) → key_at t descriptor ≡ o
-        → (some_or o EBADF >>= (λ key. Ok (key, description_at t.descriptions key))) ≡ Ok found
-        → (key_at t descriptor ≡ Some found.0) × (description_at t.descriptions found.0 ≡ found.1)
-    by_key None at is = cc
-    by_key (Some key) at is =
-        let same : (key, description_at t.descriptions key) ≡ found = cc in
-        subst (λ (p : ℕ × Description). (key_at t descriptor ≡ Some p.0) × (description_at t.descriptions p.0 ≡ p.1)) same (at, refl)
-
--- the object of a description that was found
-pub found_used : (t : TableState) (descriptor : ℤ) (found : ℕ × Description) → IsSound t → described t descriptor ≡ Ok found
-    → is_used t found.1.node ≡ true
-found_used t descriptor found sound is =
-    let its = found_is t descriptor found is in
-    subst (λ (d : Description). is_used t d.node ≡ true) its.1 (key_used t descriptor found.0 sound its.0)
-
-found_known : (t : TableState) (descriptor : ℤ) (found : ℕ × Description) → IsSound t → described t descriptor ≡ Ok found → IsKnownNumber t found.1.node
-found_known t descriptor found sound is = used_known t found.1.node sound (found_used t descriptor found sound is)
-
-pub found_key : (t : TableState) (descriptor : ℤ) (found : ℕ × Description) → IsSound t → described t descriptor ≡ Ok found
-    → ContainsKey t.descriptions found.0
-found_key t descriptor found sound is = by_number descriptor found.0 (found_is t descriptor found is).0
-  where
-    by_number : (descriptor : ℤ) (key : ℕ) → key_at t descriptor ≡ Some key → ContainsKey t.descriptions key
-    by_number (pos n) key at = known_of t n key sound at
-    by_number (negsuc n) key at = cc
-
--- ## Each call
-
-abbrev Known : TableState → ℕ → Result Plan Errno → Type 0
-Known t most p = IfOk p (LocksKnown t most)
-
-pub was_some : (o : Option ℕ) (e : Errno) (n : ℕ) → some_or o e ≡ Ok n → o ≡ Some n
-was_some None e n is = cc
-was_some (Some m) e n is = cc
+-- what the plan of a call locks is known, and its change can be made
+abbrev pub Sure : TableState → Call → Result Decided Errno → Type 0
+Sure t c d = IfOk d (λ x. LocksKnown t (read_count c) x.plan × CanChange t c x.change)
 
 -- what brings no bytes brings no more than any bound
 none_within : (most : ℕ) → 0 ≤ most
 none_within most = omega arith
 
--- a count that is taken is the bound of its call
-taken_within : (count : Result ℕ Errno) (n : ℕ) → count ≡ Ok n → n ≤ or_none count
-taken_within (Ok m) n is =
-    let same : m ≡ n = cc in
-    omega arith
-taken_within (Err e) n is = cc
+-- what a descriptor refers to is there
+key_held : (t : TableState) (descriptor : ℤ) (key : ℕ) → IsSound t → key_at t descriptor ≡ Some key → ContainsKey t.descriptions key
+key_held t (pos n) key sound at = known_of t n key sound at
+key_held t (negsuc n) key sound at = cc
 
-known-act : (t : TableState) (most : ℕ) (d : Description) (act ask : Op) → MovesKnown t most act → MovesKnown t most ask → MovesKnown t most (act_or_ask d act ask)
-known-act t most d act ask acts asks = by_test (leads_outside d.«end»)
-  where
-    by_test : (b : Bool) → MovesKnown t most (if b then ask else act)
-    by_test true = asks
-    by_test false = acts
+module _ (t : TableState) (sound : IsSound t) where
+  -- ## Which numbers are known
 
-known-release : (t : TableState) (most : ℕ) (d : Description) (r : Reply) → reply_bytes r ≤ most → IsSound t → is_used t d.node ≡ true → LocksKnown t most (release d r)
-known-release t most d r few sound used = by_test (d.holders == 1) (known-act t most d op.Release (errand d out.Close 0 false) tt (used, none_within most))
-  where
-    by_test : (b : Bool) → MovesKnown t most (act_or_ask d op.Release (errand d out.Close 0 false)) → LocksKnown t most (if b then plan.Node d.node (act_or_ask d op.Release (errand d out.Close 0 false)) false else plan.Reply r)
-    by_test true moved = (used_known t d.node sound used, moved)
-    by_test false moved = few
+  used_known : (node : ℕ) → is_used t node ≡ true → IsKnownNumber t node
+  used_known node used =
+      let inside : node < length t.objects = some_inside t.objects node used in
+      let long : length t.objects ≡ 48 = sound.object_numbers in
+      (omega arith, inl used)
 
-known-moves : (t : TableState) (most : ℕ) (d : Description) (count : ℕ) (none : Reply) (act : Op) → reply_bytes none ≤ most → IsKnownNumber t d.node → MovesKnown t most act → LocksKnown t most (moves d count none act)
-known-moves t most d count none act few known moved = by_test ((count == 0) && not (is_end d.«end» part.Only))
-  where
-    by_test : (b : Bool) → LocksKnown t most (if b then plan.Reply none else plan.Node d.node act false)
-    by_test true = few
-    by_test false = (known, moved)
+  free_known : (node : ℕ) → free_object t ≡ Some node → IsKnownNumber t node
+  free_known node is = let h : node < 0 + 48 = lowest_below t.objects 48 0 node is in (omega arith, inr is)
 
-known-stat : (t : TableState) (most : ℕ) (d : Description) (links : ℕ) (told : Option (ObjectKind × ℕ)) → IsKnownNumber t d.node → LocksKnown t most (stat_plan d links told)
-known-stat t most d links None known = (known, tt)
-known-stat t most d links (Some (k, number)) known = none_within most
+  key_used : (descriptor : ℤ) (key : ℕ) → key_at t descriptor ≡ Some key
+      → is_used t (let d : Description = description_at t.descriptions key in d.node) ≡ true
+  key_used (pos n) key is = used_of t key sound (known_of t n key sound is)
+  key_used (negsuc n) key is = cc
 
-known-there : (t : TableState) (most : ℕ) (node : Node) (flags : OpenFlags) → ((n : ℕ) → node ≡ FileNode n → IsKnownNumber t n) → IfOk (open_there t node flags) (LocksKnown t most)
-known-there t most Directory flags known = tt
-known-there t most (FileNode node) flags known =
-    bound (Known t most) (λ e. tt) (some_or (lowest_free t 0) EMFILE) _ (λ _ _. (known node refl, tt))
+  -- what is found is the description under the key that stands there
+  found_is : (descriptor : ℤ) (found : ℕ × Description) → described t descriptor ≡ Ok found
+      → (key_at t descriptor ≡ Some found.0) × (description_at t.descriptions found.0 ≡ found.1)
+  found_is descriptor found is = (grind (arith, is), grind (arith, is))
 
-known-new : (t : TableState) (most : ℕ) (flags : OpenFlags) → IfOk (open_new t flags) (LocksKnown t most)
-known-new t most flags =
-    bound (Known t most) (λ e. tt) (refuse_if (not flags.create) ENOENT) _ (λ _ _.
-    bound (Known t most) (λ e. tt) (refuse_if (nat_le 64 (fin.len t.paths)) ENOSPC) _ (λ _ _.
-    bound (Known t most) (λ e. tt) (some_or (free_object t) ENOSPC) _ (λ node is.
-    bound (Known t most) (λ e. tt) (some_or (lowest_free t 0) EMFILE) _
-    (λ _ _. (free_known t node (was_some (free_object t) ENOSPC node is), tt)))))
+  -- the object of a description that was found
+  found_used : (descriptor : ℤ) (found : ℕ × Description) → described t descriptor ≡ Ok found → is_used t found.1.node ≡ true
+  found_used descriptor found is =
+      let its = found_is descriptor found is in
+      subst (λ (d : Description). is_used t d.node ≡ true) its.1 (key_used descriptor found.0 its.0)
 
-known-two_ends : (t : TableState) (most : ℕ) (act : Op) → MovesKnown t most act → IfOk (two_ends_plan t act) (LocksKnown t most)
-known-two_ends t most act moved =
-    bound (Known t most) (λ e. tt) (two_numbers t) _ (λ _ _.
-    bound (Known t most) (λ e. tt) (some_or (free_object t) ENFILE) _
-    (λ node is. (free_known t node (was_some (free_object t) ENFILE node is), moved)))
+  -- a descriptor that is not open refers to nothing
+  shut_at : (descriptor : ℤ) (e : Errno) → described t descriptor ≡ Err e → key_at t descriptor ≡ None
+  shut_at descriptor e is = grind (arith, is)
 
-known-shut : (t : TableState) (most : ℕ) (d : Description) (how : ShutdownHow) (e : End) (act : Op) → is_used t d.node ≡ true → shut_act d how e ≡ Ok act → MovesKnown t most act
-known-shut t most d how part.Only act used is = cc
-known-shut t most d how part.Read act used is = cc
-known-shut t most d how part.Write act used is = cc
-known-shut t most d how (part.Socket side) act used is = subst (MovesKnown t most) (ok_same (op.Shutdown side how) act is) tt
-known-shut t most d how (part.Door door.HostFile) act used is = cc
-known-shut t most d how (part.Door (door.Listener port)) act used is = cc
-known-shut t most d how (part.Door door.Stream) act used is = subst (MovesKnown t most) (ok_same (errand d out.Shutdown 0 false) act is) (used, none_within most)
+  found_known : (descriptor : ℤ) (found : ℕ × Description) → described t descriptor ≡ Ok found → IsKnownNumber t found.1.node
+  found_known descriptor found is = used_known found.1.node (found_used descriptor found is)
 
-known-shutdown : (t : TableState) (most : ℕ) (descriptor : ℤ) (how : ShutdownHow) → IsSound t → IfOk (shutdown_plan t descriptor how) (LocksKnown t most)
-unfolding shutdown_plan
-known-shutdown t most descriptor how sound =
-    bound (Known t most) (λ e. tt) (described t descriptor) _ (λ found is.
-    bound (Known t most) (λ e. tt) (shut_act found.1 how found.1.«end») _
-    (λ act x.
-    (found_known t descriptor found sound is, known-shut t most found.1 how found.1.«end» act (found_used t descriptor found sound is) x)))
+  found_key : (descriptor : ℤ) (found : ℕ × Description) → described t descriptor ≡ Ok found → ContainsKey t.descriptions found.0
+  found_key descriptor found is = key_held t descriptor found.0 sound (found_is descriptor found is).0
 
-known-opens : (t : TableState) (most : ℕ) (k : OutKind) (asked : ℕ) (waits : Bool) (listener : Option ℕ) → IsThere t listener → bytes_of_kind k asked ≤ most → IfOk (opens_plan t k asked waits listener) (LocksKnown t most)
-known-opens t most k asked waits listener there within =
-    bound (Known t most) (λ e. tt) (some_or (lowest_free t 0) EMFILE) _ (λ _ _.
-    bound (Known t most) (λ e. tt) (some_or (free_object t) ENFILE) _
-    (λ node is. (free_known t node (was_some (free_object t) ENFILE node is), (there, within))))
+  -- what a descriptor refers to, by its number
+  found_refers : (descriptor : ℤ) (n : ℕ) (found : ℕ × Description) → described t descriptor ≡ Ok found
+      → descriptor_number descriptor EBADF ≡ Ok n → Refers t n found.0
+  found_refers descriptor n found is number =
+      (number_below descriptor EBADF n number, ap (key_at t) (sym (number_is descriptor n number)) ∙ (found_is descriptor found is).0)
 
-known-host_open : (t : TableState) (most : ℕ) (path : List ℕ) (access : Access) (flags : OpenFlags) → IfOk (host_open_plan t path access flags) (LocksKnown t most)
-unfolding host_open_plan
-known-host_open t most path access flags =
-    bound (Known t most) (λ e. tt) (refuse_if (flags.truncate && not (can_write access)) EINVAL) _ (λ _ _.
-    bound (Known t most) (λ e. tt) (host_path path) _ (λ _ _. known-opens t most out.Open 0 false None tt (none_within most)))
+  -- a number that is free from some one on
+  number_free : (from : ℕ) → from ≤ 32 → (n : ℕ) → some_or (lowest_free t from) EMFILE ≡ Ok n → IsFreeNumber t n
+  number_free from low n is = free_number t from n low (was_some (lowest_free t from) EMFILE n is)
 
-known-listen : (t : TableState) (most : ℕ) (port : ℤ) → IfOk (tcp_listen_plan t port) (LocksKnown t most)
-unfolding tcp_listen_plan
-known-listen t most port =
-    bound (Known t most) (λ e. tt) (port_of 0 port) _ (λ asked _. known-opens t most out.Listen asked false None tt (none_within most))
+  -- ## Plans
 
-known-connect : (t : TableState) (most : ℕ) (port : ℤ) → IfOk (tcp_connect_plan t port) (LocksKnown t most)
-unfolding tcp_connect_plan
-known-connect t most port =
-    bound (Known t most) (λ e. tt) (port_of 1 port) _ (λ asked _. known-opens t most out.Connect asked false None tt (none_within most))
+  -- a count that is taken is the bound of its call
+  taken_within : (count : Result ℕ Errno) (n : ℕ) → count ≡ Ok n → n ≤ or_none count
+  taken_within count n is = grind (arith, is)
 
-known-accept : (t : TableState) (most : ℕ) (descriptor : ℤ) → IsSound t → IfOk (tcp_accept_plan t descriptor) (LocksKnown t most)
-unfolding tcp_accept_plan
-known-accept t most descriptor sound =
-    bound (Known t most) (λ e. tt) (described t descriptor) _ (λ found is.
-    bound (Known t most) (λ e. tt) (of_listener found.1.«end») _
-    (λ _ _. known-opens t most out.Accept 0 (not found.1.flags.nonblock) (Some found.1.node) (found_used t descriptor found sound is)
-    (none_within most)))
+  known-act : (most : ℕ) (d : Description) (act ask : Op) → MovesKnown t most act → MovesKnown t most ask
+      → MovesKnown t most (act_or_ask d act ask)
+  known-act most d act ask acts asks = by_test (leads_outside d.«end»)
+    where
+      by_test : (b : Bool) → MovesKnown t most (if b then ask else act)
+      by_test true = asks
+      by_test false = acts
 
-known-node : (t : TableState) (most : ℕ) (node : Option Node) (flags : OpenFlags) → ((n : ℕ) → node ≡ Some (FileNode n) → IsKnownNumber t n) → IfOk (open_node t node flags) (LocksKnown t most)
-known-node t most None flags known = known-new t most flags
-known-node t most (Some node) flags known =
-    bound (Known t most) (λ e. tt) (refuse_if (flags.create && flags.exclusive) EEXIST) _
-    (λ _ _. known-there t most node flags (λ n is. known n (ap (λ (m : Node). Some m) is)))
+  known-release : (d : Description) (r : Reply) → reply_bytes r ≤ 0 → is_used t d.node ≡ true → LocksKnown t 0 (release d r)
+  known-release d r few used = by_test (d.holders == 1) (known-act 0 d op.Release (errand d out.Close 0 false) tt (used, none_within 0))
+    where
+      by_test : (b : Bool) → MovesKnown t 0 (act_or_ask d op.Release (errand d out.Close 0 false))
+          → LocksKnown t 0 (if b then plan.Node d.node (act_or_ask d op.Release (errand d out.Close 0 false)) false else plan.Reply r)
+      by_test true moved = (used_known d.node used, moved)
+      by_test false moved = few
 
-known-open : (t : TableState) (most : ℕ) (path : List ℕ) (access : Access) (flags : OpenFlags) → IsSound t → IfOk (open_plan t path access flags) (LocksKnown t most)
-unfolding open_plan
-known-open t most path access flags sound =
-    bound (Known t most) (λ e. tt) (refuse_if (flags.truncate && not (can_write access)) EINVAL) _ (λ _ _.
-    bound (Known t most) (λ e. tt) (resolved t.paths path) _ (λ components _.
-    known-node t most (node_at t.paths components) flags (λ n is. used_known t n sound (named_at t components n sound is))))
+  known-moves : (most : ℕ) (d : Description) (count : ℕ) (none : Reply) (act : Op) → reply_bytes none ≤ most → IsKnownNumber t d.node
+      → MovesKnown t most act → LocksKnown t most (moves d count none act)
+  known-moves most d count none act few known moved = by_test ((count == 0) && not (is_end d.«end» part.Only))
+    where
+      by_test : (b : Bool) → LocksKnown t most (if b then plan.Reply none else plan.Node d.node act false)
+      by_test true = few
+      by_test false = (known, moved)
 
-known-close : (t : TableState) (most : ℕ) (descriptor : ℤ) → IsSound t → IfOk (close_plan t descriptor) (LocksKnown t most)
-unfolding close_plan
-known-close t most descriptor sound =
-    bound (Known t most) (λ e. tt) (described t descriptor) _
-    (λ found is. known-release t most found.1 reply.Done (none_within most) sound (found_used t descriptor found sound is))
+  known-stat : (d : Description) (links : ℕ) (told : Option (ObjectKind × ℕ)) → IsKnownNumber t d.node
+      → LocksKnown t 0 (stat_plan d links told)
+  known-stat d links None known = (known, tt)
+  known-stat d links (Some (k, number)) known = none_within 0
 
-known-read : (t : TableState) (most : ℕ) (descriptor count : ℤ) → ((n : ℕ) → count_of count ≡ Ok n → n ≤ most) → IsSound t → IfOk (read_plan t descriptor count) (LocksKnown t most)
-unfolding read_plan
-known-read t most descriptor count within sound =
-    bound (Known t most) (λ e. tt) (described t descriptor) _ (λ found is.
-    bound (Known t most) (λ e. tt) (not_listener found.1.«end») _ (λ _ _.
-    bound (Known t most) (λ e. tt) (refuse_if (not (can_read found.1.access)) EBADF) _ (λ _ _.
-    bound (Known t most) (λ e. tt) (count_of count) _ (λ n y.
-    let act : Op = op.Read (seen found.0 found.1) n in
-    let ask : Op = errand found.1 out.Read n (not found.1.flags.nonblock) in
-    known-moves t most found.1 n (reply.Data []) (act_or_ask found.1 act ask) (none_within most) (found_known t descriptor found sound is) (known-act t most found.1 act ask (found_key t descriptor found sound is, within n y) (found_used t descriptor found sound is, within n y))))))
+  -- a size that is taken is one that a file may have
+  small_size : (size : ℤ) (n : ℕ) → size_of size ≡ Ok n → n ≤ limit.FILE_BYTES
+  small_size size n is = grind (arith, nat_tests, is)
 
-known-write : (t : TableState) (most : ℕ) (descriptor : ℤ) (count : ℕ) → IsSound t → IfOk (write_plan t descriptor count) (LocksKnown t most)
-unfolding write_plan
-known-write t most descriptor count sound =
-    bound (Known t most) (λ e. tt) (described t descriptor) _ (λ found is.
-    bound (Known t most) (λ e. tt) (not_listener found.1.«end») _ (λ _ _.
-    bound (Known t most) (λ e. tt) (refuse_if (not (can_write found.1.access)) EBADF) _ (λ _ _.
-    bound (Known t most) (λ e. tt) (refuse_if (nat_lt 32767 count) EINVAL) _ (λ _ _.
-    let act : Op = op.Write (seen found.0 found.1) in
-    let ask : Op = errand found.1 out.Write count (not found.1.flags.nonblock) in
-    known-moves t most found.1 count (reply.Count 0) (act_or_ask found.1 act ask) (none_within most) (found_known t descriptor found sound is) (known-act t most found.1 act ask (found_key t descriptor found sound is) (found_used t descriptor found sound is, none_within most))))))
+  -- ## The links of a chain
 
-known-pread : (t : TableState) (most : ℕ) (descriptor count position : ℤ) → ((n : ℕ) → count_of count ≡ Ok n → n ≤ most) → IsSound t → IfOk (pread_plan t descriptor count position) (LocksKnown t most)
-unfolding pread_plan
-known-pread t most descriptor count position within sound =
-    bound (Known t most) (λ e. tt) (described t descriptor) _ (λ found is. bound (Known t most) (λ e. tt) (of_file found.1 ESPIPE) _ (λ _ _.
-    bound (Known t most) (λ e. tt) (refuse_if (not (can_read found.1.access)) EBADF) _ (λ _ _.
-    bound (Known t most) (λ e. tt) (count_of count) _ (λ n y.
-    bound (Known t most) (λ e. tt) (position_of position) _ (λ _ _. (found_known t descriptor found sound is, within n y))))))
+  each : (c : Call) {A : Type 0} (r : Result A Errno) (f : A → Result Decided Errno) → ((x : A) → r ≡ Ok x → Sure t c (f x))
+      → Sure t c (r >>= f)
+  each c r f after = bound (Sure t c) (λ e. tt) r f after
 
-known-pwrite : (t : TableState) (most : ℕ) (descriptor : ℤ) (count : ℕ) (position : ℤ) → IsSound t → IfOk (pwrite_plan t descriptor count position) (LocksKnown t most)
-unfolding pwrite_plan
-known-pwrite t most descriptor count position sound =
-    bound (Known t most) (λ e. tt) (described t descriptor) _ (λ found is. bound (Known t most) (λ e. tt) (of_file found.1 ESPIPE) _ (λ _ _.
-    bound (Known t most) (λ e. tt) (refuse_if (not (can_write found.1.access)) EBADF) _ (λ _ _.
-    bound (Known t most) (λ e. tt) (refuse_if (nat_lt 32767 count) EINVAL) _ (λ _ _.
-    bound (Known t most) (λ e. tt) (position_of position) _ (λ _ _. (found_known t descriptor found sound is, tt))))))
+  -- of a call that changes nothing in the table
+  each_plan : (c : Call) {A : Type 0} (r : Result A Errno) (f : A → Result Plan Errno) → ((x : A) → r ≡ Ok x → Sure t c (leaves (f x)))
+      → Sure t c (leaves (r >>= f))
+  each_plan c r f after = bound (λ p. Sure t c (leaves p)) (λ e. tt) r f after
 
-known-lseek : (t : TableState) (most : ℕ) (descriptor offset : ℤ) (whence : Whence) → IsSound t → IfOk (lseek_plan t descriptor offset whence) (LocksKnown t most)
-unfolding lseek_plan
-known-lseek t most descriptor offset whence sound =
-    bound (Known t most) (λ e. tt) (described t descriptor) _ (λ found is.
-    bound (Known t most) (λ e. tt) (seekable found.1.«end» offset whence) _ (λ _ _.
-    (found_known t descriptor found sound is, known-act t most found.1 (op.Lseek (seen found.0 found.1)) (errand found.1 out.Seek 0 false) (found_key t descriptor found sound is) (found_used t descriptor found sound is, none_within most))))
+  sure-there : (path : List ℕ) (node : Node) (access : Access) (flags : OpenFlags) → ((n : ℕ) → node ≡ FileNode n → is_used t n ≡ true)
+      → Sure t (call.Open path access flags) (open_there t node access flags)
+  sure-there path Directory access flags used = tt
+  sure-there path (FileNode node) access flags used =
+      each (call.Open path access flags) (some_or (lowest_free t 0) EMFILE) _
+      (λ n is. ((used_known node (used node refl), tt), (number_free 0 (omega arith) n is, used node refl)))
 
--- a size that is taken is one that a file may have
-small_size : (size : ℤ) (n : ℕ) → size_of size ≡ Ok n → n ≤ limit.FILE_BYTES
-small_size (pos n) m is = by_size (nat_lt limit.FILE_BYTES n) refl is
-  where
-    by_size : (b : Bool) → nat_lt limit.FILE_BYTES n ≡ b → (if b then Err EFBIG else Ok n) ≡ Ok m → m ≤ limit.FILE_BYTES
-    by_size true over is = cc
-    by_size false over is =
-        let same : n ≡ m = cc in
-        let fits : n ≤ limit.FILE_BYTES = grind (arith, nat_tests) in
-        subst (λ (k : ℕ). k ≤ limit.FILE_BYTES) same fits
-small_size (negsuc n) m is = cc
+  sure-new : (path : List ℕ) (components : List (List ℕ)) (access : Access) (flags : OpenFlags) → resolved t.paths path ≡ Ok components
+      → node_at t.paths components ≡ None
+      → Sure t (call.Open path access flags) (open_new t access flags)
+  sure-new path components access flags at none =
+      let c : Call = call.Open path access flags in
+      each c (refuse_if (not flags.create) ENOENT) _ (λ _ _.
+      each c (refuse_if (nat_le 64 (fin.len t.paths)) ENOSPC) _ (λ u room.
+      each c (some_or (free_object t) ENOSPC) _ (λ node next.
+      each c (some_or (lowest_free t 0) EMFILE) _ (λ n is.
+      let free = was_some (free_object t) ENOSPC node next in (
+        (free_known node free, tt),
+        (
+          number_free 0 (omega arith) n is,
+          next_object t node free,
+          free_path t.paths path components at none (not_refused (nat_le 64 (fin.len t.paths)) ENOSPC u room),
+        ),
+      )))))
 
-known-ftruncate : (t : TableState) (most : ℕ) (descriptor size : ℤ) → IsSound t → IfOk (ftruncate_plan t descriptor size) (LocksKnown t most)
-unfolding ftruncate_plan
-known-ftruncate t most descriptor size sound =
-    bound (Known t most) (λ e. tt) (described t descriptor) _ (λ found is.
-    bound (Known t most) (λ e. tt) (refuse_if (not (can_write found.1.access)) EINVAL) _ (λ _ _.
-    bound (Known t most) (λ e. tt) (of_file found.1 EINVAL) _ (λ _ _.
-    bound (Known t most) (λ e. tt) (size_of size) _ (λ n y. (found_known t descriptor found sound is, small_size size n y)))))
+  sure-pair : (c : Call) (f : NewPair → Result Decided Errno)
+      → ((new : NewPair) → IsKnownNumber t new.node → CanChange t c (change.MakePipe new) → Sure t c (f new)) → Sure t c (new_pair t >>= f)
+  sure-pair c f after = by_numbers (two_numbers t) (λ two is. two_free t two is)
+    where
+      by_numbers : (r : Result (ℕ × ℕ) Errno) → ((two : ℕ × ℕ) → r ≡ Ok two → AreFree t.descriptors two.0 two.1)
+          → Sure t c
+          ((r >>= (λ two. some_or (free_object t) ENFILE >>= (λ node. Ok (record { first = two.0; second = two.1; node = node })))) >>= f)
+      by_numbers (Err e) free = tt
+      by_numbers (Ok two) free = by_object (free two refl) (free_object t) (λ node is. is)
+        where
+          by_object : AreFree t.descriptors two.0 two.1 → (o : Option ℕ) → ((node : ℕ) → o ≡ Some node → free_object t ≡ Some node)
+              → Sure t c ((some_or o ENFILE >>= (λ node. Ok (record { first = two.0; second = two.1; node = node }))) >>= f)
+          by_object are None is = tt
+          by_object are (Some node) is =
+              after (record { first = two.0; second = two.1; node = node }) (free_known node (is node refl))
+              ((are.low, are.first_free), (are.high, are.second_free), are.order, next_object t node (is node refl))
 
-known-fstat : (t : TableState) (most : ℕ) (descriptor : ℤ) → IsSound t → IfOk (fstat_plan t descriptor) (LocksKnown t most)
-unfolding fstat_plan
-known-fstat t most descriptor sound =
-    bound (Known t most) (λ e. tt) (described t descriptor) _
-    (λ found is. known-stat t most found.1 (links_of t.paths found.1.node) (stat_by found.1.«end»)
-    (found_known t descriptor found sound is))
+  sure-opens : (c : Call) (errand : Errand) (access : Access) (append : Bool) → IsThere t errand.door → bytes_asked errand ≤ read_count c
+      → Sure t c (opens_door t errand access append)
+  sure-opens c errand access append there within =
+      each c (some_or (lowest_free t 0) EMFILE) _ (λ n is. each c (some_or (free_object t) ENFILE) _ (λ node next.
+      let free = was_some (free_object t) ENFILE node next in
+      ((free_known node free, (there, within)), (number_free 0 (omega arith) n is, next_object t node free))))
 
-known-dup : (t : TableState) (most : ℕ) (descriptor : ℤ) → IfOk (dup_plan t descriptor) (LocksKnown t most)
-unfolding dup_plan
-known-dup t most descriptor =
-    bound (Known t most) (λ e. tt) (described t descriptor) _ (λ _ _.
-    bound (Known t most) (λ e. tt) (some_or (lowest_free t 0) EMFILE) _ (λ _ _. none_within most))
+  -- ## Each call
 
-known-dup_from : (t : TableState) (most : ℕ) (descriptor least : ℤ) → IfOk (dup_from_plan t descriptor least) (LocksKnown t most)
-unfolding dup_from_plan
-known-dup_from t most descriptor least =
-    bound (Known t most) (λ e. tt) (described t descriptor) _ (λ _ _.
-    bound (Known t most) (λ e. tt) (descriptor_number least EINVAL) _ (λ first _.
-    bound (Known t most) (λ e. tt) (some_or (lowest_free t first) EMFILE) _ (λ _ _. none_within most)))
+  pub sure-call : (c : Call) → Sure t c (decided_of t c)
+  unfolding open_decided close_decided read_plan write_plan pread_plan pwrite_plan lseek_plan ftruncate_plan fstat_plan
+      dup_decided dup_from_decided dup2_decided getfl_plan setfl_decided link_decided unlink_decided mkdir_decided rmdir_decided
+      shutdown_plan host_open_decided tcp_listen_decided tcp_connect_decided tcp_accept_decided
+  sure-call (call.Open path access flags) =
+      each c (refuse_if (flags.truncate && not (can_write access)) EINVAL) _ (λ _ _.
+      each c (resolved t.paths path) _ (λ components is. by_node components is (node_at t.paths components) refl))
+    where
+      c : Call
+      c = call.Open path access flags
 
-known-replaced : (t : TableState) (most : ℕ) (found : Result (ℕ × Description) Errno) (r : Reply) → reply_bytes r ≤ most → IsSound t → ((x : ℕ × Description) → found ≡ Ok x → is_used t x.1.node ≡ true) → LocksKnown t most (replaced found r)
-known-replaced t most (Ok x) r few sound used = known-release t most x.1 r few sound (used x refl)
-known-replaced t most (Err e) r few sound used = few
+      by_node : (components : List (List ℕ)) → resolved t.paths path ≡ Ok components → (o : Option Node) → node_at t.paths components ≡ o
+          → Sure t c (open_node t o access flags)
+      by_node components is None at = sure-new path components access flags is at
+      by_node components is (Some node) at =
+          each c (refuse_if (flags.create && flags.exclusive) EEXIST) _
+          (λ _ _. sure-there path node access flags (λ n same. named_at t components n sound (at ∙ ap (λ (m : Node). Some m) same)))
+  sure-call (call.Close descriptor) =
+      each (call.Close descriptor) (described t descriptor) _ (λ found is.
+      each (call.Close descriptor) (descriptor_number descriptor EBADF) _ (λ n number.
+      (known-release found.1 reply.Done (none_within 0) (found_used descriptor found is), found_refers descriptor n found is number)))
+  sure-call (call.Read descriptor count) =
+      let c : Call = call.Read descriptor count in
+      each_plan c (described t descriptor) _ (λ found is.
+      each_plan c (not_listener found.1.«end») _ (λ _ _.
+      each_plan c (refuse_if (not (can_read found.1.access)) EBADF) _ (λ _ _.
+      each_plan c (count_of count) _ (λ n taken.
+      let few : n ≤ read_count c = taken_within (count_of count) n taken in (
+        known-moves _ found.1 n (reply.Data []) _ (none_within _) (found_known descriptor found is)
+            (known-act _ found.1 _ _ (found_key descriptor found is, few) (found_used descriptor found is, few)),
+        tt,
+      )))))
+  sure-call (call.Write descriptor bytes) =
+      let c : Call = call.Write descriptor bytes in
+      each_plan c (described t descriptor) _ (λ found is.
+      each_plan c (not_listener found.1.«end») _ (λ _ _.
+      each_plan c (refuse_if (not (can_write found.1.access)) EBADF) _ (λ _ _.
+      each_plan c (refuse_if (nat_lt 32767 (length bytes)) EINVAL) _ (λ _ _. (
+        known-moves 0 found.1 (length bytes) (reply.Count 0) _ (none_within 0) (found_known descriptor found is)
+            (known-act 0 found.1 _ _ (found_key descriptor found is) (found_used descriptor found is, none_within 0)),
+        tt,
+      )))))
+  sure-call (call.Pread descriptor count position) =
+      let c : Call = call.Pread descriptor count position in
+      each_plan c (described t descriptor) _ (λ found is.
+      each_plan c (of_file found.1 ESPIPE) _ (λ _ _.
+      each_plan c (refuse_if (not (can_read found.1.access)) EBADF) _ (λ _ _.
+      each_plan c (count_of count) _ (λ n taken.
+      each_plan c (position_of position) _ (λ _ _. ((found_known descriptor found is, taken_within (count_of count) n taken), tt))))))
+  sure-call (call.Pwrite descriptor bytes position) =
+      let c : Call = call.Pwrite descriptor bytes position in
+      each_plan c (described t descriptor) _ (λ found is.
+      each_plan c (of_file found.1 ESPIPE) _ (λ _ _.
+      each_plan c (refuse_if (not (can_write found.1.access)) EBADF) _ (λ _ _.
+      each_plan c (refuse_if (nat_lt 32767 (length bytes)) EINVAL) _ (λ _ _.
+      each_plan c (position_of position) _ (λ _ _. ((found_known descriptor found is, tt), tt))))))
+  sure-call (call.Lseek descriptor offset whence) =
+      let c : Call = call.Lseek descriptor offset whence in
+      each_plan c (described t descriptor) _ (λ found is.
+      each_plan c (seekable found.1.«end» offset whence) _ (λ _ _. (
+        (
+          found_known descriptor found is,
+          known-act 0 found.1 _ _ (found_key descriptor found is) (found_used descriptor found is, none_within 0),
+        ),
+        tt,
+      )))
+  sure-call (call.Ftruncate descriptor size) =
+      let c : Call = call.Ftruncate descriptor size in
+      each_plan c (described t descriptor) _ (λ found is.
+      each_plan c (refuse_if (not (can_write found.1.access)) EINVAL) _ (λ _ _.
+      each_plan c (of_file found.1 EINVAL) _ (λ _ _.
+      each_plan c (size_of size) _ (λ n small. ((found_known descriptor found is, small_size size n small), tt)))))
+  sure-call (call.Fstat descriptor) =
+      each_plan (call.Fstat descriptor) (described t descriptor) _
+      (λ found is. (known-stat found.1 (links_of t.paths found.1.node) (stat_by found.1.«end») (found_known descriptor found is), tt))
+  sure-call (call.Dup descriptor) =
+      each (call.Dup descriptor) (described t descriptor) _ (λ found is.
+      each (call.Dup descriptor) (some_or (lowest_free t 0) EMFILE) _ (λ n free.
+      (none_within 0, (number_free 0 (omega arith) n free, found_key descriptor found is))))
+  sure-call (call.DupFrom descriptor least) =
+      let c : Call = call.DupFrom descriptor least in
+      each c (described t descriptor) _ (λ found is.
+      each c (descriptor_number least EINVAL) _ (λ first number.
+      each c (some_or (lowest_free t first) EMFILE) _ (λ n free.
+      let below : first < 32 = number_below least EINVAL first number in
+      (none_within 0, (number_free first (omega arith) n free, found_key descriptor found is)))))
+  sure-call (call.Dup2 descriptor target) =
+      each c (described t descriptor) _ (λ found is.
+      each c (descriptor_number target EBADF) _ (λ n number.
+      each c (refuse_if (not (int_eq descriptor target) && ends_a_door (described t target)) EBUSY) _
+      (λ _ _. by_same found is n number (int_eq descriptor target) refl)))
+    where
+      c : Call
+      c = call.Dup2 descriptor target
 
-known-dup2 : (t : TableState) (most : ℕ) (descriptor target : ℤ) → IsSound t → IfOk (dup2_plan t descriptor target) (LocksKnown t most)
-unfolding dup2_plan
-known-dup2 t most descriptor target sound =
-    bound (Known t most) (λ e. tt) (described t descriptor) _ (λ _ _.
-    bound (Known t most) (λ e. tt) (descriptor_number target EBADF) _ (λ _ _.
-    bound (Known t most) (λ e. tt) (refuse_if (not (int_eq descriptor target) && ends_a_door (described t target)) EBUSY) _
-    (λ _ _. by_test (int_eq descriptor target))))
-  where
-    by_test : (b : Bool) → LocksKnown t most (if b then plan.Reply (reply.Number target) else replaced (described t target) (reply.Number target))
-    by_test true = none_within most
-    by_test false = known-replaced t most (described t target) (reply.Number target) (none_within most) sound (λ x is. found_used t target x sound is)
+      by_target : (found : ℕ × Description) → described t descriptor ≡ Ok found → (n : ℕ) → descriptor_number target EBADF ≡ Ok n
+          → descriptor ≢ pos n
+          → (r : Result (ℕ × Description) Errno) → described t target ≡ r → Sure t c (Ok (replaces n found.0 r (reply.Number target)))
+      by_target found is n number apart (Err e) shut = (
+        none_within 0,
+        ((number_below target EBADF n number, ap (key_at t) (sym (number_is target n number)) ∙ shut_at target e shut), found_key descriptor found is),
+      )
+      by_target found is n number apart (Ok x) at =
+          let refers = found_refers target n x at number in (
+            known-release x.1 (reply.Number target) (none_within 0) (found_used target x at),
+            (
+              refers,
+              key_held (closed t n x.0) descriptor found.0 (sound-closed t n x.0 sound refers.1)
+                  (closed_other t n x.0 descriptor apart ∙ (found_is descriptor found is).0),
+            ),
+          )
 
-known-getfl : (t : TableState) (most : ℕ) (descriptor : ℤ) → IfOk (getfl_plan t descriptor) (LocksKnown t most)
-unfolding getfl_plan
-known-getfl t most descriptor = bound (Known t most) (λ e. tt) (described t descriptor) _ (λ _ _. none_within most)
+      by_same : (found : ℕ × Description) → described t descriptor ≡ Ok found → (n : ℕ) → descriptor_number target EBADF ≡ Ok n → (b : Bool)
+          → int_eq descriptor target ≡ b
+          → Sure t c
+          (Ok (if b then tells (reply.Number target) change.Nothing else replaces n found.0 (described t target) (reply.Number target)))
+      by_same found is n number true same = (none_within 0, tt)
+      by_same found is n number false same =
+          by_target found is n number (apart_by descriptor n (ap (int_eq descriptor) (sym (number_is target n number)) ∙ same))
+          (described t target) refl
+  sure-call (call.Getfl descriptor) = each_plan (call.Getfl descriptor) (described t descriptor) _ (λ _ _. (none_within 0, tt))
+  sure-call (call.Setfl descriptor append nonblock) =
+      each (call.Setfl descriptor append nonblock) (described t descriptor) _ (λ found is. (none_within 0, found_key descriptor found is))
+  sure-call (call.Link old_path new_path) =
+      each (call.Link old_path new_path) (file_named t.paths old_path) _ (λ node is.
+      each (call.Link old_path new_path) (addable t.paths new_path) _ (λ u free.
+      (none_within 0, (addable_free t.paths new_path u free, used-named t old_path node is sound))))
+  sure-call (call.Unlink path) =
+      each (call.Unlink path) (file_named t.paths path) _
+      (λ node is. (by_test node (used_known node (used-named t path node is sound)) (is_last_name t node), tt))
+    where
+      by_test : (node : ℕ) → IsKnownNumber t node → (b : Bool)
+          → LocksKnown t 0 (if b then plan.Node node op.Release false else plan.Reply reply.Done)
+      by_test node known true = (known, tt)
+      by_test node known false = none_within 0
+  sure-call (call.Mkdir path) =
+      each (call.Mkdir path) (addable t.paths path) _ (λ u free. (none_within 0, (addable_free t.paths path u free, tt)))
+  sure-call (call.Rmdir path) = each (call.Rmdir path) (removed_dir t.paths path) _ (λ _ _. (none_within 0, tt))
+  sure-call call.Pipe = sure-pair call.Pipe _ (λ new known can. ((known, tt), can))
+  sure-call call.Socketpair = sure-pair call.Socketpair _ (λ new known can. ((known, tt), can))
+  sure-call (call.Shutdown descriptor how) =
+      each_plan c (described t descriptor) _
+      (λ found is. by_end found.1 found.1.«end» (found_known descriptor found is) (found_used descriptor found is))
+    where
+      c : Call
+      c = call.Shutdown descriptor how
 
-known-setfl : (t : TableState) (most : ℕ) (descriptor : ℤ) → IfOk (setfl_plan t descriptor) (LocksKnown t most)
-unfolding setfl_plan
-known-setfl t most descriptor = bound (Known t most) (λ e. tt) (described t descriptor) _ (λ _ _. none_within most)
+      by_end : (d : Description) (e : End) → IsKnownNumber t d.node → is_used t d.node ≡ true
+          → Sure t c (leaves (shut_act d how e >>= (λ act. Ok (plan.Node d.node act false))))
+      by_end d part.Only known used = tt
+      by_end d part.Read known used = tt
+      by_end d part.Write known used = tt
+      by_end d (part.Socket side) known used = ((known, tt), tt)
+      by_end d (part.Door door.HostFile) known used = tt
+      by_end d (part.Door (door.Listener port)) known used = tt
+      by_end d (part.Door door.Stream) known used = ((known, (used, none_within 0)), tt)
+  sure-call (call.HostOpen path access flags) =
+      let c : Call = call.HostOpen path access flags in
+      each c (refuse_if (flags.truncate && not (can_write access)) EINVAL) _ (λ _ _.
+      each c (host_path path) _ (λ _ _. sure-opens c (opening out.Open 0 false None) access flags.append tt (none_within 0)))
+  sure-call (call.TcpListen port) =
+      each (call.TcpListen port) (port_of 0 port) _
+      (λ asked _. sure-opens (call.TcpListen port) (opening out.Listen asked false None) ReadWrite false tt (none_within 0))
+  sure-call (call.TcpConnect port) =
+      each (call.TcpConnect port) (port_of 1 port) _
+      (λ asked _. sure-opens (call.TcpConnect port) (opening out.Connect asked false None) ReadWrite false tt (none_within 0))
+  sure-call (call.TcpAccept descriptor) =
+      let c : Call = call.TcpAccept descriptor in
+      each c (described t descriptor) _ (λ found is. each c (of_listener found.1.«end») _
+      (λ _ _. sure-opens c (opening out.Accept 0 (not found.1.flags.nonblock) (Some found.1.node)) ReadWrite false
+      (found_used descriptor found is) (none_within 0)))
 
-known-link : (t : TableState) (most : ℕ) (old_path new_path : List ℕ) → IfOk (link_plan t old_path new_path) (LocksKnown t most)
-unfolding link_plan
-known-link t most old_path new_path =
-    bound (Known t most) (λ e. tt) (file_named t.paths old_path) _ (λ _ _.
-    bound (Known t most) (λ e. tt) (addable t.paths new_path) _ (λ _ _. none_within most))
-
-known-unlink : (t : TableState) (most : ℕ) (path : List ℕ) → IsSound t → IfOk (unlink_plan t path) (LocksKnown t most)
-unfolding unlink_plan
-known-unlink t most path sound =
-    bound (Known t most) (λ e. tt) (file_named t.paths path) _
-    (λ node is. by_test node (used_known t node sound (used-named t path node is sound)) (is_last_name t node))
-  where
-    by_test : (node : ℕ) → IsKnownNumber t node → (b : Bool) → LocksKnown t most (if b then plan.Node node op.Release false else plan.Reply reply.Done)
-    by_test node known true = (known, tt)
-    by_test node known false = none_within most
-
-known-mkdir : (t : TableState) (most : ℕ) (path : List ℕ) → IfOk (mkdir_plan t path) (LocksKnown t most)
-unfolding mkdir_plan
-known-mkdir t most path = bound (Known t most) (λ e. tt) (addable t.paths path) _ (λ _ _. none_within most)
-
-known-rmdir : (t : TableState) (most : ℕ) (path : List ℕ) → IfOk (rmdir_plan t path) (LocksKnown t most)
-unfolding rmdir_plan
-known-rmdir t most path = bound (Known t most) (λ e. tt) (removed_dir t.paths path) _ (λ _ _. none_within most)
-
-known-call : (t : TableState) (c : Call) → IsSound t → IfOk (plan_of t c) (LocksKnown t (read_count c))
-known-call t (call.Open path access flags) sound = known-open t 0 path access flags sound
-known-call t (call.Close descriptor) sound = known-close t 0 descriptor sound
-known-call t (call.Read descriptor count) sound = known-read t (or_none (count_of count)) descriptor count (taken_within (count_of count)) sound
-known-call t (call.Write descriptor bytes) sound = known-write t 0 descriptor (length bytes) sound
-known-call t (call.Pread descriptor count position) sound = known-pread t (or_none (count_of count)) descriptor count position (taken_within (count_of count)) sound
-known-call t (call.Pwrite descriptor bytes position) sound = known-pwrite t 0 descriptor (length bytes) position sound
-known-call t (call.Lseek descriptor offset whence) sound = known-lseek t 0 descriptor offset whence sound
-known-call t (call.Ftruncate descriptor size) sound = known-ftruncate t 0 descriptor size sound
-known-call t (call.Fstat descriptor) sound = known-fstat t 0 descriptor sound
-known-call t (call.Dup descriptor) sound = known-dup t 0 descriptor
-known-call t (call.DupFrom descriptor least) sound = known-dup_from t 0 descriptor least
-known-call t (call.Dup2 descriptor target) sound = known-dup2 t 0 descriptor target sound
-known-call t (call.Getfl descriptor) sound = known-getfl t 0 descriptor
-known-call t (call.Setfl descriptor append nonblock) sound = known-setfl t 0 descriptor
-known-call t (call.Link old_path new_path) sound = known-link t 0 old_path new_path
-known-call t (call.Unlink path) sound = known-unlink t 0 path sound
-known-call t (call.Mkdir path) sound = known-mkdir t 0 path
-known-call t (call.Rmdir path) sound = known-rmdir t 0 path
-known-call t call.Pipe sound = known-two_ends t 0 op.Pipe tt
-known-call t call.Socketpair sound = known-two_ends t 0 op.Socketpair tt
-known-call t (call.Shutdown descriptor how) sound = known-shutdown t 0 descriptor how sound
-known-call t (call.HostOpen path access flags) sound = known-host_open t 0 path access flags
-known-call t (call.TcpListen port) sound = known-listen t 0 port
-known-call t (call.TcpConnect port) sound = known-connect t 0 port
-known-call t (call.TcpAccept descriptor) sound = known-accept t 0 descriptor sound
-
-known-answered : (t : TableState) (most : ℕ) (r : Result Plan Errno) → IfOk r (LocksKnown t most) → LocksKnown t most (answered r)
-known-answered t most (Ok p) known = known
-known-answered t most (Err e) known = none_within most
+sure-answered : (t : TableState) (c : Call) (r : Result Decided Errno) → Sure t c r
+    → LocksKnown t (read_count c) (answered r).plan × CanChange t c (answered r).change
+sure-answered t c (Ok d) sure = sure
+sure-answered t c (Err e) sure = (none_within (read_count c), tt)
 
 pub known-planned : (t : TableState) (c : Call) → IsSound t → LocksKnown t (read_count c) (planned t c)
-known-planned t c sound = known-answered t (read_count c) (plan_of t c) (known-call t c sound)
+known-planned t c sound = (sure-answered t c (decided_of t c) (sure-call t sound c)).0
 
-pub ruleset known = (known-planned)
+pub known-change : (t : TableState) (c : Call) → IsSound t → CanChange t c (change_of t c)
+known-change t c sound = (sure-answered t c (decided_of t c) (sure-call t sound c)).1
+
+pub ruleset known = (known-planned, known-change)

@@ -1,40 +1,30 @@
 -- Where descriptions stand after a change.
-use Rattle.std.proofs.Common.{◌≡◌, ◌≢◌, ℕ, ◌+◌, ◌-◌, ◌≤◌, List, Option, Some, None, Result, Ok, Err, Bool, true, false, if◌then◌else◌, refl, sym, ap, ◌∙◌, subst, inl, inr, arith}
+use Rattle.std.proofs.Common.{◌≡◌, ℕ, ◌+◌, ◌-◌, ◌≤◌, Option, Some, None, refl, sym, ap, ◌∙◌, subst, inl, inr, arith}
+use Rattle.std.specs.Cmp.{nat_cmp_total}
 use Rattle.std.specs.FinMap as fin
-use Rattle.std.specs.Ordering.{int_eq}
-use Rattle.std.specs.Prelude.{ℤ, pos, slice_index_or}
-use Rattle.sequential_object.specs.Duplicates.{descriptor_number}
-use Rattle.sequential_object.specs.Names.{added, file_named, removed, removed_dir}
-use Rattle.sequential_object.specs.Object.{FileNode, Directory}
-use Rattle.sequential_object.specs.Refusals.{some_or}
+use Rattle.sequential_object.specs.Object.{FileNode}
 use Rattle.posix_terms.specs.declared.call.Access.{Access}
 use Rattle.posix_terms.specs.declared.call.Access.TheVariants.{ReadOnly, WriteOnly, ReadWrite}
-use Rattle.posix_terms.specs.declared.object.Door.{Door}
-use Rattle.posix_terms.specs.declared.object.Door.TheVariants as door
 use Rattle.posix_terms.specs.declared.object.End.{End}
-use Rattle.posix_terms.specs.declared.object.Side.TheVariants.{Side0, Side1}
-use Rattle.file_descriptions.specs.declared.description.StatusFlags.{StatusFlags}
-use Rattle.posix_terms.specs.Calls.{Call}
-use Rattle.posix_terms.specs.declared.call.Call.TheVariants as call
-use Rattle.posix_terms.specs.declared.call.OpenFlags.{OpenFlags}
-use Rattle.posix_terms.specs.declared.outcome.Outcome.{Outcome}
-use Rattle.posix_terms.specs.declared.errno.Errno.{Errno}
-use Rattle.posix_terms.specs.declared.errno.Errno.TheVariants.{EBADF, EINVAL, EMFILE}
-use Rattle.file_descriptions.specs.Descriptions.{DescriptionMap, description_at, new_description, with_description, without}
 use Rattle.posix_terms.specs.declared.object.End.TheVariants as part
+use Rattle.posix_terms.specs.declared.object.Side.TheVariants.{Side0, Side1}
+use Rattle.posix_terms.specs.Calls.{Call}
+use Rattle.posix_terms.specs.declared.outcome.Outcome.{Outcome}
+use Rattle.posix_terms.specs.declared.outcome.Outcome.TheVariants as came
+use Rattle.directories.specs.Entries.{node_of}
+use Rattle.file_descriptions.specs.Descriptions.{DescriptionMap, description_at, new_description, with_description, with_flags, without}
 use Rattle.file_descriptions.specs.declared.description.Description.{Description}
-use Rattle.std.specs.Cmp.{nat_cmp_total}
-use Rattle.descriptor_table.proofs.OpeningLemmas.{OfOpening, over_door, over_opening}
+use Rattle.file_descriptions.specs.declared.description.StatusFlags.{StatusFlags}
 use Rattle.descriptor_table.proofs.Closing.{over_closed, over_gone, over_holder}
 use Rattle.descriptor_table.proofs.MapLemmas.{got_less, got_put, put_at}
-use Rattle.descriptor_table.proofs.Binding.{bound}
-use Rattle.descriptor_table.proofs.FollowLemmas.{apart_by, number_is}
-use Rattle.descriptor_table.proofs.KnownLemmas.{found_is, found_key}
-use Rattle.descriptor_table.proofs.ShownLemmas.{key_known}
-use Rattle.descriptor_table.proofs.SoundLemmas.{closed_other, known_at, sound-closed}
+use Rattle.descriptor_table.proofs.SoundLemmas.{known_at, known_of}
 use Rattle.descriptor_table.specs.Agreement.{OffsetsStay}
-use Rattle.descriptor_table.specs.Changes.{AreOpened, Changes, IsOpened, OpensDoor, door_flags, TwoEnds, no_flags, two_ends, with_object, Opening, close_change, closed, closed_if_open, dup2_change, dup_change, dup_from_change, kept_or, let_go, link_change, mkdir_change, opened, opening, status_flags, rmdir_change, setfl_change, shared, unlink_change, with_paths, without_gone}
-use Rattle.descriptor_table.specs.Table.{TableState, IsSound, described, key_at, lowest_free}
+use Rattle.descriptor_table.specs.Changes.{AreOpened, CanChange, Changed, IsOpened, OpensDoor, closed, door_of, let_go, named, no_flags, opened, shared, unnamed, with_file, with_object, with_paths, without_gone}
+use Rattle.descriptor_table.specs.Table.{TableState, IsSound}
+use Rattle.descriptor_table.specs.declared.plan.Change.{Change}
+use Rattle.descriptor_table.specs.declared.plan.Change.TheVariants as change
+use Rattle.descriptor_table.specs.declared.plan.NewDescriptor.{NewDescriptor}
+use Rattle.descriptor_table.specs.declared.plan.NewPair.{NewPair}
 
 -- each description was there, with its birth and its offset
 abbrev pub Stood : DescriptionMap → DescriptionMap → Type 0
@@ -77,86 +67,11 @@ stood_closed t n key got = over_closed (StoodTable t) t n key (stood_let_go t n 
 stood_shared : (t u : TableState) (n key : ℕ) → StoodTable t u → fin.get u.descriptions.by_key key ≡ Some (description_at u.descriptions key) → StoodTable t (shared u n key)
 stood_shared t u n key stood got = stood_with t.descriptions u.descriptions key (record (description_at u.descriptions key) { holders = (description_at u.descriptions key).holders + 1 }) (description_at u.descriptions key) stood got refl refl
 
-abbrev Stay : TableState → Result TableState Errno → Type 0
-Stay t (Ok u) = StoodTable t u
-Stay t (Err e) = Unit {0}
-
-offsets_of : (t after : TableState) (u : Result TableState Errno) → Stay t u → after ≡ kept_or t u → OffsetsStay t after
-offsets_of t after (Ok u) stay is = subst (OffsetsStay t) (sym is) (λ key d got. inl (stay key d got))
-offsets_of t after (Err e) stay is = subst (OffsetsStay t) (sym is) (λ key d got. inl (stood_same t.descriptions key d got))
-
-module _ (t : TableState) (sound : IsSound t) where
-  got_at : (descriptor : ℤ) (found : ℕ × Description) → described t descriptor ≡ Ok found → fin.get t.descriptions.by_key found.0 ≡ Some (description_at t.descriptions found.0)
-  got_at descriptor found is = known_at t.descriptions found.0 (found_key t descriptor found sound is)
-
-  stay-close : (descriptor : ℤ) → Stay t (close_change t descriptor)
-  unfolding close_change
-  stay-close descriptor =
-      bound (Stay t) (λ e. tt) (descriptor_number descriptor EBADF) _ (λ n _.
-      bound (Stay t) (λ e. tt) (described t descriptor) _ (λ found is. stood_closed t n found.0 (got_at descriptor found is)))
-
-  stay-dup : (descriptor : ℤ) → Stay t (dup_change t descriptor)
-  unfolding dup_change
-  stay-dup descriptor =
-      bound (Stay t) (λ e. tt) (described t descriptor) _ (λ found is.
-      bound (Stay t) (λ e. tt) (some_or (lowest_free t 0) EMFILE) _
-      (λ n _. stood_shared t t n found.0 (stood_same t.descriptions) (got_at descriptor found is)))
-
-  stay-dup_from : (descriptor least : ℤ) → Stay t (dup_from_change t descriptor least)
-  unfolding dup_from_change
-  stay-dup_from descriptor least =
-      bound (Stay t) (λ e. tt) (described t descriptor) _ (λ found is.
-      bound (Stay t) (λ e. tt) (descriptor_number least EINVAL) _ (λ first _.
-      bound (Stay t) (λ e. tt) (some_or (lowest_free t first) EMFILE) _
-      (λ n _. stood_shared t t n found.0 (stood_same t.descriptions) (got_at descriptor found is))))
-
-  stay-setfl : (descriptor : ℤ) (append nonblock : Bool) → Stay t (setfl_change t descriptor append nonblock)
-  unfolding setfl_change
-  stay-setfl descriptor append nonblock = bound (Stay t) (λ e. tt) (described t descriptor) _ (λ found is.
-      stood_with t.descriptions t.descriptions found.0 (record (description_at t.descriptions found.0) { flags = record { append = append; nonblock = nonblock } }) (description_at t.descriptions found.0) (stood_same t.descriptions) (got_at descriptor found is) refl refl)
-
-  stay-link : (old_path new_path : List ℕ) → Stay t (link_change t old_path new_path)
-  unfolding link_change
-  stay-link old_path new_path =
-      bound (Stay t) (λ e. tt) (file_named t.paths old_path) _ (λ node _.
-      bound (Stay t) (λ e. tt) (added t.paths new_path (FileNode node)) _ (λ _ _. stood_same t.descriptions))
-
-  stay-unlink : (path : List ℕ) → Stay t (unlink_change t path)
-  unfolding unlink_change
-  stay-unlink path =
-      bound (Stay t) (λ e. tt) (removed t.paths path) _ (λ less _. stood_gone t (with_paths t less.0) less.1 (stood_same t.descriptions))
-
-  stay-mkdir : (path : List ℕ) → Stay t (mkdir_change t path)
-  unfolding mkdir_change
-  stay-mkdir path = bound (Stay t) (λ e. tt) (added t.paths path Directory) _ (λ _ _. stood_same t.descriptions)
-
-  stay-rmdir : (path : List ℕ) → Stay t (rmdir_change t path)
-  unfolding rmdir_change
-  stay-rmdir path = bound (Stay t) (λ e. tt) (removed_dir t.paths path) _ (λ _ _. stood_same t.descriptions)
-
-  stay-dup2 : (descriptor target : ℤ) → Stay t (dup2_change t descriptor target)
-  unfolding dup2_change
-  stay-dup2 descriptor target =
-      bound (Stay t) (λ e. tt) (described t descriptor) _ (λ found is.
-      bound (Stay t) (λ e. tt) (descriptor_number target EBADF) _
-      (λ n number. by_same n found is (number_is target n number) (int_eq descriptor target) refl))
-    where
-      by_target : (n : ℕ) (found : ℕ × Description) → described t descriptor ≡ Ok found → target ≡ pos n → descriptor ≢ pos n → (r : Result (ℕ × Description) Errno) → described t target ≡ r → StoodTable t (shared (closed_if_open t n r) n found.0)
-      by_target n found is at apart (Err e) other = stood_shared t t n found.0 (stood_same t.descriptions) (got_at descriptor found is)
-      by_target n found is at apart (Ok x) other =
-          let slot : slice_index_or t.descriptors n None ≡ Some x.0 = ap (key_at t) (sym at) ∙ (found_is t target x other).0 in
-          stood_shared t (closed t n x.0) n found.0 (stood_closed t n x.0 (got_at target x other))
-          (key_known (closed t n x.0) descriptor found.0 (sound-closed t n x.0 sound slot)
-          (closed_other t n x.0 descriptor apart ∙ (found_is t descriptor found is).0))
-
-      by_same : (n : ℕ) (found : ℕ × Description) → described t descriptor ≡ Ok found → target ≡ pos n → (b : Bool) → int_eq descriptor target ≡ b → StoodTable t (if b then t else shared (closed_if_open t n (described t target)) n found.0)
-      by_same n found is at true same = stood_same t.descriptions
-      by_same n found is at false same = by_target n found is at (apart_by descriptor n (ap (int_eq descriptor) (sym at) ∙ same)) (described t target) refl
+-- such a table has the offsets that were there
+offsets_of : (t after u : TableState) → StoodTable t u → after ≡ u → OffsetsStay t after
+offsets_of t after u stood is = subst (OffsetsStay t) (sym is) (λ key d got. inl (stood key d got))
 
 -- ## Opening
-
-abbrev Kept : TableState → TableState → Type 0
-Kept t u = u.descriptions ≡ t.descriptions
 
 -- a description more, which is new and stands at 0
 opened_offsets : (t u : TableState) (n key node : ℕ) (which : End) (access : Access) (flags : StatusFlags) → t.descriptions.made ≤ u.descriptions.made → OffsetsStay t u → OffsetsStay t (opened u n key node which access flags)
@@ -171,61 +86,48 @@ opened_offsets t u n key node which access flags later stays q d got =
     new : Description
     new = new_description node which access flags u.descriptions.made
 
-opened_stay : (t after : TableState) (access : Access) (flags : OpenFlags) (o : Result Opening Errno) → OfOpening (Kept t) o
-    → IsOpened t access flags o after → OffsetsStay t after
-opened_stay t after access flags (Err e) kept is = offsets_of t after (Ok t) (stood_same t.descriptions) is
-opened_stay t after access flags (Ok o) kept (key, fresh, is) =
-    subst (OffsetsStay t) (sym is) (opened_offsets t o.ready o.number key o.node part.Only access (status_flags flags) (omega (arith, ap (λ (m : DescriptionMap). m.made) kept)) (λ q d got. inl (stood_same t.descriptions q d (ap (λ (m : DescriptionMap). fin.get m.by_key q) (sym kept) ∙ got))))
-
-two_stay : (t after : TableState) (one other : End × Access) (r : Result TwoEnds Errno) → AreOpened t one other r after → OffsetsStay t after
-two_stay t after one other (Err e) is = offsets_of t after (Ok t) (stood_same t.descriptions) is
-two_stay t after one other (Ok two) (key, fresh, (next, fresh_too, is)) =
-    subst (OffsetsStay t) (sym is)
-    (opened_offsets t (opened (with_object t two.node) two.first key two.node one.0 one.1 no_flags) two.second next two.node other.0 other.1 no_flags (omega arith)
-    (opened_offsets t (with_object t two.node) two.first key two.node one.0 one.1 no_flags (omega arith) (λ q d got. inl (stood_same t.descriptions q d got))))
-
--- ## Opening a door
-
-door_stay : (t after : TableState) (opens_as : ℕ → Door) (access : Access) (append : Bool) (o : Option Outcome)
-    → OpensDoor t opens_as access append o after → OffsetsStay t after
-door_stay t after opens_as access append o is =
-    over_door (OffsetsStay t) t after opens_as access append o still
-    (λ new d key at. opened_offsets t (with_object t new.node) new.number key new.node (part.Door d) access (door_flags append)
-    (omega arith) still)
-    is
-  where
-    still : OffsetsStay t t
-    still q d got = inl (stood_same t.descriptions q d got)
-
--- ## All calls
-
 pub offsets-unchanged : (t : TableState) → OffsetsStay t t
-offsets-unchanged t = offsets_of t t (Ok t) (stood_same t.descriptions) refl
+offsets-unchanged t key d got = inl (stood_same t.descriptions key d got)
 
-pub offsets-stay : (t : TableState) (c : Call) (o : Option Outcome) (after : TableState) → IsSound t → Changes t c o after → OffsetsStay t after
-offsets-stay t (call.Open path access flags) o after sound is =
-    opened_stay t after access flags (opening t path) (over_opening (Kept t) t path refl (λ paths node free. refl)) is
-offsets-stay t (call.Close descriptor) o after sound is = offsets_of t after (close_change t descriptor) (stay-close t sound descriptor) is
-offsets-stay t (call.Read descriptor count) o after sound is = offsets_of t after (Ok t) (stood_same t.descriptions) is
-offsets-stay t (call.Write descriptor bytes) o after sound is = offsets_of t after (Ok t) (stood_same t.descriptions) is
-offsets-stay t (call.Pread descriptor count position) o after sound is = offsets_of t after (Ok t) (stood_same t.descriptions) is
-offsets-stay t (call.Pwrite descriptor bytes position) o after sound is = offsets_of t after (Ok t) (stood_same t.descriptions) is
-offsets-stay t (call.Lseek descriptor offset whence) o after sound is = offsets_of t after (Ok t) (stood_same t.descriptions) is
-offsets-stay t (call.Ftruncate descriptor size) o after sound is = offsets_of t after (Ok t) (stood_same t.descriptions) is
-offsets-stay t (call.Fstat descriptor) o after sound is = offsets_of t after (Ok t) (stood_same t.descriptions) is
-offsets-stay t (call.Dup descriptor) o after sound is = offsets_of t after (dup_change t descriptor) (stay-dup t sound descriptor) is
-offsets-stay t (call.DupFrom descriptor least) o after sound is = offsets_of t after (dup_from_change t descriptor least) (stay-dup_from t sound descriptor least) is
-offsets-stay t (call.Dup2 descriptor target) o after sound is = offsets_of t after (dup2_change t descriptor target) (stay-dup2 t sound descriptor target) is
-offsets-stay t (call.Getfl descriptor) o after sound is = offsets_of t after (Ok t) (stood_same t.descriptions) is
-offsets-stay t (call.Setfl descriptor append nonblock) o after sound is = offsets_of t after (setfl_change t descriptor append nonblock) (stay-setfl t sound descriptor append nonblock) is
-offsets-stay t (call.Link old_path new_path) o after sound is = offsets_of t after (link_change t old_path new_path) (stay-link t sound old_path new_path) is
-offsets-stay t (call.Unlink path) o after sound is = offsets_of t after (unlink_change t path) (stay-unlink t sound path) is
-offsets-stay t (call.Mkdir path) o after sound is = offsets_of t after (mkdir_change t path) (stay-mkdir t sound path) is
-offsets-stay t (call.Rmdir path) o after sound is = offsets_of t after (rmdir_change t path) (stay-rmdir t sound path) is
-offsets-stay t call.Pipe o after sound is = two_stay t after (part.Read, ReadOnly) (part.Write, WriteOnly) (two_ends t) is
-offsets-stay t call.Socketpair o after sound is = two_stay t after (part.Socket Side0, ReadWrite) (part.Socket Side1, ReadWrite) (two_ends t) is
-offsets-stay t (call.Shutdown descriptor how) o after sound is = offsets_of t after (Ok t) (stood_same t.descriptions) is
-offsets-stay t (call.HostOpen path access flags) o after sound is = door_stay t after (λ value. door.HostFile) access flags.append o is
-offsets-stay t (call.TcpListen port) o after sound is = door_stay t after (λ value. door.Listener value) ReadWrite false o is
-offsets-stay t (call.TcpConnect port) o after sound is = door_stay t after (λ value. door.Stream) ReadWrite false o is
-offsets-stay t (call.TcpAccept descriptor) o after sound is = door_stay t after (λ value. door.Stream) ReadWrite false o is
+-- in a table with the same descriptions
+opened_stay : (t u after : TableState) (new : NewDescriptor) (which : End) → u.descriptions ≡ t.descriptions → IsOpened u new which after → OffsetsStay t after
+opened_stay t u after new which kept (key, fresh, is) =
+    subst (OffsetsStay t) (sym is) (opened_offsets t u new.number key new.node which new.access new.flags (omega (arith, ap (λ (m : DescriptionMap). m.made) kept))
+    (λ q d got. inl (stood_same t.descriptions q d (ap (λ (m : DescriptionMap). fin.get m.by_key q) (sym kept) ∙ got))))
+
+pair_stay : (t after : TableState) (one other : End × Access) (new : NewPair) → AreOpened t one other new after → OffsetsStay t after
+pair_stay t after one other new (key, fresh, (next, fresh_too, is)) =
+    subst (OffsetsStay t) (sym is)
+    (opened_offsets t (opened (with_object t new.node) new.first key new.node one.0 one.1 no_flags) new.second next new.node other.0 other.1 no_flags (omega arith)
+    (opened_offsets t (with_object t new.node) new.first key new.node one.0 one.1 no_flags (omega arith) (offsets-unchanged t)))
+
+door_stay : (t : TableState) (c : Call) (new : NewDescriptor) (o : Option Outcome) (after : TableState) → OpensDoor t c new o after → OffsetsStay t after
+door_stay t c new (Some (came.Ok value bytes)) after is = opened_stay t (with_object t new.node) after new (part.Door (door_of c value)) refl is
+door_stay t c new (Some (came.Fail e)) after is = subst (OffsetsStay t) (sym is) (offsets-unchanged t)
+door_stay t c new None after is = subst (OffsetsStay t) (sym is) (offsets-unchanged t)
+
+-- ## All changes
+
+pub offsets-stay : (t : TableState) (c : Call) (x : Change) (o : Option Outcome) (after : TableState) → IsSound t → CanChange t c x → Changed t c x o after → OffsetsStay t after
+offsets-stay t c change.Nothing o after sound can is = subst (OffsetsStay t) (sym is) (offsets-unchanged t)
+offsets-stay t c (change.Share n key) o after sound can is =
+    offsets_of t after (shared t n key) (stood_shared t t n key (stood_same t.descriptions) (known_at t.descriptions key can.1)) is
+offsets-stay t c (change.Close n key) o after sound can is =
+    offsets_of t after (closed t n key) (stood_closed t n key (known_at t.descriptions key (known_of t n key sound can.1))) is
+offsets-stay t c (change.Replace n target key) o after sound can is =
+    let left : TableState = closed t n target in
+    offsets_of t after (shared left n key) (stood_shared t left n key (stood_closed t n target (known_at t.descriptions target (known_of t n target sound can.0.1))) (known_at left.descriptions key can.1)) is
+offsets-stay t c (change.SetFlags key flags) o after sound can is =
+    let was : Description = description_at t.descriptions key in
+    offsets_of t after (record t { descriptions = with_flags t.descriptions key flags })
+    (stood_with t.descriptions t.descriptions key (record was { flags = flags }) was (stood_same t.descriptions) (known_at t.descriptions key can) refl refl) is
+offsets-stay t c (change.AddName node) o after sound can is = offsets_of t after (with_paths t (named t c (node_of node))) (stood_same t.descriptions) is
+offsets-stay t c (change.RemoveFile node) o after sound can is =
+    let less : TableState = with_paths t (unnamed t c) in
+    offsets_of t after (without_gone less node) (stood_gone t less node (stood_same t.descriptions)) is
+offsets-stay t c change.RemoveDirectory o after sound can is = offsets_of t after (with_paths t (unnamed t c)) (stood_same t.descriptions) is
+offsets-stay t c (change.OpenFile new) o after sound can is = opened_stay t t after new part.Only refl is
+offsets-stay t c (change.MakeFile new) o after sound can is = opened_stay t (with_file t (named t c (FileNode new.node)) new.node) after new part.Only refl is
+offsets-stay t c (change.MakePipe new) o after sound can is = pair_stay t after (part.Read, ReadOnly) (part.Write, WriteOnly) new is
+offsets-stay t c (change.MakeSockets new) o after sound can is = pair_stay t after (part.Socket Side0, ReadWrite) (part.Socket Side1, ReadWrite) new is
+offsets-stay t c (change.OpenDoor new) o after sound can is = door_stay t c new o after is

@@ -1,9 +1,9 @@
 -- What opens a descriptor: the numbers that it looks for, in the table as in the state, and the object that it makes.
-use Rattle.std.proofs.Common.{◌≡◌, ℕ, ◌+◌, ◌-◌, ◌&&◌, ◌||◌, List, [], ◌∷◌, length, Option, Some, None, is_some, unwrap_or, zero, suc, ◌<◌, ◌≤◌, Result, Ok, Err, Bool, true, false, cond, not, if◌then◌else◌, refl, sym, ap, ◌∙◌, subst, inl, inr, arith}
+use Rattle.std.proofs.Common.{◌≡◌, ℕ, ◌+◌, ◌-◌, ◌&&◌, ◌||◌, List, [], ◌∷◌, length, Option, Some, None, is_some, unwrap_or, zero, suc, ◌<◌, ◌≤◌, Result, Ok, Err, Bool, true, false, cond, not, if◌then◌else◌, refl, sym, ap, ◌∙◌, inl, inr, arith}
 use Rattle.std.proofs.lemmas.Bool.{cases_eq}
 use Rattle.std.proofs.lemmas.Bool.Decides.{nat_tests}
 use Rattle.std.proofs.lemmas.List.Sums.{sum_by-cons}
-use Rattle.std.proofs.lemmas.Option.{none-some, same_Some}
+use Rattle.std.proofs.lemmas.Option.{none-some}
 use Rattle.std.specs.FinMap as fin
 use Rattle.sequential_object.specs.Object as object
 use Rattle.std.specs.Option.{option_map}
@@ -25,23 +25,18 @@ use Rattle.posix_terms.specs.declared.errno.Errno.TheVariants.{EEXIST, EINVAL, E
 use Rattle.posix_terms.specs.declared.object.End.TheVariants as part
 use Rattle.posix_terms.specs.declared.reply.Reply.TheVariants as reply
 use Rattle.file_descriptions.specs.Descriptions.{AreSound}
-use Rattle.posix_terms.specs.declared.object.Door.{Door}
-use Rattle.posix_terms.specs.declared.outcome.Outcome.{Outcome}
-use Rattle.posix_terms.specs.declared.outcome.Outcome.TheVariants as came
-use Rattle.directories.specs.Lookup.{looked_up}
-use Rattle.sequential_object.specs.Names.{PathMap, added}
-use Rattle.descriptor_table.specs.Changes as changes
-use Rattle.descriptor_table.proofs.Binding.{bound, bound_both}
+use Rattle.descriptor_table.specs.declared.plan.Change.TheVariants as change
+use Rattle.descriptor_table.specs.declared.plan.Decided.{Decided}
+use Rattle.descriptor_table.specs.declared.plan.NewPair.{NewPair}
+use Rattle.descriptor_table.proofs.Binding.{bound_both}
 use Rattle.descriptor_table.proofs.ShownLemmas.{lowest_shown}
-use Rattle.descriptor_table.proofs.KnownLemmas.{lowest_above, lowest_below, was_some}
+use Rattle.descriptor_table.proofs.FreeLemmas.{both, lowest_below, lowest_none}
 use Rattle.descriptor_table.proofs.PathLemmas.{holds_of, names_shown, node_shown, objects_counted, resolved_shown, taken}
-use Rattle.descriptor_table.proofs.SoundLemmas.{bind_ok, not_all_open, ok_same}
-use Rattle.descriptor_table.specs.Plans.{locks, open_new, open_node, open_plan, open_there, opens_plan, two_ends_plan}
+use Rattle.descriptor_table.proofs.SoundLemmas.{not_all_open}
+use Rattle.descriptor_table.specs.Plans.{decides, door_flags, locks, new_descriptor, new_pair, open_decided, open_new, open_node, open_there, opening, opens_door}
 use Rattle.descriptor_table.specs.Shows.{Shows, birth_at, shown_node}
 use Rattle.descriptor_table.specs.Table.{TableState, IsSound, free_object, lowest_from, two_numbers}
-use Rattle.descriptor_table.specs.declared.plan.Op.{Op}
 use Rattle.descriptor_table.specs.declared.plan.Op.TheVariants as op
-use Rattle.descriptor_table.specs.declared.plan.Plan.{Plan}
 use Rattle.descriptor_table.specs.declared.plan.Plan.TheVariants as plan
 
 -- what a call asks that opens a door at number n
@@ -64,53 +59,6 @@ with_both s content one other two =
     posix.opened between two.1 s.next_object other.which other.access false false
 
 -- ## The lowest number
-
-abbrev pub both : ℕ → ℕ → Result (ℕ × ℕ) Errno
-both first second = Ok (first, second)
-
-pub lowest_none : (slots : List (Option ℕ)) (left from n : ℕ) → lowest_from slots left from ≡ Some n → slice_index_or slots n None ≡ None
-unfolding lowest_from
-lowest_none slots zero from n is = cc
-lowest_none slots (suc left) from n is = by_slot (slice_index_or slots from None) refl (λ later. lowest_none slots left (from + 1) n later)
-  where
-    by_slot : (o : Option ℕ) → slice_index_or slots from None ≡ o
-        → (lowest_from slots left (from + 1) ≡ Some n → slice_index_or slots n None ≡ None) → slice_index_or slots n None ≡ None
-    by_slot (Some x) taken later =
-        later (sym (ap (λ (o : Option ℕ). if is_some o then lowest_from slots left (from + 1) else Some from) taken) ∙ is)
-    by_slot None free later =
-        let same : from ≡ n = same_Some _ _
-        (sym (ap (λ (o : Option ℕ). if is_some o then lowest_from slots left (from + 1) else Some from) free) ∙ is) in
-        ap (λ (k : ℕ). slice_index_or slots k None) (sym same) ∙ free
-
--- two descriptors that are free
-pub record AreFree (slots : List (Option ℕ)) (first second : ℕ) : Type 0 where
-  pub low : first < 32
-  pub high : second < 32
-  pub order : first < second
-  pub first_free : slice_index_or slots first None ≡ None
-
-pub two_free : (t : TableState) (two : ℕ × ℕ) → two_numbers t ≡ Ok two → AreFree t.descriptors two.0 two.1
-two_free t two is =
-    let first = bind_ok (some_or (lowest_from t.descriptors 32 0) EMFILE)
-    (λ first. some_or (lowest_from t.descriptors (32 - (first + 1)) (first + 1)) EMFILE >>= (λ second. both first second)) two is in
-    let second = bind_ok (some_or (lowest_from t.descriptors (32 - (first.0 + 1)) (first.0 + 1)) EMFILE)
-    (λ second. both first.0 second) two first.1.1 in
-    by_numbers first.0 second.0 (ok_same (first.0, second.0) two second.1.1)
-    (was_some (lowest_from t.descriptors 32 0) EMFILE first.0 first.1.0)
-    (was_some (lowest_from t.descriptors (32 - (first.0 + 1)) (first.0 + 1)) EMFILE second.0 second.1.0)
-  where
-    by_numbers : (a b : ℕ) → (a, b) ≡ two → lowest_from t.descriptors 32 0 ≡ Some a
-        → lowest_from t.descriptors (32 - (a + 1)) (a + 1) ≡ Some b → AreFree t.descriptors two.0 two.1
-    by_numbers a b same is its =
-        let low : a < 0 + 32 = lowest_below t.descriptors 32 0 a is in
-        let high : b < a + 1 + (32 - (a + 1)) = lowest_below t.descriptors (32 - (a + 1)) (a + 1) b its in
-        let above : a + 1 ≤ b = lowest_above t.descriptors (32 - (a + 1)) (a + 1) b its in
-        subst (λ (p : ℕ × ℕ). AreFree t.descriptors p.0 p.1) same (record {
-          low = omega arith;
-          high = omega arith;
-          order = omega arith;
-          first_free = lowest_none t.descriptors 32 0 a is;
-        })
 
 none_lowest : (slots : List (Option ℕ)) (left from : ℕ) → lowest_from slots left from ≡ None → (i : ℕ) → from ≤ i → i < from + left
     → is_some (slice_index_or slots i None) ≡ true
@@ -186,134 +134,96 @@ module _ (t : TableState) (s : State) (sound : IsSound t) (all : AreSound t.desc
 -- ## What holds of a refusal, and of what is opened, holds of the call
 
 module _ (t : TableState) (s : State) (sound : IsSound t) (all : AreSound t.descriptions) (shows : Shows t s)
-    (P : Result Plan Errno → Result Decision Errno → Type 0) (refused : (e : Errno) → P (Err e) (Err e)) where
+    (P : Result Decided Errno → Result Decision Errno → Type 0) (refused : (e : Errno) → P (Err e) (Err e)) where
   -- it holds of a file that is there
-  abbrev pub OverThere : Access → OpenFlags → Type 0
-  OverThere access flags =
-      (n node : ℕ)
-      → P (Ok (locks node (op.Open flags.truncate)))
+  abbrev pub OverThere : List ℕ → Access → OpenFlags → Type 0
+  OverThere path access flags =
+      (components : List (List ℕ)) (n node : ℕ) → node_at t.paths components ≡ Some (FileNode node)
+      → P (Ok (decides (locks node (op.Open flags.truncate)) (change.OpenFile (new_descriptor n node access flags))))
       (Ok (locking (birth_at t node) (Ok (Completes
       (posix.opened (posix.truncated s (birth_at t node) flags.truncate) n (birth_at t node) part.Only access flags.append flags.nonblock)
       (reply.Number (pos n))))))
 
   -- and of a new one
-  abbrev pub OverNew : Access → OpenFlags → Type 0
-  OverNew access flags =
-      (components : List (List ℕ)) (n node : ℕ) → birth_at t node ≡ s.next_object
-      → P (Ok (locks node (op.Open true)))
+  abbrev pub OverNew : List ℕ → Access → OpenFlags → Type 0
+  OverNew path access flags =
+      (components : List (List ℕ)) (n node : ℕ) → resolved t.paths path ≡ Ok components → birth_at t node ≡ s.next_object
+      → P (Ok (decides (locks node (op.Open true)) (change.MakeFile (new_descriptor n node access flags))))
       (Ok (locking s.next_object (Ok (Completes (posix.opened (posix.with_file s components) n s.next_object part.Only access flags.append flags.nonblock)
       (reply.Number (pos n))))))
 
   -- the state counts where the table looks for a number
-  bound_room : (o : Option ℕ) (e : Errno) (f : ℕ → Result Plan Errno) (does : Result Decision Errno)
-      → ((node : ℕ) → o ≡ Some node → P (f node) does)
-      → P (some_or o e >>= f) (refuse_if (not (is_some o)) e >>= (λ _. does))
-  bound_room None e f does made = refused e
-  bound_room (Some node) e f does made = made node refl
+  bound_room : {A : Type 0} (o : Option ℕ) (e : Errno) (f : ℕ → Result A Errno) (g : A → Result Decided Errno) (does : Result Decision Errno)
+      → ((node : ℕ) → o ≡ Some node → P (f node >>= g) does)
+      → P ((some_or o e >>= f) >>= g) (refuse_if (not (is_some o)) e >>= (λ _. does))
+  bound_room None e f g does made = refused e
+  bound_room (Some node) e f g does made = made node refl
 
   -- room for a name too
-  bound_name : (b : Bool) (o : Option ℕ) (f : ℕ → Result Plan Errno) (does : Result Decision Errno)
+  bound_name : (b : Bool) (o : Option ℕ) (f : ℕ → Result Decided Errno) (does : Result Decision Errno)
       → ((node : ℕ) → o ≡ Some node → P (f node) does)
       → P (refuse_if b ENOSPC >>= (λ _. some_or o ENOSPC >>= f)) (refuse_if (b || not (is_some o)) ENOSPC >>= (λ _. does))
   bound_name true o f does made = refused ENOSPC
-  bound_name false o f does made = bound_room o ENOSPC f does made
+  bound_name false None f does made = refused ENOSPC
+  bound_name false (Some node) f does made = made node refl
 
-  over_there : (node : Node) (access : Access) (flags : OpenFlags) → OverThere access flags
-      → P (open_there t node flags) (posix.open_there s (shown_node t node) access flags)
-  over_there Directory access flags there = refused EISDIR
-  over_there (FileNode node) access flags there =
-      rw (lowest_shown t s 32 0 shows) (bound_both P refused (some_or (lowest_from t.descriptors 32 0) EMFILE) _ _ (λ n _. there n node))
+  over_there : (path : List ℕ) (components : List (List ℕ)) (node : Node) (access : Access) (flags : OpenFlags) → node_at t.paths components ≡ Some node
+      → OverThere path access flags → P (open_there t node access flags) (posix.open_there s (shown_node t node) access flags)
+  over_there path components Directory access flags at there = refused EISDIR
+  over_there path components (FileNode node) access flags at there =
+      rw (lowest_shown t s 32 0 shows) (bound_both P refused (some_or (lowest_from t.descriptors 32 0) EMFILE) _ _ (λ n _. there components n node at))
 
-  over_new : (components : List (List ℕ)) (access : Access) (flags : OpenFlags) → OverNew access flags
-      → P (open_new t flags) (posix.open_new s components access flags)
-  over_new components access flags new =
+  over_new : (path : List ℕ) (components : List (List ℕ)) (access : Access) (flags : OpenFlags) → resolved t.paths path ≡ Ok components
+      → OverNew path access flags → P (open_new t access flags) (posix.open_new s components access flags)
+  over_new path components access flags is new =
       rw (names_shown t s shows, full_shown t s sound all shows, lowest_shown t s 32 0 shows)
       (bound_both P refused (refuse_if (not flags.create) ENOENT) _ _ (λ _ _.
-      bound_name (nat_le 64 (fin.len t.paths)) (free_object t) _ _ (λ node is.
+      bound_name (nat_le 64 (fin.len t.paths)) (free_object t) _ _ (λ node free.
       bound_both P refused (some_or (lowest_from t.descriptors 32 0) EMFILE) _ _ (λ n _.
-      new components n node (born_next t s sound all shows node is)))))
+      new components n node is (born_next t s sound all shows node free)))))
 
-  over_node : (components : List (List ℕ)) (o : Option Node) (access : Access) (flags : OpenFlags) → OverThere access flags
-      → OverNew access flags
-      → P (open_node t o flags) (posix.open_node s components (option_map (shown_node t) o) access flags)
-  over_node components None access flags there new = over_new components access flags new
-  over_node components (Some node) access flags there new =
-      bound_both P refused (refuse_if (flags.create && flags.exclusive) EEXIST) _ _ (λ _ _. over_there node access flags there)
+  over_node : (path : List ℕ) (components : List (List ℕ)) (o : Option Node) (access : Access) (flags : OpenFlags) → resolved t.paths path ≡ Ok components
+      → node_at t.paths components ≡ o → OverThere path access flags → OverNew path access flags
+      → P (open_node t o access flags) (posix.open_node s components (option_map (shown_node t) o) access flags)
+  over_node path components None access flags is at there new = over_new path components access flags is new
+  over_node path components (Some node) access flags is at there new =
+      bound_both P refused (refuse_if (flags.create && flags.exclusive) EEXIST) _ _ (λ _ _. over_there path components node access flags at there)
 
-  pub over_open : (path : List ℕ) (access : Access) (flags : OpenFlags) → OverThere access flags → OverNew access flags
-      → P (open_plan t path access flags) (open_result s path access flags)
-  unfolding open_plan open_result
+  pub over_open : (path : List ℕ) (access : Access) (flags : OpenFlags) → OverThere path access flags → OverNew path access flags
+      → P (open_decided t path access flags) (open_result s path access flags)
+  unfolding open_decided open_result
   over_open path access flags there new =
       rw (resolved_shown t s path shows)
       (bound_both P refused (refuse_if (flags.truncate && not (can_write access)) EINVAL) _ _ (λ _ _.
-      bound_both P refused (resolved t.paths path) _ _ (λ components _.
-      rw (node_shown t s components shows) (over_node components (node_at t.paths components) access flags there new))))
+      bound_both P refused (resolved t.paths path) _ _ (λ components is.
+      rw (node_shown t s components shows) (over_node path components (node_at t.paths components) access flags is refl there new))))
 
-  -- both ends of a new object
-  pub over_two_ends : (act : Op) (content : Content) (one other : NewEnd)
+  -- both ends of a new object, of which the table decides this
+  pub over_two_ends : (f : NewPair → Result Decided Errno) (content : Content) (one other : NewEnd)
       → ((two : ℕ × ℕ) (node : ℕ) → free_object t ≡ Some node → birth_at t node ≡ s.next_object
-      → P (Ok (locks node act)) (Ok (locking s.next_object (Ok (Completes (with_both s content one other two) (reply.Pair (pos two.0) (pos two.1)))))))
-      → P (two_ends_plan t act) (sockets.two_ends s content one other)
-  over_two_ends act content one other made =
-      rw (two_shown t s sound all shows, full_shown t s sound all shows)
-      (bound_both P refused (two_numbers t) _ _ (λ two _.
-      bound_room (free_object t) ENFILE _ _ (λ node is. made two node is (born_next t s sound all shows node is))))
+      → P (f (record { first = two.0; second = two.1; node = node })) (Ok (locking s.next_object (Ok (Completes (with_both s content one other two) (reply.Pair (pos two.0) (pos two.1)))))))
+      → P (new_pair t >>= f) (sockets.two_ends s content one other)
+  over_two_ends f content one other made =
+      rw (two_shown t s sound all shows, full_shown t s sound all shows) (by_numbers (two_numbers t))
+    where
+      by_numbers : (r : Result (ℕ × ℕ) Errno)
+          → P ((r >>= (λ two. some_or (free_object t) ENFILE >>= (λ node. Ok (record { first = two.0; second = two.1; node = node })))) >>= f)
+          (r >>= (λ two. refuse_if (not (is_some (free_object t))) ENFILE >>= (λ _. Ok (locking s.next_object (Ok (Completes (with_both s content one other two) (reply.Pair (pos two.0) (pos two.1))))))))
+      by_numbers (Err e) = refused e
+      by_numbers (Ok two) = bound_room (free_object t) ENFILE _ f _ (λ node is. made two node is (born_next t s sound all shows node is))
 
   -- a door, outside
   pub over_opens : (o : NewDoor) (listener : Option ℕ)
       → ((n node : ℕ) → birth_at t node ≡ s.next_object
-      → P (Ok (plan.Node node (op.Ask (record { kind = o.kind; asked = o.asked; waits = o.waits; door = listener })) true))
+      → P (Ok (decides (plan.Node node (op.Ask (opening o.kind o.asked o.waits listener)) true) (change.OpenDoor (record { number = n; node = node; access = o.access; flags = door_flags o.append }))))
       (Ok (locking s.next_object (Ok (Asks (asking_of s o n))))))
-      → P (opens_plan t o.kind o.asked o.waits listener) (opens s o)
+      → P (opens_door t (opening o.kind o.asked o.waits listener) o.access o.append) (opens s o)
   over_opens o listener made =
       rw (lowest_shown t s 32 0 shows, full_shown t s sound all shows)
-      (bound_both P refused (some_or (lowest_from t.descriptors 32 0) EMFILE) _ _ (λ n _.
-      bound_room (free_object t) ENFILE _ _ (λ node is. made n node (born_next t s sound all shows node is))))
-
--- ## In the table alone
-
--- what holds of the table where the file is there
-abbrev pub OfFile : (TableState → Type 0) → Result (TableState × ℕ) Errno → Type 0
-OfFile P (Ok file) = P file.0
-OfFile P (Err e) = Unit {0}
-
-abbrev pub OfOpening : (TableState → Type 0) → Result changes.Opening Errno → Type 0
-OfOpening P (Ok o) = P o.ready
-OfOpening P (Err e) = Unit {0}
-
--- the table as it was, or with a new file
-pub over_opening : (P : TableState → Type 0) (t : TableState) (path : List ℕ) → P t
-    → ((paths : PathMap) (node : ℕ) → free_object t ≡ Some node → P (changes.with_file t paths node))
-    → OfOpening P (changes.opening t path)
-unfolding changes.opening changes.found_or_made
-over_opening P t path same made =
-    bound (OfOpening P) (λ e. tt) (some_or (lowest_from t.descriptors 32 0) EMFILE) _ (λ n _.
-    by_file n (looked_up t.paths path >>= (λ node. changes.file_at t path node))
-    (bound (OfFile P) (λ e. tt) (looked_up t.paths path) _ (λ node _. by_node node)))
-  where
-    by_node : (node : Option Node) → OfFile P (changes.file_at t path node)
-    by_node (Some (FileNode node)) = same
-    by_node (Some Directory) = tt
-    by_node None =
-        bound (OfFile P) (λ e. tt) (some_or (free_object t) ENOSPC) _ (λ node is.
-        bound (OfFile P) (λ e. tt) (added t.paths path (FileNode node)) _
-        (λ paths _. made paths node (was_some (free_object t) ENOSPC node is)))
-
-    by_file : (n : ℕ) (file : Result (TableState × ℕ) Errno) → OfFile P file
-        → OfOpening P (file >>= (λ (x : TableState × ℕ). Ok (record { number = n; node = x.1; ready = x.0 })))
-    by_file n (Err e) holds = tt
-    by_file n (Ok x) holds = holds
-
--- the table as it was, or with a new door
-pub over_door : (P : TableState → Type 0) (t after : TableState) (opens_as : ℕ → Door) (access : Access) (append : Bool)
-    (o : Option Outcome) → P t
-    → ((new : changes.NewDoor) (d : Door) (key : ℕ) → changes.new_door t ≡ Ok new
-    → P (changes.opened (changes.with_object t new.node) new.number key new.node (part.Door d) access (changes.door_flags append)))
-    → changes.OpensDoor t opens_as access append o after → P after
-over_door P t after opens_as access append (Some (came.Ok value bytes)) same made is = by_new (changes.new_door t) refl is
-  where
-    by_new : (r : Result changes.NewDoor Errno) → changes.new_door t ≡ r → changes.IsDoor t (opens_as value) access append r after → P after
-    by_new (Err e) at is = subst P (sym is) same
-    by_new (Ok new) at (key, fresh, is) = subst P (sym is) (made new (opens_as value) key at)
-over_door P t after opens_as access append (Some (came.Fail e)) same made is = subst P (sym is) same
-over_door P t after opens_as access append None same made is = subst P (sym is) same
+      (bound_both P refused (some_or (lowest_from t.descriptors 32 0) EMFILE) _ _ (λ n _. by_object n (free_object t) (λ node is. born_next t s sound all shows node is)))
+    where
+      by_object : (n : ℕ) (o' : Option ℕ) → ((node : ℕ) → o' ≡ Some node → birth_at t node ≡ s.next_object)
+          → P (some_or o' ENFILE >>= (λ node. Ok (decides (plan.Node node (op.Ask (opening o.kind o.asked o.waits listener)) true) (change.OpenDoor (record { number = n; node = node; access = o.access; flags = door_flags o.append })))))
+          (refuse_if (not (is_some o')) ENFILE >>= (λ _. Ok (locking s.next_object (Ok (Asks (asking_of s o n))))))
+      by_object n None born = refused ENFILE
+      by_object n (Some node) born = made n node (born node refl)

@@ -10,21 +10,20 @@ use Rattle.std.specs.FinMap as fin
 use Rattle.std.specs.FinMap.{FinMap, len-remove, get-empty}
 use Rattle.std.specs.Ordering.{nat_cmp}
 use Rattle.directories.specs.Lookup.{looked_up}
-use Rattle.std.specs.Prelude.{nat_le, IfOk, IfErr, ℤ, pos, negsuc, slice_index_or, slice_set}
+use Rattle.std.specs.Prelude.{ℤ, pos, negsuc, slice_index_or, slice_set}
 use Rattle.sequential_object.specs.Descriptors.{is_file, is_key}
-use Rattle.sequential_object.specs.Names.{PathMap, added, file_named, file_node, has_entries, links_of, removed, removed_dir, removed_dir_at}
+use Rattle.sequential_object.specs.Names.{PathMap, file_named, file_node, links_of}
 use Rattle.sequential_object.specs.Object.{Node, FileNode, Directory, path_cmp}
 use Rattle.sequential_object.specs.Paths.{node_at, resolved}
-use Rattle.sequential_object.specs.Refusals.{◌>>=◌, refuse_if}
+use Rattle.sequential_object.specs.Refusals.{◌>>=◌}
 use Rattle.posix_terms.specs.declared.errno.Errno.{Errno}
-use Rattle.posix_terms.specs.declared.errno.Errno.TheVariants.{EBUSY, EEXIST, ENOSPC, ENOTEMPTY}
 use Rattle.posix_terms.specs.Ends.{is_first}
 use Rattle.file_descriptions.specs.Descriptions.{AreSound, ContainsKey, DescriptionMap, description_at, has_first_end, has_second_end, is_last_held, no_description, with_description, with_holder, with_new, without, without_holder}
 use Rattle.file_descriptions.specs.declared.description.Description.{Description}
 use Rattle.descriptor_table.proofs.Closing.{over_closed}
 use Rattle.descriptor_table.proofs.MapLemmas.{each_put, get-insert_other, get-insert_same, get-remove_other, get-remove_same, got_less, got_put, no_keys, paths_total, some_less}
 use Rattle.descriptor_table.proofs.ObjectLemmas.{Taken, IsNew, IsOld, freed_slot, slot, taken_slot, uncounted, uncounted_value}
-use Rattle.descriptor_table.specs.Changes.{closed, let_go, shared, with_object}
+use Rattle.descriptor_table.specs.Changes.{NamesUsed, closed, let_go, shared, with_object}
 use Rattle.descriptor_table.specs.Table.{TableState, IsSound, empty_table, is_closed, is_gone, is_used, key_at}
 
 pub numbers_of : (t : TableState) → IsSound t → length t.descriptors ≡ 32
@@ -341,60 +340,18 @@ ok_same x y is = cc
 pub same_file : (n m : ℕ) → FileNode n ≡ FileNode m → n ≡ m
 same_file n m e = cc
 
--- a new name is one entry more, and a name taken away one less
-pub added_as : (paths : PathMap) (path : List ℕ) (node : Node) (after : PathMap) → added paths path node ≡ Ok after → (components : List (List ℕ)) × (after ≡ fin.insert paths components node)
-unfolding added
-added_as paths path node after is =
-    let found = bind_ok (resolved paths path) (λ components. refuse_if (is_some (node_at paths components)) EEXIST >>= (λ _. refuse_if (nat_le 64 (fin.len paths)) ENOSPC >>= (λ _. Ok (fin.insert paths components node)))) after is in
-    let missing = bind_ok (refuse_if (is_some (node_at paths found.0)) EEXIST) (λ _. refuse_if (nat_le 64 (fin.len paths)) ENOSPC >>= (λ _. Ok (fin.insert paths found.0 node))) after found.1.1 in
-    let room = bind_ok (refuse_if (nat_le 64 (fin.len paths)) ENOSPC) (λ _. Ok (fin.insert paths found.0 node)) after missing.1.1 in
-    (found.0, sym (ok_same (fin.insert paths found.0 node) after room.1.1))
-
 file_of_node : (o : Option Node) (node : ℕ) → file_node o ≡ Ok node → o ≡ Some (FileNode node)
 file_of_node None node is = cc
 file_of_node (Some Directory) node is = cc
 file_of_node (Some (FileNode object)) node is = ap (λ (n : ℕ). Some (FileNode n)) (ok_same object node is)
 
-pub removed_as : (paths : PathMap) (path : List ℕ) (after : PathMap) (node : ℕ) → removed paths path ≡ Ok (after, node) → (components : List (List ℕ)) × (after ≡ fin.remove paths components)
-unfolding removed
-removed_as paths path after node is =
-    let found = bind_ok (resolved paths path) (λ components. file_node (node_at paths components) >>= (λ object. Ok (fin.remove paths components, object))) (after, node) is in
-    let file = bind_ok (file_node (node_at paths found.0)) (λ object. Ok (fin.remove paths found.0, object)) (after, node) found.1.1 in
-    (found.0, sym (ap (λ (p : PathMap × ℕ). p.0) (ok_same (fin.remove paths found.0, file.0) (after, node) file.1.1)))
+-- a name more, of a directory or of a file that is there
+pub sound-name : (t : TableState) (components : List (List ℕ)) (node : Node) → NamesUsed t node → IsSound t → IsSound (record t { paths = fin.insert t.paths components node })
+sound-name t components node used sound = sound-named t (fin.insert t.paths components node) sound (names_put t components node sound (λ n same. subst (λ (x : Node). NamesUsed t x) same used))
 
-removed_at : (paths : PathMap) (components : List (List ℕ)) (o : Option Node) (after : PathMap) → removed_dir_at paths components o ≡ Ok after → after ≡ fin.remove paths components
-removed_at paths components None after is = cc
-removed_at paths components (Some (FileNode object)) after is = cc
-removed_at paths components (Some Directory) after is =
-    let below = bind_ok (refuse_if (length components == 0) EBUSY) (λ _. refuse_if (has_entries paths components) ENOTEMPTY >>= (λ _. Ok (fin.remove paths components))) after is in
-    let empty = bind_ok (refuse_if (has_entries paths components) ENOTEMPTY) (λ _. Ok (fin.remove paths components)) after below.1.1 in
-    sym (ok_same (fin.remove paths components) after empty.1.1)
-
-pub removed_dir_as : (paths : PathMap) (path : List ℕ) (after : PathMap) → removed_dir paths path ≡ Ok after → (components : List (List ℕ)) × (after ≡ fin.remove paths components)
-unfolding removed_dir
-removed_dir_as paths path after is =
-    let found = bind_ok (resolved paths path) (λ components. removed_dir_at paths components (node_at paths components)) after is in
-    (found.0, removed_at paths found.0 (node_at paths found.0) after found.1.1)
-
-pub sound-added : (t : TableState) (path : List ℕ) (node : ℕ) (after : PathMap) → added t.paths path (FileNode node) ≡ Ok after → is_used t node ≡ true → IsSound t → IsSound (record t { paths = after })
-sound-added t path node after is used sound =
-    let made = added_as t.paths path (FileNode node) after is in
-    sound-named t after sound (λ q n h. names_put t made.0 (FileNode node) sound (λ m e. let same : node ≡ m = cc in rw (← same) used) q n (rw made.1 at h))
-
-pub sound-added_directory : (t : TableState) (path : List ℕ) (after : PathMap) → added t.paths path Directory ≡ Ok after → IsSound t → IsSound (record t { paths = after })
-sound-added_directory t path after is sound =
-    let made = added_as t.paths path Directory after is in
-    sound-named t after sound (λ q n h. names_put t made.0 Directory sound (λ m e. cc) q n (rw made.1 at h))
-
-pub sound-removed : (t : TableState) (path : List ℕ) (after : PathMap) (node : ℕ) → removed t.paths path ≡ Ok (after, node) → IsSound t → IsSound (record t { paths = after })
-sound-removed t path after node is sound =
-    let less = removed_as t.paths path after node is in
-    sound-named t after sound (λ q n h. names_without t less.0 sound q n (rw less.1 at h))
-
-pub sound-removed_dir : (t : TableState) (path : List ℕ) (after : PathMap) → removed_dir t.paths path ≡ Ok after → IsSound t → IsSound (record t { paths = after })
-sound-removed_dir t path after is sound =
-    let less = removed_dir_as t.paths path after is in
-    sound-named t after sound (λ q n h. names_without t less.0 sound q n (rw less.1 at h))
+-- and one less
+pub sound-unnamed : (t : TableState) (components : List (List ℕ)) → IsSound t → IsSound (record t { paths = fin.remove t.paths components })
+sound-unnamed t components sound = sound-named t (fin.remove t.paths components) sound (names_without t components sound)
 
 -- the file of a name is there
 pub named_at : (t : TableState) (components : List (List ℕ)) (node : ℕ) → IsSound t → node_at t.paths components ≡ Some (FileNode node) → is_used t node ≡ true
@@ -415,11 +372,6 @@ unfolding looked_up
 used-found t path node is sound =
     let found = bind_ok (resolved t.paths path) (λ components. Ok (node_at t.paths components)) (Some (FileNode node)) is in
     named_at t found.0 node sound (ok_same (node_at t.paths found.0) (Some (FileNode node)) found.1.1)
-
--- names that a call may have changed
-pub sound-tried : {A : Type 0} (t : TableState) (after : PathMap) (r : Result A Errno) (P : A → Type 0) (Q : Errno → Type 0) → IfOk r P → IfErr r (λ e. Q e × (after ≡ t.paths)) → ((x : A) → P x → IsSound (record t { paths = after })) → IsSound t → IsSound (record t { paths = after })
-sound-tried t after (Ok x) P Q ok err changed sound = changed x ok
-sound-tried t after (Err e) P Q ok err changed sound = subst (λ (paths : PathMap). IsSound (record t { paths = paths })) (sym err.1) sound
 
 -- ## Objects
 
@@ -525,12 +477,6 @@ sound-with_file t components node within free sound =
               ∙ get_or-set_same t.objects node (Some t.made_objects) None within))
           | inr old ↦ more_some t.objects node n t.made_objects within (sound.named_objects q n old)
         ]
-
-pub sound-made : (t : TableState) (path : List ℕ) (node : ℕ) (after : PathMap) → added t.paths path (FileNode node) ≡ Ok after → node < 48 → slot t.objects node ≡ None → IsSound t → IsSound (record t { paths = after; objects = slice_set t.objects node (Some t.made_objects); made_objects = t.made_objects + 1 })
-sound-made t path node after is inside free sound =
-    let made = added_as t.paths path (FileNode node) after is in
-    let within : node < length t.objects = rw sound.object_numbers inside in
-    rw made.1 (sound-with_file t made.0 node within free sound)
 
 pub slot_replicate : (k n : ℕ) → slot (replicate k None) n ≡ None
 slot_replicate zero zero = refl

@@ -1,26 +1,22 @@
 -- Believed: a contract of the headline stands on it.
 -- That a plan and its change are what the sequential object does.
-use Rattle.std.specs.Prelude.{◌≡◌, ◌⊎◌, ◌≤◌, ◌+◌, slice_index_or, ℕ, true, List, Option, Some, None, Result, Ok, Err}
+use Rattle.std.specs.Prelude.{◌≡◌, ◌⊎◌, ◌≤◌, ◌+◌, slice_index_or, ℕ, true, Option, Some, None}
 use Rattle.std.specs.FinMap as map
 use Rattle.file_descriptions.specs.declared.description.Description.{Description}
 use Rattle.sequential_object.specs.Locked.{keeps_table, locked_object}
 use Rattle.sequential_object.specs.Object.{State}
 use Rattle.sequential_object.specs.Step.{Carried, asks, step}
-use Rattle.posix_terms.specs.declared.call.Access.{Access}
 use Rattle.posix_terms.specs.Calls.{Call}
 use Rattle.posix_terms.specs.declared.call.Call.TheVariants as call
-use Rattle.posix_terms.specs.declared.call.OpenFlags.{OpenFlags}
-use Rattle.posix_terms.specs.declared.errno.Errno.{Errno}
 use Rattle.posix_terms.specs.declared.outcome.Outcome.{Outcome}
 use Rattle.posix_terms.specs.declared.reply.Answer.{Answer}
 use Rattle.posix_terms.specs.declared.reply.Answer.TheVariants as answer
 use Rattle.posix_terms.specs.declared.reply.Reply.TheVariants as reply
 use Rattle.posix_terms.specs.declared.request.Request.{Request}
 use Rattle.posix_terms.specs.declared.transcript.Settings.{Settings}
-use Rattle.descriptor_table.specs.Changes.{Opening, opening}
-use Rattle.descriptor_table.specs.Plans.{open_plan}
 use Rattle.descriptor_table.specs.Shows.{Shows, birth_at}
 use Rattle.descriptor_table.specs.Table.{TableState, free_object}
+use Rattle.descriptor_table.specs.declared.plan.Change.{Change}
 use Rattle.descriptor_table.specs.declared.plan.NewNumbers.{NewNumbers}
 use Rattle.descriptor_table.specs.declared.plan.NewNumbers.TheVariants as numbers
 use Rattle.descriptor_table.specs.declared.plan.Op.{Op}
@@ -28,22 +24,12 @@ use Rattle.descriptor_table.specs.declared.plan.Op.TheVariants as op
 use Rattle.descriptor_table.specs.declared.plan.Plan.{Plan}
 use Rattle.descriptor_table.specs.declared.plan.Plan.TheVariants as plan
 
+-- ## Plan and step
+
+-- the object that a plan locks
 abbrev pub object_of : Plan → Option ℕ
 object_of (plan.Node node act keep_table) = Some node
 object_of (plan.Reply r) = None
-
--- ## Plan and change of an `open`
-
--- a call that is planned can be made, on the object of the plan
-abbrev pub AreOneObject : Result Plan Errno → Result Opening Errno → Type 0
-AreOneObject (Ok p) (Ok o) = object_of p ≡ Some o.node
-AreOneObject (Ok p) (Err e) = ⊥
-AreOneObject (Err e) made = Unit {0}
-
-abbrev pub OpenIsAsPlanned : Type 0
-OpenIsAsPlanned = (t : TableState) (path : List ℕ) (access : Access) (flags : OpenFlags) → AreOneObject (open_plan t path access flags) (opening t path)
-
--- ## Plan and step
 
 -- what an act asks of the outside
 abbrev pub request_of : Call → Op → Option Request

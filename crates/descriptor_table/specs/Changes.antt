@@ -1,42 +1,37 @@
 -- Internal: no contract of the headline or of a command stands on it.
--- How each call changes the table: its descriptors, descriptions and names, and the numbers of its objects.
-use Rattle.std.specs.Prelude.{◌≡◌, ℕ, ◌+◌, ◌<◌, ◌^◌, ℤ, pos, List, slice_set, Bool, true, false, Option, Some, None, Result, Ok, Err, if◌then◌else◌}
+-- What each change does to the table: to its descriptors, descriptions and names, and to the numbers of its objects.
+use Rattle.std.specs.Prelude.{◌≡◌, ℕ, ◌+◌, ◌<◌, ◌≤◌, ◌^◌, pos, List, [], length, slice_index_or, slice_set, Bool, true, false, Option, Some, None, if◌then◌else◌}
 use Rattle.std.specs.FinMap as map
-use Rattle.std.specs.Ordering.{int_eq}
-use Rattle.sequential_object.specs.Duplicates.{descriptor_number}
-use Rattle.sequential_object.specs.Names.{PathMap, added, file_named, removed, removed_dir}
+use Rattle.sequential_object.specs.Names.{PathMap}
 use Rattle.sequential_object.specs.Object.{Node, FileNode, Directory}
-use Rattle.sequential_object.specs.Refusals.{◌>>=◌, some_or}
+use Rattle.sequential_object.specs.Paths.{components_of}
 use Rattle.posix_terms.specs.declared.call.Access.{Access}
 use Rattle.posix_terms.specs.declared.call.Access.TheVariants.{ReadOnly, WriteOnly, ReadWrite}
 use Rattle.posix_terms.specs.Calls.{Call}
 use Rattle.posix_terms.specs.declared.call.Call.TheVariants as call
-use Rattle.posix_terms.specs.declared.call.OpenFlags.{OpenFlags}
-use Rattle.posix_terms.specs.declared.errno.Errno.{Errno}
-use Rattle.posix_terms.specs.declared.errno.Errno.TheVariants.{EBADF, EINVAL, EISDIR, EMFILE, ENFILE, ENOSPC}
+use Rattle.posix_terms.specs.declared.limits.TheConstants.Limits as limit
 use Rattle.posix_terms.specs.declared.outcome.Outcome.{Outcome}
 use Rattle.posix_terms.specs.declared.outcome.Outcome.TheVariants as outcome
 use Rattle.posix_terms.specs.declared.reply.Reply.{Reply}
 use Rattle.posix_terms.specs.declared.reply.Reply.TheVariants as reply
-use Rattle.directories.specs.Lookup.{looked_up}
-use Rattle.file_descriptions.specs.Descriptions.{description_at, is_last_held, new_description, with_flags, with_holder, with_new, without_holder}
-use Rattle.file_descriptions.specs.declared.description.Description.{Description}
+use Rattle.directories.specs.Entries.{node_of}
+use Rattle.file_descriptions.specs.Descriptions.{ContainsKey, description_at, is_last_held, new_description, with_flags, with_holder, with_new, without_holder}
 use Rattle.posix_terms.specs.declared.object.Door.{Door}
 use Rattle.posix_terms.specs.declared.object.Door.TheVariants as door
 use Rattle.posix_terms.specs.declared.object.End.{End}
 use Rattle.posix_terms.specs.declared.object.End.TheVariants as part
 use Rattle.posix_terms.specs.declared.object.Side.TheVariants.{Side0, Side1}
 use Rattle.file_descriptions.specs.declared.description.StatusFlags.{StatusFlags}
-use Rattle.descriptor_table.specs.Table.{TableState, described, free_object, is_gone, lowest_free, two_numbers}
+use Rattle.descriptor_table.specs.Plans.{change_of}
+use Rattle.descriptor_table.specs.Table.{TableState, free_object, is_gone, is_used, key_at}
+use Rattle.descriptor_table.specs.declared.plan.Change.{Change}
+use Rattle.descriptor_table.specs.declared.plan.Change.TheVariants as change
+use Rattle.descriptor_table.specs.declared.plan.NewDescriptor.{NewDescriptor}
 use Rattle.descriptor_table.specs.declared.plan.NewNumbers.{NewNumbers}
 use Rattle.descriptor_table.specs.declared.plan.NewNumbers.TheVariants as numbers
+use Rattle.descriptor_table.specs.declared.plan.NewPair.{NewPair}
 use Rattle.descriptor_table.specs.declared.plan.Plan.{Plan}
 use Rattle.descriptor_table.specs.declared.plan.Plan.TheVariants as plan
-
--- what a call leaves; a call that is refused leaves the table as it was
-abbrev pub kept_or : TableState → Result TableState Errno → TableState
-kept_or t (Ok after) = after
-kept_or t (Err e) = t
 
 -- ## Descriptors
 
@@ -56,103 +51,35 @@ without_gone t node = if is_gone t node then record t { objects = slice_set t.ob
 abbrev pub closed : TableState → ℕ → ℕ → TableState
 closed t n key = if is_last_held t.descriptions key then without_gone (let_go t n key) (description_at t.descriptions key).node else let_go t n key
 
-unfoldable pub close_change : TableState → ℤ → Result TableState Errno
-close_change t descriptor = do
-  n ← descriptor_number descriptor EBADF
-  found ← described t descriptor
-  Ok (closed t n found.0)
-
-unfoldable pub dup_change : TableState → ℤ → Result TableState Errno
-dup_change t descriptor = do
-  found ← described t descriptor
-  n ← some_or (lowest_free t 0) EMFILE
-  Ok (shared t n found.0)
-
-unfoldable pub dup_from_change : TableState → ℤ → ℤ → Result TableState Errno
-dup_from_change t descriptor least = do
-  found ← described t descriptor
-  first ← descriptor_number least EINVAL
-  n ← some_or (lowest_free t first) EMFILE
-  Ok (shared t n found.0)
-
--- without number n, if it is open
-abbrev pub closed_if_open : TableState → ℕ → Result (ℕ × Description) Errno → TableState
-closed_if_open t n (Ok found) = closed t n found.0
-closed_if_open t n (Err e) = t
-
-unfoldable pub dup2_change : TableState → ℤ → ℤ → Result TableState Errno
-dup2_change t descriptor target = do
-  found ← described t descriptor
-  n ← descriptor_number target EBADF
-  Ok (if int_eq descriptor target then t else shared (closed_if_open t n (described t target)) n found.0)
-
-unfoldable pub setfl_change : TableState → ℤ → Bool → Bool → Result TableState Errno
-setfl_change t descriptor append nonblock = do
-  found ← described t descriptor
-  Ok (record t { descriptions = with_flags t.descriptions found.0 (record { append = append; nonblock = nonblock }) })
-
 -- ## Names
-
--- the names after a change, or as they were where it is refused
-abbrev pub paths_or : PathMap → Result PathMap Errno → PathMap
-paths_or paths (Ok after) = after
-paths_or paths (Err e) = paths
 
 abbrev pub with_paths : TableState → PathMap → TableState
 with_paths t paths = record t { paths = paths }
 
-unfoldable pub link_change : TableState → List ℕ → List ℕ → Result TableState Errno
-link_change t old_path new_path = do
-  node ← file_named t.paths old_path
-  paths ← added t.paths new_path (FileNode node)
-  Ok (with_paths t paths)
+-- the path that a call gives a name, or takes it from
+abbrev pub path_of : Call → List ℕ
+path_of (call.Open path access flags) = path
+path_of (call.Link old_path new_path) = new_path
+path_of (call.Unlink path) = path
+path_of (call.Mkdir path) = path
+path_of (call.Rmdir path) = path
+path_of c = []
 
-unfoldable pub unlink_change : TableState → List ℕ → Result TableState Errno
-unlink_change t path = do
-  without ← removed t.paths path
-  Ok (without_gone (with_paths t without.0) without.1)
+abbrev pub named : TableState → Call → Node → PathMap
+named t c node = map.insert t.paths (components_of (path_of c)) node
 
-unfoldable pub mkdir_change : TableState → List ℕ → Result TableState Errno
-mkdir_change t path = do
-  paths ← added t.paths path Directory
-  Ok (with_paths t paths)
+abbrev pub unnamed : TableState → Call → PathMap
+unnamed t c = map.remove t.paths (components_of (path_of c))
 
-unfoldable pub rmdir_change : TableState → List ℕ → Result TableState Errno
-rmdir_change t path = do
-  paths ← removed_dir t.paths path
-  Ok (with_paths t paths)
+-- ## New objects and descriptors
 
--- ## Opening a file
+-- a new object that no path names
+abbrev pub with_object : TableState → ℕ → TableState
+with_object t node = record t { objects = slice_set t.objects node (Some t.made_objects); made_objects = t.made_objects + 1 }
 
 -- a new file, which has this number and one name
 abbrev pub with_file : TableState → PathMap → ℕ → TableState
 with_file t paths node = record t { paths = paths; objects = slice_set t.objects node (Some t.made_objects); made_objects = t.made_objects + 1 }
-
-abbrev pub file_at : TableState → List ℕ → Option Node → Result (TableState × ℕ) Errno
-file_at t path (Some (FileNode node)) = Ok (t, node)
-file_at t path (Some Directory) = Err EISDIR
-file_at t path None = do
-  node ← some_or (free_object t) ENOSPC
-  paths ← added t.paths path (FileNode node)
-  Ok (with_file t paths node, node)
-
--- the file of a path, which is made if it is missing
-unfoldable pub found_or_made : TableState → List ℕ → Result (TableState × ℕ) Errno
-found_or_made t path = do
-  node ← looked_up t.paths path
-  file_at t path node
-
--- a descriptor that is about to be opened: its number, its object, and the table where the object is there
-pub record Opening : Type 0 where
-  pub number : ℕ
-  pub node : ℕ
-  pub ready : TableState
-
-unfoldable pub opening : TableState → List ℕ → Result Opening Errno
-opening t path = do
-  n ← some_or (lowest_free t 0) EMFILE
-  file ← found_or_made t path
-  Ok (record { number = n; node = file.1; ready = file.0 })
 
 -- number n refers to a new description of an end of an object, under this key
 abbrev pub opened : TableState → ℕ → ℕ → ℕ → End → Access → StatusFlags → TableState
@@ -162,90 +89,35 @@ opened t n key node which access flags =
       descriptions = with_new t.descriptions key (new_description node which access flags t.descriptions.made);
     }
 
-abbrev pub status_flags : OpenFlags → StatusFlags
-status_flags flags = record { append = flags.append; nonblock = flags.nonblock }
-
 -- The new description may have any key that is free
-abbrev pub IsOpened : TableState → Access → OpenFlags → Result Opening Errno → TableState → Type 0
-IsOpened t access flags (Ok o) after =
-    (key : ℕ) × (map.get t.descriptions.by_key key ≡ None) × (after ≡ opened o.ready o.number key o.node part.Only access (status_flags flags))
-IsOpened t access flags (Err e) after = after ≡ t
-
-abbrev pub opened_number : Result Opening Errno → NewNumbers
-opened_number (Ok o) = numbers.One (pos o.number)
-opened_number (Err e) = numbers.None
-
--- ## Opening both ends of a new object
-
--- a new object that no path names
-abbrev pub with_object : TableState → ℕ → TableState
-with_object t node = record t { objects = slice_set t.objects node (Some t.made_objects); made_objects = t.made_objects + 1 }
-
--- two descriptors that are about to be opened, and their object
-pub record TwoEnds : Type 0 where
-  pub first : ℕ
-  pub second : ℕ
-  pub node : ℕ
-
-unfoldable pub two_ends : TableState → Result TwoEnds Errno
-two_ends t = do
-  two ← two_numbers t
-  node ← some_or (free_object t) ENFILE
-  Ok (record { first = two.0; second = two.1; node = node })
+abbrev pub IsOpened : TableState → NewDescriptor → End → TableState → Type 0
+IsOpened t new which after =
+    (key : ℕ) × (map.get t.descriptions.by_key key ≡ None) × (after ≡ opened t new.number key new.node which new.access new.flags)
 
 -- both flags are clear
 abbrev pub no_flags : StatusFlags
 no_flags = record { append = false; nonblock = false }
 
 -- Each new description may have any key that is free
-abbrev pub AreOpened : TableState → End × Access → End × Access → Result TwoEnds Errno → TableState → Type 0
-AreOpened t one other (Ok two) after =
+abbrev pub AreOpened : TableState → End × Access → End × Access → NewPair → TableState → Type 0
+AreOpened t one other new after =
     (key : ℕ) × (map.get t.descriptions.by_key key ≡ None)
-    × (let between = opened (with_object t two.node) two.first key two.node one.0 one.1 no_flags in
-    (next : ℕ) × (map.get between.descriptions.by_key next ≡ None) × (after ≡ opened between two.second next two.node other.0 other.1 no_flags))
-AreOpened t one other (Err e) after = after ≡ t
-
-abbrev pub two_given : Result TwoEnds Errno → NewNumbers
-two_given (Ok two) = numbers.Two (pos two.first) (pos two.second)
-two_given (Err e) = numbers.None
+    × (let between = opened (with_object t new.node) new.first key new.node one.0 one.1 no_flags in
+    (next : ℕ) × (map.get between.descriptions.by_key next ≡ None) × (after ≡ opened between new.second next new.node other.0 other.1 no_flags))
 
 -- ## Opening a door
 
--- a descriptor that is about to refer to a new door: its number and its object
-pub record NewDoor : Type 0 where
-  pub number : ℕ
-  pub node : ℕ
+-- what a call opens outside, by the value of a success
+abbrev pub door_of : Call → ℕ → Door
+door_of (call.HostOpen path access flags) value = door.HostFile
+door_of (call.TcpListen port) value = door.Listener value
+door_of c value = door.Stream
 
-unfoldable pub new_door : TableState → Result NewDoor Errno
-new_door t = do
-  n ← some_or (lowest_free t 0) EMFILE
-  node ← some_or (free_object t) ENFILE
-  Ok (record { number = n; node = node })
-
--- with O_APPEND or without it
-abbrev pub door_flags : Bool → StatusFlags
-door_flags append = record { append = append; nonblock = false }
-
--- The new description may have any key that is free
-abbrev pub IsDoor : TableState → Door → Access → Bool → Result NewDoor Errno → TableState → Type 0
-IsDoor t door access append (Ok new) after =
-    (key : ℕ) × (map.get t.descriptions.by_key key ≡ None) × (after ≡ opened (with_object t new.node) new.number key new.node (part.Door door) access (door_flags append))
-IsDoor t door access append (Err e) after = after ≡ t
-
--- only where a door was opened outside, by the value of that
-abbrev pub OpensDoor : TableState → (ℕ → Door) → Access → Bool → Option Outcome → TableState → Type 0
-OpensDoor t door access append (Some (outcome.Ok value bytes)) after = IsDoor t (door value) access append (new_door t) after
-OpensDoor t door access append (Some (outcome.Fail e)) after = after ≡ t
-OpensDoor t door access append None after = after ≡ t
-
-abbrev pub door_number : Result NewDoor Errno → NewNumbers
-door_number (Ok new) = numbers.One (pos new.number)
-door_number (Err e) = numbers.None
-
-abbrev pub door_given : TableState → Option Outcome → NewNumbers
-door_given t (Some (outcome.Ok value bytes)) = door_number (new_door t)
-door_given t (Some (outcome.Fail e)) = numbers.None
-door_given t None = numbers.None
+-- only where a door was opened outside
+abbrev pub OpensDoor : TableState → Call → NewDescriptor → Option Outcome → TableState → Type 0
+OpensDoor t c new (Some (outcome.Ok value bytes)) after = IsOpened (with_object t new.node) new (part.Door (door_of c value)) after
+OpensDoor t c new (Some (outcome.Fail e)) after = after ≡ t
+OpensDoor t c new None after = after ≡ t
 
 -- a listener is opened at a port
 abbrev pub IsPortOf : Call → ℕ → Type 0
@@ -258,46 +130,88 @@ IsAtPort c (Some (outcome.Ok value bytes)) = IsPortOf c value
 IsAtPort c (Some (outcome.Fail e)) = Unit {0}
 IsAtPort c None = Unit {0}
 
--- ## All calls
+-- ## All changes
 
--- what a call changes where it is not refused, by the outcome of what it asks outside
+-- what a change of a call does, by the outcome of what the call asks outside
+abbrev pub Changed : TableState → Call → Change → Option Outcome → TableState → Type 0
+Changed t c change.Nothing o after = after ≡ t
+Changed t c (change.Share n key) o after = after ≡ shared t n key
+Changed t c (change.Close n key) o after = after ≡ closed t n key
+Changed t c (change.Replace n target key) o after = after ≡ shared (closed t n target) n key
+Changed t c (change.SetFlags key flags) o after = after ≡ record t { descriptions = with_flags t.descriptions key flags }
+Changed t c (change.AddName node) o after = after ≡ with_paths t (named t c (node_of node))
+Changed t c (change.RemoveFile node) o after = after ≡ without_gone (with_paths t (unnamed t c)) node
+Changed t c change.RemoveDirectory o after = after ≡ with_paths t (unnamed t c)
+Changed t c (change.OpenFile new) o after = IsOpened t new part.Only after
+Changed t c (change.MakeFile new) o after = IsOpened (with_file t (named t c (FileNode new.node)) new.node) new part.Only after
+Changed t c (change.MakePipe new) o after = AreOpened t (part.Read, ReadOnly) (part.Write, WriteOnly) new after
+Changed t c (change.MakeSockets new) o after = AreOpened t (part.Socket Side0, ReadWrite) (part.Socket Side1, ReadWrite) new after
+Changed t c (change.OpenDoor new) o after = OpensDoor t c new o after
+
+-- what a call changes; one that is refused changes nothing
 abbrev pub Changes : TableState → Call → Option Outcome → TableState → Type 0
-Changes t (call.Open path access flags) o after = IsOpened t access flags (opening t path) after
-Changes t (call.Close descriptor) o after = after ≡ kept_or t (close_change t descriptor)
-Changes t (call.Dup descriptor) o after = after ≡ kept_or t (dup_change t descriptor)
-Changes t (call.DupFrom descriptor least) o after = after ≡ kept_or t (dup_from_change t descriptor least)
-Changes t (call.Dup2 descriptor target) o after = after ≡ kept_or t (dup2_change t descriptor target)
-Changes t (call.Setfl descriptor append nonblock) o after = after ≡ kept_or t (setfl_change t descriptor append nonblock)
-Changes t (call.Link old_path new_path) o after = after ≡ kept_or t (link_change t old_path new_path)
-Changes t (call.Unlink path) o after = after ≡ kept_or t (unlink_change t path)
-Changes t (call.Mkdir path) o after = after ≡ kept_or t (mkdir_change t path)
-Changes t (call.Rmdir path) o after = after ≡ kept_or t (rmdir_change t path)
-Changes t call.Pipe o after = AreOpened t (part.Read, ReadOnly) (part.Write, WriteOnly) (two_ends t) after
-Changes t call.Socketpair o after = AreOpened t (part.Socket Side0, ReadWrite) (part.Socket Side1, ReadWrite) (two_ends t) after
-Changes t (call.Read descriptor count) o after = after ≡ t
-Changes t (call.Write descriptor bytes) o after = after ≡ t
-Changes t (call.Pread descriptor count position) o after = after ≡ t
-Changes t (call.Pwrite descriptor bytes position) o after = after ≡ t
-Changes t (call.Lseek descriptor offset whence) o after = after ≡ t
-Changes t (call.Ftruncate descriptor size) o after = after ≡ t
-Changes t (call.Fstat descriptor) o after = after ≡ t
-Changes t (call.Getfl descriptor) o after = after ≡ t
-Changes t (call.Shutdown descriptor how) o after = after ≡ t
-Changes t (call.HostOpen path access flags) o after = OpensDoor t (λ value. door.HostFile) access flags.append o after
-Changes t (call.TcpListen port) o after = OpensDoor t (λ value. door.Listener value) ReadWrite false o after
-Changes t (call.TcpConnect port) o after = OpensDoor t (λ value. door.Stream) ReadWrite false o after
-Changes t (call.TcpAccept descriptor) o after = OpensDoor t (λ value. door.Stream) ReadWrite false o after
+Changes t c o after = Changed t c (change_of t c) o after
 
--- the numbers that a call gives new descriptors when it is applied
+-- the number of a door that was opened
+abbrev pub door_given : ℕ → Option Outcome → NewNumbers
+door_given n (Some (outcome.Ok value bytes)) = numbers.One (pos n)
+door_given n (Some (outcome.Fail e)) = numbers.None
+door_given n None = numbers.None
+
+-- the numbers that a change gives new descriptors, where a plan does not tell them
+abbrev pub given : Change → Option Outcome → NewNumbers
+given (change.OpenFile new) o = numbers.One (pos new.number)
+given (change.MakeFile new) o = numbers.One (pos new.number)
+given (change.MakePipe new) o = numbers.Two (pos new.first) (pos new.second)
+given (change.MakeSockets new) o = numbers.Two (pos new.first) (pos new.second)
+given (change.OpenDoor new) o = door_given new.number o
+given c o = numbers.None
+
 abbrev pub numbers_given : TableState → Call → Option Outcome → NewNumbers
-numbers_given t (call.Open path access flags) o = opened_number (opening t path)
-numbers_given t call.Pipe o = two_given (two_ends t)
-numbers_given t call.Socketpair o = two_given (two_ends t)
-numbers_given t (call.HostOpen path access flags) o = door_given t o
-numbers_given t (call.TcpListen port) o = door_given t o
-numbers_given t (call.TcpConnect port) o = door_given t o
-numbers_given t (call.TcpAccept descriptor) o = door_given t o
-numbers_given t _ o = numbers.None
+numbers_given t c o = given (change_of t c) o
+
+-- ## What a change needs
+
+-- a descriptor number that is free
+abbrev pub IsFreeNumber : TableState → ℕ → Type 0
+IsFreeNumber t n = (n < limit.DESCRIPTORS) × (key_at t (pos n) ≡ None)
+
+-- a descriptor that refers to this description
+abbrev pub Refers : TableState → ℕ → ℕ → Type 0
+Refers t n key = (n < limit.DESCRIPTORS) × (key_at t (pos n) ≡ Some key)
+
+-- the next number of an object, which is free
+abbrev pub IsNextObject : TableState → ℕ → Type 0
+IsNextObject t node = (node < limit.OBJECTS) × (slice_index_or t.objects node None ≡ None) × (free_object t ≡ Some node)
+
+-- a path names nothing, and there is room for one more name
+abbrev pub IsFreePath : PathMap → List ℕ → Type 0
+IsFreePath paths path = (map.len paths < limit.NAMES) × (length path ≤ limit.PATH_BYTES) × (map.get paths (components_of path) ≡ None)
+
+-- a name of a file is one of a file that is there
+abbrev pub NamesUsed : TableState → Node → Type 0
+NamesUsed t (FileNode node) = is_used t node ≡ true
+NamesUsed t Directory = Unit {0}
+
+-- what a change needs, so that what it leaves is a table
+abbrev pub CanChange : TableState → Call → Change → Type 0
+CanChange t c change.Nothing = Unit {0}
+CanChange t c (change.Share n key) = IsFreeNumber t n × ContainsKey t.descriptions key
+CanChange t c (change.Close n key) = Refers t n key
+CanChange t c (change.Replace n target key) = Refers t n target × ContainsKey (closed t n target).descriptions key
+CanChange t c (change.SetFlags key flags) = ContainsKey t.descriptions key
+CanChange t c (change.AddName node) = IsFreePath t.paths (path_of c) × NamesUsed t (node_of node)
+CanChange t c (change.RemoveFile node) = Unit {0}
+CanChange t c change.RemoveDirectory = Unit {0}
+CanChange t c (change.OpenFile new) = IsFreeNumber t new.number × (is_used t new.node ≡ true)
+CanChange t c (change.MakeFile new) = IsFreeNumber t new.number × IsNextObject t new.node × IsFreePath t.paths (path_of c)
+CanChange t c (change.MakePipe new) =
+    IsFreeNumber t new.first × IsFreeNumber t new.second × (new.first < new.second) × IsNextObject t new.node
+CanChange t c (change.MakeSockets new) =
+    IsFreeNumber t new.first × IsFreeNumber t new.second × (new.first < new.second) × IsNextObject t new.node
+CanChange t c (change.OpenDoor new) = IsFreeNumber t new.number × IsNextObject t new.node
+
+-- ## Refusals
 
 abbrev pub is_failure : Reply → Bool
 is_failure (reply.Fail e) = true

@@ -4,7 +4,7 @@ use Rattle.std.specs.Prelude.{◌≡◌, ℕ, ℤ, List, true, Some, None, Ok, E
 use Rattle.std.specs.FinMap as map
 use Rattle.sequential_object.specs.Descriptors as posix
 use Rattle.sequential_object.specs.Names.{file_named}
-use Rattle.sequential_object.specs.Object.{State}
+use Rattle.sequential_object.specs.Object.{State, empty_state}
 use Rattle.posix_terms.specs.Calls.{Call}
 use Rattle.posix_terms.specs.declared.errno.Errno.TheVariants.{EBADF}
 use Rattle.posix_terms.specs.declared.object.Door.{Door}
@@ -12,14 +12,16 @@ use Rattle.file_descriptions.specs.Descriptions.{AreSound, ContainsKey, with_off
 use Rattle.file_descriptions.specs.declared.description.Description.{Description}
 use Rattle.descriptor_table.specs.Acts.{ActsAsStep, StaysAsStep}
 use Rattle.descriptor_table.specs.Agreement.{ChangesAsStep, PlansAsStep}
-use Rattle.descriptor_table.specs.Changes.{Changes}
-use Rattle.descriptor_table.specs.Plans.{LocksKnown, planned, read_count}
+use Rattle.descriptor_table.specs.Changes.{CanChange, Changes}
+use Rattle.descriptor_table.specs.Plans.{LocksKnown, change_of, planned, read_count}
 use Rattle.descriptor_table.specs.Shows.{Shows, same_door, shown}
-use Rattle.descriptor_table.specs.Table.{IsSound, TableState, described, is_used, key_at}
+use Rattle.descriptor_table.specs.Table.{IsSound, TableState, described, empty_table, is_used, key_at}
 
 -- what is planned of a call is what its step does
 pub record FollowsStep (t : TableState) (c : Call) : Type 0 where
   pub known : LocksKnown t (read_count c) (planned t c)
+  -- and what was looked up for its change is so
+  pub can : CanChange t c (change_of t c)
   pub plans : PlansAsStep t c (planned t c)
   pub acts : ActsAsStep t c (planned t c)
   pub stays : StaysAsStep t c (planned t c)
@@ -48,6 +50,8 @@ pub record OffsetIsFree (t : TableState) (key offset : ℕ) : Type 0 where
   pub shows : (s : State) → Shows t s → Shows (with_offset_at t key offset) s
 
 pub record TableFollows : Type 0 where
+  -- the first table is sound, and shows the first state
+  pub first : IsSound empty_table × Shows empty_table empty_state
   -- what is planned of a call is what its step does
   pub calls : (t : TableState) (c : Call) → IsSound t → AreSound t.descriptions → FollowsStep t c
   -- a descriptor refers to what it refers to in the state that the table shows

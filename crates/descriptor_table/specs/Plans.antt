@@ -1,5 +1,6 @@
 -- Internal: no contract of the headline or of a command stands on it.
--- What the table alone makes of each call: its reply, or which object's lock the call takes and what it does there.
+-- What the table decides of each call, once: its reply, or which object's lock the call takes and what it does there; and what the call
+-- changes in the table, where all that the change needs has been looked up.
 use Rattle.std.specs.Prelude.{◌≤◌, ◌≡◌, ◌<◌, ◌⊎◌, ℕ, ◌+◌, ℤ, pos, List, [], length, Bool, true, false, not, ◌&&◌, ◌==◌, nat_lt, nat_le, Option, Some, None, is_some, Result, Ok, Err, if◌then◌else◌}
 use Rattle.std.specs.FinMap as map
 use Rattle.std.specs.Ordering.{int_eq}
@@ -14,6 +15,7 @@ use Rattle.sequential_object.specs.Refusals.{◌>>=◌, count_of, position_of, r
 use Rattle.sequential_object.specs.Status.{access_number}
 use Rattle.sequential_object.specs.Transfers.{host_offset, size_of}
 use Rattle.posix_terms.specs.declared.call.Access.{Access}
+use Rattle.posix_terms.specs.declared.call.Access.TheVariants.{ReadWrite}
 use Rattle.posix_terms.specs.Calls.{Call}
 use Rattle.posix_terms.specs.declared.call.Call.TheVariants as call
 use Rattle.posix_terms.specs.declared.call.OpenFlags.{OpenFlags}
@@ -32,14 +34,36 @@ use Rattle.posix_terms.specs.declared.reply.ObjectKind.TheVariants as kind
 use Rattle.posix_terms.specs.declared.reply.Reply.{Reply}
 use Rattle.posix_terms.specs.declared.reply.Reply.TheVariants as reply
 use Rattle.file_descriptions.specs.Descriptions.{ContainsKey}
+use Rattle.directories.specs.declared.entry.Node.TheVariants as names
 use Rattle.file_descriptions.specs.declared.description.Description.{Description}
+use Rattle.file_descriptions.specs.declared.description.StatusFlags.{StatusFlags}
 use Rattle.descriptor_table.specs.Table.{TableState, described, free_object, is_last_name, is_used, lowest_free, two_numbers}
+use Rattle.descriptor_table.specs.declared.plan.Change.{Change}
+use Rattle.descriptor_table.specs.declared.plan.Change.TheVariants as change
+use Rattle.descriptor_table.specs.declared.plan.Decided.{Decided}
 use Rattle.descriptor_table.specs.declared.plan.Errand.{Errand}
+use Rattle.descriptor_table.specs.declared.plan.NewDescriptor.{NewDescriptor}
+use Rattle.descriptor_table.specs.declared.plan.NewPair.{NewPair}
 use Rattle.descriptor_table.specs.declared.plan.Op.{Op}
 use Rattle.descriptor_table.specs.declared.plan.Op.TheVariants as op
 use Rattle.descriptor_table.specs.declared.plan.Opened.{Opened}
 use Rattle.descriptor_table.specs.declared.plan.Plan.{Plan}
 use Rattle.descriptor_table.specs.declared.plan.Plan.TheVariants as plan
+
+-- ## What is decided
+
+-- what the table makes of a call, and what the call changes in it
+abbrev pub decides : Plan → Change → Decided
+decides p c = record { plan = p; change = c }
+
+-- the table alone answers
+abbrev pub tells : Reply → Change → Decided
+tells r c = decides (plan.Reply r) c
+
+-- a call that changes nothing in the table
+abbrev pub leaves : Result Plan Errno → Result Decided Errno
+leaves (Ok p) = Ok (decides p change.Nothing)
+leaves (Err e) = Err e
 
 -- a call that takes an object's lock and then no longer keeps the table
 abbrev pub locks : ℕ → Op → Plan
@@ -62,12 +86,20 @@ errand d k asked waits = op.Ask (record { kind = k; asked = asked; waits = waits
 abbrev pub act_or_ask : Description → Op → Op → Op
 act_or_ask d act ask = if leads_outside d.«end» then ask else act
 
+-- with O_APPEND or without it
+abbrev pub door_flags : Bool → StatusFlags
+door_flags append = record { append = append; nonblock = false }
+
 -- a call that opens a door, where there is a number for it and one for its object, keeps the table to its answer; it may take along a listener
-abbrev pub opens_plan : TableState → OutKind → ℕ → Bool → Option ℕ → Result Plan Errno
-opens_plan t k asked waits listener = do
-  _ ← some_or (lowest_free t 0) EMFILE
+abbrev pub opens_door : TableState → Errand → Access → Bool → Result Decided Errno
+opens_door t errand access append = do
+  n ← some_or (lowest_free t 0) EMFILE
   node ← some_or (free_object t) ENFILE
-  Ok (plan.Node node (op.Ask (record { kind = k; asked = asked; waits = waits; door = listener })) true)
+  Ok (decides (plan.Node node (op.Ask errand) true) (change.OpenDoor (record { number = n; node = node; access = access; flags = door_flags append })))
+
+-- what is asked where a door is opened
+abbrev pub opening : OutKind → ℕ → Bool → Option ℕ → Errand
+opening k asked waits listener = record { kind = k; asked = asked; waits = waits; door = listener }
 
 -- a listener takes part in no transfer
 abbrev pub not_listener : End → Result (Unit {0}) Errno
@@ -88,38 +120,46 @@ moves d count none act = if (count == 0) && not (is_end d.«end» part.Only) the
 abbrev pub release : Description → Reply → Plan
 release d r = if d.holders == 1 then locks d.node (act_or_ask d op.Release (errand d out.Close 0 false)) else plan.Reply r
 
+abbrev pub status_flags : OpenFlags → StatusFlags
+status_flags flags = record { append = flags.append; nonblock = flags.nonblock }
+
+-- the descriptor that an `open` gives, once its number and its file are known
+abbrev pub new_descriptor : ℕ → ℕ → Access → OpenFlags → NewDescriptor
+new_descriptor n node access flags = record { number = n; node = node; access = access; flags = status_flags flags }
+
 -- `open` of a path that names something
-abbrev pub open_there : TableState → Node → OpenFlags → Result Plan Errno
-open_there t Directory flags = Err EISDIR
-open_there t (FileNode node) flags = do
-  _ ← some_or (lowest_free t 0) EMFILE
-  Ok (locks node (op.Open flags.truncate))
+abbrev pub open_there : TableState → Node → Access → OpenFlags → Result Decided Errno
+open_there t Directory access flags = Err EISDIR
+open_there t (FileNode node) access flags = do
+  n ← some_or (lowest_free t 0) EMFILE
+  Ok (decides (locks node (op.Open flags.truncate)) (change.OpenFile (new_descriptor n node access flags)))
 
 -- `open` of a path that names nothing: the file has a name and a number to come, and no bytes
-abbrev pub open_new : TableState → OpenFlags → Result Plan Errno
-open_new t flags = do
+abbrev pub open_new : TableState → Access → OpenFlags → Result Decided Errno
+open_new t access flags = do
   _ ← refuse_if (not flags.create) ENOENT
   _ ← refuse_if (nat_le limit.NAMES (map.len t.paths)) ENOSPC
   node ← some_or (free_object t) ENOSPC
-  _ ← some_or (lowest_free t 0) EMFILE
-  Ok (locks node (op.Open true))
+  n ← some_or (lowest_free t 0) EMFILE
+  Ok (decides (locks node (op.Open true)) (change.MakeFile (new_descriptor n node access flags)))
 
-abbrev pub open_node : TableState → Option Node → OpenFlags → Result Plan Errno
-open_node t None flags = open_new t flags
-open_node t (Some node) flags = do
+abbrev pub open_node : TableState → Option Node → Access → OpenFlags → Result Decided Errno
+open_node t None access flags = open_new t access flags
+open_node t (Some node) access flags = do
   _ ← refuse_if (flags.create && flags.exclusive) EEXIST
-  open_there t node flags
+  open_there t node access flags
 
-unfoldable pub open_plan : TableState → List ℕ → Access → OpenFlags → Result Plan Errno
-open_plan t path access flags = do
+unfoldable pub open_decided : TableState → List ℕ → Access → OpenFlags → Result Decided Errno
+open_decided t path access flags = do
   _ ← refuse_if (flags.truncate && not (can_write access)) EINVAL
   components ← resolved t.paths path
-  open_node t (node_at t.paths components) flags
+  open_node t (node_at t.paths components) access flags
 
-unfoldable pub close_plan : TableState → ℤ → Result Plan Errno
-close_plan t descriptor = do
+unfoldable pub close_decided : TableState → ℤ → Result Decided Errno
+close_decided t descriptor = do
   found ← described t descriptor
-  Ok (release found.1 reply.Done)
+  n ← descriptor_number descriptor EBADF
+  Ok (decides (release found.1 reply.Done) (change.Close n found.0))
 
 unfoldable pub read_plan : TableState → ℤ → ℤ → Result Plan Errno
 read_plan t descriptor count = do
@@ -195,35 +235,35 @@ fstat_plan t descriptor = do
   found ← described t descriptor
   Ok (stat_plan found.1 (links_of t.paths found.1.node) (stat_by found.1.«end»))
 
-unfoldable pub dup_plan : TableState → ℤ → Result Plan Errno
-dup_plan t descriptor = do
-  _ ← described t descriptor
+unfoldable pub dup_decided : TableState → ℤ → Result Decided Errno
+dup_decided t descriptor = do
+  found ← described t descriptor
   n ← some_or (lowest_free t 0) EMFILE
-  Ok (plan.Reply (reply.Number (pos n)))
+  Ok (tells (reply.Number (pos n)) (change.Share n found.0))
 
-unfoldable pub dup_from_plan : TableState → ℤ → ℤ → Result Plan Errno
-dup_from_plan t descriptor least = do
-  _ ← described t descriptor
+unfoldable pub dup_from_decided : TableState → ℤ → ℤ → Result Decided Errno
+dup_from_decided t descriptor least = do
+  found ← described t descriptor
   first ← descriptor_number least EINVAL
   n ← some_or (lowest_free t first) EMFILE
-  Ok (plan.Reply (reply.Number (pos n)))
-
--- what `dup2` makes of its target, which is closed first if it is open
-abbrev pub replaced : Result (ℕ × Description) Errno → Reply → Plan
-replaced (Ok found) r = release found.1 r
-replaced (Err e) r = plan.Reply r
+  Ok (tells (reply.Number (pos n)) (change.Share n found.0))
 
 -- whether a target is the last descriptor of a door, if it is open
 abbrev pub ends_a_door : Result (ℕ × Description) Errno → Bool
 ends_a_door (Ok found) = leads_outside found.1.«end» && (found.1.holders == 1)
 ends_a_door (Err e) = false
 
-unfoldable pub dup2_plan : TableState → ℤ → ℤ → Result Plan Errno
-dup2_plan t descriptor target = do
-  _ ← described t descriptor
-  _ ← descriptor_number target EBADF
+-- number n will refer to the description of this key; what it refers to is closed first, if it is open
+abbrev pub replaces : ℕ → ℕ → Result (ℕ × Description) Errno → Reply → Decided
+replaces n key (Ok target) r = decides (release target.1 r) (change.Replace n target.0 key)
+replaces n key (Err e) r = tells r (change.Share n key)
+
+unfoldable pub dup2_decided : TableState → ℤ → ℤ → Result Decided Errno
+dup2_decided t descriptor target = do
+  found ← described t descriptor
+  n ← descriptor_number target EBADF
   _ ← refuse_if (not (int_eq descriptor target) && ends_a_door (described t target)) EBUSY
-  Ok (if int_eq descriptor target then plan.Reply (reply.Number target) else replaced (described t target) (reply.Number target))
+  Ok (if int_eq descriptor target then tells (reply.Number target) change.Nothing else replaces n found.0 (described t target) (reply.Number target))
 
 -- an access and flags as one number: 4 for O_APPEND, 8 for O_NONBLOCK
 abbrev pub status_number : Description → ℕ
@@ -234,10 +274,12 @@ getfl_plan t descriptor = do
   found ← described t descriptor
   Ok (plan.Reply (reply.Number (pos (status_number found.1))))
 
-unfoldable pub setfl_plan : TableState → ℤ → Result Plan Errno
-setfl_plan t descriptor = do
-  _ ← described t descriptor
-  Ok (plan.Reply reply.Done)
+unfoldable pub setfl_decided : TableState → ℤ → Bool → Bool → Result Decided Errno
+setfl_decided t descriptor append nonblock = do
+  found ← described t descriptor
+  Ok (tells reply.Done (change.SetFlags found.0 (record { append = append; nonblock = nonblock })))
+
+-- ## Names
 
 -- whether a path can become a name
 unfoldable pub addable : PathMap → List ℕ → Result (Unit {0}) Errno
@@ -246,34 +288,46 @@ addable paths path = do
   _ ← refuse_if (is_some (node_at paths components)) EEXIST
   refuse_if (nat_le limit.NAMES (map.len paths)) ENOSPC
 
-unfoldable pub link_plan : TableState → List ℕ → List ℕ → Result Plan Errno
-link_plan t old_path new_path = do
-  _ ← file_named t.paths old_path
+unfoldable pub link_decided : TableState → List ℕ → List ℕ → Result Decided Errno
+link_decided t old_path new_path = do
+  node ← file_named t.paths old_path
   _ ← addable t.paths new_path
-  Ok (plan.Reply reply.Done)
+  Ok (tells reply.Done (change.AddName (names.File node)))
 
 -- the file is locked where it ends with this name
-unfoldable pub unlink_plan : TableState → List ℕ → Result Plan Errno
-unlink_plan t path = do
+unfoldable pub unlink_decided : TableState → List ℕ → Result Decided Errno
+unlink_decided t path = do
   node ← file_named t.paths path
-  Ok (if is_last_name t node then locks node op.Release else plan.Reply reply.Done)
+  Ok (decides (if is_last_name t node then locks node op.Release else plan.Reply reply.Done) (change.RemoveFile node))
 
-unfoldable pub mkdir_plan : TableState → List ℕ → Result Plan Errno
-mkdir_plan t path = do
+unfoldable pub mkdir_decided : TableState → List ℕ → Result Decided Errno
+mkdir_decided t path = do
   _ ← addable t.paths path
-  Ok (plan.Reply reply.Done)
+  Ok (tells reply.Done (change.AddName names.Directory))
 
-unfoldable pub rmdir_plan : TableState → List ℕ → Result Plan Errno
-rmdir_plan t path = do
+unfoldable pub rmdir_decided : TableState → List ℕ → Result Decided Errno
+rmdir_decided t path = do
   _ ← removed_dir t.paths path
-  Ok (plan.Reply reply.Done)
+  Ok (tells reply.Done change.RemoveDirectory)
 
--- `pipe` and `socketpair`
-abbrev pub two_ends_plan : TableState → Op → Result Plan Errno
-two_ends_plan t act = do
-  _ ← two_numbers t
+-- ## Both ends of a new object
+
+-- the numbers of its descriptors and of the object
+abbrev pub new_pair : TableState → Result NewPair Errno
+new_pair t = do
+  two ← two_numbers t
   node ← some_or (free_object t) ENFILE
-  Ok (locks node act)
+  Ok (record { first = two.0; second = two.1; node = node })
+
+abbrev pub pipe_decided : TableState → Result Decided Errno
+pipe_decided t = do
+  new ← new_pair t
+  Ok (decides (locks new.node op.Pipe) (change.MakePipe new))
+
+abbrev pub socketpair_decided : TableState → Result Decided Errno
+socketpair_decided t = do
+  new ← new_pair t
+  Ok (decides (locks new.node op.Socketpair) (change.MakeSockets new))
 
 -- what shuts an object
 abbrev pub shut_act : Description → ShutdownHow → End → Result Op Errno
@@ -288,21 +342,23 @@ shutdown_plan t descriptor how = do
   act ← shut_act found.1 how found.1.«end»
   Ok (locks found.1.node act)
 
-unfoldable pub host_open_plan : TableState → List ℕ → Access → OpenFlags → Result Plan Errno
-host_open_plan t path access flags = do
+-- ## Opening a door
+
+unfoldable pub host_open_decided : TableState → List ℕ → Access → OpenFlags → Result Decided Errno
+host_open_decided t path access flags = do
   _ ← refuse_if (flags.truncate && not (can_write access)) EINVAL
   _ ← host_path path
-  opens_plan t out.Open 0 false None
+  opens_door t (opening out.Open 0 false None) access flags.append
 
-unfoldable pub tcp_listen_plan : TableState → ℤ → Result Plan Errno
-tcp_listen_plan t port = do
+unfoldable pub tcp_listen_decided : TableState → ℤ → Result Decided Errno
+tcp_listen_decided t port = do
   asked ← port_of 0 port
-  opens_plan t out.Listen asked false None
+  opens_door t (opening out.Listen asked false None) ReadWrite false
 
-unfoldable pub tcp_connect_plan : TableState → ℤ → Result Plan Errno
-tcp_connect_plan t port = do
+unfoldable pub tcp_connect_decided : TableState → ℤ → Result Decided Errno
+tcp_connect_decided t port = do
   asked ← port_of 1 port
-  opens_plan t out.Connect asked false None
+  opens_door t (opening out.Connect asked false None) ReadWrite false
 
 -- only a listener accepts
 abbrev pub of_listener : End → Result (Unit {0}) Errno
@@ -311,46 +367,51 @@ of_listener (part.Door door.Stream) = Err EINVAL
 of_listener (part.Socket side) = Err EINVAL
 of_listener e = Err ENOTSOCK
 
-unfoldable pub tcp_accept_plan : TableState → ℤ → Result Plan Errno
-tcp_accept_plan t descriptor = do
+unfoldable pub tcp_accept_decided : TableState → ℤ → Result Decided Errno
+tcp_accept_decided t descriptor = do
   found ← described t descriptor
   _ ← of_listener found.1.«end»
-  opens_plan t out.Accept 0 (not found.1.flags.nonblock) (Some found.1.node)
+  opens_door t (opening out.Accept 0 (not found.1.flags.nonblock) (Some found.1.node)) ReadWrite false
 
-abbrev pub plan_of : TableState → Call → Result Plan Errno
-plan_of t (call.Open path access flags) = open_plan t path access flags
-plan_of t (call.Close descriptor) = close_plan t descriptor
-plan_of t (call.Read descriptor count) = read_plan t descriptor count
-plan_of t (call.Write descriptor bytes) = write_plan t descriptor (length bytes)
-plan_of t (call.Pread descriptor count position) = pread_plan t descriptor count position
-plan_of t (call.Pwrite descriptor bytes position) = pwrite_plan t descriptor (length bytes) position
-plan_of t (call.Lseek descriptor offset whence) = lseek_plan t descriptor offset whence
-plan_of t (call.Ftruncate descriptor size) = ftruncate_plan t descriptor size
-plan_of t (call.Fstat descriptor) = fstat_plan t descriptor
-plan_of t (call.Dup descriptor) = dup_plan t descriptor
-plan_of t (call.DupFrom descriptor least) = dup_from_plan t descriptor least
-plan_of t (call.Dup2 descriptor target) = dup2_plan t descriptor target
-plan_of t (call.Getfl descriptor) = getfl_plan t descriptor
-plan_of t (call.Setfl descriptor append nonblock) = setfl_plan t descriptor
-plan_of t (call.Link old_path new_path) = link_plan t old_path new_path
-plan_of t (call.Unlink path) = unlink_plan t path
-plan_of t (call.Mkdir path) = mkdir_plan t path
-plan_of t (call.Rmdir path) = rmdir_plan t path
-plan_of t call.Pipe = two_ends_plan t op.Pipe
-plan_of t call.Socketpair = two_ends_plan t op.Socketpair
-plan_of t (call.Shutdown descriptor how) = shutdown_plan t descriptor how
-plan_of t (call.HostOpen path access flags) = host_open_plan t path access flags
-plan_of t (call.TcpListen port) = tcp_listen_plan t port
-plan_of t (call.TcpConnect port) = tcp_connect_plan t port
-plan_of t (call.TcpAccept descriptor) = tcp_accept_plan t descriptor
+-- ## All calls
 
--- a call that is refused by the table is answered by it
-abbrev pub answered : Result Plan Errno → Plan
-answered (Ok p) = p
-answered (Err e) = plan.Reply (reply.Fail e)
+abbrev pub decided_of : TableState → Call → Result Decided Errno
+decided_of t (call.Open path access flags) = open_decided t path access flags
+decided_of t (call.Close descriptor) = close_decided t descriptor
+decided_of t (call.Read descriptor count) = leaves (read_plan t descriptor count)
+decided_of t (call.Write descriptor bytes) = leaves (write_plan t descriptor (length bytes))
+decided_of t (call.Pread descriptor count position) = leaves (pread_plan t descriptor count position)
+decided_of t (call.Pwrite descriptor bytes position) = leaves (pwrite_plan t descriptor (length bytes) position)
+decided_of t (call.Lseek descriptor offset whence) = leaves (lseek_plan t descriptor offset whence)
+decided_of t (call.Ftruncate descriptor size) = leaves (ftruncate_plan t descriptor size)
+decided_of t (call.Fstat descriptor) = leaves (fstat_plan t descriptor)
+decided_of t (call.Dup descriptor) = dup_decided t descriptor
+decided_of t (call.DupFrom descriptor least) = dup_from_decided t descriptor least
+decided_of t (call.Dup2 descriptor target) = dup2_decided t descriptor target
+decided_of t (call.Getfl descriptor) = leaves (getfl_plan t descriptor)
+decided_of t (call.Setfl descriptor append nonblock) = setfl_decided t descriptor append nonblock
+decided_of t (call.Link old_path new_path) = link_decided t old_path new_path
+decided_of t (call.Unlink path) = unlink_decided t path
+decided_of t (call.Mkdir path) = mkdir_decided t path
+decided_of t (call.Rmdir path) = rmdir_decided t path
+decided_of t call.Pipe = pipe_decided t
+decided_of t call.Socketpair = socketpair_decided t
+decided_of t (call.Shutdown descriptor how) = leaves (shutdown_plan t descriptor how)
+decided_of t (call.HostOpen path access flags) = host_open_decided t path access flags
+decided_of t (call.TcpListen port) = tcp_listen_decided t port
+decided_of t (call.TcpConnect port) = tcp_connect_decided t port
+decided_of t (call.TcpAccept descriptor) = tcp_accept_decided t descriptor
+
+-- a call that is refused by the table is answered by it, and changes nothing
+abbrev pub answered : Result Decided Errno → Decided
+answered (Ok d) = d
+answered (Err e) = tells (reply.Fail e) change.Nothing
 
 abbrev pub planned : TableState → Call → Plan
-planned t c = answered (plan_of t c)
+planned t c = (answered (decided_of t c)).plan
+
+abbrev pub change_of : TableState → Call → Change
+change_of t c = (answered (decided_of t c)).change
 
 -- ## Which objects calls lock
 

@@ -1,8 +1,9 @@
 ghost use Rattle.std.specs.Prelude.{◌≡◌};
 ghost use Rattle.descriptor_table.specs.Changes.{is_refused};
 
+use directories::Node;
 use file_descriptions::StatusFlags;
-use posix_terms::{End, OutKind, Reply, ShutdownHow, Side};
+use posix_terms::{Access, End, OutKind, Reply, ShutdownHow, Side};
 
 /// An open file description, as it is when the call is planned.
 #[derive(Clone, Copy, Debug, PartialEq, Eq)]
@@ -52,7 +53,7 @@ pub enum Op {
 }
 
 /// The numbers of the descriptors that a call opened, where its plan has not told them: those of `open`,
-/// `pipe`, `socketpair` and the calls that open a door, which only the change finds. Every other number
+/// `pipe`, `socketpair` and the calls that open a door, which only the change tells. Every other number
 /// of a reply is in the plan, or comes from outside.
 #[derive(Clone, Copy, Debug, PartialEq, Eq)]
 pub enum NewNumbers {
@@ -81,4 +82,70 @@ impl Plan {
     {
         matches!(self, Plan::Reply(Reply::Fail(_)))
     }
+}
+
+/// A descriptor that a change makes: its number, and the number of the object that its description is of.
+#[derive(Clone, Copy, Debug, PartialEq, Eq)]
+pub struct NewDescriptor {
+    pub number: usize,
+    pub node: usize,
+    pub access: Access,
+    pub flags: StatusFlags,
+}
+
+/// The two descriptors that a change makes for the ends of a new object, and the object's number.
+#[derive(Clone, Copy, Debug, PartialEq, Eq)]
+pub struct NewPair {
+    pub first: usize,
+    pub second: usize,
+    pub node: usize,
+}
+
+/// What a call changes in the table, where all that this needs has been looked up. The path and the kind
+/// of a new door are taken from the call, the port of a listener from the outcome.
+#[derive(Clone, Copy, Debug, PartialEq, Eq)]
+pub enum Change {
+    Nothing,
+    /// The descriptor `number` refers to the description `key` too.
+    Share {
+        number: usize,
+        key: usize,
+    },
+    /// The descriptor `number`, which refers to the description `key`, is closed.
+    Close {
+        number: usize,
+        key: usize,
+    },
+    /// The descriptor `number`, which refers to the description `target`, is closed, and refers to `key` then.
+    Replace {
+        number: usize,
+        target: usize,
+        key: usize,
+    },
+    /// The description `key` gets these flags.
+    SetFlags {
+        key: usize,
+        flags: StatusFlags,
+    },
+    /// The path of the call names this.
+    AddName(Node),
+    /// The path of the call names the file with this number no more.
+    RemoveFile(usize),
+    /// The path of the call names its directory no more.
+    RemoveDirectory,
+    /// A file that is there is opened.
+    OpenFile(NewDescriptor),
+    /// A file is made, which the path of the call names, and opened.
+    MakeFile(NewDescriptor),
+    MakePipe(NewPair),
+    MakeSockets(NewPair),
+    /// A door is opened, where the call opened one outside.
+    OpenDoor(NewDescriptor),
+}
+
+/// What the table makes of a call, and what the call changes in it.
+#[derive(Debug, PartialEq, Eq, Drop)]
+pub struct Decided {
+    pub plan: Plan,
+    pub change: Change,
 }

@@ -3,7 +3,8 @@ ghost use Rattle.descriptor_table.specs.Acts.{ActsAsStep, StaysAsStep};
 ghost use Rattle.descriptor_table.specs.Agreement.{PlansAsStep};
 ghost use Rattle.descriptor_table.specs.Table.{is_used};
 ghost use Rattle.sequential_object.specs.Names.{file_named};
-ghost use Rattle.descriptor_table.specs.Plans.{LocksKnown, addable, open_plan, close_plan, read_count, read_plan, write_plan, pread_plan, pwrite_plan, lseek_plan, ftruncate_plan, fstat_plan, dup_plan, dup_from_plan, dup2_plan, status_number, getfl_plan, setfl_plan, shutdown_plan, stat_by, two_ends_plan, act_or_ask, errand, host_open_plan, leads_outside, not_listener, of_listener, opens_plan, seekable, shut_act, tcp_accept_plan, tcp_connect_plan, tcp_listen_plan, link_plan, unlink_plan, mkdir_plan, rmdir_plan, plan_of, planned, locks, seen, release, open_there, open_new};
+ghost use Rattle.descriptor_table.specs.Changes.{CanChange};
+ghost use Rattle.descriptor_table.specs.Plans.{LocksKnown, addable, answered, opening, open_decided, close_decided, read_count, read_plan, write_plan, pread_plan, pwrite_plan, lseek_plan, ftruncate_plan, fstat_plan, dup_decided, dup_from_decided, dup2_decided, status_number, getfl_plan, setfl_decided, shutdown_plan, stat_by, new_pair, pipe_decided, socketpair_decided, act_or_ask, decided_of, decides, errand, host_open_decided, leads_outside, leaves, not_listener, of_listener, opens_door, replaces, seekable, shut_act, tcp_accept_decided, tcp_connect_decided, tcp_listen_decided, tells, link_decided, unlink_decided, mkdir_decided, rmdir_decided, planned, locks, seen, release, open_there, open_new, new_descriptor};
 ghost use Rattle.directories.specs.Entries.{node_of};
 ghost use Rattle.std.specs.Prelude.{not};
 ghost use Rattle.posix_terms.specs.Ends.{is_end};
@@ -11,10 +12,10 @@ ghost use Rattle.sequential_object.specs.Refusals.{refuse_if};
 ghost use Rattle.posix_terms.specs.declared.object.End.TheVariants as part;
 
 use crate::numbers::{check_host_path, count_of, descriptor_number, port_of, position_of, size_of};
-use crate::plan::{Errand, Op, Opened, Plan};
+use crate::plan::{Change, Decided, Errand, NewDescriptor, NewPair, Op, Opened, Plan};
 use crate::table::Table;
 use directories::Node;
-use file_descriptions::Description;
+use file_descriptions::{Description, StatusFlags, changes_keep_sound};
 use posix_terms::{
     Access, Call, Door, End, Errno, Limits, ObjectKind, OpenFlags, OutKind, Reply, ShutdownHow,
     Whence,
@@ -30,7 +31,6 @@ impl Table {
     /// of which the table shows all but contents and offsets (`step`). What the call does with the object's
     /// content and the offset, and whether it has to wait, is what the step does (`acts`), and the step leaves
     /// other objects and other offsets as they are (`others`).
-    #[tactic(auto, using(crate::proofs::KnownLemmas::known))]
     pub fn plan(&self, call: &Call) -> Plan
         ensures plan { result ≡ planned self.now call.now }
         ensures object { LocksKnown self.now (read_count call.now) result }
@@ -38,102 +38,130 @@ impl Table {
         ensures acts { ActsAsStep self.now call.now result }
         ensures others { StaysAsStep self.now call.now result }
     {
+        self.decide(call).plan
+    }
+
+    /// The plan of a call, as `plan` tells it, and with it what the call changes in the table: all that this needs
+    /// is looked up here (`can`), so that `carry_out` looks nothing up again.
+    #[tactic(auto, using(crate::proofs::KnownLemmas::known))]
+    pub fn decide(&self, call: &Call) -> Decided
+        ensures decided { result ≡ answered (decided_of self.now call.now) }
+        ensures can { CanChange self.now call.now result.change }
+        ensures object { LocksKnown self.now (read_count call.now) result.plan }
+        ensures step { PlansAsStep self.now call.now result.plan }
+        ensures acts { ActsAsStep self.now call.now result.plan }
+        ensures others { StaysAsStep self.now call.now result.plan }
+    {
         self.known();
-        match self.plan_call(call) {
-            Ok(plan) => plan,
-            Err(error) => Plan::Reply(Reply::Fail(error)),
+        changes_keep_sound();
+        match self.decide_call(call) {
+            Ok(decided) => decided,
+            Err(error) => Decided {
+                plan: Plan::Reply(Reply::Fail(error)),
+                change: Change::Nothing,
+            },
         }
     }
 
-    fn plan_call(&self, call: &Call) -> Result<Plan, Errno>
-        ensures { result ≡ plan_of self.now call.now }
+    fn decide_call(&self, call: &Call) -> Result<Decided, Errno>
+        ensures { result ≡ decided_of self.now call.now }
     {
         match call {
             Call::Open {
                 path,
                 access,
                 flags,
-            } => self.plan_open(path.as_slice(), *access, *flags),
-            Call::Close { descriptor } => self.plan_close(*descriptor),
-            Call::Read { descriptor, count } => self.plan_read(*descriptor, *count),
-            Call::Write { descriptor, bytes } => self.plan_write(
-                *descriptor,
-                bytes.as_slice().len(),
-            ),
-            Call::Pread {
+            } => self.decide_open(path.as_slice(), *access, *flags),
+            Call::Close { descriptor } => self.decide_close(*descriptor),
+            Call::Dup { descriptor } => self.decide_dup(*descriptor),
+            Call::DupFrom { descriptor, least } => self.decide_dup_from(*descriptor, *least),
+            Call::Dup2 { descriptor, target } => self.decide_dup2(*descriptor, *target),
+            Call::Setfl {
                 descriptor,
-                count,
-                position,
-            } => self.plan_pread(*descriptor, *count, *position),
-            Call::Pwrite {
-                descriptor,
-                bytes,
-                position,
-            } => self.plan_pwrite(*descriptor, bytes.as_slice().len(), *position),
-            Call::Lseek {
-                descriptor,
-                offset,
-                whence,
-            } => self.plan_lseek(*descriptor, *offset, *whence),
-            Call::Ftruncate { descriptor, size } => self.plan_ftruncate(*descriptor, *size),
-            Call::Fstat { descriptor } => self.plan_fstat(*descriptor),
-            Call::Dup { descriptor } => self.plan_dup(*descriptor),
-            Call::DupFrom { descriptor, least } => self.plan_dup_from(*descriptor, *least),
-            Call::Dup2 { descriptor, target } => self.plan_dup2(*descriptor, *target),
-            Call::Getfl { descriptor } => self.plan_getfl(*descriptor),
-            Call::Setfl { descriptor, .. } => self.plan_setfl(*descriptor),
-            Call::Link { old_path, new_path } => self.plan_link(
+                append,
+                nonblock,
+            } => self.decide_setfl(*descriptor, *append, *nonblock),
+            Call::Link { old_path, new_path } => self.decide_link(
                 old_path.as_slice(),
                 new_path.as_slice(),
             ),
-            Call::Unlink { path } => self.plan_unlink(path.as_slice()),
-            Call::Mkdir { path } => self.plan_mkdir(path.as_slice()),
-            Call::Rmdir { path } => self.plan_rmdir(path.as_slice()),
-            Call::Pipe => self.plan_two_ends(Op::Pipe),
-            Call::Socketpair => self.plan_two_ends(Op::Socketpair),
-            Call::Shutdown { descriptor, how } => self.plan_shutdown(*descriptor, *how),
+            Call::Unlink { path } => self.decide_unlink(path.as_slice()),
+            Call::Mkdir { path } => self.decide_mkdir(path.as_slice()),
+            Call::Rmdir { path } => self.decide_rmdir(path.as_slice()),
+            Call::Pipe => self.decide_pipe(),
+            Call::Socketpair => self.decide_socketpair(),
             Call::HostOpen {
                 path,
                 access,
                 flags,
-            } => self.plan_host_open(path.as_slice(), *access, *flags),
-            Call::TcpListen { port } => self.plan_listen(*port),
-            Call::TcpConnect { port } => self.plan_connect(*port),
-            Call::TcpAccept { descriptor } => self.plan_accept(*descriptor),
+            } => self.decide_host_open(path.as_slice(), *access, *flags),
+            Call::TcpListen { port } => self.decide_listen(*port),
+            Call::TcpConnect { port } => self.decide_connect(*port),
+            Call::TcpAccept { descriptor } => self.decide_accept(*descriptor),
+            Call::Read { descriptor, count } => leaves(self.plan_read(*descriptor, *count)),
+            Call::Write { descriptor, bytes } => leaves(self.plan_write(
+                *descriptor,
+                bytes.as_slice().len(),
+            )),
+            Call::Pread {
+                descriptor,
+                count,
+                position,
+            } => leaves(self.plan_pread(*descriptor, *count, *position)),
+            Call::Pwrite {
+                descriptor,
+                bytes,
+                position,
+            } => leaves(self.plan_pwrite(*descriptor, bytes.as_slice().len(), *position)),
+            Call::Lseek {
+                descriptor,
+                offset,
+                whence,
+            } => leaves(self.plan_lseek(*descriptor, *offset, *whence)),
+            Call::Ftruncate { descriptor, size } => leaves(self.plan_ftruncate(*descriptor, *size)),
+            Call::Fstat { descriptor } => leaves(self.plan_fstat(*descriptor)),
+            Call::Getfl { descriptor } => leaves(self.plan_getfl(*descriptor)),
+            Call::Shutdown { descriptor, how } => leaves(self.plan_shutdown(*descriptor, *how)),
         }
     }
 
-    #[tactic(auto, unfolding(crate::specs::Plans::open_plan, directories::specs::Lookup::looked_up))]
-    fn plan_open(&self, path: &[u8], access: Access, flags: OpenFlags) -> Result<Plan, Errno>
-        ensures { result ≡ open_plan self.now path.now access flags }
+    #[tactic(auto, unfolding(crate::specs::Plans::open_decided, directories::specs::Lookup::looked_up))]
+    fn decide_open(&self, path: &[u8], access: Access, flags: OpenFlags) -> Result<Decided, Errno>
+        ensures { result ≡ open_decided self.now path.now access flags }
     {
         if flags.truncate && !access.can_write() {
             return Err(Errno::EINVAL);
         }
         match self.names().resolve(path)? {
             Some(_) if flags.create && flags.exclusive => Err(Errno::EEXIST),
-            Some(node) => self.plan_open_there(node, flags),
-            None => self.plan_open_new(flags),
+            Some(node) => self.decide_open_there(node, access, flags),
+            None => self.decide_open_new(access, flags),
         }
     }
 
-    fn plan_open_there(&self, node: Node, flags: OpenFlags) -> Result<Plan, Errno>
-        ensures { result ≡ open_there self.now (node_of node) flags }
+    fn decide_open_there(
+        &self,
+        node: Node,
+        access: Access,
+        flags: OpenFlags,
+    ) -> Result<Decided, Errno>
+        ensures { result ≡ open_there self.now (node_of node) access flags }
     {
         let Node::File(node) = node else {
             return Err(Errno::EISDIR);
         };
-        self.free_number(0).ok_or(Errno::EMFILE)?;
-        Ok(locks(
-            node,
-            Op::Open {
-                cut: flags.truncate,
-            },
-        ))
+        let number = self.free_number(0).ok_or(Errno::EMFILE)?;
+        let op = Op::Open {
+            cut: flags.truncate,
+        };
+        Ok(Decided {
+            plan: locks(node, op),
+            change: Change::OpenFile(new_descriptor(number, node, access, flags)),
+        })
     }
 
-    fn plan_open_new(&self, flags: OpenFlags) -> Result<Plan, Errno>
-        ensures { result ≡ open_new self.now flags }
+    fn decide_open_new(&self, access: Access, flags: OpenFlags) -> Result<Decided, Errno>
+        ensures { result ≡ open_new self.now access flags }
     {
         if !flags.create {
             return Err(Errno::ENOENT);
@@ -142,16 +170,23 @@ impl Table {
             return Err(Errno::ENOSPC);
         }
         let node = self.free_object().ok_or(Errno::ENOSPC)?;
-        self.free_number(0).ok_or(Errno::EMFILE)?;
-        Ok(locks(node, Op::Open { cut: true }))
+        let number = self.free_number(0).ok_or(Errno::EMFILE)?;
+        Ok(Decided {
+            plan: locks(node, Op::Open { cut: true }),
+            change: Change::MakeFile(new_descriptor(number, node, access, flags)),
+        })
     }
 
-    #[tactic(auto, unfolding(crate::specs::Plans::close_plan))]
-    fn plan_close(&self, descriptor: i64) -> Result<Plan, Errno>
-        ensures { result ≡ close_plan self.now descriptor }
+    #[tactic(auto, unfolding(crate::specs::Plans::close_decided))]
+    fn decide_close(&self, descriptor: i64) -> Result<Decided, Errno>
+        ensures { result ≡ close_decided self.now descriptor }
     {
-        let (_, description) = self.described(descriptor)?;
-        Ok(release(&description, Reply::Done))
+        let (key, description) = self.described(descriptor)?;
+        let number = descriptor_number(descriptor, Errno::EBADF)?;
+        Ok(Decided {
+            plan: release(&description, Reply::Done),
+            change: Change::Close { number, key },
+        })
     }
 
     #[tactic(auto, unfolding(crate::specs::Plans::read_plan))]
@@ -267,41 +302,49 @@ impl Table {
         }))
     }
 
-    #[tactic(auto, unfolding(crate::specs::Plans::dup_plan))]
-    fn plan_dup(&self, descriptor: i64) -> Result<Plan, Errno>
-        ensures { result ≡ dup_plan self.now descriptor }
+    #[tactic(auto, unfolding(crate::specs::Plans::dup_decided))]
+    fn decide_dup(&self, descriptor: i64) -> Result<Decided, Errno>
+        ensures { result ≡ dup_decided self.now descriptor }
     {
-        let _ = self.described(descriptor)?;
+        let (key, _) = self.described(descriptor)?;
         let number = self.free_number(0).ok_or(Errno::EMFILE)?;
-        Ok(Plan::Reply(Reply::Number(number as i64)))
+        Ok(tells(Reply::Number(number as i64), Change::Share { number, key }))
     }
 
-    #[tactic(auto, unfolding(crate::specs::Plans::dup_from_plan))]
-    fn plan_dup_from(&self, descriptor: i64, least: i64) -> Result<Plan, Errno>
-        ensures { result ≡ dup_from_plan self.now descriptor least }
+    #[tactic(auto, unfolding(crate::specs::Plans::dup_from_decided))]
+    fn decide_dup_from(&self, descriptor: i64, least: i64) -> Result<Decided, Errno>
+        ensures { result ≡ dup_from_decided self.now descriptor least }
     {
-        let _ = self.described(descriptor)?;
+        let (key, _) = self.described(descriptor)?;
         let first = descriptor_number(least, Errno::EINVAL)?;
         let number = self.free_number(first).ok_or(Errno::EMFILE)?;
-        Ok(Plan::Reply(Reply::Number(number as i64)))
+        Ok(tells(Reply::Number(number as i64), Change::Share { number, key }))
     }
 
-    #[tactic(auto, unfolding(crate::specs::Plans::dup2_plan))]
-    fn plan_dup2(&self, descriptor: i64, target: i64) -> Result<Plan, Errno>
-        ensures { result ≡ dup2_plan self.now descriptor target }
+    #[tactic(auto, unfolding(crate::specs::Plans::dup2_decided))]
+    fn decide_dup2(&self, descriptor: i64, target: i64) -> Result<Decided, Errno>
+        ensures { result ≡ dup2_decided self.now descriptor target }
     {
-        let _ = self.described(descriptor)?;
-        let _ = descriptor_number(target, Errno::EBADF)?;
+        let (key, _) = self.described(descriptor)?;
+        let number = descriptor_number(target, Errno::EBADF)?;
+        let reply = Reply::Number(target);
         if descriptor == target {
-            return Ok(Plan::Reply(Reply::Number(target)));
+            return Ok(tells(reply, Change::Nothing));
         }
-        let Ok((_, description)) = self.described(target) else {
-            return Ok(Plan::Reply(Reply::Number(target)));
+        let Ok((target, description)) = self.described(target) else {
+            return Ok(tells(reply, Change::Share { number, key }));
         };
         if leads_outside(description.end) && description.holders == 1 {
             return Err(Errno::EBUSY);
         }
-        Ok(release(&description, Reply::Number(target)))
+        Ok(Decided {
+            plan: release(&description, reply),
+            change: Change::Replace {
+                number,
+                target,
+                key,
+            },
+        })
     }
 
     #[tactic(auto, unfolding(crate::specs::Plans::getfl_plan))]
@@ -312,57 +355,87 @@ impl Table {
         Ok(Plan::Reply(Reply::Number(status_number(&description))))
     }
 
-    #[tactic(auto, unfolding(crate::specs::Plans::setfl_plan))]
-    fn plan_setfl(&self, descriptor: i64) -> Result<Plan, Errno>
-        ensures { result ≡ setfl_plan self.now descriptor }
+    #[tactic(auto, unfolding(crate::specs::Plans::setfl_decided))]
+    fn decide_setfl(&self, descriptor: i64, append: bool, nonblock: bool) -> Result<Decided, Errno>
+        ensures { result ≡ setfl_decided self.now descriptor append nonblock }
     {
-        let _ = self.described(descriptor)?;
-        Ok(Plan::Reply(Reply::Done))
+        let (key, _) = self.described(descriptor)?;
+        let flags = StatusFlags { append, nonblock };
+        Ok(tells(Reply::Done, Change::SetFlags { key, flags }))
     }
 
-    #[tactic(auto, unfolding(crate::specs::Plans::link_plan))]
-    fn plan_link(&self, old_path: &[u8], new_path: &[u8]) -> Result<Plan, Errno>
-        ensures { result ≡ link_plan self.now old_path.now new_path.now }
+    #[tactic(auto, unfolding(crate::specs::Plans::link_decided))]
+    fn decide_link(&self, old_path: &[u8], new_path: &[u8]) -> Result<Decided, Errno>
+        ensures { result ≡ link_decided self.now old_path.now new_path.now }
     {
-        let _ = self.file_named(old_path)?;
+        let node = self.file_named(old_path)?;
         self.check_add(new_path)?;
-        Ok(Plan::Reply(Reply::Done))
+        Ok(tells(Reply::Done, Change::AddName(Node::File(node))))
     }
 
-    #[tactic(auto, unfolding(crate::specs::Plans::unlink_plan))]
-    fn plan_unlink(&self, path: &[u8]) -> Result<Plan, Errno>
-        ensures { result ≡ unlink_plan self.now path.now }
+    #[tactic(auto, unfolding(crate::specs::Plans::unlink_decided))]
+    fn decide_unlink(&self, path: &[u8]) -> Result<Decided, Errno>
+        ensures { result ≡ unlink_decided self.now path.now }
     {
         let node = self.file_named(path)?;
-        if self.is_closed(node) && self.names().links(node) == 1 {
-            return Ok(locks(node, Op::Release));
-        }
-        Ok(Plan::Reply(Reply::Done))
+        let plan = if self.is_closed(node) && self.names().links(node) == 1 {
+            locks(node, Op::Release)
+        } else {
+            Plan::Reply(Reply::Done)
+        };
+        Ok(Decided {
+            plan,
+            change: Change::RemoveFile(node),
+        })
     }
 
-    #[tactic(auto, unfolding(crate::specs::Plans::mkdir_plan))]
-    fn plan_mkdir(&self, path: &[u8]) -> Result<Plan, Errno>
-        ensures { result ≡ mkdir_plan self.now path.now }
+    #[tactic(auto, unfolding(crate::specs::Plans::mkdir_decided))]
+    fn decide_mkdir(&self, path: &[u8]) -> Result<Decided, Errno>
+        ensures { result ≡ mkdir_decided self.now path.now }
     {
         self.check_add(path)?;
-        Ok(Plan::Reply(Reply::Done))
+        Ok(tells(Reply::Done, Change::AddName(Node::Directory)))
     }
 
-    #[tactic(auto, unfolding(crate::specs::Plans::rmdir_plan))]
-    fn plan_rmdir(&self, path: &[u8]) -> Result<Plan, Errno>
-        ensures { result ≡ rmdir_plan self.now path.now }
+    #[tactic(auto, unfolding(crate::specs::Plans::rmdir_decided))]
+    fn decide_rmdir(&self, path: &[u8]) -> Result<Decided, Errno>
+        ensures { result ≡ rmdir_decided self.now path.now }
     {
         self.names().check_remove_dir(path)?;
-        Ok(Plan::Reply(Reply::Done))
+        Ok(tells(Reply::Done, Change::RemoveDirectory))
     }
 
-    // `pipe` and `socketpair`.
-    fn plan_two_ends(&self, op: Op) -> Result<Plan, Errno>
-        ensures { result ≡ two_ends_plan self.now op }
+    fn decide_pipe(&self) -> Result<Decided, Errno>
+        ensures { result ≡ pipe_decided self.now }
     {
-        let _ = self.free_two()?;
+        let new = self.new_pair()?;
+        Ok(Decided {
+            plan: locks(new.node, Op::Pipe),
+            change: Change::MakePipe(new),
+        })
+    }
+
+    fn decide_socketpair(&self) -> Result<Decided, Errno>
+        ensures { result ≡ socketpair_decided self.now }
+    {
+        let new = self.new_pair()?;
+        Ok(Decided {
+            plan: locks(new.node, Op::Socketpair),
+            change: Change::MakeSockets(new),
+        })
+    }
+
+    // The numbers of both ends of a new object, and its own.
+    fn new_pair(&self) -> Result<NewPair, Errno>
+        ensures { result ≡ new_pair self.now }
+    {
+        let (first, second) = self.free_two()?;
         let node = self.free_object().ok_or(Errno::ENFILE)?;
-        Ok(locks(node, op))
+        Ok(NewPair {
+            first,
+            second,
+            node,
+        })
     }
 
     #[tactic(auto, unfolding(crate::specs::Plans::shutdown_plan))]
@@ -374,70 +447,80 @@ impl Table {
         Ok(locks(description.node, op))
     }
 
-    #[tactic(auto, unfolding(crate::specs::Plans::host_open_plan))]
-    fn plan_host_open(&self, path: &[u8], access: Access, flags: OpenFlags) -> Result<Plan, Errno>
-        ensures { result ≡ host_open_plan self.now path.now access flags }
+    #[tactic(auto, unfolding(crate::specs::Plans::host_open_decided))]
+    fn decide_host_open(
+        &self,
+        path: &[u8],
+        access: Access,
+        flags: OpenFlags,
+    ) -> Result<Decided, Errno>
+        ensures { result ≡ host_open_decided self.now path.now access flags }
     {
         if flags.truncate && !access.can_write() {
             return Err(Errno::EINVAL);
         }
         check_host_path(path)?;
-        self.plan_opening(OutKind::Open, 0, false, None)
+        let errand = opening(OutKind::Open, 0, false, None);
+        self.decide_opening(errand, access, flags.append)
     }
 
-    #[tactic(auto, unfolding(crate::specs::Plans::tcp_listen_plan))]
-    fn plan_listen(&self, port: i64) -> Result<Plan, Errno>
-        ensures { result ≡ tcp_listen_plan self.now port }
+    #[tactic(auto, unfolding(crate::specs::Plans::tcp_listen_decided))]
+    fn decide_listen(&self, port: i64) -> Result<Decided, Errno>
+        ensures { result ≡ tcp_listen_decided self.now port }
     {
         let asked = port_of(0, port)?;
-        self.plan_opening(OutKind::Listen, asked, false, None)
+        let errand = opening(OutKind::Listen, asked, false, None);
+        self.decide_opening(errand, Access::ReadWrite, false)
     }
 
-    #[tactic(auto, unfolding(crate::specs::Plans::tcp_connect_plan))]
-    fn plan_connect(&self, port: i64) -> Result<Plan, Errno>
-        ensures { result ≡ tcp_connect_plan self.now port }
+    #[tactic(auto, unfolding(crate::specs::Plans::tcp_connect_decided))]
+    fn decide_connect(&self, port: i64) -> Result<Decided, Errno>
+        ensures { result ≡ tcp_connect_decided self.now port }
     {
         let asked = port_of(1, port)?;
-        self.plan_opening(OutKind::Connect, asked, false, None)
+        let errand = opening(OutKind::Connect, asked, false, None);
+        self.decide_opening(errand, Access::ReadWrite, false)
     }
 
-    #[tactic(auto, unfolding(crate::specs::Plans::tcp_accept_plan))]
-    fn plan_accept(&self, descriptor: i64) -> Result<Plan, Errno>
-        ensures { result ≡ tcp_accept_plan self.now descriptor }
+    #[tactic(auto, unfolding(crate::specs::Plans::tcp_accept_decided))]
+    fn decide_accept(&self, descriptor: i64) -> Result<Decided, Errno>
+        ensures { result ≡ tcp_accept_decided self.now descriptor }
     {
         let (_, description) = self.described(descriptor)?;
         check_listener(description.end)?;
         let waits = !description.flags.nonblock;
-        self.plan_opening(OutKind::Accept, 0, waits, Some(description.node))
+        let errand = opening(OutKind::Accept, 0, waits, Some(description.node));
+        self.decide_opening(errand, Access::ReadWrite, false)
     }
 
     // A call that opens a door, and may take along a listener.
-    fn plan_opening(
-        &self,
-        kind: OutKind,
-        asked: u64,
-        waits: bool,
-        door: Option<usize>,
-    ) -> Result<Plan, Errno>
-        ensures { result ≡ opens_plan self.now kind asked waits door }
+    fn decide_opening(&self, errand: Errand, access: Access, append: bool) -> Result<Decided, Errno>
+        ensures { result ≡ opens_door self.now errand access append }
     {
-        self.free_number(0).ok_or(Errno::EMFILE)?;
+        let number = self.free_number(0).ok_or(Errno::EMFILE)?;
         let node = self.free_object().ok_or(Errno::ENFILE)?;
-        Ok(Plan::Node {
-            node,
-            op: Op::Ask(Errand {
-                kind,
-                asked,
-                waits,
-                door,
+        let flags = StatusFlags {
+            append,
+            nonblock: false,
+        };
+        Ok(Decided {
+            plan: Plan::Node {
+                node,
+                op: Op::Ask(errand),
+                keep_table: true,
+            },
+            change: Change::OpenDoor(NewDescriptor {
+                number,
+                node,
+                access,
+                flags,
             }),
-            keep_table: true,
         })
     }
 
     // The file that a path names.
     #[tactic(auto, unfolding(sequential_object::specs::Names::file_named, directories::specs::Lookup::looked_up))]
-    pub(crate) fn file_named(&self, path: &[u8]) -> Result<usize, Errno>
+    fn file_named(&self, path: &[u8]) -> Result<usize, Errno>
         ensures file { result ≡ file_named self.now.paths path.now }
         ensures there { IfOk result (λ node. is_used self.now node ≡ true) }
     {
@@ -460,6 +543,54 @@ impl Table {
             return Err(Errno::ENOSPC);
         }
         Ok(())
+    }
+}
+
+// The table alone answers a call, which makes this change.
+fn tells(reply: Reply, change: Change) -> Decided
+    ensures { result ≡ tells reply change }
+{
+    Decided {
+        plan: Plan::Reply(reply),
+        change,
+    }
+}
+
+// A call that changes nothing in the table.
+fn leaves(plan: Result<Plan, Errno>) -> Result<Decided, Errno>
+    ensures { result ≡ leaves plan }
+{
+    let plan = plan?;
+    Ok(Decided {
+        plan,
+        change: Change::Nothing,
+    })
+}
+
+// The descriptor that an `open` gives.
+fn new_descriptor(number: usize, node: usize, access: Access, flags: OpenFlags) -> NewDescriptor
+    ensures { result ≡ new_descriptor number node access flags }
+{
+    NewDescriptor {
+        number,
+        node,
+        access,
+        flags: StatusFlags {
+            append: flags.append,
+            nonblock: flags.nonblock,
+        },
+    }
+}
+
+// What is asked where a door is opened.
+fn opening(kind: OutKind, asked: u64, waits: bool, door: Option<usize>) -> Errand
+    ensures { result ≡ opening kind asked waits door }
+{
+    Errand {
+        kind,
+        asked,
+        waits,
+        door,
     }
 }
 

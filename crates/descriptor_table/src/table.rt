@@ -1,14 +1,15 @@
 ghost use Rattle.std.specs.Prelude.{◌≡◌, ◌<◌, ◌≤◌, [], pos, ◌^◌, option_map, slice_index_or, slice_set, true, IfOk, IfErr, IfSome, Some, None, Ok, Err, if◌then◌else◌};
-ghost use Rattle.std.specs.FinMap as map;
+ghost use Rattle.std.specs.FinMap as fin;
+ghost use Rattle.directories.specs.Entries.{node_of};
+ghost use Rattle.sequential_object.specs.Paths.{components_of};
 ghost use Rattle.file_descriptions.specs.Descriptions.{AreSound, ContainsKey, description_at, is_last_held, with_flags, with_offset, ends_of};
-ghost use Rattle.sequential_object.specs.Names.{added, removed, removed_dir};
 ghost use Rattle.descriptor_table.specs.Shows.{Shows};
-ghost use Rattle.sequential_object.specs.Object.{State, FileNode, empty_state, Directory as a_directory};
-ghost use Rattle.descriptor_table.specs.Changes.{file_at, let_go, opened, paths_or, shared, with_object, with_paths, without_gone};
+ghost use Rattle.sequential_object.specs.Object.{State, FileNode, empty_state};
+ghost use Rattle.descriptor_table.specs.Changes.{IsFreeNumber, IsFreePath, IsNextObject, NamesUsed, Refers, let_go, opened, shared, with_file, with_object, with_paths, without_gone};
 ghost use Rattle.descriptor_table.specs.Table.{IsSound, empty_table, key_at, described, lowest_free, free_object, is_closed, is_gone, is_used, two_numbers};
 
 use crate::slots::lowest_from;
-use directories::Names;
+use directories::{Names, Node};
 use file_descriptions::{Description, Descriptions, StatusFlags};
 use posix_terms::{Access, Bytes, End, Errno, Limits};
 use std::alloc::{AllocError, Global};
@@ -200,8 +201,7 @@ impl Table {
 
     // A descriptor that is not open refers to the description of another one.
     pub(crate) fn share(&mut self, number: usize, key: usize)
-        requires inside { number < Limits.DESCRIPTORS }
-        requires free { key_at self.old (pos number) ≡ None }
+        requires free { IsFreeNumber self.old number }
         requires known { ContainsKey self.old.descriptions key }
         ensures { self.new ≡ shared self.old number key }
     {
@@ -211,8 +211,7 @@ impl Table {
 
     // A descriptor refers to its description no longer. Where that was the last one, its object is given.
     pub(crate) fn let_go(&mut self, number: usize, key: usize) -> Option<usize>
-        requires inside { number < Limits.DESCRIPTORS }
-        requires refers { key_at self.old (pos number) ≡ Some key }
+        requires refers { Refers self.old number key }
         ensures ended { result ≡ (if is_last_held self.old.descriptions key then Some (description_at self.old.descriptions key).node else None) }
         ensures left { self.new ≡ let_go self.old number key }
     {
@@ -230,11 +229,10 @@ impl Table {
         access: Access,
         flags: StatusFlags,
     ) -> usize
-        requires inside { number < Limits.DESCRIPTORS }
-        requires free { key_at self.old (pos number) ≡ None }
+        requires free { IsFreeNumber self.old number }
         requires births { self.old.descriptions.made ≤ 2 ^ 127 }
         requires there { is_used self.old node ≡ true }
-        ensures fresh { map.get self.old.descriptions.by_key result ≡ None }
+        ensures fresh { fin.get self.old.descriptions.by_key result ≡ None }
         ensures opened { self.new ≡ opened self.old number result node «end» access flags }
     {
         let key = self.descriptions.make(node, end, access, flags).unwrap();
@@ -263,28 +261,26 @@ impl Table {
         }
     }
 
-    // A new file with this name, under a number that is free.
+    // A new file, which a path names, under a number that is free.
     #[tactic(auto, using(crate::proofs::SoundLemmas::sound))]
-    pub(crate) fn make_file(&mut self, path: &[u8]) -> Result<usize, Errno>
+    pub(crate) fn make_file(&mut self, path: &[u8], node: usize)
         requires births { self.old.made_objects < 2 ^ 127 }
-        ensures ok { IfOk result (λ node. file_at self.old path.now None ≡ Ok (self.new, node)) }
-        ensures err { IfErr result (λ error. (file_at self.old path.now None ≡ Err error) × (self.new ≡ self.old)) }
-        ensures others { (self.new.descriptors ≡ self.old.descriptors) × (self.new.descriptions ≡ self.old.descriptions) }
-        ensures there { IfOk result (λ node. is_used self.new node ≡ true) }
+        requires path { IsFreePath self.old.paths path.now }
+        requires next { IsNextObject self.old node }
+        ensures made { self.new ≡ with_file self.old (fin.insert self.old.paths (components_of path.now) (FileNode node)) node }
+        ensures there { is_used self.new node ≡ true }
     {
-        let node = self.free_object().ok_or(Errno::ENOSPC)?;
-        self.names.add(path, node)?;
-        self.objects[node] = Some(self.made_objects);
-        self.made_objects += 1;
-        Ok(node)
+        let birth = self.made_objects;
+        self.names.insert(path, Node::File(node));
+        self.objects[node] = Some(birth);
+        self.made_objects = birth + 1;
     }
 
     // A new object that no path names.
     #[tactic(auto, using(crate::proofs::SoundLemmas::sound))]
     pub(crate) fn make_object(&mut self, node: usize)
         requires births { self.old.made_objects < 2 ^ 127 }
-        requires free { slice_index_or self.old.objects node None ≡ None }
-        requires inside { node < Limits.OBJECTS }
+        requires next { IsNextObject self.old node }
         ensures made { self.new ≡ with_object self.old node }
         ensures there { is_used self.new node ≡ true }
     {
@@ -301,38 +297,21 @@ impl Table {
         self.descriptions.set_flags(key, flags);
     }
 
-    // A new name for a file.
+    // A new name, of a file or of a new directory.
     #[tactic(auto, using(crate::proofs::SoundLemmas::sound))]
-    pub(crate) fn add_name(&mut self, path: &[u8], node: usize)
-        requires { is_used self.old node ≡ true }
-        ensures { self.new ≡ with_paths self.old (paths_or self.old.paths (added self.old.paths path.now (FileNode node))) }
+    pub(crate) fn add_name(&mut self, path: &[u8], node: Node)
+        requires path { IsFreePath self.old.paths path.now }
+        requires used { NamesUsed self.old (node_of node) }
+        ensures { self.new ≡ with_paths self.old (fin.insert self.old.paths (components_of path.now) (node_of node)) }
     {
-        let _ = self.names.add(path, node);
+        self.names.insert(path, node);
     }
 
-    // A new directory.
+    // A name less.
     #[tactic(auto, using(crate::proofs::SoundLemmas::sound))]
-    pub(crate) fn make_dir(&mut self, path: &[u8])
-        ensures { self.new ≡ with_paths self.old (paths_or self.old.paths (added self.old.paths path.now a_directory)) }
+    pub(crate) fn remove_name(&mut self, path: &[u8])
+        ensures { self.new ≡ with_paths self.old (fin.remove self.old.paths (components_of path.now)) }
     {
-        let _ = self.names.make_dir(path);
-    }
-
-    // A directory less.
-    #[tactic(auto, using(crate::proofs::SoundLemmas::sound))]
-    pub(crate) fn remove_dir(&mut self, path: &[u8])
-        ensures { self.new ≡ with_paths self.old (paths_or self.old.paths (removed_dir self.old.paths path.now)) }
-    {
-        let _ = self.names.remove_dir(path);
-    }
-
-    // A name of a file less.
-    #[tactic(auto, using(crate::proofs::SoundLemmas::sound))]
-    pub(crate) fn remove_name(&mut self, path: &[u8]) -> Result<usize, Errno>
-        ensures ok { IfOk result (λ node. removed self.old.paths path.now ≡ Ok (self.new.paths, node)) }
-        ensures others { self.new ≡ with_paths self.old self.new.paths }
-        ensures err { IfErr result (λ error. (removed self.old.paths path.now ≡ Err error) × (self.new ≡ self.old)) }
-    {
-        self.names.remove(path)
+        self.names.remove_name(path);
     }
 }

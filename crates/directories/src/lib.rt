@@ -3,7 +3,7 @@
 //!
 //! [`Names`] map whole paths to [`Node`]s: a file, by the number of its object, or a directory.
 //! `add`, `remove`, `make_dir` and `remove_dir` change them, `resolve` looks a path up, and `links`
-//! counts the names of a file. A refusal is an error of POSIX, as `ENOENT` or `ENOTDIR`, or
+//! counts the names of a file. A caller that has looked changes them by `insert` and `remove_name`. A refusal is an error of POSIX, as `ENOENT` or `ENOTDIR`, or
 //! `ENOSPC` where there are as many names as there may be; then nothing changes. No call takes
 //! memory. Contracts see the finite map from whole paths to what they name.
 //!

@@ -118,6 +118,27 @@ impl Names {
         }
     }
 
+    /// Gives a new name, for which there is room: the path is one of which `resolve` found that it names nothing, and it
+    /// is not looked up again. `add` and `make_dir` look first.
+    #[tactic(auto, using(crate::proofs::NameLemmas::entries))]
+    pub fn insert(&mut self, path: &[u8], node: Node)
+        requires room { fin.len self.old < Limits.NAMES }
+        requires fits { length path.now ≤ Limits.PATH_BYTES }
+        requires missing { fin.get self.old (components_of path.now) ≡ None }
+        ensures { self.new ≡ fin.insert self.old (components_of path.now) (node_of node) }
+    {
+        let path = ArrayVec::try_from(path).unwrap();
+        self.entries.push(Entry { path, node });
+    }
+
+    /// Takes a name away, if it is there. What it names, and whether anything is inside, is the caller's to know:
+    /// `remove` and `remove_dir` look first.
+    pub fn remove_name(&mut self, path: &[u8])
+        ensures { self.new ≡ fin.remove self.old (components_of path.now) }
+    {
+        self.remove_entry(path, component_count(path));
+    }
+
     /// Whether there are as many names as there may be.
     #[tactic(auto, using(crate::proofs::NameLemmas::entries))]
     pub fn is_full(&self) -> bool
@@ -206,18 +227,6 @@ impl Names {
         }
         self.insert(path, node);
         Ok(())
-    }
-
-    // A new name, for which there is room.
-    #[tactic(auto, using(crate::proofs::NameLemmas::entries))]
-    fn insert(&mut self, path: &[u8], node: Node)
-        requires room { fin.len self.old < Limits.NAMES }
-        requires fits { length path.now ≤ Limits.PATH_BYTES }
-        requires missing { fin.get self.old (components_of path.now) ≡ None }
-        ensures { self.new ≡ fin.insert self.old (components_of path.now) (node_of node) }
-    {
-        let path = ArrayVec::try_from(path).unwrap();
-        self.entries.push(Entry { path, node });
     }
 
     // Without the entry of a path, if there is one.

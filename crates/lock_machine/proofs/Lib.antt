@@ -19,3 +19,4 @@ pub mod Resting
 pub mod Parting
 pub mod Beginning
 pub mod ShownPhases
+pub mod Wanting

@@ -2,6 +2,7 @@ pub mod Lives
 pub mod Rooms
 pub mod Births
 pub mod Waiting
+pub mod Wanted
 pub mod Threads
 pub mod Views
 pub mod Whole

@@ -1,8 +1,10 @@
-ghost use Rattle.std.specs.Prelude.{◌≡◌, ◌+◌, ◌<◌, ◌≤◌, ◌^◌, ℕ, true, false, IfOk, OnErr, length};
+ghost use Rattle.std.specs.Prelude.{◌≡◌, ◌+◌, ◌<◌, ◌≤◌, ◌^◌, ℕ, List, true, false, IfOk, OnErr, length};
 ghost use Rattle.logical_clocks.specs.ThreadClocks.{clock_at};
 ghost use Rattle.lock_model.specs.Held.{last_call};
 ghost use Rattle.lock_machine.specs.Asking.{Asks, Ends, GoesAgain, HasTime, Works, after_want};
 ghost use Rattle.lock_machine.specs.Lives.{is_live};
+ghost use Rattle.lock_machine.specs.Wanted.{BringsNoCall};
+ghost use Rattle.posix_terms.specs.declared.transcript.HistoryRow.{HistoryRow as SeenRow};
 ghost use Rattle.lock_machine.specs.Threads.{KeepsOthers, timed};
 ghost use Rattle.lock_machine.specs.Waiting.{HasRoom, KeepsRoom, is_call, rows_due};
 
@@ -22,6 +24,7 @@ impl Thread {
         ensures time { OnErr result (HasTime step (timed self.old (clock_at clocks.old i))) }
         ensures others { KeepsOthers i self.old clocks.old self.new clocks.new }
         ensures due { is_call step ≡ false → rows_due self.new.phase ≤ rows_due self.old.phase }
+        ensures brings { (rows : List SeenRow) → BringsNoCall self.old.phase rows self.new.phase rows }
     {
         match step {
             Step::Work(amount) => self.work(clocks, i, amount),
@@ -51,6 +54,7 @@ impl Thread {
         ensures event { IfOk result (λ moved. (moved ≡ true) × ((clock : ℕ) → timed self.new clock ≡ after_want call (timed self.old clock))) }
         ensures err { OnErr result (self.new ≡ self.old) }
         ensures live { is_live self.old.phase ≡ true → is_live self.new.phase ≡ true }
+        ensures brings { (rows : List SeenRow) → BringsNoCall self.old.phase rows self.new.phase rows }
     {
         let room = self.room.for_call(&call)?;
         self.asked.push(Step::Call(call.try_clone()?))?;
@@ -69,6 +73,7 @@ impl Thread {
         ensures event { Ends result (timed self.old (clock_at clocks.old i)) (timed self.new (clock_at clocks.new i)) }
         ensures others { KeepsOthers i self.old clocks.old self.new clocks.new }
         ensures due { rows_due self.new.phase ≤ rows_due self.old.phase }
+        ensures brings { (rows : List SeenRow) → BringsNoCall self.old.phase rows self.new.phase rows }
     {
         if self.asked.has_end() {
             return false;
@@ -84,6 +89,7 @@ impl Thread {
         ensures event { IfOk result (λ moved. (clock : ℕ) → GoesAgain moved (timed self.old clock) (timed self.new clock)) }
         ensures err { OnErr result (self.new ≡ self.old) }
         ensures live { is_live self.old.phase ≡ is_live self.new.phase }
+        ensures brings { (rows : List SeenRow) → BringsNoCall self.old.phase rows self.new.phase rows }
     {
         let Phase::Blocked { carried } = self.phase else {
             return Ok(false);

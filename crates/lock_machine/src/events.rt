@@ -1,4 +1,4 @@
-ghost use Rattle.std.specs.Prelude.{◌≡◌, ◌++◌, ◌∷◌, [], ◌*◌, ◌<◌, ◌≤◌, ◌^◌, ◌&&◌, ℕ, true, length};
+ghost use Rattle.std.specs.Prelude.{◌≡◌, ◌++◌, ◌∷◌, [], ◌*◌, ◌<◌, ◌≤◌, ◌^◌, ◌&&◌, ℕ, Some, true, false, length};
 ghost use Rattle.det_mutex.specs.Attempt.{takes};
 ghost use Rattle.lock_model.specs.Machine.{is_number};
 ghost use Rattle.logical_clocks.specs.ThreadClocks.{clock_at};
@@ -6,19 +6,19 @@ ghost use Rattle.posix_terms.specs.declared.limits.TheConstants.Limits as limit;
 ghost use Rattle.lock_machine.specs.Births.{BearsInTime, BornWithin, time_of};
 ghost use Rattle.lock_machine.specs.Events.{Answers, Grants, granted_row, wants_to_keep, GrantsObject, PlansTo, Reaches, Tries, object_taken, parts};
 ghost use Rattle.lock_machine.specs.Lives.{is_live};
+ghost use Rattle.lock_machine.specs.Wanted.{BringsNoCall, KeepsCalls, KeepsWanted, HasDecided, HasDecidedAt};
 ghost use Rattle.lock_machine.specs.Held.{phase_behind, phase_started, told_as};
 ghost use Rattle.lock_machine.specs.Threads.{KeepsOthers, timed};
 ghost use Rattle.lock_machine.specs.Waiting.{HasRoom, KeepsRoom, rows_due};
 ghost use Rattle.object_store.specs.Patience.{turn_bytes};
 ghost use Rattle.object_store.specs.Space.{HasSpaceFor};
-ghost use Rattle.object_store.specs.Store.{Stored, number_locked};
+ghost use Rattle.object_store.specs.Store.{IsDecided, Stored, number_locked};
 
 use crate::machine::Shared;
-use crate::outside::keeps_table;
 use crate::thread::{Outing, Phase, Thread};
 use det_mutex::DetLock;
 use logical_clocks::Clocks;
-use object_store::{AtTable, Room, TurnEnd, TurnStart};
+use object_store::{AtTable, Locking, Room, TurnEnd, TurnStart, keeps_table};
 use posix_terms::{Answer, Call, Carried, HistoryRow, Turn};
 use std::mem;
 
@@ -39,6 +39,9 @@ pub fn answer(
     ensures others { KeepsOthers i thread.old clocks.old thread.new clocks.new }
     ensures rows { length rows.new.items ≡ length rows.old.items }
     ensures room { KeepsRoom (rows_due thread.old.phase) rows.old (rows_due thread.new.phase) rows.new }
+    ensures brings { BringsNoCall thread.old.phase rows.old.items thread.new.phase rows.new.items }
+    ensures calls { KeepsCalls rows.old.items rows.new.items }
+    ensures holders { (k : ℕ) → lock.new.holder ≡ Some k → lock.old.holder ≡ Some k }
 {
     if !holds(*lock, i) {
         return None;
@@ -117,10 +120,13 @@ pub fn try_table(
     requires few { length clocks.old ≤ limit.THREADS }
     requires born { BornWithin (2 * time_of clocks.old) shared.old.store }
     requires row { HasRoom (rows_due thread.old.phase) shared.old.rows }
+    requires decided { HasDecidedAt i thread.old.phase shared.old.lock shared.old.rows.items shared.old.store shared.old.wanted }
     ensures event { Tries patience result i (parts (timed thread.old (clock_at clocks.old i)) shared.old.lock shared.old.store shared.old.rows.items) (parts (timed thread.new (clock_at clocks.new i)) shared.new.lock shared.new.store shared.new.rows.items) }
     ensures others { KeepsOthers i thread.old clocks.old thread.new clocks.new }
     ensures births { BearsInTime (clock_at clocks.old i) shared.old.store (clock_at clocks.new i) shared.new.store }
     ensures room { KeepsRoom (rows_due thread.old.phase) shared.old.rows (rows_due thread.new.phase) shared.new.rows }
+    ensures decided { HasDecidedAt i thread.new.phase shared.new.lock shared.new.rows.items shared.new.store shared.new.wanted }
+    ensures wanted { KeepsWanted i shared.old.lock shared.old.rows.items shared.old.store shared.old.wanted shared.new.lock shared.new.rows.items shared.new.store shared.new.wanted }
 {
     match mem::replace(&mut thread.phase, Phase::Working) {
         Phase::WantsTable { call, carried } => {
@@ -156,10 +162,13 @@ fn plan(
     requires born { BornWithin (2 ^ 126) shared.old.store }
     requires row { HasRoom 1 shared.old.rows }
     requires room { HasSpaceFor call thread.old.room }
+    requires holds { shared.old.lock.holder ≡ Some turn.thread }
     ensures event { (clock : ℕ) → PlansTo patience (number_locked shared.old.store call carried) turn call carried (parts (timed thread.old clock) shared.old.lock shared.old.store shared.old.rows.items) (parts (timed thread.new clock) shared.new.lock shared.new.store shared.new.rows.items) }
     ensures live { is_live thread.old.phase ≡ true → is_live thread.new.phase ≡ true }
     ensures births { BearsInTime 0 shared.old.store 1 shared.new.store }
     ensures room { KeepsRoom 1 shared.old.rows (rows_due thread.new.phase) shared.new.rows }
+    ensures decided { HasDecided thread.new.phase shared.new.rows.items shared.new.store shared.new.wanted }
+    ensures lock { shared.new.lock ≡ shared.old.lock }
 {
     match shared.store.settle_or_lock(&call, carried) {
         AtTable::Answers(reply) => {
@@ -171,13 +180,14 @@ fn plan(
                 ends: TurnEnd::Reply(reply),
             };
         }
-        AtTable::Locks(object) => {
+        AtTable::Locks(locking) => {
             thread.phase = Phase::WantsObject {
                 call,
                 carried,
                 clock: turn.clock,
-                object,
+                object: locking.object,
             };
+            shared.wanted = Some(locking);
         }
     }
 }
@@ -196,10 +206,13 @@ pub fn try_object(
     requires few { length clocks.old ≤ limit.THREADS }
     requires born { BornWithin (2 * time_of clocks.old) shared.old.store }
     requires row { HasRoom (rows_due thread.old.phase) shared.old.rows }
+    requires decided { HasDecidedAt i thread.old.phase shared.old.lock shared.old.rows.items shared.old.store shared.old.wanted }
     ensures event { Reaches patience result i lock.old lock.new (parts (timed thread.old (clock_at clocks.old i)) shared.old.lock shared.old.store shared.old.rows.items) (parts (timed thread.new (clock_at clocks.new i)) shared.new.lock shared.new.store shared.new.rows.items) }
     ensures others { KeepsOthers i thread.old clocks.old thread.new clocks.new }
     ensures births { BearsInTime (clock_at clocks.old i) shared.old.store (clock_at clocks.new i) shared.new.store }
     ensures room { KeepsRoom (rows_due thread.old.phase) shared.old.rows (rows_due thread.new.phase) shared.new.rows }
+    ensures decided { HasDecidedAt i thread.new.phase shared.new.lock shared.new.rows.items shared.new.store shared.new.wanted }
+    ensures wanted { KeepsWanted i shared.old.lock shared.old.rows.items shared.old.store shared.old.wanted shared.new.lock shared.new.rows.items shared.new.store shared.new.wanted }
 {
     let Phase::WantsObject { .. } = thread.phase else {
         return false;
@@ -236,10 +249,13 @@ fn wants_to_keep(phase: &Phase) -> bool
 fn grant_object(patience: u32, i: usize, thread: &mut Thread, shared: &mut Shared)
     requires born { BornWithin (2 ^ 126) shared.old.store }
     requires row { HasRoom 1 shared.old.rows }
+    requires decided { HasDecided thread.old.phase shared.old.rows.items shared.old.store shared.old.wanted }
     ensures event { (clock : ℕ) → GrantsObject patience thread.old.phase i (parts (timed thread.old clock) shared.old.lock shared.old.store shared.old.rows.items) (parts (timed thread.new clock) shared.new.lock shared.new.store shared.new.rows.items) }
     ensures live { is_live thread.old.phase ≡ true → is_live thread.new.phase ≡ true }
     ensures births { BearsInTime 0 shared.old.store 1 shared.new.store }
     ensures room { KeepsRoom 1 shared.old.rows (rows_due thread.new.phase) shared.new.rows }
+    ensures decided { HasDecided thread.new.phase shared.new.rows.items shared.new.store shared.new.wanted }
+    ensures lock { shared.new.lock ≡ shared.old.lock }
 {
     match mem::replace(&mut thread.phase, Phase::Working) {
         Phase::WantsObject {
@@ -247,15 +263,15 @@ fn grant_object(patience: u32, i: usize, thread: &mut Thread, shared: &mut Share
             carried,
             clock,
             object,
-        } => grant(
-            patience,
-            Turn { clock, thread: i },
-            call,
-            carried,
-            Some(object),
-            thread,
-            shared,
-        ),
+        } => {
+            let Some(locking) = shared.wanted else {
+                unreachable!()
+            };
+            let turn = Turn { clock, thread: i };
+            grant(
+                patience, turn, call, carried, object, locking, thread, shared,
+            );
+        }
         phase => thread.phase = phase,
     }
 }
@@ -273,28 +289,33 @@ fn taken_object(table: DetLock, object: DetLock, i: usize, clock: u64) -> Option
     }
 }
 
-// A call that carries this gets its turn and a row of the history, and is made.
+// A call that carries this gets its turn and a row of the history, and is made as it was decided.
 fn grant(
     patience: u32,
     turn: Turn,
     call: Call,
     carried: Carried,
-    object: Option<usize>,
+    object: usize,
+    locking: Locking,
     thread: &mut Thread,
     shared: &mut Shared,
 )
     requires born { BornWithin (2 ^ 126) shared.old.store }
     requires row { HasRoom 1 shared.old.rows }
     requires room { HasSpaceFor call thread.old.room }
-    ensures event { (clock : ℕ) → Grants patience turn call carried object (parts (timed thread.old clock) shared.old.lock shared.old.store shared.old.rows.items) (parts (timed thread.new clock) shared.new.lock shared.new.store shared.new.rows.items) }
+    requires decided { IsDecided shared.old.store call locking }
+    requires wanted { shared.old.wanted ≡ Some locking }
+    ensures event { (clock : ℕ) → Grants patience turn call carried (Some object) (parts (timed thread.old clock) shared.old.lock shared.old.store shared.old.rows.items) (parts (timed thread.new clock) shared.new.lock shared.new.store shared.new.rows.items) }
     ensures live { is_live thread.old.phase ≡ true → is_live thread.new.phase ≡ true }
     ensures births { BearsInTime 0 shared.old.store 1 shared.new.store }
     ensures room { KeepsRoom 1 shared.old.rows (rows_due thread.new.phase) shared.new.rows }
+    ensures decided { HasDecided thread.new.phase shared.new.rows.items shared.new.store shared.new.wanted }
+    ensures lock { shared.new.lock ≡ shared.old.lock }
 {
     let start = thread
         .room
-        .make(&mut shared.store, &call, patience, carried);
-    thread.phase = seat(turn, call, carried, object, start, &mut shared.rows);
+        .make(&mut shared.store, &call, locking, patience, carried);
+    thread.phase = seat(turn, call, carried, Some(object), start, &mut shared.rows);
 }
 
 // A call whose turn started so gets a row of the history; this is the phase of its thread then.

@@ -5,6 +5,7 @@ ghost use Rattle.lock_machine.specs.Births.{BornWithin, time_of};
 ghost use Rattle.lock_machine.specs.Lives.{Agree};
 ghost use Rattle.lock_machine.specs.Threads.{Thread as Seen};
 ghost use Rattle.lock_machine.specs.Views.{clocks_of};
+ghost use Rattle.lock_machine.specs.Wanted.{AllHaveDecided};
 ghost use Rattle.lock_machine.specs.Waiting.{HasRoom, waiting};
 ghost use Rattle.lock_machine.specs.Whole.{settings_in, thread_at};
 
@@ -12,7 +13,7 @@ use crate::asked::Asked;
 use crate::thread::{Phase, Thread};
 use det_mutex::DetLock;
 use logical_clocks::Clocks;
-use object_store::Store;
+use object_store::{Locking, Store};
 use posix_terms::{HistoryRow, Settings, Step};
 use std::marker::Model;
 
@@ -22,6 +23,8 @@ pub struct Shared {
     pub lock: DetLock,
     pub store: Store,
     pub rows: Vec<HistoryRow>,
+    // what was decided of the last call that was to lock an object: it holds as long as that call's thread keeps the table
+    pub wanted: Option<Locking>,
 }
 
 /// Threads that share one table of descriptors, by locks that they take at their turns: the lock machine of `lock_model`, made run. It
@@ -45,6 +48,8 @@ pub struct LockMachine {
     ghost births: { BornWithin (2 * time_of clocks) shared.store },
     // a call that waits for a lock finds room for its row
     ghost room: { HasRoom (waiting threads.items) shared.rows },
+    // what was decided of a call holds until it is granted, or answered where it keeps the table
+    ghost wanted: { AllHaveDecided threads.items shared.lock shared.rows.items shared.store shared.wanted },
 }
 
 impl Model for LockMachine {

@@ -1,10 +1,11 @@
-ghost use Rattle.std.specs.Prelude.{◌≡◌, ◌+◌, ◌*◌, ◌<◌, ◌≤◌, ◌^◌, ◌&&◌, ◌||◌, not, ℕ, true, Some, length, nat_lt, slice_get};
+ghost use Rattle.std.specs.Prelude.{◌≡◌, ◌+◌, ◌*◌, ◌<◌, ◌≤◌, ◌^◌, ◌&&◌, ◌||◌, not, ℕ, List, true, false, Some, length, nat_lt, slice_get};
 ghost use Rattle.lock_model.specs.Machine.{is_number};
+ghost use Rattle.posix_terms.specs.declared.transcript.HistoryRow.{HistoryRow as SeenRow};
 ghost use Rattle.logical_clocks.specs.ThreadClocks.{clock_at};
-ghost use Rattle.sequential_object.specs.Locked.{keeps_table};
 ghost use Rattle.posix_terms.specs.declared.limits.TheConstants.Limits as limit;
 ghost use Rattle.lock_machine.specs.Births.{BearsInTime, BornWithin, time_of};
 ghost use Rattle.lock_machine.specs.Lives.{is_live};
+ghost use Rattle.lock_machine.specs.Wanted.{IsWanted, BringsNoCall, KeepsCalls, LeavesWanted, HasDecidedAt};
 ghost use Rattle.lock_machine.specs.Outings.{AnswersOutside, Begins, EndsTurn, Records, answer_cost, answers_errand, outside_parts, progress_by, recorded_parts, table_freed};
 ghost use Rattle.lock_machine.specs.Threads.{KeepsOthers, timed};
 ghost use Rattle.lock_machine.specs.declared.thread.Phase.TheVariants as phase;
@@ -18,7 +19,7 @@ use crate::thread::{Outing, Phase, Thread};
 use descriptor_table::Errand;
 use det_mutex::DetLock;
 use logical_clocks::Clocks;
-use object_store::{Room, Store, TurnEnd};
+use object_store::{Locking, Room, Store, TurnEnd};
 use posix_terms::{Answer, Call, Given, HistoryRow, Limits, Outcome};
 
 /// How far an event comes that needs no turn.
@@ -30,19 +31,6 @@ pub enum Progress {
     Stays,
     /// the outcome that is there does not answer what was asked
     Diverges,
-}
-
-// Whether a call keeps the table to its answer, if it goes outside.
-pub fn keeps_table(call: &Call) -> bool
-    ensures { result ≡ keeps_table call.now }
-{
-    matches!(
-        call,
-        Call::HostOpen { .. }
-            | Call::TcpListen { .. }
-            | Call::TcpConnect { .. }
-            | Call::TcpAccept { .. }
-    )
 }
 
 // `begin_outside`, for the cost of a door: where the thread can have one more outcome.
@@ -58,6 +46,7 @@ pub fn begin_outside(
     ensures event { Begins door_cost outing result (timed thread.old (clock_at clocks.old i)) (timed thread.new (clock_at clocks.new i)) }
     ensures others { KeepsOthers i thread.old clocks.old thread.new clocks.new }
     ensures due { rows_due thread.new.phase ≤ rows_due thread.old.phase }
+    ensures brings { (rows : List SeenRow) → BringsNoCall thread.old.phase rows thread.new.phase rows }
 {
     if thread.came >= Limits::OUTCOMES {
         return false;
@@ -103,6 +92,8 @@ pub fn record(
     ensures event { (clock : ℕ) → Records result outing given (recorded_parts (timed thread.old clock) rows.old.items) (recorded_parts (timed thread.new clock) rows.new.items) }
     ensures live { is_live thread.old.phase ≡ true → is_live thread.new.phase ≡ true }
     ensures room { KeepsRoom (rows_due thread.old.phase) rows.old (rows_due thread.new.phase) rows.new }
+    ensures brings { BringsNoCall thread.old.phase rows.old.items thread.new.phase rows.new.items }
+    ensures calls { KeepsCalls rows.old.items rows.new.items }
 {
     if !answers(outing.errand, &given) {
         return Progress::Diverges;
@@ -134,10 +125,13 @@ pub fn answer_outside(
     requires recorded { thread.old.phase ≡ phase.Recorded outing }
     requires few { length clocks.old ≤ limit.THREADS }
     requires born { BornWithin (2 * time_of clocks.old) shared.old.store }
+    requires decided { HasDecidedAt i thread.old.phase shared.old.lock shared.old.rows.items shared.old.store shared.old.wanted }
     ensures event { AnswersOutside patience result i outing (outside_parts (timed thread.old (clock_at clocks.old i)) lock.old shared.old.lock shared.old.store shared.old.rows.items) (outside_parts (timed thread.new (clock_at clocks.new i)) lock.new shared.new.lock shared.new.store shared.new.rows.items) }
     ensures others { KeepsOthers i thread.old clocks.old thread.new clocks.new }
     ensures births { BearsInTime (clock_at clocks.old i) shared.old.store (clock_at clocks.new i) shared.new.store }
     ensures room { KeepsRoom (rows_due thread.old.phase) shared.old.rows (rows_due thread.new.phase) shared.new.rows }
+    ensures brings { BringsNoCall thread.old.phase shared.old.rows.items thread.new.phase shared.new.rows.items }
+    ensures wanted { (k : ℕ) → shared.new.lock.holder ≡ Some k → LeavesWanted k shared.old.lock shared.old.rows.items shared.old.store shared.old.wanted shared.new.rows.items shared.new.store shared.new.wanted }
 {
     if !holds_locks(outing, i, *lock, shared.lock) {
         return None;
@@ -155,6 +149,7 @@ pub fn answer_outside(
     let end = end_turn(
         outing,
         &row.call,
+        shared.wanted,
         outcome,
         patience,
         &mut shared.store,
@@ -195,6 +190,7 @@ fn free_table(keeps_table: bool, i: usize, clock: u64, table: &mut DetLock)
 fn end_turn(
     outing: Outing,
     call: &Call,
+    wanted: Option<Locking>,
     outcome: &Outcome,
     patience: u32,
     store: &mut Store,
@@ -203,12 +199,17 @@ fn end_turn(
     requires born { BornWithin (2 ^ 126) store.old }
     requires asked { bytes_asked outing.errand ≤ room.old.told }
     requires copy { room.old.told ≤ room.old.row }
+    requires decided { outing.keeps_table ≡ true → IsWanted store.old call.now wanted }
     ensures event { EndsTurn outing.keeps_table patience outing call.now outcome.now result store.old store.new }
     ensures copy { turn_bytes result ≤ room.new.row }
     ensures births { BearsInTime 0 store.old 1 store.new }
+    ensures kept { outing.keeps_table ≡ false → store.new ≡ store.old }
 {
     if !outing.keeps_table {
         return room.end_outside(outing.errand, outcome, patience, outing.carried);
     }
-    store.open_door(call, outcome, patience, outing.carried)
+    let Some(locking) = wanted else {
+        unreachable!()
+    };
+    store.open_door(call, locking, outcome, patience, outing.carried)
 }

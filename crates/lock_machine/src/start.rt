@@ -28,6 +28,7 @@ impl LockMachine {
                 lock: DetLock::new(),
                 store: Store::new(alloc)?,
                 rows: Vec::new(alloc),
+                wanted: None,
             },
             objects: vec![in alloc; DetLock::new(); Limits::OBJECTS]?,
         })

@@ -18,15 +18,18 @@ use Rattle.posix_terms.specs.declared.limits.TheConstants.Limits as limit
 use Rattle.posix_terms.specs.declared.object.Door.TheVariants as door
 use Rattle.posix_terms.specs.declared.object.End.{End}
 use Rattle.posix_terms.specs.declared.object.End.TheVariants as part
-use Rattle.posix_terms.specs.declared.outcome.OutKind.{OutKind}
 use Rattle.posix_terms.specs.declared.outcome.OutKind.TheVariants as out
 use Rattle.posix_terms.specs.declared.reply.Reply.TheVariants as reply
 use Rattle.file_descriptions.specs.declared.description.Description.{Description}
 use Rattle.descriptor_table.specs.Agreement.{object_of}
 use Rattle.descriptor_table.specs.Laws.{RefersAlike, TableFollows}
 use Rattle.descriptor_table.specs.Laws.RefersAlike.{Open, Shut}
-use Rattle.descriptor_table.specs.Plans.{act_or_ask, answered, close_plan, errand, host_open_plan, leads_outside, locks, lseek_plan, not_listener, of_listener, opens_plan, plan_of, planned, read_plan, seekable, seen, shut_act, shutdown_plan, tcp_accept_plan, tcp_connect_plan, tcp_listen_plan, write_plan}
+use Rattle.posix_terms.specs.declared.call.Access.{Access}
+use Rattle.posix_terms.specs.declared.call.Access.TheVariants.{ReadWrite}
+use Rattle.sequential_object.specs.Duplicates.{descriptor_number}
+use Rattle.descriptor_table.specs.Plans.{act_or_ask, answered, close_decided, decided_of, errand, host_open_decided, leads_outside, leaves, locks, lseek_plan, not_listener, of_listener, opening, opens_door, planned, read_plan, seekable, seen, shut_act, shutdown_plan, tcp_accept_decided, tcp_connect_decided, tcp_listen_decided, write_plan}
 use Rattle.descriptor_table.specs.Table.{TableState, described, free_object, lowest_free}
+use Rattle.descriptor_table.specs.declared.plan.Decided.{Decided}
 use Rattle.descriptor_table.specs.declared.plan.Errand.{Errand}
 use Rattle.descriptor_table.specs.declared.plan.Op.{Op}
 use Rattle.descriptor_table.specs.declared.plan.Op.TheVariants as op
@@ -59,9 +62,14 @@ abbrev TakesDoor : TableState → Call → Plan → Type 0
 TakesDoor t c (plan.Node node (op.Ask errand) keep) = errand.door ≡ door_planned t c node
 TakesDoor t c p = Unit {0}
 
-along : {A : Type 0} (P : Plan → Type 0) (r : Result A Errno) (f : A → Result Plan Errno) → ((x : A) → r ≡ Ok x → IfOk (f x) P) → IfOk (r >>= f) P
+along : {A B : Type 0} (P : B → Type 0) (r : Result A Errno) (f : A → Result B Errno) → ((x : A) → r ≡ Ok x → IfOk (f x) P) → IfOk (r >>= f) P
 along P (Ok x) f each = each x refl
 along P (Err e) f each = tt
+
+-- of a call that changes nothing in the table
+left : (P : Plan → Type 0) (r : Result Plan Errno) → IfOk r P → IfOk (leaves r) (λ d. P d.plan)
+left P (Ok p) holds = holds
+left P (Err e) holds = tt
 
 by_test : (P : Plan → Type 0) (b : Bool) (p q : Plan) → P p → P q → P (if b then p else q)
 by_test P true p q first second = first
@@ -89,54 +97,59 @@ module _ (t : TableState) where
   shuts_with c node (Ok act) has = has
   shuts_with c node (Err e) has = tt
 
-  opens : (c : Call) (k : OutKind) (asked : ℕ) (waits : Bool) (listener : Option ℕ) → ((node : ℕ) → listener ≡ door_planned t c node) → IfOk (opens_plan t k asked waits listener) (TakesDoor t c)
-  opens c k asked waits listener has = along (TakesDoor t c) (some_or (lowest_free t 0) EMFILE) _ (λ n x. along (TakesDoor t c) (some_or (free_object t) ENFILE) _ (λ node y. has node))
+  -- the plan that is decided
+  abbrev Takes : Call → Decided → Type 0
+  Takes c d = TakesDoor t c d.plan
 
-  takes : (c : Call) (errand : Errand) → HasAct c (op.Ask errand) → IfOk (plan_of t c) (TakesDoor t c)
-  unfolding close_plan read_plan write_plan lseek_plan shutdown_plan host_open_plan tcp_listen_plan tcp_connect_plan tcp_accept_plan
+  opens : (c : Call) (errand : Errand) (access : Access) (append : Bool) → ((node : ℕ) → errand.door ≡ door_planned t c node) → IfOk (opens_door t errand access append) (Takes c)
+  opens c errand access append has = along (Takes c) (some_or (lowest_free t 0) EMFILE) _ (λ n x. along (Takes c) (some_or (free_object t) ENFILE) _ (λ node y. has node))
+
+  takes : (c : Call) (errand : Errand) → HasAct c (op.Ask errand) → IfOk (decided_of t c) (Takes c)
+  unfolding close_decided read_plan write_plan lseek_plan shutdown_plan host_open_decided tcp_listen_decided tcp_connect_decided tcp_accept_decided
   takes _ _ (ClosesOut descriptor asked waits taken) =
-      let P = TakesDoor t (call.Close descriptor) in
-      along P (described t descriptor) _ (λ found is.
+      let P = Takes (call.Close descriptor) in
+      along P (described t descriptor) _ (λ found is. along P (descriptor_number descriptor EBADF) _ (λ n x.
       let d = found.1 in
       let ask = errand d out.Close 0 false in
-      by_test P (d.holders == 1) (locks d.node (act_or_ask d op.Release ask)) (plan.Reply reply.Done) (either (call.Close descriptor) d op.Release ask tt refl) tt)
+      by_test (TakesDoor t (call.Close descriptor)) (d.holders == 1) (locks d.node (act_or_ask d op.Release ask)) (plan.Reply reply.Done) (either (call.Close descriptor) d op.Release ask tt refl) tt))
   takes _ _ (ReadsOut descriptor count asked waits taken) =
       let P = TakesDoor t (call.Read descriptor count) in
-      along P (described t descriptor) _ (λ found is. along P (not_listener found.1.«end») _ (λ l u. along P (refuse_if (not (can_read found.1.access)) EBADF) _ (λ a x. along P (count_of count) _ (λ n y.
+      left P (read_plan t descriptor count) (along P (described t descriptor) _ (λ found is. along P (not_listener found.1.«end») _ (λ l u. along P (refuse_if (not (can_read found.1.access)) EBADF) _ (λ a x. along P (count_of count) _ (λ n y.
       let d = found.1 in
       let act = op.Read (seen found.0 d) n in
       let ask = errand d out.Read n (not d.flags.nonblock) in
-      by_test P ((n == 0) && not (is_end d.«end» part.Only)) (plan.Reply (reply.Data [])) (locks d.node (act_or_ask d act ask)) tt (either (call.Read descriptor count) d act ask tt refl)))))
+      by_test P ((n == 0) && not (is_end d.«end» part.Only)) (plan.Reply (reply.Data [])) (locks d.node (act_or_ask d act ask)) tt (either (call.Read descriptor count) d act ask tt refl))))))
   takes _ _ (WritesOut descriptor bytes asked waits taken) =
       let P = TakesDoor t (call.Write descriptor bytes) in
-      along P (described t descriptor) _ (λ found is. along P (not_listener found.1.«end») _ (λ l u. along P (refuse_if (not (can_write found.1.access)) EBADF) _ (λ a x. along P (refuse_if (nat_lt limit.COUNT (length bytes)) EINVAL) _ (λ b y.
+      left P (write_plan t descriptor (length bytes)) (along P (described t descriptor) _ (λ found is. along P (not_listener found.1.«end») _ (λ l u. along P (refuse_if (not (can_write found.1.access)) EBADF) _ (λ a x. along P (refuse_if (nat_lt limit.COUNT (length bytes)) EINVAL) _ (λ b y.
       let d = found.1 in
       let act = op.Write (seen found.0 d) in
       let ask = errand d out.Write (length bytes) (not d.flags.nonblock) in
-      by_test P ((length bytes == 0) && not (is_end d.«end» part.Only)) (plan.Reply (reply.Count 0)) (locks d.node (act_or_ask d act ask)) tt (either (call.Write descriptor bytes) d act ask tt refl)))))
+      by_test P ((length bytes == 0) && not (is_end d.«end» part.Only)) (plan.Reply (reply.Count 0)) (locks d.node (act_or_ask d act ask)) tt (either (call.Write descriptor bytes) d act ask tt refl))))))
   takes _ _ (SeeksOut descriptor offset whence asked waits taken) =
       let P = TakesDoor t (call.Lseek descriptor offset whence) in
-      along P (described t descriptor) _ (λ found is. along P (seekable found.1.«end» offset whence) _ (λ u x.
-      either (call.Lseek descriptor offset whence) found.1 (op.Lseek (seen found.0 found.1)) (errand found.1 out.Seek 0 false) tt refl))
+      left P (lseek_plan t descriptor offset whence) (along P (described t descriptor) _ (λ found is. along P (seekable found.1.«end» offset whence) _ (λ u x.
+      either (call.Lseek descriptor offset whence) found.1 (op.Lseek (seen found.0 found.1)) (errand found.1 out.Seek 0 false) tt refl)))
   takes _ _ (ShutsOut descriptor how asked waits taken) =
-      along (TakesDoor t (call.Shutdown descriptor how)) (described t descriptor) _ (λ found is.
-      shuts_with (call.Shutdown descriptor how) found.1.node (shut_act found.1 how found.1.«end») (shuts descriptor how found.1 found.1.«end»))
+      let P = TakesDoor t (call.Shutdown descriptor how) in
+      left P (shutdown_plan t descriptor how) (along P (described t descriptor) _ (λ found is.
+      shuts_with (call.Shutdown descriptor how) found.1.node (shut_act found.1 how found.1.«end») (shuts descriptor how found.1 found.1.«end»)))
   takes _ _ (OpensOut path access flags asked waits taken) =
-      let P = TakesDoor t (call.HostOpen path access flags) in
-      along P (refuse_if (flags.truncate && not (can_write access)) EINVAL) _ (λ a x. along P (host_path path) _ (λ b y. opens (call.HostOpen path access flags) out.Open 0 false None (λ node. refl)))
-  takes _ _ (Listens port asked waits taken) = along (TakesDoor t (call.TcpListen port)) (port_of 0 port) _ (λ n x. opens (call.TcpListen port) out.Listen n false None (λ node. refl))
-  takes _ _ (Connects port asked waits taken) = along (TakesDoor t (call.TcpConnect port)) (port_of 1 port) _ (λ n x. opens (call.TcpConnect port) out.Connect n false None (λ node. refl))
+      let P = Takes (call.HostOpen path access flags) in
+      along P (refuse_if (flags.truncate && not (can_write access)) EINVAL) _ (λ a x. along P (host_path path) _ (λ b y. opens (call.HostOpen path access flags) (opening out.Open 0 false None) access flags.append (λ node. refl)))
+  takes _ _ (Listens port asked waits taken) = along (Takes (call.TcpListen port)) (port_of 0 port) _ (λ n x. opens (call.TcpListen port) (opening out.Listen n false None) ReadWrite false (λ node. refl))
+  takes _ _ (Connects port asked waits taken) = along (Takes (call.TcpConnect port)) (port_of 1 port) _ (λ n x. opens (call.TcpConnect port) (opening out.Connect n false None) ReadWrite false (λ node. refl))
   takes _ _ (Accepts descriptor asked waits taken) =
-      let P = TakesDoor t (call.TcpAccept descriptor) in
+      let P = Takes (call.TcpAccept descriptor) in
       along P (described t descriptor) _ (λ found is. along P (of_listener found.1.«end») _ (λ u x.
-      opens (call.TcpAccept descriptor) out.Accept 0 (not found.1.flags.nonblock) (Some found.1.node) (λ node. sym (ap node_found is))))
+      opens (call.TcpAccept descriptor) (opening out.Accept 0 (not found.1.flags.nonblock) (Some found.1.node)) ReadWrite false (λ node. sym (ap node_found is))))
 
-takes_answered : (t : TableState) (c : Call) (r : Result Plan Errno) → IfOk r (TakesDoor t c) → TakesDoor t c (answered r)
-takes_answered t c (Ok p) has = has
+takes_answered : (t : TableState) (c : Call) (r : Result Decided Errno) → IfOk r (λ d. TakesDoor t c d.plan) → TakesDoor t c (answered r).plan
+takes_answered t c (Ok d) has = has
 takes_answered t c (Err e) has = tt
 
 door_is_planned : (t : TableState) (c : Call) (node : ℕ) (errand : Errand) (keep : Bool) → planned t c ≡ plan.Node node (op.Ask errand) keep → errand.door ≡ door_planned t c node
-door_is_planned t c node errand keep is = subst (TakesDoor t c) is (takes_answered t c (plan_of t c) (takes t c errand (planned_fits t c node (op.Ask errand) keep is).0))
+door_is_planned t c node errand keep is = subst (TakesDoor t c) is (takes_answered t c (decided_of t c) (takes t c errand (planned_fits t c node (op.Ask errand) keep is).0))
 
 -- ## In the world
 

@@ -26,12 +26,14 @@ use Rattle.posix_terms.specs.declared.reply.Reply.{Reply}
 use Rattle.posix_terms.specs.declared.reply.Reply.TheVariants as reply
 use Rattle.descriptor_table.specs.Acts.{Acted, acted, has_read, has_written, is_open, numbers_reply, read_acted, replied, write_acted}
 use Rattle.descriptor_table.specs.Agreement.{AgreesOn, TellsAsStep, request_of}
-use Rattle.descriptor_table.specs.Changes.{Changes}
+use Rattle.descriptor_table.specs.Changes.{CanChange, Changed, Changes}
+use Rattle.file_descriptions.specs.Descriptions.{AreSound}
 use Rattle.descriptor_table.specs.Laws.{TableFollows}
-use Rattle.descriptor_table.specs.Plans.{planned}
-use Rattle.descriptor_table.specs.Table.{TableState}
+use Rattle.descriptor_table.specs.Plans.{IsKnownNumber, LocksKnown, MovesKnown, read_count, answered, change_of, fstat_plan, ftruncate_plan, leaves, lseek_plan, planned, pread_plan, pwrite_plan, read_plan, shutdown_plan, write_plan}
+use Rattle.descriptor_table.specs.Table.{IsSound, TableState}
 use Rattle.descriptor_table.specs.declared.plan.NewNumbers.{NewNumbers}
 use Rattle.descriptor_table.specs.declared.plan.NewNumbers.TheVariants as numbers
+use Rattle.descriptor_table.specs.declared.plan.Decided.{Decided}
 use Rattle.descriptor_table.specs.declared.plan.Op.{Op}
 use Rattle.descriptor_table.specs.declared.plan.Op.TheVariants as op
 use Rattle.descriptor_table.specs.declared.plan.Opened.{Opened}
@@ -46,7 +48,8 @@ use Rattle.object_store.specs.declared.patience.TurnStart.TheVariants as start
 use Rattle.object_store.specs.Bodies.{Kept, first_kept, keeping}
 use Rattle.object_store.specs.Patience.{Waits}
 use Rattle.object_store.specs.Acting.{acts_inside, ActsOn, HasRead, HasWritten, Seeks, Writes, WritesFile, cut_bodies, held_by, holding, moved, offset_of_key, release_reply, rewritten, start_at}
-use Rattle.object_store.specs.Store.{EndsTurn, IsPlanned, Makes, Replies, RepliesAlways, Stands, Stored, TableMade, body_at, kept_at}
+use Rattle.object_store.specs.declared.patience.Locking.{Locking}
+use Rattle.object_store.specs.Store.{IsChange, IsDecided, EndsTurn, IsPlanned, Makes, Replies, RepliesAlways, Stands, Stored, TableMade, body_at, kept_at}
 use Rattle.object_store.proofs.Doing.{EndsAlways, end_replies, bodies_same, bodies_set, ends_reply, made_ends, moved_ends, released_ends, rested_ends, stays_ends}
 use Rattle.object_store.proofs.Doing.Moves.{ByRead, ByWrite, BySeek}
 use Rattle.object_store.proofs.Shapes.{HasAct, planned_fits}
@@ -56,6 +59,20 @@ use Rattle.object_store.proofs.Stepping.{Rewrites}
 -- a number has its body where all of them have one
 pub has_body : (h : Stored) (node : ℕ) → length h.bodies ≡ limit.OBJECTS → node < limit.OBJECTS → node < length h.bodies
 has_body h node all inside = subst (λ (n : ℕ). node < n) (sym all) inside
+
+-- what was decided of a call is its plan, and its change
+pub decided_planned : (h : Stored) (c : Call) (x : Locking) → IsDecided h c x → IsPlanned h c x.object x.op
+decided_planned h c x is = (x.keep_table, ap (λ (d : Decided). d.plan) is)
+
+pub decided_change : TableFollows → (h : Stored) (c : Call) (x : Locking) → IsSound h.table → AreSound h.table.descriptions → IsDecided h c x → IsChange h c x.change
+decided_change law h c x sound all is =
+    let its : change_of h.table c ≡ x.change = ap (λ (d : Decided). d.change) is in
+    (sym its, subst (CanChange h.table c) its (law.calls h.table c sound all).can)
+
+-- so its object has a number, and what its act moves is there
+pub decided_known : TableFollows → (h : Stored) (c : Call) (x : Locking) → IsSound h.table → AreSound h.table.descriptions → IsDecided h c x
+    → IsKnownNumber h.table x.object × MovesKnown h.table (read_count c) x.op
+decided_known law h c x sound all is = subst (LocksKnown h.table (read_count c)) (ap (λ (d : Decided). d.plan) is) (law.calls h.table c sound all).known
 
 pub act_of : (h : Stored) (c : Call) (node : ℕ) (act : Op) → IsPlanned h c node act → HasAct c act
 act_of h c node act (keep, is) = (planned_fits h.table c node act keep is).0
@@ -70,6 +87,10 @@ OfContent op.Socketpair = ⊥
 OfContent (op.Ask errand) = ⊥
 OfContent act = Unit {0}
 
+still_left : (t : TableState) (c : Call) (r : Result Plan Errno) → Changed t c (answered (leaves r)).change None t
+still_left t c (Ok p) = refl
+still_left t c (Err e) = refl
+
 unchanged : (t : TableState) (c : Call) (act : Op) → HasAct c act → OfContent act → Changes t c None t
 unchanged t _ _ (Opens path access flags cut) of = absurd of
 unchanged t _ _ (Closes descriptor) of = absurd of
@@ -77,14 +98,14 @@ unchanged t _ _ (Replaces descriptor target) of = absurd of
 unchanged t _ _ (Unnames path) of = absurd of
 unchanged t _ _ MakesPipe of = absurd of
 unchanged t _ _ MakesPair of = absurd of
-unchanged t _ _ (Reads descriptor count from n) of = refl
-unchanged t _ _ (WritesTo descriptor bytes to) of = refl
-unchanged t _ _ (Preads descriptor count position n start) of = refl
-unchanged t _ _ (Pwrites descriptor bytes position start) of = refl
-unchanged t _ _ (SeeksFrom descriptor offset whence from) of = refl
-unchanged t _ _ (Cuts descriptor to size) of = refl
-unchanged t _ _ (Stats descriptor links) of = refl
-unchanged t _ _ (Shuts descriptor how side) of = refl
+unchanged t _ _ (Reads descriptor count from n) of = still_left t (call.Read descriptor count) (read_plan t descriptor count)
+unchanged t _ _ (WritesTo descriptor bytes to) of = still_left t (call.Write descriptor bytes) (write_plan t descriptor (length bytes))
+unchanged t _ _ (Preads descriptor count position n start) of = still_left t (call.Pread descriptor count position) (pread_plan t descriptor count position)
+unchanged t _ _ (Pwrites descriptor bytes position start) of = still_left t (call.Pwrite descriptor bytes position) (pwrite_plan t descriptor (length bytes) position)
+unchanged t _ _ (SeeksFrom descriptor offset whence from) of = still_left t (call.Lseek descriptor offset whence) (lseek_plan t descriptor offset whence)
+unchanged t _ _ (Cuts descriptor to size) of = still_left t (call.Ftruncate descriptor to) (ftruncate_plan t descriptor to)
+unchanged t _ _ (Stats descriptor links) of = still_left t (call.Fstat descriptor) (fstat_plan t descriptor)
+unchanged t _ _ (Shuts descriptor how side) of = still_left t (call.Shutdown descriptor how) (shutdown_plan t descriptor how)
 unchanged t _ _ (ClosesOut descriptor asked waits d) of = absurd of
 unchanged t _ _ (ReadsOut descriptor count asked waits d) of = absurd of
 unchanged t _ _ (WritesOut descriptor bytes asked waits d) of = absurd of

@@ -14,6 +14,7 @@ use Rattle.sequential_object.specs.Paths.{node_at, resolved}
 use Rattle.sequential_object.specs.Refusals.{◌>>=◌, count_of, position_of, refuse_if, some_or}
 use Rattle.sequential_object.specs.Transfers.{size_of}
 use Rattle.posix_terms.specs.declared.call.Access.{Access}
+use Rattle.posix_terms.specs.declared.call.Access.TheVariants.{ReadWrite}
 use Rattle.posix_terms.specs.Calls.{Call}
 use Rattle.posix_terms.specs.declared.call.Call.TheVariants as call
 use Rattle.posix_terms.specs.declared.call.OpenFlags.{OpenFlags}
@@ -34,12 +35,17 @@ use Rattle.posix_terms.specs.declared.reply.ObjectKind.TheVariants as kind
 use Rattle.posix_terms.specs.declared.reply.Reply.{Reply}
 use Rattle.posix_terms.specs.declared.reply.Reply.TheVariants as reply
 use Rattle.file_descriptions.specs.declared.description.Description.{Description}
-use Rattle.descriptor_table.specs.Plans.{act_or_ask, addable, answered, close_plan, dup2_plan, dup_from_plan, dup_plan, ends_a_door, errand, fstat_plan, ftruncate_plan, getfl_plan, host_open_plan, leads_outside, link_plan, lseek_plan, mkdir_plan, not_listener, of_listener, open_node, open_plan, open_there, opens_plan, plan_of, planned, pread_plan, pwrite_plan, read_plan, release, replaced, rmdir_plan, seekable, setfl_plan, shut_act, unlink_plan, write_plan, locks, of_file, seen, shutdown_plan, stat_by, stat_plan, tcp_accept_plan, tcp_connect_plan, tcp_listen_plan, two_ends_plan}
+use Rattle.descriptor_table.specs.Plans.{act_or_ask, addable, answered, close_decided, decided_of, decides, dup2_decided, dup_decided, dup_from_decided, ends_a_door, errand, fstat_plan, ftruncate_plan, getfl_plan, host_open_decided, leads_outside, leaves, link_decided, locks, lseek_plan, mkdir_decided, new_pair, not_listener, of_file, of_listener, open_decided, open_node, open_there, opening, opens_door, planned, pread_plan, pwrite_plan, read_plan, release, replaces, rmdir_decided, seekable, seen, setfl_decided, shut_act, shutdown_plan, stat_by, stat_plan, tcp_accept_decided, tcp_connect_decided, tcp_listen_decided, tells, unlink_decided, write_plan}
 use Rattle.descriptor_table.specs.Shows.{Shows, birth_at, is_of}
-use Rattle.descriptor_table.specs.Table.{IsSound, TableState, described, free_object, is_last_name, is_used, lowest_free, two_numbers}
+use Rattle.descriptor_table.specs.Table.{IsSound, TableState, described, free_object, is_last_name, is_used, lowest_free}
 use Rattle.descriptor_table.specs.Laws.{RefersAlike, TableFollows}
 use Rattle.descriptor_table.specs.Laws.RefersAlike.{Open, Shut}
 use Rattle.object_store.proofs.Numbering.{lowest_is_free}
+use Rattle.descriptor_table.specs.declared.plan.Change.{Change}
+use Rattle.descriptor_table.specs.declared.plan.Change.TheVariants as change
+use Rattle.descriptor_table.specs.declared.plan.Decided.{Decided}
+use Rattle.descriptor_table.specs.declared.plan.Errand.{Errand}
+use Rattle.descriptor_table.specs.declared.plan.NewPair.{NewPair}
 use Rattle.descriptor_table.specs.declared.plan.Op.{Op}
 use Rattle.descriptor_table.specs.declared.plan.Op.TheVariants as op
 use Rattle.descriptor_table.specs.declared.plan.Opened.{Opened}
@@ -138,6 +144,18 @@ along : {A : Type 0} (t : TableState) (c : Call) (r : Result A Errno) (f : A →
 along t c (Ok x) f each = each x refl
 along t c (Err e) f each = tt
 
+-- the plan that is decided
+abbrev Fits : TableState → Call → Decided → Type 0
+Fits t c d = FitsPlan t c d.plan
+
+beside : {A : Type 0} (t : TableState) (c : Call) (r : Result A Errno) (f : A → Result Decided Errno) → ((x : A) → r ≡ Ok x → IfOk (f x) (Fits t c)) → IfOk (r >>= f) (Fits t c)
+beside t c (Ok x) f each = each x refl
+beside t c (Err e) f each = tt
+
+left : (t : TableState) (c : Call) (r : Result Plan Errno) → IfOk r (FitsPlan t c) → IfOk (leaves r) (Fits t c)
+left t c (Ok p) fits = fits
+left t c (Err e) fits = tt
+
 -- the one end of a file
 only_end : (e : End) → is_end e part.Only ≡ true → e ≡ part.Only
 only_end part.Only is = refl
@@ -222,18 +240,18 @@ module _ (t : TableState) where
       by_last true last = by_outside (leads_outside found.1.«end») refl last
       by_last false last = tt
 
-  there_fits : (path : List ℕ) (access : Access) (flags : OpenFlags) (node : Node) → ((n : ℕ) → node ≡ FileNode n → Finds t → is_used t n ≡ true) → ((n : ℕ) → node ≡ FileNode n → Suits t n (op.Open flags.truncate)) → IfOk (open_there t node flags) (FitsPlan t (call.Open path access flags))
+  there_fits : (path : List ℕ) (access : Access) (flags : OpenFlags) (node : Node) → ((n : ℕ) → node ≡ FileNode n → Finds t → is_used t n ≡ true) → ((n : ℕ) → node ≡ FileNode n → Suits t n (op.Open flags.truncate)) → IfOk (open_there t node access flags) (Fits t (call.Open path access flags))
   there_fits path access flags Directory used is_file = tt
   there_fits path access flags (FileNode node) used is_file =
-      along t _ (some_or (lowest_free t 0) EMFILE) _ (λ n x. (Opens path access flags flags.truncate, λ all new. absurd (false≢true (sym new ∙ used node refl all)), λ all there. is_file node refl))
+      beside t _ (some_or (lowest_free t 0) EMFILE) _ (λ n x. (Opens path access flags flags.truncate, λ all new. absurd (false≢true (sym new ∙ used node refl all)), λ all there. is_file node refl))
 
-  node_fits : (path : List ℕ) (access : Access) (flags : OpenFlags) (node : Option Node) → ((n : ℕ) → node ≡ Some (FileNode n) → Finds t → is_used t n ≡ true) → ((n : ℕ) → node ≡ Some (FileNode n) → Suits t n (op.Open flags.truncate)) → IfOk (open_node t node flags) (FitsPlan t (call.Open path access flags))
+  node_fits : (path : List ℕ) (access : Access) (flags : OpenFlags) (node : Option Node) → ((n : ℕ) → node ≡ Some (FileNode n) → Finds t → is_used t n ≡ true) → ((n : ℕ) → node ≡ Some (FileNode n) → Suits t n (op.Open flags.truncate)) → IfOk (open_node t node access flags) (Fits t (call.Open path access flags))
   node_fits path access flags None used is_file =
-      along t _ (refuse_if (not flags.create) ENOENT) _ (λ a x. along t _ (refuse_if (nat_le limit.NAMES (fin.len t.paths)) ENOSPC) _ (λ b y. along t _ (some_or (free_object t) ENOSPC) _ (λ node z. along t _ (some_or (lowest_free t 0) EMFILE) _ (λ n u. (Opens path access flags true, λ all new. refl, λ all used. not_free node (was_some (free_object t) ENOSPC node z) used)))))
+      beside t _ (refuse_if (not flags.create) ENOENT) _ (λ a x. beside t _ (refuse_if (nat_le limit.NAMES (fin.len t.paths)) ENOSPC) _ (λ b y. beside t _ (some_or (free_object t) ENOSPC) _ (λ node z. beside t _ (some_or (lowest_free t 0) EMFILE) _ (λ n u. (Opens path access flags true, λ all new. refl, λ all used. not_free node (was_some (free_object t) ENOSPC node z) used)))))
     where
       not_free : (node : ℕ) → free_object t ≡ Some node → is_used t node ≡ true → Suits t node (op.Open true)
       not_free node free used = absurd (false≢true (sym (ap (λ (o : Option ℕ). is_some o) (lowest_is_free t.objects limit.OBJECTS 0 node free)) ∙ used))
-  node_fits path access flags (Some node) used is_file = along t _ (refuse_if (flags.create && flags.exclusive) EEXIST) _ (λ a x. there_fits path access flags node (λ n is. used n (ap (λ (m : Node). Some m) is)) (λ n is. is_file n (ap (λ (m : Node). Some m) is)))
+  node_fits path access flags (Some node) used is_file = beside t _ (refuse_if (flags.create && flags.exclusive) EEXIST) _ (λ a x. there_fits path access flags node (λ n is. used n (ap (λ (m : Node). Some m) is)) (λ n is. is_file n (ap (λ (m : Node). Some m) is)))
 
   named_suits : (components : List (List ℕ)) (cut : Bool) (n : ℕ) → node_at t.paths components ≡ Some (FileNode n) → Suits t n (op.Open cut)
   named_suits components cut n is s shows = by_components components is
@@ -243,12 +261,12 @@ module _ (t : TableState) where
       by_components (x ∷ xs) is = shows.files (x ∷ xs) n is
 
   -- the ends of a new object
-  makes_fits : (c : Call) (act : Op) → HasAct c act → IsMaking false act → ((content : Content) → suits act content ≡ true) → IfOk (two_ends_plan t act) (FitsPlan t c)
-  makes_fits c act has making each = along t c (two_numbers t) _ (λ two x. along t c (some_or (free_object t) ENFILE) _ (λ node y. (has, λ all new. making, λ all used s shows. each (content_of s (birth_at t node)))))
+  makes_fits : (c : Call) (act : Op) → HasAct c act → IsMaking false act → ((content : Content) → suits act content ≡ true) → (f : NewPair → Change) → IfOk (new_pair t >>= (λ new. Ok (decides (locks new.node act) (f new)))) (Fits t c)
+  makes_fits c act has making each f = beside t c (new_pair t) _ (λ new x. (has, λ all new. making, λ all used s shows. each (content_of s (birth_at t new.node))))
 
   -- a new door
-  opens_fits : (c : Call) (k : OutKind) (asked : ℕ) (waits : Bool) (d : Option ℕ) → HasAct c (asking k asked waits d) → IfOk (opens_plan t k asked waits d) (FitsPlan t c)
-  opens_fits c k asked waits d has = along t c (some_or (lowest_free t 0) EMFILE) _ (λ n x. along t c (some_or (free_object t) ENFILE) _ (λ node y. (has, λ all new. refl, λ all used s shows. refl)))
+  opens_fits : (c : Call) (errand : Errand) (access : Access) (append : Bool) → HasAct c (op.Ask errand) → IfOk (opens_door t errand access append) (Fits t c)
+  opens_fits c errand access append has = beside t c (some_or (lowest_free t 0) EMFILE) _ (λ n x. beside t c (some_or (free_object t) ENFILE) _ (λ node y. (has, λ all new. refl, λ all used s shows. refl)))
 
   -- what shuts an object
   shut_fits : (descriptor : ℤ) (how : ShutdownHow) (found : ℕ × Description) (which : End) (act : Op) → described t descriptor ≡ Ok found → found.1.«end» ≡ which → shut_act found.1 how which ≡ Ok act → FitsPlan t (call.Shutdown descriptor how) (locks found.1.node act)
@@ -274,83 +292,96 @@ module _ (t : TableState) where
       by_outside true is = absurd (false≢true (sym none ∙ rw (is, last) refl))
       by_outside false is = refl
 
-  plan_fits : (c : Call) → IfOk (plan_of t c) (FitsPlan t c)
-  unfolding open_plan close_plan read_plan write_plan pread_plan pwrite_plan lseek_plan ftruncate_plan fstat_plan dup_plan dup_from_plan dup2_plan getfl_plan setfl_plan link_plan unlink_plan mkdir_plan rmdir_plan shutdown_plan host_open_plan tcp_listen_plan tcp_connect_plan tcp_accept_plan
+  plan_fits : (c : Call) → IfOk (decided_of t c) (Fits t c)
+  unfolding open_decided close_decided read_plan write_plan pread_plan pwrite_plan lseek_plan ftruncate_plan fstat_plan dup_decided dup_from_decided dup2_decided getfl_plan setfl_decided link_decided unlink_decided mkdir_decided rmdir_decided shutdown_plan host_open_decided tcp_listen_decided tcp_connect_decided tcp_accept_decided
   plan_fits (call.Open path access flags) =
-      along t _ (refuse_if (flags.truncate && not (can_write access)) EINVAL) _ (λ a x. along t _ (resolved t.paths path) _ (λ components y. node_fits path access flags (node_at t.paths components) (λ n is all. named_at t components n all.sound is) (λ n is. named_suits components flags.truncate n is)))
-  plan_fits (call.Close descriptor) = along t _ (described t descriptor) _ (λ found is. released _ descriptor found reply.Done is (Closes descriptor) (λ last outside. ClosesOut descriptor 0 false (Some found.1.node)))
+      beside t _ (refuse_if (flags.truncate && not (can_write access)) EINVAL) _ (λ a x. beside t _ (resolved t.paths path) _ (λ components y. node_fits path access flags (node_at t.paths components) (λ n is all. named_at t components n all.sound is) (λ n is. named_suits components flags.truncate n is)))
+  plan_fits (call.Close descriptor) =
+      beside t _ (described t descriptor) _ (λ found is. beside t _ (descriptor_number descriptor EBADF) _ (λ n x.
+      released _ descriptor found reply.Done is (Closes descriptor) (λ last outside. ClosesOut descriptor 0 false (Some found.1.node))))
   plan_fits (call.Read descriptor count) =
-      along t _ (described t descriptor) _ (λ found is. along t _ (not_listener found.1.«end») _ (λ l u. along t _ (refuse_if (not (can_read found.1.access)) EBADF) _ (λ a x. along t _ (count_of count) _ (λ n y.
+      left t (call.Read descriptor count) (read_plan t descriptor count)
+      (along t _ (described t descriptor) _ (λ found is. along t _ (not_listener found.1.«end») _ (λ l u. along t _ (refuse_if (not (can_read found.1.access)) EBADF) _ (λ a x. along t _ (count_of count) _ (λ n y.
       let c = call.Read descriptor count in
       let act = op.Read (seen found.0 found.1) n in
       let ask = errand found.1 out.Read n (not found.1.flags.nonblock) in
       fits_moves c (reply.Data []) found.1.node (act_or_ask found.1 act ask) ((n == 0) && not (is_end found.1.«end» part.Only))
-      (fits_either c found act ask (λ inside. fits_found c descriptor found act is (Reads descriptor count (seen found.0 found.1) n) (λ content has. has)) (fits_found c descriptor found ask is (ReadsOut descriptor count n (not found.1.flags.nonblock) (Some found.1.node)) (λ content has. refl)))))))
+      (fits_either c found act ask (λ inside. fits_found c descriptor found act is (Reads descriptor count (seen found.0 found.1) n) (λ content has. has)) (fits_found c descriptor found ask is (ReadsOut descriptor count n (not found.1.flags.nonblock) (Some found.1.node)) (λ content has. refl))))))))
   plan_fits (call.Write descriptor bytes) =
-      along t _ (described t descriptor) _ (λ found is. along t _ (not_listener found.1.«end») _ (λ l u. along t _ (refuse_if (not (can_write found.1.access)) EBADF) _ (λ a x. along t _ (refuse_if (nat_lt limit.COUNT (length bytes)) EINVAL) _ (λ b y.
+      left t (call.Write descriptor bytes) (write_plan t descriptor (length bytes))
+      (along t _ (described t descriptor) _ (λ found is. along t _ (not_listener found.1.«end») _ (λ l u. along t _ (refuse_if (not (can_write found.1.access)) EBADF) _ (λ a x. along t _ (refuse_if (nat_lt limit.COUNT (length bytes)) EINVAL) _ (λ b y.
       let c = call.Write descriptor bytes in
       let act = op.Write (seen found.0 found.1) in
       let ask = errand found.1 out.Write (length bytes) (not found.1.flags.nonblock) in
       fits_moves c (reply.Count 0) found.1.node (act_or_ask found.1 act ask) ((length bytes == 0) && not (is_end found.1.«end» part.Only))
-      (fits_either c found act ask (λ inside. fits_found c descriptor found act is (WritesTo descriptor bytes (seen found.0 found.1)) (λ content has. has)) (fits_found c descriptor found ask is (WritesOut descriptor bytes (length bytes) (not found.1.flags.nonblock) (Some found.1.node)) (λ content has. refl)))))))
+      (fits_either c found act ask (λ inside. fits_found c descriptor found act is (WritesTo descriptor bytes (seen found.0 found.1)) (λ content has. has)) (fits_found c descriptor found ask is (WritesOut descriptor bytes (length bytes) (not found.1.flags.nonblock) (Some found.1.node)) (λ content has. refl))))))))
   plan_fits (call.Pread descriptor count position) =
-      along t _ (described t descriptor) _ (λ found is. for_file _ descriptor found ESPIPE _ is (λ its u. along t _ (refuse_if (not (can_read found.1.access)) EBADF) _ (λ a x. along t _ (count_of count) _ (λ n y. along t _ (position_of position) _ (λ start z.
-      fits_file (call.Pread descriptor count position) descriptor found (op.Pread n start) is its (Preads descriptor count position n start) (λ content has. has))))))
+      left t (call.Pread descriptor count position) (pread_plan t descriptor count position)
+      (along t _ (described t descriptor) _ (λ found is. for_file _ descriptor found ESPIPE _ is (λ its u. along t _ (refuse_if (not (can_read found.1.access)) EBADF) _ (λ a x. along t _ (count_of count) _ (λ n y. along t _ (position_of position) _ (λ start z.
+      fits_file (call.Pread descriptor count position) descriptor found (op.Pread n start) is its (Preads descriptor count position n start) (λ content has. has)))))))
   plan_fits (call.Pwrite descriptor bytes position) =
-      along t _ (described t descriptor) _ (λ found is. for_file _ descriptor found ESPIPE _ is (λ its u. along t _ (refuse_if (not (can_write found.1.access)) EBADF) _ (λ a x. along t _ (refuse_if (nat_lt limit.COUNT (length bytes)) EINVAL) _ (λ b y. along t _ (position_of position) _ (λ start z.
-      fits_file (call.Pwrite descriptor bytes position) descriptor found (op.Pwrite start) is its (Pwrites descriptor bytes position start) (λ content has. has))))))
+      left t (call.Pwrite descriptor bytes position) (pwrite_plan t descriptor (length bytes) position)
+      (along t _ (described t descriptor) _ (λ found is. for_file _ descriptor found ESPIPE _ is (λ its u. along t _ (refuse_if (not (can_write found.1.access)) EBADF) _ (λ a x. along t _ (refuse_if (nat_lt limit.COUNT (length bytes)) EINVAL) _ (λ b y. along t _ (position_of position) _ (λ start z.
+      fits_file (call.Pwrite descriptor bytes position) descriptor found (op.Pwrite start) is its (Pwrites descriptor bytes position start) (λ content has. has)))))))
   plan_fits (call.Lseek descriptor offset whence) =
-      along t _ (described t descriptor) _ (λ found is. along t _ (seekable found.1.«end» offset whence) _ (λ u x.
+      left t (call.Lseek descriptor offset whence) (lseek_plan t descriptor offset whence)
+      (along t _ (described t descriptor) _ (λ found is. along t _ (seekable found.1.«end» offset whence) _ (λ u x.
       let c = call.Lseek descriptor offset whence in
       let act = op.Lseek (seen found.0 found.1) in
       let ask = errand found.1 out.Seek 0 false in
       fits_either c found act ask
       (λ inside. fits_file c descriptor found act is (seeks_file found.1.«end» offset whence u x inside) (SeeksFrom descriptor offset whence (seen found.0 found.1)) (λ content has. has))
-      (fits_found c descriptor found ask is (SeeksOut descriptor offset whence 0 false (Some found.1.node)) (λ content has. refl))))
+      (fits_found c descriptor found ask is (SeeksOut descriptor offset whence 0 false (Some found.1.node)) (λ content has. refl)))))
   plan_fits (call.Ftruncate descriptor to) =
-      along t _ (described t descriptor) _ (λ found is. along t _ (refuse_if (not (can_write found.1.access)) EINVAL) _ (λ a x. for_file _ descriptor found EINVAL _ is (λ its u. along t _ (size_of to) _ (λ n y.
-      fits_file (call.Ftruncate descriptor to) descriptor found (op.Ftruncate n) is its (Cuts descriptor to n) (λ content has. has)))))
-  plan_fits (call.Fstat descriptor) = along t _ (described t descriptor) _ (λ found is. by_kind found is (stat_by found.1.«end») refl)
+      left t (call.Ftruncate descriptor to) (ftruncate_plan t descriptor to)
+      (along t _ (described t descriptor) _ (λ found is. along t _ (refuse_if (not (can_write found.1.access)) EINVAL) _ (λ a x. for_file _ descriptor found EINVAL _ is (λ its u. along t _ (size_of to) _ (λ n y.
+      fits_file (call.Ftruncate descriptor to) descriptor found (op.Ftruncate n) is its (Cuts descriptor to n) (λ content has. has))))))
+  plan_fits (call.Fstat descriptor) =
+      left t (call.Fstat descriptor) (fstat_plan t descriptor)
+      (along t _ (described t descriptor) _ (λ found is. by_kind found is (stat_by found.1.«end») refl))
     where
       by_kind : (found : ℕ × Description) → described t descriptor ≡ Ok found → (o : Option (ObjectKind × ℕ)) → stat_by found.1.«end» ≡ o → FitsPlan t (call.Fstat descriptor) (stat_plan found.1 (links_of t.paths found.1.node) o)
       by_kind found is None none = fits_file (call.Fstat descriptor) descriptor found (op.Fstat (links_of t.paths found.1.node)) is (no_stream found.1.«end» none) (Stats descriptor (links_of t.paths found.1.node)) (λ content has. has)
       by_kind found is (Some k) some = tt
-  plan_fits (call.Dup descriptor) = along t _ (described t descriptor) _ (λ found is. along t _ (some_or (lowest_free t 0) EMFILE) _ (λ n x. tt))
-  plan_fits (call.DupFrom descriptor least) = along t _ (described t descriptor) _ (λ found is. along t _ (descriptor_number least EINVAL) _ (λ first x. along t _ (some_or (lowest_free t first) EMFILE) _ (λ n y. tt)))
-  plan_fits (call.Dup2 descriptor target) = along t _ (described t descriptor) _ (λ found is. along t _ (descriptor_number target EBADF) _ (λ n x. along t _ (refuse_if (not (int_eq descriptor target) && ends_a_door (described t target)) EBUSY) _ (λ u y. by_same (int_eq descriptor target) u y)))
+  plan_fits (call.Dup descriptor) = beside t _ (described t descriptor) _ (λ found is. beside t _ (some_or (lowest_free t 0) EMFILE) _ (λ n x. tt))
+  plan_fits (call.DupFrom descriptor least) = beside t _ (described t descriptor) _ (λ found is. beside t _ (descriptor_number least EINVAL) _ (λ first x. beside t _ (some_or (lowest_free t first) EMFILE) _ (λ n y. tt)))
+  plan_fits (call.Dup2 descriptor target) = beside t _ (described t descriptor) _ (λ found is. beside t _ (descriptor_number target EBADF) _ (λ n x. beside t _ (refuse_if (not (int_eq descriptor target) && ends_a_door (described t target)) EBUSY) _ (λ u y. by_same n found.0 (int_eq descriptor target) u y)))
     where
-      by_found : (r : Result (ℕ × Description) Errno) → described t target ≡ r → ends_a_door r ≡ false → FitsPlan t (call.Dup2 descriptor target) (replaced r (reply.Number target))
-      by_found (Ok found) is none = released _ target found (reply.Number target) is (Replaces descriptor target) (λ last outside. absurd (false≢true (sym (no_door found none last) ∙ outside)))
-      by_found (Err e) is none = tt
+      by_found : (n key : ℕ) (r : Result (ℕ × Description) Errno) → described t target ≡ r → ends_a_door r ≡ false → Fits t (call.Dup2 descriptor target) (replaces n key r (reply.Number target))
+      by_found n key (Ok found) is none = released _ target found (reply.Number target) is (Replaces descriptor target) (λ last outside. absurd (false≢true (sym (no_door found none last) ∙ outside)))
+      by_found n key (Err e) is none = tt
 
-      by_same : (b : Bool) (u : Unit {0}) → refuse_if (not b && ends_a_door (described t target)) EBUSY ≡ Ok u → FitsPlan t (call.Dup2 descriptor target) (if b then plan.Reply (reply.Number target) else replaced (described t target) (reply.Number target))
-      by_same true u y = tt
-      by_same false u y = by_found (described t target) refl (let_through (ends_a_door (described t target)) EBUSY u y)
-  plan_fits (call.Getfl descriptor) = along t _ (described t descriptor) _ (λ found is. tt)
-  plan_fits (call.Setfl descriptor append nonblock) = along t _ (described t descriptor) _ (λ found is. tt)
-  plan_fits (call.Link old_path new_path) = along t _ (file_named t.paths old_path) _ (λ node is. along t _ (addable t.paths new_path) _ (λ a x. tt))
-  plan_fits (call.Unlink path) = along t _ (file_named t.paths path) _ (λ node is. by_last node is (is_last_name t node))
+      by_same : (n key : ℕ) (b : Bool) (u : Unit {0}) → refuse_if (not b && ends_a_door (described t target)) EBUSY ≡ Ok u → Fits t (call.Dup2 descriptor target) (if b then tells (reply.Number target) change.Nothing else replaces n key (described t target) (reply.Number target))
+      by_same n key true u y = tt
+      by_same n key false u y = by_found n key (described t target) refl (let_through (ends_a_door (described t target)) EBUSY u y)
+  plan_fits (call.Getfl descriptor) =
+      left t (call.Getfl descriptor) (getfl_plan t descriptor)
+      (along t _ (described t descriptor) _ (λ found is. tt))
+  plan_fits (call.Setfl descriptor append nonblock) = beside t _ (described t descriptor) _ (λ found is. tt)
+  plan_fits (call.Link old_path new_path) = beside t _ (file_named t.paths old_path) _ (λ node is. beside t _ (addable t.paths new_path) _ (λ a x. tt))
+  plan_fits (call.Unlink path) = beside t _ (file_named t.paths path) _ (λ node is. by_last node is (is_last_name t node))
     where
       by_last : (node : ℕ) → file_named t.paths path ≡ Ok node → (b : Bool) → FitsPlan t (call.Unlink path) (if b then plan.Node node op.Release false else plan.Reply reply.Done)
       by_last node is true = (Unnames path, λ all new. absurd (false≢true (sym new ∙ all.named path node is)), λ all used s shows. refl)
       by_last node is false = tt
-  plan_fits (call.Mkdir path) = along t _ (addable t.paths path) _ (λ a x. tt)
-  plan_fits (call.Rmdir path) = along t _ (removed_dir t.paths path) _ (λ a x. tt)
-  plan_fits call.Pipe = makes_fits call.Pipe op.Pipe MakesPipe tt (λ content. refl)
-  plan_fits call.Socketpair = makes_fits call.Socketpair op.Socketpair MakesPair tt (λ content. refl)
+  plan_fits (call.Mkdir path) = beside t _ (addable t.paths path) _ (λ a x. tt)
+  plan_fits (call.Rmdir path) = beside t _ (removed_dir t.paths path) _ (λ a x. tt)
+  plan_fits call.Pipe = makes_fits call.Pipe op.Pipe MakesPipe tt (λ content. refl) (λ new. change.MakePipe new)
+  plan_fits call.Socketpair = makes_fits call.Socketpair op.Socketpair MakesPair tt (λ content. refl) (λ new. change.MakeSockets new)
   plan_fits (call.Shutdown descriptor how) =
-      along t _ (described t descriptor) _ (λ found is. along t _ (shut_act found.1 how found.1.«end») _ (λ act x. shut_fits descriptor how found found.1.«end» act is refl x))
+      left t (call.Shutdown descriptor how) (shutdown_plan t descriptor how)
+      (along t _ (described t descriptor) _ (λ found is. along t _ (shut_act found.1 how found.1.«end») _ (λ act x. shut_fits descriptor how found found.1.«end» act is refl x)))
   plan_fits (call.HostOpen path access flags) =
-      along t _ (refuse_if (flags.truncate && not (can_write access)) EINVAL) _ (λ a x. along t _ (host_path path) _ (λ b y. opens_fits (call.HostOpen path access flags) out.Open 0 false None (OpensOut path access flags 0 false None)))
-  plan_fits (call.TcpListen port) = along t _ (port_of 0 port) _ (λ asked x. opens_fits (call.TcpListen port) out.Listen asked false None (Listens port asked false None))
-  plan_fits (call.TcpConnect port) = along t _ (port_of 1 port) _ (λ asked x. opens_fits (call.TcpConnect port) out.Connect asked false None (Connects port asked false None))
+      beside t _ (refuse_if (flags.truncate && not (can_write access)) EINVAL) _ (λ a x. beside t _ (host_path path) _ (λ b y. opens_fits (call.HostOpen path access flags) (opening out.Open 0 false None) access flags.append (OpensOut path access flags 0 false None)))
+  plan_fits (call.TcpListen port) = beside t _ (port_of 0 port) _ (λ asked x. opens_fits (call.TcpListen port) (opening out.Listen asked false None) ReadWrite false (Listens port asked false None))
+  plan_fits (call.TcpConnect port) = beside t _ (port_of 1 port) _ (λ asked x. opens_fits (call.TcpConnect port) (opening out.Connect asked false None) ReadWrite false (Connects port asked false None))
   plan_fits (call.TcpAccept descriptor) =
-      along t _ (described t descriptor) _ (λ found is. along t _ (of_listener found.1.«end») _ (λ u x.
-      opens_fits (call.TcpAccept descriptor) out.Accept 0 (not found.1.flags.nonblock) (Some found.1.node) (Accepts descriptor 0 (not found.1.flags.nonblock) (Some found.1.node))))
+      beside t _ (described t descriptor) _ (λ found is. beside t _ (of_listener found.1.«end») _ (λ u x.
+      opens_fits (call.TcpAccept descriptor) (opening out.Accept 0 (not found.1.flags.nonblock) (Some found.1.node)) ReadWrite false (Accepts descriptor 0 (not found.1.flags.nonblock) (Some found.1.node))))
 
-fits_answered : (t : TableState) (c : Call) (r : Result Plan Errno) → IfOk r (FitsPlan t c) → FitsPlan t c (answered r)
-fits_answered t c (Ok p) fits = fits
+fits_answered : (t : TableState) (c : Call) (r : Result Decided Errno) → IfOk r (Fits t c) → FitsPlan t c (answered r).plan
+fits_answered t c (Ok d) fits = fits
 fits_answered t c (Err e) fits = tt
 
 pub planned_fits : (t : TableState) (c : Call) (node : ℕ) (act : Op) (keep : Bool) → planned t c ≡ plan.Node node act keep → HasAct c act × (Finds t → is_used t node ≡ false → IsMaking keep act) × (Finds t → is_used t node ≡ true → Suits t node act)
-planned_fits t c node act keep is = subst (FitsPlan t c) is (fits_answered t c (plan_of t c) (plan_fits t c))
+planned_fits t c node act keep is = subst (FitsPlan t c) is (fits_answered t c (decided_of t c) (plan_fits t c))

@@ -1,26 +1,23 @@
 -- The table with the bodies, and the world that they stand for.
 use Rattle.std.proofs.Common.{◌≡◌, ℕ, zero, suc, List, Option, Some, None, true, get_or, replicate, refl, sym, ap, ◌∙◌, arith, ⊎_elim}
-use Rattle.std.proofs.lemmas.Bool.{cond-true, cond-false, false≢true}
+use Rattle.std.proofs.lemmas.Bool.{cond-true, cond-false}
 use Rattle.std.proofs.lemmas.Option.{none-some}
 use Rattle.std.specs.FinMap as fin
-use Rattle.std.specs.Option.{option_map}
 use Rattle.std.specs.Ordering.{nat_cmp}
-use Rattle.std.specs.Prelude.{is_some, unwrap_or}
+use Rattle.std.specs.Prelude.{unwrap_or}
 use Rattle.sequential_object.specs.Locked.{locked_object}
-use Rattle.sequential_object.specs.Object.{FileNode, path_cmp}
 use Rattle.sequential_object.specs.Step.{Carried, asks, step}
 use Rattle.posix_terms.specs.Calls.{Call}
 use Rattle.posix_terms.specs.declared.limits.TheConstants.Limits as limit
 use Rattle.posix_terms.specs.declared.reply.Answer.{Answer}
 use Rattle.posix_terms.specs.declared.request.Request.{Request}
 use Rattle.posix_terms.specs.declared.transcript.Settings.{Settings}
-use Rattle.file_descriptions.specs.Descriptions.{no_description}
 use Rattle.file_descriptions.specs.declared.description.Description.{Description}
 use Rattle.descriptor_table.specs.Agreement.{AgreesOn, object_of}
 use Rattle.descriptor_table.specs.Laws.{FollowsStep, TableFollows}
 use Rattle.descriptor_table.specs.Plans.{IsKnownNumber, LocksKnown, planned, read_count}
-use Rattle.descriptor_table.specs.Shows.{birth_at, birth_of, shown_node}
-use Rattle.descriptor_table.specs.Table.{free_object, empty_table, is_used}
+use Rattle.descriptor_table.specs.Shows.{birth_at}
+use Rattle.descriptor_table.specs.Table.{free_object, is_used}
 use Rattle.descriptor_table.specs.declared.plan.Plan.{Plan}
 use Rattle.descriptor_table.specs.declared.plan.Plan.TheVariants as plan
 use Rattle.sequential_object.specs.Numbers.{first_free, first_world, number_in, number_of}
@@ -77,25 +74,10 @@ slot_none (suc k) (suc n) = slot_none k n
 nothing : {X Y : Type 0} (o : Option X) (x : X) → o ≡ None → o ≡ Some x → Y
 nothing o x none some = absurd (none-some x (sym none ∙ some))
 
-not_there : {X Y : Type 0} (o : Option X) → o ≡ None → is_some o ≡ true → Y
-not_there o none there = absurd (false≢true (sym (ap is_some none) ∙ there))
-
-abbrev holders_in : Option Description → ℕ
-holders_in o = (unwrap_or o no_description).holders
-
-pub stands_first : Stands first_stored first_world
-stands_first =
+pub stands_first : TableFollows → Stands first_stored first_world
+stands_first law =
     record {
-      sound =
-          record {
-            numbers = refl;
-            object_numbers = refl;
-            held = λ key. ap (λ (o : Option Description). holders_in o) (fin.get-empty nat_cmp key);
-            described_objects = λ key d is. nothing _ d (fin.get-empty nat_cmp key) is;
-            named_objects = λ path node is. nothing _ (FileNode node) (fin.get-empty path_cmp path) is;
-            born = λ node birth is. nothing _ birth (slot_none limit.OBJECTS node) is;
-            distinct = λ node other birth is its. nothing _ birth (slot_none limit.OBJECTS node) is;
-          };
+      sound = law.first.0;
       described =
           record {
             few = rw (fin.len-empty nat_cmp Description) (omega arith);
@@ -103,19 +85,7 @@ stands_first =
             born = λ key d is. nothing _ d (fin.get-empty nat_cmp key) is;
             distinct = λ key other d e is its same. nothing _ d (fin.get-empty nat_cmp key) is;
           };
-      shows =
-          record {
-            descriptors = λ n. fin.get-empty nat_cmp n ∙ sym (ap (option_map (birth_of empty_table)) (slot_none limit.DESCRIPTORS n));
-            descriptions = λ key d is. nothing _ d (fin.get-empty nat_cmp key) is;
-            described = λ birth there. not_there _ (fin.get-empty nat_cmp birth) there;
-            paths = λ path. fin.get-empty path_cmp path ∙ sym (ap (option_map (shown_node empty_table)) (fin.get-empty path_cmp path));
-            objects = λ node birth is. nothing _ birth (slot_none limit.OBJECTS node) is;
-            numbered = λ birth there. not_there _ (fin.get-empty nat_cmp birth) there;
-            ends = λ key d is. nothing _ d (fin.get-empty nat_cmp key) is;
-            files = λ path node is. nothing _ (FileNode node) (fin.get-empty path_cmp path) is;
-            next_description = refl;
-            next_object = refl;
-          };
+      shows = law.first.1;
       offsets = λ key d is. nothing _ d (fin.get-empty nat_cmp key) is;
       contents = λ node birth is content got. nothing _ birth (slot_none limit.OBJECTS node) is;
       numbers = refl;

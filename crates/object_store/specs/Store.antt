@@ -20,7 +20,8 @@ use Rattle.posix_terms.specs.declared.transcript.Settings.{Settings}
 use Rattle.file_descriptions.specs.Descriptions.{AreSound}
 use Rattle.file_descriptions.specs.declared.description.Description.{Description}
 use Rattle.descriptor_table.specs.Agreement.{ChangesAsStep, NumbersStay, OffsetsStay, object_of, request_of}
-use Rattle.descriptor_table.specs.Plans.{bytes_asked, planned, read_count, reply_bytes}
+use Rattle.descriptor_table.specs.Changes.{CanChange}
+use Rattle.descriptor_table.specs.Plans.{answered, bytes_asked, change_of, decided_of, decides, planned, read_count, reply_bytes}
 use Rattle.descriptor_table.specs.Shows as shown
 use Rattle.descriptor_table.specs.Table.{IsSound, TableState, empty_table}
 use Rattle.descriptor_table.specs.declared.plan.Errand.{Errand}
@@ -37,7 +38,10 @@ use Rattle.object_store.specs.Errands.{door_taken, waits_outside}
 use Rattle.object_store.specs.Patience.{turn_bytes}
 use Rattle.sequential_object.specs.declared.turn_end.TurnEnd.{TurnEnd}
 use Rattle.sequential_object.specs.declared.turn_end.TurnEnd.TheVariants as end
+use Rattle.descriptor_table.specs.declared.plan.Change.{Change}
+use Rattle.descriptor_table.specs.declared.plan.Decided.{Decided}
 use Rattle.object_store.specs.declared.patience.AtTable.{AtTable}
+use Rattle.object_store.specs.declared.patience.Locking.{Locking}
 use Rattle.object_store.specs.declared.patience.AtTable.TheVariants as at
 use Rattle.object_store.specs.declared.patience.TurnStart.{TurnStart}
 use Rattle.object_store.specs.declared.patience.TurnStart.TheVariants as start
@@ -99,15 +103,33 @@ StartsIn settings w carried old c (start.GoesOut errand) new = GoesOut settings 
 abbrev pub Makes : ℕ → Carried → Stored → Call → TurnStart → Stored → Type 0
 Makes patience carried old c x new = (settings : Settings) (w : World) → settings.patience ≡ patience → Stands old w → StartsIn settings w carried old c x new
 
--- what a call that carries this comes to with the table alone: its turn, at whatever patience; or it locks an object, and nothing has changed
+-- a call that takes the lock of an object, as it was decided
+abbrev pub decided_as : Locking → Decided
+decided_as x = decides (plan.Node x.object x.op x.keep_table) x.change
+
+-- this was decided of the call
+abbrev pub IsDecided : Stored → Call → Locking → Type 0
+IsDecided h c x = answered (decided_of h.table c) ≡ decided_as x
+
+-- a change that was decided of a call, and can be made
+abbrev pub IsChange : Stored → Call → Change → Type 0
+IsChange h c x = (x ≡ change_of h.table c) × CanChange h.table c x
+
+-- what a call that carries this comes to with the table alone: its turn, at whatever patience; or it locks an object, with what was decided, and
+-- nothing has changed
 abbrev pub ComesTo : Carried → Stored → Call → AtTable → Stored → Type 0
 ComesTo carried old c (at.Answers r) new = (number_locked old c carried ≡ None) × ((patience : ℕ) → Makes patience carried old c (start.Ended (end.Reply r)) new) × (reply_bytes r ≤ read_count c)
-ComesTo carried old c (at.Locks n) new = (number_locked old c carried ≡ Some n) × (n < limit.OBJECTS) × (new ≡ old)
+ComesTo carried old c (at.Locks x) new = (number_locked old c carried ≡ Some x.object) × (x.object < limit.OBJECTS) × IsDecided old c x × (new ≡ old)
 
 -- a turn that ended brings no more bytes than the call may read. One that goes outside asks no more, and leaves the room for them as it was
 abbrev pub UsesRoom : ℕ → List ℕ → List ℕ → TurnStart → Type 0
 UsesRoom most old new (start.Ended e) = turn_bytes e ≤ most
 UsesRoom most old new (start.GoesOut errand) = (new ≡ old) × (bytes_asked errand ≤ most)
+
+-- a call that keeps the table while it is outside has changed nothing
+abbrev pub KeepsStore : Bool → TurnStart → Stored → Stored → Type 0
+KeepsStore true (start.GoesOut errand) old new = new ≡ old
+KeepsStore keep x old new = Unit {0}
 
 -- a turn of a call that kept the table while it was outside ended so, by an outcome that fits what it asked
 abbrev pub Opens : ℕ → Carried → Stored → Call → Outcome → TurnEnd → Stored → Type 0

@@ -6,15 +6,14 @@ ghost use Rattle.file_descriptions.specs.Descriptions.{ContainsKey};
 ghost use Rattle.posix_terms.specs.declared.reply.ObjectKind.TheVariants.{File};
 ghost use Rattle.posix_terms.specs.declared.reply.Reply.TheVariants.{Data, Done, Stat};
 ghost use Rattle.descriptor_table.specs.Acts.{numbers_reply};
-ghost use Rattle.descriptor_table.specs.Plans.{planned, reply_bytes};
+ghost use Rattle.descriptor_table.specs.Plans.{reply_bytes};
 ghost use Rattle.object_store.specs.Acting.{Seeks, Writes, cut_bodies, release_reply, moved, offset_of_key, rewritten, start_at};
 ghost use Rattle.descriptor_table.specs.declared.plan.Op.TheVariants as op;
-ghost use Rattle.descriptor_table.specs.declared.plan.Plan.TheVariants as plan;
 ghost use Rattle.object_store.specs.Patience.{act_bytes};
-ghost use Rattle.object_store.specs.Store.{EndsTurn, IsPlanned, RepliesAlways, body_at};
+ghost use Rattle.object_store.specs.Store.{EndsTurn, IsChange, IsPlanned, RepliesAlways, body_at};
 
 use crate::store::Store;
-use descriptor_table::{NewNumbers, Op, Opened, Plan, table_follows_step};
+use descriptor_table::{Change, NewNumbers, Opened, table_follows_step};
 use memory_files::FileBody;
 use posix_terms::{Bytes, Call, Carried, Errno, ObjectKind, Reply, Whence};
 
@@ -186,23 +185,19 @@ impl Store {
     }
 
     // A file is opened: it is cut to nothing if it is new or the call says so.
-    pub(crate) fn open(&mut self, call: &Call, node: usize, cut: bool, keep_table: bool) -> Reply
+    pub(crate) fn open(&mut self, call: &Call, node: usize, cut: bool, change: Change) -> Reply
         requires descriptions { self.old.table.descriptions.made < 2 ^ 127 }
         requires objects { self.old.table.made_objects < 2 ^ 127 }
         requires inside { node < limit.OBJECTS }
-        requires planned { planned self.old.table call.now ≡ plan.Node node (op.Open cut) keep_table }
+        requires planned { IsPlanned self.old call.now node (op.Open cut) }
+        requires change { IsChange self.old call.now change }
         ensures reply { RepliesAlways self.old call.now result self.new }
         ensures few { reply_bytes result ≡ 0 }
         ensures births { (self.new.table.descriptions.made ≤ self.old.table.descriptions.made + 2) × (self.new.table.made_objects ≤ self.old.table.made_objects + 1) }
     {
         // What holds of every store holds of this one: each number has its body.
         let _ = &self.bodies;
-        let plan = Plan::Node {
-            node,
-            op: Op::Open { cut },
-            keep_table,
-        };
-        let given = self.change(call, &plan, None);
+        let given = self.change(call, change, None);
         self.cut_body(node, cut);
         numbers_reply(given)
     }
@@ -218,20 +213,16 @@ impl Store {
     }
 
     // What referred to an object does so no more.
-    pub(crate) fn release(&mut self, call: &Call, node: usize, keep_table: bool) -> Reply
+    pub(crate) fn release(&mut self, call: &Call, node: usize, change: Change) -> Reply
         requires descriptions { self.old.table.descriptions.made < 2 ^ 127 }
         requires objects { self.old.table.made_objects < 2 ^ 127 }
-        requires planned { planned self.old.table call.now ≡ plan.Node node op.Release keep_table }
+        requires planned { IsPlanned self.old call.now node op.Release }
+        requires change { IsChange self.old call.now change }
         ensures reply { RepliesAlways self.old call.now result self.new }
         ensures few { reply_bytes result ≡ 0 }
         ensures births { (self.new.table.descriptions.made ≤ self.old.table.descriptions.made + 2) × (self.new.table.made_objects ≤ self.old.table.made_objects + 1) }
     {
-        let plan = Plan::Node {
-            node,
-            op: Op::Release,
-            keep_table,
-        };
-        let _ = self.change(call, &plan, None);
+        let _ = self.change(call, change, None);
         release_reply(call)
     }
 }

@@ -18,8 +18,10 @@ pub fn locks_and_doors()
     calls_outside();
 }
 
-/// A store that was just made stands for the first world: nothing is open, and there is only the root. The body is
-/// empty: the contract is the law.
+/// A store that was just made stands for the first world: nothing is open, and there is only the root. It does
+/// nothing: the contract is the law.
 pub fn first_store()
     ensures { Stands first_stored first_world }
-{}
+{
+    table_follows_step();
+}

@@ -7,7 +7,7 @@ ghost use Rattle.descriptor_table.specs.declared.plan.NewNumbers.{NewNumbers};
 ghost use Rattle.descriptor_table.specs.declared.plan.NewNumbers.TheVariants as numbers;
 ghost use Rattle.object_store.specs.Patience.{EndsOutside, Waits, act_bytes, stopped_ending, turn_bytes};
 
-use descriptor_table::Errand;
+use descriptor_table::{Change, Errand, Op};
 use posix_terms::{Bytes, Carried, Errno, OutKind, Outcome, Reply};
 use sequential_object::TurnEnd;
 use std::mem::replace;
@@ -17,8 +17,19 @@ use std::mem::replace;
 pub enum AtTable {
     /// The table alone answers it: its turn ended with this reply.
     Answers(Reply),
-    /// It has to lock the object with this number, too.
-    Locks(usize),
+    /// It has to lock an object, too.
+    Locks(Locking),
+}
+
+/// What was decided of a call that takes the lock of an object: the object's number, what the call does there,
+/// whether it keeps the table to its answer, and what it changes in the table. It holds as long as the table stays
+/// as it is.
+#[derive(Clone, Copy)]
+pub struct Locking {
+    pub object: usize,
+    pub op: Op,
+    pub keep_table: bool,
+    pub change: Change,
 }
 
 /// How far a turn of a call came at its grant.

@@ -4,9 +4,10 @@ ghost use Rattle.descriptor_table.specs.declared.plan.NewNumbers.TheVariants as 
 ghost use Rattle.posix_terms.specs.Outcomes.{fits};
 ghost use Rattle.object_store.specs.Patience.{EndsOutside, turn_bytes};
 ghost use Rattle.object_store.specs.Space.{HasSpaceFor, LeavesSpace, no_space};
-ghost use Rattle.object_store.specs.Store.{Makes};
+ghost use Rattle.sequential_object.specs.Locked.{keeps_table};
+ghost use Rattle.object_store.specs.Store.{IsDecided, KeepsStore, Makes};
 
-use crate::patience::{TurnStart, copied, end_outside};
+use crate::patience::{Locking, TurnStart, copied, end_outside};
 use crate::store::Store;
 use descriptor_table::{Errand, read_count};
 use posix_terms::{Call, Carried, Outcome, Reply};
@@ -73,17 +74,20 @@ impl Room {
         &mut self,
         store: &mut Store,
         call: &Call,
+        locking: Locking,
         patience: u32,
         carried: Carried,
     ) -> TurnStart
         requires descriptions { store.old.table.descriptions.made < 2 ^ 127 }
         requires objects { store.old.table.made_objects < 2 ^ 127 }
+        requires decided { IsDecided store.old call.now locking }
         requires room { HasSpaceFor call.now self.old }
         ensures makes { Makes patience carried store.old call.now result store.new }
+        ensures kept { KeepsStore (keeps_table call.now) result store.old store.new }
         ensures room { LeavesSpace result self.new }
         ensures births { (store.new.table.descriptions.made ≤ store.old.table.descriptions.made + 2) × (store.new.table.made_objects ≤ store.old.table.made_objects + 1) }
     {
-        store.make(call, patience, carried, &mut self.told)
+        store.make(call, locking, patience, carried, &mut self.told)
     }
 
     /// Ends a turn that went outside, as [`end_outside`], with room for the bytes that came.

@@ -5,13 +5,14 @@ ghost use Rattle.descriptor_table.specs.declared.plan.Plan.TheVariants as plan;
 ghost use Rattle.descriptor_table.specs.Agreement.{TellsAsStep};
 ghost use Rattle.descriptor_table.specs.Laws.{TableFollows};
 ghost use Rattle.descriptor_table.specs.Changes.{IsAtPort};
+ghost use Rattle.sequential_object.specs.Locked.{keeps_table};
 ghost use Rattle.object_store.specs.Acting.{acts_inside};
 ghost use Rattle.object_store.specs.Patience.{act_bytes};
-ghost use Rattle.object_store.specs.Store.{ComesTo, EndsTurn, IsPlanned, UsesRoom, Makes, Replies, TableMade, first_stored};
+ghost use Rattle.object_store.specs.Store.{ComesTo, EndsTurn, IsChange, IsDecided, IsPlanned, KeepsStore, UsesRoom, Makes, Replies, TableMade, first_stored};
 
 use crate::body::Body;
-use crate::patience::{AtTable, TurnStart, blocked};
-use descriptor_table::{NewNumbers, Op, Plan, Table, table_follows_step};
+use crate::patience::{AtTable, Locking, TurnStart, blocked};
+use descriptor_table::{Change, Decided, NewNumbers, Op, Plan, Table, table_follows_step};
 use posix_terms::{Call, Carried, Limits, Outcome, Reply};
 use sequential_object::TurnEnd;
 use std::alloc::{AllocError, Global};
@@ -58,8 +59,8 @@ impl Store {
         })
     }
 
-    /// Makes the turn of a call that carries this, if the table alone answers it. Of any other call it tells the
-    /// number of the object that it has to lock beside the table, and changes nothing.
+    /// Makes the turn of a call that carries this, if the table alone answers it. Of any other call it tells what was
+    /// decided of it, with the number of the object that it has to lock beside the table, and changes nothing.
     pub fn settle_or_lock(&mut self, call: &Call, carried: Carried) -> AtTable
         requires descriptions { self.old.table.descriptions.made < 2 ^ 127 }
         requires objects { self.old.table.made_objects < 2 ^ 127 }
@@ -67,17 +68,28 @@ impl Store {
         ensures births { (self.new.table.descriptions.made ≤ self.old.table.descriptions.made + 2) × (self.new.table.made_objects ≤ self.old.table.made_objects + 1) }
     {
         table_follows_step();
-        match self.table.plan(call) {
-            Plan::Reply(reply) => AtTable::Answers(self.settle(call, carried, reply)),
-            Plan::Node { node, .. } => AtTable::Locks(node),
+        let Decided { plan, change } = self.table.decide(call);
+        match plan {
+            Plan::Reply(reply) => AtTable::Answers(self.settle(call, carried, reply, change)),
+            Plan::Node {
+                node,
+                op,
+                keep_table,
+            } => AtTable::Locks(Locking {
+                object: node,
+                op,
+                keep_table,
+                change,
+            }),
         }
     }
 
-    /// Makes one turn of a call that carries this from its blocked turns. A call that cannot go on is blocked
+    /// Makes one turn of a call that carries this from its blocked turns, and took the lock of its object: as it was
+    /// decided by `settle_or_lock`, while the table was kept. A call that cannot go on is blocked
     /// until it was for as many turns as its patience, and then fails with EINTR; where its description has
     /// O_NONBLOCK it fails at once with EAGAIN. A call that goes outside gets its errand, with the number of the
     /// object whose door it takes along; unless it keeps the table, its change is made, and `end_outside` ends its
-    /// turn, and else `open_door`.
+    /// turn. Where it keeps the table nothing has changed (`kept`), and `open_door` ends its turn.
     ///
     /// The room is for a read's bytes, and has at least as many as `read_count` says, whatever they are. A read that
     /// is made here takes it, even where it has to wait, so its next turn needs another, and no reply brings more
@@ -85,71 +97,66 @@ impl Store {
     pub fn make(
         &mut self,
         call: &Call,
+        locking: Locking,
         patience: u32,
         carried: Carried,
         room: &mut Vec<u8>,
     ) -> TurnStart
         requires descriptions { self.old.table.descriptions.made < 2 ^ 127 }
         requires objects { self.old.table.made_objects < 2 ^ 127 }
+        requires decided { IsDecided self.old call.now locking }
         requires room { read_count call.now ≤ length room.old.items }
         ensures makes { Makes patience carried self.old call.now result self.new }
+        ensures kept { KeepsStore (keeps_table call.now) result self.old self.new }
         ensures room { UsesRoom (read_count call.now) room.old.items room.new.items result }
         ensures births { (self.new.table.descriptions.made ≤ self.old.table.descriptions.made + 2) × (self.new.table.made_objects ≤ self.old.table.made_objects + 1) }
     {
+        // What holds of every table holds of this one.
+        let _ = self.table.made();
         table_follows_step();
-        match self.table.plan(call) {
-            Plan::Reply(reply) => TurnStart::Ended(TurnEnd::Reply(self.settle(
-                call, carried, reply,
-            ))),
-            Plan::Node {
-                node,
-                op: Op::Ask(errand),
-                keep_table,
-            } => {
-                self.go_out(call, node, errand, keep_table);
+        let Locking {
+            object,
+            op,
+            change,
+            ..
+        } = locking;
+        match op {
+            Op::Ask(errand) => {
+                self.go_out(call, change);
                 TurnStart::GoesOut(errand)
             }
-            Plan::Node {
-                node,
-                op,
-                keep_table,
-            } => {
-                TurnStart::Ended(match self.act(call, node, op, keep_table, carried, room) {
-                    Some(reply) => TurnEnd::Reply(reply),
-                    None => blocked(patience, carried),
-                })
-            }
+            op => TurnStart::Ended(match self.act(call, object, op, change, carried, room) {
+                Some(reply) => TurnEnd::Reply(reply),
+                None => blocked(patience, carried),
+            }),
         }
     }
 
     // Makes a call that the table alone answers.
-    fn settle(&mut self, call: &Call, carried: Carried, reply: Reply) -> Reply
+    fn settle(&mut self, call: &Call, carried: Carried, reply: Reply, change: Change) -> Reply
         requires descriptions { self.old.table.descriptions.made < 2 ^ 127 }
         requires objects { self.old.table.made_objects < 2 ^ 127 }
         requires planned { planned self.old.table call.now ≡ plan.Reply reply }
+        requires change { IsChange self.old call.now change }
         ensures same { result ≡ reply }
         ensures reply { Replies carried self.old call.now result self.new }
         ensures births { (self.new.table.descriptions.made ≤ self.old.table.descriptions.made + 2) × (self.new.table.made_objects ≤ self.old.table.made_objects + 1) }
     {
-        let plan = Plan::Reply(reply);
-        let _ = self.change(call, &plan, None);
-        match plan {
-            Plan::Reply(reply) => reply,
-            Plan::Node { .. } => unreachable!(),
-        }
+        let _ = self.change(call, change, None);
+        reply
     }
 
-    // Makes the table's change of a call that it planned so. It gives the number of a new descriptor where the
-    // plan has not told it. With it comes what holds of every table (`follows`).
+    // Makes the table's change of a call. It gives the number of a new descriptor where the plan has not told it.
+    // With it comes what holds of every table (`follows`).
     pub(crate) fn change(
         &mut self,
         call: &Call,
-        plan: &Plan,
+        change: Change,
         outcome: Option<&Outcome>,
     ) -> NewNumbers
         requires descriptions { self.old.table.descriptions.made < 2 ^ 127 }
         requires objects { self.old.table.made_objects < 2 ^ 127 }
-        requires planned { plan.now ≡ planned self.old.table call.now }
+        requires change { IsChange self.old call.now change }
         requires port { IsAtPort call.now (option_copied outcome) }
         ensures made { TableMade self.old call.now (option_copied outcome.entry) self.new.table }
         ensures bodies { self.new.bodies ≡ self.old.bodies }
@@ -158,28 +165,28 @@ impl Store {
         ensures births { (self.new.table.descriptions.made ≤ self.old.table.descriptions.made + 2) × (self.new.table.made_objects ≤ self.old.table.made_objects + 1) }
     {
         table_follows_step();
-        let given = self.table.apply(call, plan, outcome);
+        let given = self.table.carry_out(call, change, outcome);
         // What holds of every table holds of this one.
         let _ = self.table.made();
         given
     }
 
-    // Makes a turn of a call that acts on the object with this number, as the table planned it.
+    // Makes a turn of a call that acts on the object that it locked, as it was decided.
     fn act(
         &mut self,
         call: &Call,
         node: usize,
         op: Op,
-        keep_table: bool,
+        change: Change,
         carried: Carried,
         room: &mut Vec<u8>,
     ) -> Option<Reply>
-        requires whole { planned self.old.table call.now ≡ plan.Node node op keep_table }
         requires descriptions { self.old.table.descriptions.made < 2 ^ 127 }
         requires objects { self.old.table.made_objects < 2 ^ 127 }
         requires planned { IsPlanned self.old call.now node op }
         requires inside { node < limit.OBJECTS }
         requires known { MovesKnown self.old.table (read_count call.now) op }
+        requires change { IsChange self.old call.now change }
         requires here { acts_inside op ≡ true }
         requires room { read_count call.now ≤ length room.old.items }
         ensures ends { EndsTurn carried self.old call.now result self.new }
@@ -192,8 +199,8 @@ impl Store {
         match op {
             Op::Read { from, count } => self.read(node, from, taken(room, count)),
             Op::Write { to } => self.write_call(call, node, to, carried),
-            Op::Open { cut } => Some(self.open(call, node, cut, keep_table)),
-            Op::Release => Some(self.release(call, node, keep_table)),
+            Op::Open { cut } => Some(self.open(call, node, cut, change)),
+            Op::Release => Some(self.release(call, node, change)),
             Op::Pread { count, position } => {
                 Some(self.pread(node, position, taken(room, count)))
             }
@@ -201,8 +208,8 @@ impl Store {
             Op::Fstat { links } => Some(self.fstat(node, links)),
             Op::Pwrite { position } => Some(self.pwrite_call(call, node, position)),
             Op::Lseek { at } => Some(self.lseek_call(call, node, at)),
-            Op::Pipe => Some(self.open_pipe(call, node, keep_table)),
-            Op::Socketpair => Some(self.open_pair(call, node, keep_table)),
+            Op::Pipe => Some(self.open_pipe(call, node, change)),
+            Op::Socketpair => Some(self.open_pair(call, node, change)),
             Op::Shutdown { side, how } => Some(self.shutdown(node, side, how)),
             Op::Ask(_) => unreachable!(),
         }

@@ -9,17 +9,16 @@ ghost use Rattle.posix_terms.specs.declared.limits.TheConstants.Limits as limit;
 ghost use Rattle.pipes.specs.Pipe.{read_answer, write_answer};
 ghost use Rattle.stream_sockets.specs.Pair.{left_by_read, left_by_write, read_into};
 ghost use Rattle.descriptor_table.specs.Acts.{has_read, has_written, is_open, read_acted, write_acted};
-ghost use Rattle.descriptor_table.specs.Plans.{planned, reply_bytes};
+ghost use Rattle.descriptor_table.specs.Plans.{reply_bytes};
 ghost use Rattle.descriptor_table.specs.declared.plan.Op.TheVariants as op;
-ghost use Rattle.descriptor_table.specs.declared.plan.Plan.TheVariants as plan;
 ghost use Rattle.object_store.specs.Acting.{ActsOn, HasRead, HasWritten, ending_of_read, ending_of_write, holding, offset_of_key};
 ghost use Rattle.object_store.specs.Patience.{act_bytes};
-ghost use Rattle.object_store.specs.Store.{RepliesAlways, kept_at};
+ghost use Rattle.object_store.specs.Store.{IsChange, IsPlanned, RepliesAlways, kept_at};
 
 use crate::acts::numbers_reply;
 use crate::patience::stopped;
 use crate::store::Store;
-use descriptor_table::{Op, Opened, Plan};
+use descriptor_table::{Change, Opened};
 use pipes::PipeAnswer;
 use posix_terms::{Bytes, Call, End, Errno, Reply, ShutdownHow, Side};
 
@@ -130,23 +129,19 @@ impl Store {
     }
 
     // POSIX.1-2017, `pipe`: the new pipe has nothing in it, whatever was under its number before.
-    pub(crate) fn open_pipe(&mut self, call: &Call, node: usize, keep_table: bool) -> Reply
+    pub(crate) fn open_pipe(&mut self, call: &Call, node: usize, change: Change) -> Reply
         requires descriptions { self.old.table.descriptions.made < 2 ^ 127 }
         requires objects { self.old.table.made_objects < 2 ^ 127 }
         requires inside { node < limit.OBJECTS }
-        requires planned { planned self.old.table call.now ≡ plan.Node node op.Pipe keep_table }
+        requires planned { IsPlanned self.old call.now node op.Pipe }
+        requires change { IsChange self.old call.now change }
         ensures reply { RepliesAlways self.old call.now result self.new }
         ensures few { reply_bytes result ≡ 0 }
         ensures births { (self.new.table.descriptions.made ≤ self.old.table.descriptions.made + 2) × (self.new.table.made_objects ≤ self.old.table.made_objects + 1) }
     {
         // What holds of every store holds of this one: each number has its body.
         let _ = &self.bodies;
-        let plan = Plan::Node {
-            node,
-            op: Op::Pipe,
-            keep_table,
-        };
-        let given = self.change(call, &plan, None);
+        let given = self.change(call, change, None);
         self.clear_pipe(node);
         numbers_reply(given)
     }
@@ -160,23 +155,19 @@ impl Store {
     }
 
     // POSIX.1-2017, `socketpair`: nothing waits in the new pair, and nothing is shut.
-    pub(crate) fn open_pair(&mut self, call: &Call, node: usize, keep_table: bool) -> Reply
+    pub(crate) fn open_pair(&mut self, call: &Call, node: usize, change: Change) -> Reply
         requires descriptions { self.old.table.descriptions.made < 2 ^ 127 }
         requires objects { self.old.table.made_objects < 2 ^ 127 }
         requires inside { node < limit.OBJECTS }
-        requires planned { planned self.old.table call.now ≡ plan.Node node op.Socketpair keep_table }
+        requires planned { IsPlanned self.old call.now node op.Socketpair }
+        requires change { IsChange self.old call.now change }
         ensures reply { RepliesAlways self.old call.now result self.new }
         ensures few { reply_bytes result ≡ 0 }
         ensures births { (self.new.table.descriptions.made ≤ self.old.table.descriptions.made + 2) × (self.new.table.made_objects ≤ self.old.table.made_objects + 1) }
     {
         // What holds of every store holds of this one: each number has its body.
         let _ = &self.bodies;
-        let plan = Plan::Node {
-            node,
-            op: Op::Socketpair,
-            keep_table,
-        };
-        let given = self.change(call, &plan, None);
+        let given = self.change(call, change, None);
         self.clear_pair(node);
         numbers_reply(given)
     }

@@ -1,6 +1,7 @@
 -- The laws of other crates that the law of a run's own log rests on.
 use Rattle.std.proofs.Common.{◌≡◌, ℕ, List}
 use Rattle.call_machine.specs.Covered.{HasSpelling, NoneDiverges, RecordsCame}
+use Rattle.logged_machine.specs.RecordLaws.{RecordLaws}
 use Rattle.input_log.specs.Faults.{Fault, HasFault}
 use Rattle.input_log.specs.Fronts.{IsFront}
 use Rattle.input_log.specs.Grammar.{Spells}
@@ -40,5 +41,7 @@ pub record KnownOfThreads : Type 0 where
   pub some_end : SomeEnd
   pub scripts_end : ScriptsEnd
   pub holder : HolderHasTurn
+  -- the records of a log
+  pub records : RecordLaws
   -- what a sink took
   pub written : (w : Writing) → IsSound w → IsFront w.taken (log_of w)

@@ -87,7 +87,7 @@ agree known {A} state text log actors e taken failures told scripts front thread
         let fits : Fits (header_for (settings_of log.header) (length actors)) m e.history e.own = judged_fits run.stopped stopped unstrayed run.judged in
         let here : length m.whole.threads ≡ length scripts = ap (λ (x : Header). x.threads) fits.0 ∙ count in
         let led = subst (λ n. AreLedFrom gives_logged (is_some stopped) 0 e.history.rows (doors_by n log.records) e.doors) count (not_so unstrayed h.calls) in
-        let supplied = supplied_by_log state (is_some stopped) ScriptDoor m kept faithful.covered log e.history actors e.actors e.doors scripts here (sym (ap settings_of fits.0)) shows.rows shows.asked meant (not_so unstrayed h.steps) led in
+        let supplied = supplied_by_log known.records state (is_some stopped) ScriptDoor m kept faithful.covered log e.history actors e.actors e.doors scripts here (sym (ap settings_of fits.0)) shows.rows shows.asked meant (not_so unstrayed h.steps) led in
         let found = plain_end known (inputs_of log scripts) in
         let begins : (last : State) → EndsIn (setup_of (inputs_of log scripts)) (first_state (inputs_of log scripts)) last → AreBeginnings (transcripts_of (length scripts) e.history.rows) (seen_in last) =
         λ last ends. subst (λ rs. AreBeginnings (transcripts_of (length scripts) rs) (seen_in last)) (sym shows.rows) (seen_begins known ScriptDoor m kept (inputs_of log scripts) last supplied ends) in

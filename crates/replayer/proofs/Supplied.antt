@@ -21,12 +21,12 @@ use Rattle.logged_machine.specs.Covered.{IsCovered, kind_before, kinds_in}
 use Rattle.logged_machine.specs.Finishing.{EndsLog, Finishes, FinishesBy, have_ended}
 use Rattle.logged_machine.specs.History.{outcome_before, outcomes_in}
 use Rattle.logged_machine.specs.Kept.{IsKept, header_of, is_sink}
+use Rattle.logged_machine.specs.RecordLaws.{RecordLaws}
 use Rattle.logged_machine.specs.Shown.{Shown}
 use Rattle.logged_machine.specs.declared.stop.Stop.{Stop}
 use Rattle.posix_terms.specs.Outcomes.{fits, is_kind}
 use Rattle.posix_terms.specs.declared.outcome.Given.{Given}
 use Rattle.posix_terms.specs.declared.outcome.OutKind.{OutKind}
-use Rattle.posix_terms.specs.declared.outcome.OutKind.TheVariants as kind
 use Rattle.posix_terms.specs.declared.outcome.Outcome.{Outcome}
 use Rattle.posix_terms.specs.declared.request.Request.{Request}
 use Rattle.posix_terms.specs.declared.transcript.HistoryRow.{HistoryRow}
@@ -224,22 +224,10 @@ all_come i (row ∷ rows) came k g outcomes kinds at = by_test (row.turn.thread 
     by_test true come = come_one row row.outcome (kind_asked row.call) (request_for row.call) (outcomes_in i rows) (kinds_in i rows) (brought_in i rows) (asks_kind row) come
     by_test false come = come
 
-same_kind : (k l : OutKind) → is_kind k l ≡ true → k ≡ l
-same_kind kind.Open kind.Open h = refl
-same_kind kind.Read kind.Read h = refl
-same_kind kind.Write kind.Write h = refl
-same_kind kind.Seek kind.Seek h = refl
-same_kind kind.Listen kind.Listen h = refl
-same_kind kind.Connect kind.Connect h = refl
-same_kind kind.Accept kind.Accept h = refl
-same_kind kind.Shutdown kind.Shutdown h = refl
-same_kind kind.Close kind.Close h = refl
-same_kind k l h = absurd (false≢true h)
-
 -- so each is what the log has of its number
-came_listed : (D : Type 0) (m : Shown D) (covered : IsCovered D m) (ahead : Bool) (past : Past) (rs : List Record) (n : ℕ) (ends : List LogDoors) (i k : ℕ) (g : Given)
+came_listed : RecordLaws → (D : Type 0) (m : Shown D) (covered : IsCovered D m) (ahead : Bool) (past : Past) (rs : List Record) (n : ℕ) (ends : List LogDoors) (i k : ℕ) (g : Given)
     → i < n → past.rows ≡ m.whole.rows → AreLedFrom gives_logged ahead 0 past.rows (doors_by n rs) ends → slice_get (records.outcomes_of i m.log.records) k ≡ Some g → slice_get (records.outcomes_of i rs) k ≡ Some g
-came_listed D m covered ahead past rs n ends i k g l rows led at =
+came_listed known D m covered ahead past rs n ends i k g l rows led at =
     let brought_here = all_come i m.whole.rows (records.outcomes_of i m.log.records) k g (covered.outcomes i) (covered.kinds i) at in
     let b : Brought = brought_here.0 in
     let leads = led_at ahead 0 i i past.rows (doors_by n rs) ends (doors_of i rs) (omega arith) (let long = doors_length n rs in omega (arith, long, l)) led in
@@ -249,16 +237,16 @@ came_listed D m covered ahead past rs n ends i k g l rows led at =
     let listed = leads_listed 0 (doors_of i rs) (brought_in i m.whole.rows) leads.0 there k k b (omega arith) brought_here.1 in
     let entry : Given = listed.entry in
     let request : Request = b.request in
-    let kinds : entry.kind ≡ g.kind = same_kind entry.kind request.kind (and_parts (is_kind entry.kind request.kind) (fits request.kind request.asked entry.outcome) listed.answer).0 ∙ brought_here.3 in
+    let kinds : entry.kind ≡ g.kind = known.kinds entry.kind request.kind (and_parts (is_kind entry.kind request.kind) (fits request.kind request.asked entry.outcome) listed.answer).0 ∙ brought_here.3 in
     let outcomes : entry.outcome ≡ g.outcome = listed.outcome ∙ brought_here.2 in
     listed.at ∙ ap Some (ap₂ (λ (x : OutKind) (o : Outcome). record { kind = x; outcome = o }) kinds outcomes)
 
-pub supplied_by_log : {A : Type 0} (state : A → ScriptState) (ahead : Bool) (D : Type 0) (m : Shown D) (kept : IsKept D m) (covered : IsCovered D m) (log : LogText) (past : Past) (actors later : List A) (ends : List LogDoors) (scripts : List (List Line))
+pub supplied_by_log : RecordLaws → {A : Type 0} (state : A → ScriptState) (ahead : Bool) (D : Type 0) (m : Shown D) (kept : IsKept D m) (covered : IsCovered D m) (log : LogText) (past : Past) (actors later : List A) (ends : List LogDoors) (scripts : List (List Line))
     → length m.whole.threads ≡ length scripts → settings_of log.header ≡ settings_in m.whole
     → past.rows ≡ m.whole.rows → past.asked ≡ map (λ (t : Thread). t.asked) m.whole.threads → map start_of scripts ≡ map state actors → ArePlayedFrom state ahead 0 past.rows past.asked actors later
     → AreLedFrom gives_logged ahead 0 past.rows (doors_by (length scripts) log.records) ends
     → IsSupplied D m (inputs_of log scripts)
-supplied_by_log state ahead D m kept covered log past actors later ends scripts threads settings rows asked meant played led =
+supplied_by_log known state ahead D m kept covered log past actors later ends scripts threads settings rows asked meant played led =
     record {
       threads = threads;
       settings = sym settings;
@@ -266,7 +254,7 @@ supplied_by_log state ahead D m kept covered log past actors later ends scripts 
       outcomes = λ i k g at.
           ⊎_elim
           (λ (l : i < length scripts).
-          subst (λ gs. slice_get gs k ≡ Some g) (sym (outcomes_at (length scripts) i log.records l)) (came_listed D m covered ahead past log.records (length scripts) ends i k g l rows led at))
+          subst (λ gs. slice_get gs k ≡ Some g) (sym (outcomes_at (length scripts) i log.records l)) (came_listed known D m covered ahead past log.records (length scripts) ends i k g l rows led at))
           (λ (l : length scripts ≤ i). absurd (none-some g (subst (λ gs. slice_get gs k ≡ Some g) (nothing_past D m kept (length scripts) i threads l) at)))
           (cases_lt i (length scripts));
     }

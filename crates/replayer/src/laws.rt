@@ -5,6 +5,7 @@ use call_machine::logs_of_plain_runs;
 use host_doors::Outside;
 use input_log::{one_fault, one_value, what_was_written_is_read};
 use lock_model::{arising_states, outcomes_that_came, plain_run_ends, prefix_law, turn_order};
+use logged_machine::outcomes_are_recorded;
 use thread_scripts::{Actor, programs_of_scripts};
 
 /// A replay of the log that a plain run itself wrote, with the run's own scripts, gives that run again: the same
@@ -42,6 +43,7 @@ pub fn recorded_runs_are_replayed<A: Actor, O: Outside>()
     logs_of_plain_runs();
     one_value();
     one_fault();
+    outcomes_are_recorded();
     what_was_written_is_read();
 }
 
@@ -58,5 +60,6 @@ pub(crate) fn runs_agree_with_replays<A: Actor>()
     logs_of_plain_runs();
     one_value();
     one_fault();
+    outcomes_are_recorded();
     what_was_written_is_read();
 }

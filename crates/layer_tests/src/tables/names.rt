@@ -90,6 +90,16 @@ fn directories_change(rt: HostRuntime) {
     assert_answers(&rt, &mut Names::new(), DIRECTORIES);
 }
 
+// With no look at what the path names.
+#[test]
+fn a_name_is_given_and_taken(rt: HostRuntime) {
+    let mut names = Names::new();
+    names.insert(b"//a", Node::File(7));
+    assert!(rt; names.resolve(b"/a") == Ok(Some(Node::File(7))));
+    names.remove_name(b"a");
+    assert!(rt; names.resolve(b"/a") == Ok(None));
+}
+
 // After these the file 7 has two names.
 const TWO_NAMES: &[(&[u8], Answer)] = &[
     (b"/d", Answer::DirMade(Ok(()))),

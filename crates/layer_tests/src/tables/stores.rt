@@ -85,6 +85,14 @@ fn ended(end: &TurnEnd, wanted: &End) -> bool {
     }
 }
 
+// The same, where an end is wanted.
+fn ends(end: &TurnEnd, wanted: Option<&End>) -> bool {
+    match wanted {
+        Some(wanted) => ended(end, wanted),
+        None => false,
+    }
+}
+
 // What becomes of a call, where the patience is 3.
 enum Turn {
     // Its turn, where it was blocked for so many before, ends so.
@@ -99,7 +107,8 @@ enum Turn {
     Locks(usize),
 }
 
-// Whether a turn of a call ends so, where it was blocked for so many before, or asks this outside.
+// Whether a turn of a call ends so, where it was blocked for so many before, or asks this outside. A call that locks
+// no object ends at the table.
 fn makes(
     alloc: Global,
     store: &mut Store,
@@ -113,11 +122,13 @@ fn makes(
         return Ok(false);
     }
     let mut room = vec![in alloc; 0; read_count(call)]?;
-    Ok(match store.make(call, 3, Carried { turns }, &mut room) {
-        TurnStart::Ended(found) => match end {
-            Some(wanted) => ended(&found, wanted),
-            None => false,
-        },
+    let carried = Carried { turns };
+    let locking = match store.settle_or_lock(call, carried) {
+        AtTable::Locks(locking) => locking,
+        AtTable::Answers(reply) => return Ok(ends(&TurnEnd::Reply(reply), end)),
+    };
+    Ok(match store.make(call, locking, 3, carried, &mut room) {
+        TurnStart::Ended(found) => ends(&found, end),
         TurnStart::GoesOut(found) => errand == Some(found),
     })
 }
@@ -128,10 +139,14 @@ fn opens(store: &mut Store, call: &Call, outcome: &Outcome, wanted: &End) -> boo
     if descriptions >= 1_000 || objects >= 1_000 {
         return false;
     }
-    ended(
-        &store.open_door(call, outcome, 3, Carried { turns: 0 }),
-        wanted,
-    )
+    let carried = Carried { turns: 0 };
+    match store.settle_or_lock(call, carried) {
+        AtTable::Locks(locking) => ended(
+            &store.open_door(call, locking, outcome, 3, carried),
+            wanted,
+        ),
+        AtTable::Answers(_) => false,
+    }
 }
 
 // Whether a call takes the lock of this object.
@@ -141,7 +156,7 @@ fn locks(store: &mut Store, call: &Call, wanted: usize) -> bool {
         return false;
     }
     match store.settle_or_lock(call, Carried { turns: 0 }) {
-        AtTable::Locks(object) => object == wanted,
+        AtTable::Locks(locking) => locking.object == wanted,
         AtTable::Answers(_) => false,
     }
 }
@@ -194,6 +209,10 @@ const LOCKS: &[(Ask, Turn)] = &[
     (Ask::Pipe, Turn::Ends(0, End::Pair(0, 1))),
     (Ask::Read, Turn::Locks(0)),
     (Ask::Pipe, Turn::Locks(1)),
+    (
+        Ask::Write(2, b"abc"),
+        Turn::Ends(0, End::Fail(Errno::EBADF)),
+    ),
 ];
 
 #[test]

@@ -1,4 +1,5 @@
-use descriptor_table::{Errand, NewNumbers, Op, Plan, Table};
+use descriptor_table::{Change, Errand, NewDescriptor, NewNumbers, NewPair, Op, Plan, Table};
+use file_descriptions::StatusFlags;
 use posix_terms::{
     Access, Bytes, Call, Errno, ObjectKind, OpenFlags, OutKind, Outcome, Reply, ShutdownHow,
 };
@@ -10,6 +11,11 @@ const CREATE: OpenFlags = OpenFlags {
     create: true,
     exclusive: false,
     truncate: false,
+    append: false,
+    nonblock: false,
+};
+
+const PLAIN: StatusFlags = StatusFlags {
     append: false,
     nonblock: false,
 };
@@ -53,6 +59,8 @@ enum Row {
     Comes(Ask, Result<u64, Errno>, Told, NewNumbers),
     // A call that is planned and not made.
     Plans(Ask, Told),
+    // A call that is decided once, with its change, and the new numbers once that is carried out.
+    Decides(Ask, Told, Change, NewNumbers),
     // A write of so many bytes to descriptor 0, which goes to object 0 or is refused.
     Writes(usize, Option<Errno>),
     // The open ends of an object.
@@ -181,6 +189,37 @@ fn plans(alloc: Global, table: &Table, ask: &Ask, told: &Told) -> Result<bool, A
     Ok(table.plan(&call) == plan_of(told))
 }
 
+// Whether a call is decided so, and gives these numbers, once its change is carried out.
+fn call_decides(
+    table: &mut Table,
+    call: &Call,
+    told: &Told,
+    change: Change,
+    numbers: NewNumbers,
+) -> bool {
+    let (descriptions, objects) = table.made();
+    if descriptions >= 1_000 || objects >= 1_000 {
+        return false;
+    }
+    let decided = table.decide(call);
+    table.carry_out(call, decided.change, None) == numbers
+        && decided.plan == plan_of(told)
+        && decided.change == change
+}
+
+// The same of a call in short.
+fn decides(
+    alloc: Global,
+    table: &mut Table,
+    ask: &Ask,
+    told: &Told,
+    change: Change,
+    numbers: NewNumbers,
+) -> Result<bool, AllocError> {
+    let call = call_of(alloc, ask)?;
+    Ok(call_decides(table, &call, told, change, numbers))
+}
+
 // Whether a write of so many bytes to descriptor 0 goes to object 0, or is refused so.
 fn writes(
     alloc: Global,
@@ -208,6 +247,9 @@ fn holds(alloc: Global, table: &mut Table, row: &Row) -> Result<bool, AllocError
             makes(alloc, table, ask, Some(&outcome), told, *numbers)?
         }
         Row::Plans(ask, told) => plans(alloc, table, ask, told)?,
+        Row::Decides(ask, told, change, numbers) => {
+            decides(alloc, table, ask, told, *change, *numbers)?
+        }
         Row::Writes(count, refusal) => writes(alloc, table, *count, *refusal)?,
         Row::Ends(node, wanted) => table.ends(*node) == *wanted,
         Row::Made(descriptions, objects) => table.made() == (*descriptions, *objects),
@@ -419,6 +461,43 @@ const PIPE: &[Row] = &[
 #[test]
 fn a_pipe_has_two_ends(rt: HostRuntime) -> Result<(), Fail> {
     assert_table(&rt, rt.alloc(), PIPE)
+}
+
+// A file and a pipe are made; an open of a path that leads through the file changes nothing.
+const DECIDED: &[Row] = &[
+    Row::Decides(
+        Ask::Open(b"/a"),
+        Told::Node(0, Op::Open { cut: true }),
+        Change::MakeFile(NewDescriptor {
+            number: 0,
+            node: 0,
+            access: Access::ReadWrite,
+            flags: PLAIN,
+        }),
+        NewNumbers::One(0),
+    ),
+    Row::Decides(
+        Ask::Open(b"/a/b"),
+        Told::Fail(Errno::ENOTDIR),
+        Change::Nothing,
+        NewNumbers::None,
+    ),
+    Row::Decides(
+        Ask::Pipe,
+        Told::Node(1, Op::Pipe),
+        Change::MakePipe(NewPair {
+            first: 1,
+            second: 2,
+            node: 1,
+        }),
+        NewNumbers::Two(1, 2),
+    ),
+    Row::Made(3, 2),
+];
+
+#[test]
+fn a_change_is_made_as_it_was_decided(rt: HostRuntime) -> Result<(), Fail> {
+    assert_table(&rt, rt.alloc(), DECIDED)
 }
 
 const SHUTDOWN_OF_A_FILE: &[Row] = &[

@@ -1,6 +1,5 @@
-use Rattle.descriptor_table.proofs.Agreeing.{as_planned}
 use Rattle.descriptor_table.proofs.Following.{table_follows}
 use Rattle.descriptor_table.proofs.laws.table_follows_step.Goals as goal
 
 pub returns : goal.returns
-returns c = record { follows = table_follows c.changes_keep_sound.ensures c.failed_calls_change_nothing.ensures; opens = as_planned }
+returns c = record { follows = table_follows c.changes_keep_sound.ensures }

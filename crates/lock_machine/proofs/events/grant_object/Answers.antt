@@ -1,12 +1,16 @@
-use Rattle.std.proofs.Common.{Ok, ◌≡◌, rules}
+use Rattle.std.proofs.Common.{Ok, ◌≡◌, Option, Some, ap, subst, rules}
+use Rattle.object_store.specs.declared.patience.Locking.{Locking}
+use Rattle.lock_machine.proofs.Wanting.{wanted_some}
+use Rattle.lock_machine.specs.Wanted.{IsWanted, wanted_call}
+use Rattle.lock_machine.specs.declared.thread.Phase.{Phase}
 use Rattle.lock_machine.specs.Events.{parts}
 use Rattle.lock_machine.specs.Threads.{timed}
 use Rattle.lock_machine.specs.declared.thread.Phase.TheVariants as phase
 use Rattle.lock_machine.proofs.Granting.{granted_object}
 use Rattle.lock_machine.proofs.events.grant_object.Goals as goal
 
-pub returns-in-WantsObject-clause-event : goal.returns-in-WantsObject-clause-event
-returns-in-WantsObject-clause-event c =
+pub returns-in-Some-clause-event : goal.returns-in-Some-clause-event
+returns-in-Some-clause-event c =
     let shared = c.args.shared.now in
     let want = c.in-WantsObject in
     let is : c.args.thread.now.phase ≡ phase.WantsObject want.call want.carried want.clock want.object = search rules in
@@ -14,3 +18,11 @@ returns-in-WantsObject-clause-event c =
     (λ clock. parts (timed c.args.thread.now clock) shared.lock shared.store shared.rows.items)
     (λ clock. parts (timed c.grant.new.thread clock) c.grant.new.shared.lock c.grant.new.shared.store c.grant.new.shared.rows.items)
     is c.grant.ensures.event
+
+pub unreachable-requires : goal.unreachable-requires
+unreachable-requires c =
+    let want = c.in-WantsObject in
+    let shared = c.args.shared.now in
+    let is : c.args.thread.now.phase ≡ phase.WantsObject want.call want.carried want.clock want.object = search rules in
+    let its : wanted_call c.args.thread.now.phase shared.rows.items ≡ Some want.call = ap (λ (p : Phase). wanted_call p shared.rows.items) is in
+    wanted_some shared.store want.call (subst (λ (w : Option Locking). IsWanted shared.store want.call w) c.in_default-wanted.is (c.requires.decided want.call its))

@@ -33,6 +33,7 @@ returns g c =
       some_end = ends.ends;
       scripts_end = c.programs_of_scripts.ensures.end;
       holder = c.turn_order.ensures.holder;
+      records = c.outcomes_are_recorded.ensures;
       written = c.what_was_written_is_read.ensures;
     } in
     law.agree known _

@@ -1,11 +1,10 @@
-use Rattle.std.proofs.Common.{◌≡◌, Bool, true, false, refl, sym, ap, ◌∙◌}
-use Rattle.std.proofs.lemmas.Bool.{false≢true}
+use Rattle.std.proofs.Common.{◌≡◌, Bool, true, sym, ap, ◌∙◌}
 use Rattle.descriptor_table.specs.Changes.{is_refused}
 use Rattle.descriptor_table.specs.Plans.{planned}
 use Rattle.descriptor_table.specs.declared.plan.Plan.{Plan}
-use Rattle.descriptor_table.proofs.CallLemmas.{changes-as_step, tells-as_step}
-use Rattle.descriptor_table.proofs.NumberLemmas.{numbers-stay, numbers-unchanged}
-use Rattle.descriptor_table.proofs.OffsetLemmas.{offsets-stay, offsets-unchanged}
+use Rattle.descriptor_table.proofs.BesideLemmas.{refused-as_step}
+use Rattle.descriptor_table.proofs.NumberLemmas.{numbers-unchanged}
+use Rattle.descriptor_table.proofs.OffsetLemmas.{offsets-unchanged}
 use Rattle.descriptor_table.proofs.table.Table.apply.Goals as goal
 
 -- of a plan that is or is not refused, where it is the planned one
@@ -15,31 +14,15 @@ refused_so p q b r is test same = ap (λ (x : Plan). is_refused x) (sym same) �
 pub returns-then-is_refused-clause-step : goal.returns-then-is_refused-clause-step
 returns-then-is_refused-clause-step c = λ same.
     let no = refused_so c.args.plan.now (planned c.args.self.now c.args.call.now) true c.is_refused.result c.is_refused.ensures c.if-is_refused.true same in
-    changes-as_step c.changes_keep_sound.ensures c.failed_calls_change_nothing.ensures c.args.self.now c.args.call.now _ c.args.self.now c.known.ensures.table c.known.ensures.descriptions (λ h. refl) (λ made. absurd (false≢true (sym made ∙ no)))
+    (refused-as_step c.changes_keep_sound.ensures c.failed_calls_change_nothing.ensures c.args.self.now c.args.call.now _ c.known.ensures.table c.known.ensures.descriptions no).0
 
 pub returns-then-is_refused-clause-tells : goal.returns-then-is_refused-clause-tells
 returns-then-is_refused-clause-tells c = λ same.
     let no = refused_so c.args.plan.now (planned c.args.self.now c.args.call.now) true c.is_refused.result c.is_refused.ensures c.if-is_refused.true same in
-    tells-as_step c.changes_keep_sound.ensures c.args.self.now c.args.call.now _ _ c.known.ensures.table c.known.ensures.descriptions (λ h. refl) (λ made. absurd (false≢true (sym made ∙ no)))
-
-pub returns-clause-step : goal.returns-clause-step
-returns-clause-step c = λ same.
-    let made = refused_so c.args.plan.now (planned c.args.self.now c.args.call.now) false c.is_refused.result c.is_refused.ensures c.if-is_refused.false same in
-    changes-as_step c.changes_keep_sound.ensures c.failed_calls_change_nothing.ensures c.args.self.now c.args.call.now _ c.change.new.self c.known.ensures.table c.known.ensures.descriptions (λ h. absurd (false≢true (sym made ∙ h))) (λ h. c.change.ensures.changes)
-
-pub returns-clause-tells : goal.returns-clause-tells
-returns-clause-tells c = λ same.
-    let made = refused_so c.args.plan.now (planned c.args.self.now c.args.call.now) false c.is_refused.result c.is_refused.ensures c.if-is_refused.false same in
-    tells-as_step c.changes_keep_sound.ensures c.args.self.now c.args.call.now _ c.change.result c.known.ensures.table c.known.ensures.descriptions (λ h. absurd (false≢true (sym made ∙ h))) (λ h. c.change.ensures.number)
+    (refused-as_step c.changes_keep_sound.ensures c.failed_calls_change_nothing.ensures c.args.self.now c.args.call.now _ c.known.ensures.table c.known.ensures.descriptions no).1
 
 pub returns-then-is_refused-clause-numbers : goal.returns-then-is_refused-clause-numbers
 returns-then-is_refused-clause-numbers c = numbers-unchanged c.args.self.now
 
-pub returns-clause-numbers : goal.returns-clause-numbers
-returns-clause-numbers c = numbers-stay c.args.self.now c.args.call.now _ c.change.new.self c.known.ensures.table c.change.ensures.changes
-
 pub returns-then-is_refused-clause-offsets : goal.returns-then-is_refused-clause-offsets
 returns-then-is_refused-clause-offsets c = offsets-unchanged c.args.self.now
-
-pub returns-clause-offsets : goal.returns-clause-offsets
-returns-clause-offsets c = offsets-stay c.args.self.now c.args.call.now _ c.change.new.self c.known.ensures.table c.change.ensures.changes

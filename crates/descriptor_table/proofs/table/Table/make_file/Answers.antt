@@ -1,12 +1,13 @@
-use Rattle.std.proofs.Common.{◌≡◌, ◌<◌, None, rules}
+use Rattle.std.proofs.Common.{◌≡◌, ◌<◌, length, None, arith}
+use Rattle.sequential_object.specs.Paths.{components_of}
 use Rattle.descriptor_table.proofs.ObjectLemmas.{slot}
 use Rattle.descriptor_table.specs.Table.{TableState}
-use Rattle.descriptor_table.proofs.SoundLemmas.{sound-made}
+use Rattle.descriptor_table.proofs.SoundLemmas.{sound-with_file}
 use Rattle.descriptor_table.proofs.table.Table.make_file.Goals as goal
 
-pub invariant_of-self-2 : goal.invariant_of-self-2
-invariant_of-self-2 c =
+pub invariant_of-self : goal.invariant_of-self
+invariant_of-self c =
     let before : TableState = record { descriptors = c.self.inside.descriptors; descriptions = c.self.inside.descriptions; paths = c.self.inside.names; objects = c.self.inside.objects; made_objects = c.self.inside.made_objects } in
-    let inside : c.in_ok-node.node < 48 = search rules in
-    let free : slot before.objects c.in_ok-node.node ≡ None = search rules in
-    sound-made before c.args.path.now c.in_ok-node.node c.add.new.self c.in_ok-add.ensures.ok inside free c.self.invariant
+    let free : slot before.objects c.args.node ≡ None = rw (← c.self.view_is) at c.requires.next.1 in
+    let inside : c.args.node < length before.objects = omega (arith, c.requires.next.0, c.self.invariant.object_numbers) in
+    rw c.insert.ensures (sound-with_file before (components_of c.args.path.now) c.args.node inside free c.self.invariant)

@@ -13,6 +13,7 @@ use Rattle.lock_machine.proofs.Resting.{answer_rests}
 use Rattle.lock_machine.proofs.Bearing.{born_still}
 use Rattle.lock_machine.proofs.RowRoom.{room_kept}
 use Rattle.lock_machine.proofs.Bearing.{few_kept}
+use Rattle.lock_machine.proofs.Wanting.{waits_still}
 use Rattle.lock_machine.proofs.machine.LockMachine.answer_granted.Goals as goal
 
 pub invariant_of-self-inside : goal.invariant_of-self-inside
@@ -29,7 +30,7 @@ invariant_of-self-inside c =
           born_still m.clocks c.answer.new.clocks c.args.i c.index_mut.result.now c.answer.new.thread m.shared.store (clock_inside m.threads.items m.clocks c.args.i m.agree inside) c.answer.ensures.others m.births,
           (
             room_kept m.threads.items c.args.i c.index_mut.result.now c.answer.new.thread m.shared.rows c.answer.new.rows inside c.index_mut.ensures.value c.answer.ensures.room m.room,
-            tt,
+            (waits_still m.threads.items c.args.i c.index_mut.result.now c.answer.new.thread m.shared.lock c.answer.new.lock m.shared.rows.items c.answer.new.rows.items m.shared.store m.shared.wanted inside c.index_mut.ensures.value c.answer.ensures.brings c.answer.ensures.calls c.answer.ensures.holders m.wanted, tt),
           ),
         ),
       ),
@@ -49,7 +50,7 @@ invariant_of-self-inside-in-Some c =
           born_still m.clocks c.answer-in-Some.new.clocks c.args.i c.index_mut-in-Some.result.now c.answer-in-Some.new.thread m.shared.store (clock_inside m.threads.items m.clocks c.args.i m.agree inside) c.answer-in-Some.ensures.others m.births,
           (
             room_kept m.threads.items c.args.i c.index_mut-in-Some.result.now c.answer-in-Some.new.thread m.shared.rows c.answer-in-Some.new.rows inside c.index_mut-in-Some.ensures.value c.answer-in-Some.ensures.room m.room,
-            tt,
+            (waits_still m.threads.items c.args.i c.index_mut-in-Some.result.now c.answer-in-Some.new.thread m.shared.lock m.shared.lock m.shared.rows.items c.answer-in-Some.new.rows.items m.shared.store m.shared.wanted inside c.index_mut-in-Some.ensures.value c.answer-in-Some.ensures.brings c.answer-in-Some.ensures.calls (λ k held. held) m.wanted, tt),
           ),
         ),
       ),

@@ -13,6 +13,7 @@ use Rattle.lock_machine.proofs.Resting.{conclude_rests}
 use Rattle.lock_machine.proofs.Bearing.{born_later, few_clocks}
 use Rattle.lock_machine.proofs.RowRoom.{room_kept}
 use Rattle.lock_machine.proofs.Bearing.{few_kept}
+use Rattle.lock_machine.proofs.Wanting.{waits_answered, waits_at}
 use Rattle.lock_machine.proofs.machine.LockMachine.answer_recorded.Goals as goal
 
 pub returns-in_default-clause-event : goal.returns-in_default-clause-event
@@ -43,7 +44,7 @@ invariant_of-self-inside-2 c =
           born_later m.clocks c.answer_outside.new.clocks c.args.i c.index_mut.result.now c.answer_outside.new.thread m.shared.store c.answer_outside.new.shared.store (clock_inside m.threads.items m.clocks c.args.i m.agree inside) c.answer_outside.ensures.others c.answer_outside.ensures.births m.births,
           (
             room_kept m.threads.items c.args.i c.index_mut.result.now c.answer_outside.new.thread m.shared.rows c.answer_outside.new.shared.rows inside c.index_mut.ensures.value c.answer_outside.ensures.room m.room,
-            tt,
+            (waits_answered m.threads.items c.args.i c.index_mut.result.now c.answer_outside.new.thread m.shared.lock c.answer_outside.new.shared.lock m.shared.rows.items c.answer_outside.new.shared.rows.items m.shared.store c.answer_outside.new.shared.store m.shared.wanted c.answer_outside.new.shared.wanted inside c.index_mut.ensures.value c.answer_outside.ensures.brings c.answer_outside.ensures.wanted m.wanted, tt),
           ),
         ),
       ),
@@ -109,3 +110,10 @@ returns-clause-rests c =
 pub answer_outside-requires-clause-few : goal.answer_outside-requires-clause-few
 answer_outside-requires-clause-few c =
     few_clocks c.self.inside.threads.items c.self.inside.clocks c.self.inside.agree c.self.inside.few
+
+pub answer_outside-requires-clause-decided : goal.answer_outside-requires-clause-decided
+answer_outside-requires-clause-decided c =
+    let m = c.self.inside in
+    let v : Whole = whole_by m.patience m.door_cost m.threads.items m.clocks m.shared.lock m.objects.items m.shared.store m.shared.rows.items in
+    let inside = inside_of m.threads.items m.clocks v c.args.self.now c.args.i refl c.self.view_is c.requires.inside in
+    waits_at m.threads.items c.args.i c.index_mut.result.now m.shared.lock m.shared.rows.items m.shared.store m.shared.wanted inside c.index_mut.ensures.value m.wanted

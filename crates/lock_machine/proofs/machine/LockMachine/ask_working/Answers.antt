@@ -17,6 +17,9 @@ use Rattle.lock_machine.proofs.Bearing.{born_still}
 use Rattle.lock_machine.specs.Waiting.{HasRoom, is_call}
 use Rattle.lock_machine.proofs.RowRoom.{room_asked}
 use Rattle.lock_machine.proofs.Bearing.{few_kept}
+use Rattle.lock_machine.proofs.Wanting.{calls_same, waits_still}
+use Rattle.lock_machine.specs.Wanted.{BringsNoCall, KeepsCalls}
+use Rattle.posix_terms.specs.declared.transcript.HistoryRow.{HistoryRow}
 use Rattle.lock_machine.proofs.machine.LockMachine.ask_working.Goals as goal
 
 pub invariant_of-self-inside-2 : goal.invariant_of-self-inside-2
@@ -26,6 +29,7 @@ invariant_of-self-inside-2 c =
     let view : v ≡ c.args.self.now = c.self.view_is in
     let inside = inside_of m.threads.items m.clocks v c.args.self.now c.args.i refl view c.requires.inside in
     let item = item_of m.threads.items m.clocks c.args.i c.index_mut.result.now c.ask.new.self c.ask.new.clocks m.agree inside c.index_mut.ensures.value c.ask.ensures.others in
+    let same_rows : c.reserve_rows.new.rows.items ≡ m.shared.rows.items = c.reserve_rows.ensures.items in
     let size : c.len.result ≡ length m.threads.items = search rules in
     let taken : is_call c.args.step ≡ true → HasRoom (length m.threads.items) c.reserve_rows.new.rows = λ h. subst (λ (n : ℕ). HasRoom n c.reserve_rows.new.rows) size (c.in_ok-reserve_rows.ensures.room h) in (
       item_agrees m.threads.items m.clocks c.args.i c.index_mut.result.now c.ask.new.self c.ask.new.clocks m.agree item,
@@ -35,7 +39,7 @@ invariant_of-self-inside-2 c =
           born_still m.clocks c.ask.new.clocks c.args.i c.index_mut.result.now c.ask.new.self m.shared.store (clock_inside m.threads.items m.clocks c.args.i m.agree inside) c.ask.ensures.others m.births,
           (
             room_asked (is_call c.args.step) m.threads.items c.args.i c.index_mut.result.now c.ask.new.self m.shared.rows c.reserve_rows.new.rows inside c.index_mut.ensures.value taken c.ask.ensures.due c.reserve_rows.ensures.kept m.room,
-            tt,
+            (waits_still m.threads.items c.args.i c.index_mut.result.now c.ask.new.self m.shared.lock m.shared.lock m.shared.rows.items c.reserve_rows.new.rows.items m.shared.store m.shared.wanted inside c.index_mut.ensures.value (subst (λ (l : List HistoryRow). BringsNoCall c.index_mut.result.now.phase m.shared.rows.items c.ask.new.self.phase l) (sym same_rows) (c.ask.ensures.brings m.shared.rows.items)) (subst (KeepsCalls m.shared.rows.items) (sym same_rows) (calls_same m.shared.rows.items)) (λ k held. held) m.wanted, tt),
           ),
         ),
       ),

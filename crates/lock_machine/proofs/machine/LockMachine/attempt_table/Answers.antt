@@ -13,6 +13,7 @@ use Rattle.lock_machine.proofs.Resting.{try_rests}
 use Rattle.lock_machine.proofs.Bearing.{born_later, few_clocks}
 use Rattle.lock_machine.proofs.RowRoom.{room_at, room_kept}
 use Rattle.lock_machine.proofs.Bearing.{few_kept}
+use Rattle.lock_machine.proofs.Wanting.{waits_at, waits_kept}
 use Rattle.lock_machine.proofs.machine.LockMachine.attempt_table.Goals as goal
 
 pub invariant_of-self-inside : goal.invariant_of-self-inside
@@ -30,7 +31,7 @@ invariant_of-self-inside c =
           born_later m.clocks c.try_table.new.clocks c.args.i c.index_mut.result.now c.try_table.new.thread m.shared.store c.try_table.new.shared.store (clock_inside m.threads.items m.clocks c.args.i m.agree inside) c.try_table.ensures.others c.try_table.ensures.births m.births,
           (
             room_kept m.threads.items c.args.i c.index_mut.result.now c.try_table.new.thread m.shared.rows c.try_table.new.shared.rows inside c.index_mut.ensures.value c.try_table.ensures.room m.room,
-            tt,
+            (waits_kept m.threads.items c.args.i c.index_mut.result.now c.try_table.new.thread m.shared.lock c.try_table.new.shared.lock m.shared.rows.items c.try_table.new.shared.rows.items m.shared.store c.try_table.new.shared.store m.shared.wanted c.try_table.new.shared.wanted inside c.try_table.ensures.decided c.try_table.ensures.wanted m.wanted, tt),
           ),
         ),
       ),
@@ -98,3 +99,10 @@ try_table-requires-clause-row c =
     let v : Whole = whole_by m.patience m.door_cost m.threads.items m.clocks m.shared.lock m.objects.items m.shared.store m.shared.rows.items in
     let inside = inside_of m.threads.items m.clocks v c.args.self.now c.args.i refl c.self.view_is c.requires.inside in
     room_at m.threads.items c.args.i c.index_mut.result.now m.shared.rows inside c.index_mut.ensures.value m.room
+
+pub try_table-requires-clause-decided : goal.try_table-requires-clause-decided
+try_table-requires-clause-decided c =
+    let m = c.self.inside in
+    let v : Whole = whole_by m.patience m.door_cost m.threads.items m.clocks m.shared.lock m.objects.items m.shared.store m.shared.rows.items in
+    let inside = inside_of m.threads.items m.clocks v c.args.self.now c.args.i refl c.self.view_is c.requires.inside in
+    waits_at m.threads.items c.args.i c.index_mut.result.now m.shared.lock m.shared.rows.items m.shared.store m.shared.wanted inside c.index_mut.ensures.value m.wanted

@@ -12,6 +12,7 @@ use Rattle.lock_machine.proofs.EventShows.{ask_done, item_agrees, item_of, phase
 use Rattle.lock_machine.proofs.Resting.{ask_rests}
 use Rattle.lock_machine.proofs.Bearing.{born_still, few_kept}
 use Rattle.lock_machine.proofs.RowRoom.{room_less}
+use Rattle.lock_machine.proofs.Wanting.{waits_still}
 use Rattle.lock_machine.proofs.machine.LockMachine.end_working.Goals as goal
 
 pub invariant_of-self-inside : goal.invariant_of-self-inside
@@ -28,7 +29,7 @@ invariant_of-self-inside c =
           born_still m.clocks c.end.new.clocks c.args.i c.index_mut.result.now c.end.new.self m.shared.store (clock_inside m.threads.items m.clocks c.args.i m.agree inside) c.end.ensures.others m.births,
           (
             room_less m.threads.items c.args.i c.index_mut.result.now c.end.new.self m.shared.rows inside c.index_mut.ensures.value c.end.ensures.due m.room,
-            tt,
+            (waits_still m.threads.items c.args.i c.index_mut.result.now c.end.new.self m.shared.lock m.shared.lock m.shared.rows.items m.shared.rows.items m.shared.store m.shared.wanted inside c.index_mut.ensures.value (c.end.ensures.brings m.shared.rows.items) (λ n. refl) (λ k held. held) m.wanted, tt),
           ),
         ),
       ),

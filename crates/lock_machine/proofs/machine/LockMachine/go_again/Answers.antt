@@ -12,6 +12,9 @@ use Rattle.lock_machine.proofs.EventShows.{again_done, blocked_at, item_agrees, 
 use Rattle.lock_machine.proofs.Resting.{again_errs, again_rests}
 use Rattle.lock_machine.proofs.RowRoom.{room_for_all}
 use Rattle.lock_machine.proofs.Bearing.{few_kept}
+use Rattle.lock_machine.proofs.Wanting.{calls_same, waits_still}
+use Rattle.lock_machine.specs.Wanted.{BringsNoCall, KeepsCalls}
+use Rattle.posix_terms.specs.declared.transcript.HistoryRow.{HistoryRow}
 use Rattle.lock_machine.proofs.machine.LockMachine.go_again.Goals as goal
 
 pub invariant_of-self-inside-2 : goal.invariant_of-self-inside-2
@@ -22,6 +25,7 @@ invariant_of-self-inside-2 c =
     let inside = inside_of m.threads.items m.clocks v c.args.self.now c.args.i refl view c.requires.inside in
     let item = item_still m.threads.items m.clocks c.args.i c.index_mut.result.now c.again.new.self m.agree inside c.index_mut.ensures.value c.again.ensures.live in
     let size : c.len.result ≡ length m.threads.items = search rules in
+    let same_rows : c.reserve.new.self.items ≡ m.shared.rows.items = search rules in
     let same : vec_len c.reserve.new.self ≡ vec_len m.shared.rows = search rules in (
       item_agrees m.threads.items m.clocks c.args.i c.index_mut.result.now c.again.new.self m.clocks m.agree item,
       (
@@ -30,7 +34,7 @@ invariant_of-self-inside-2 c =
           m.births,
           (
             room_for_all (set m.threads.items c.args.i c.again.new.self) c.len.result c.reserve.new.self (length-set m.threads.items c.args.i c.again.new.self ∙ sym size) (search rules),
-            tt,
+            (waits_still m.threads.items c.args.i c.index_mut.result.now c.again.new.self m.shared.lock m.shared.lock m.shared.rows.items c.reserve.new.self.items m.shared.store m.shared.wanted inside c.index_mut.ensures.value (subst (λ (l : List HistoryRow). BringsNoCall c.index_mut.result.now.phase m.shared.rows.items c.again.new.self.phase l) (sym same_rows) (c.again.ensures.brings m.shared.rows.items)) (subst (KeepsCalls m.shared.rows.items) (sym same_rows) (calls_same m.shared.rows.items)) (λ k held. held) m.wanted, tt),
           ),
         ),
       ),

@@ -11,6 +11,7 @@ use Rattle.lock_machine.proofs.Resting.{begin_rests}
 use Rattle.lock_machine.proofs.Bearing.{born_still}
 use Rattle.lock_machine.proofs.RowRoom.{room_less}
 use Rattle.lock_machine.proofs.Bearing.{few_kept}
+use Rattle.lock_machine.proofs.Wanting.{waits_still}
 use Rattle.lock_machine.proofs.machine.LockMachine.go_outside.Goals as goal
 
 pub invariant_of-self-inside : goal.invariant_of-self-inside
@@ -27,7 +28,7 @@ invariant_of-self-inside c =
           born_still m.clocks c.begin_outside.new.clocks c.args.i c.index_mut.result.now c.begin_outside.new.thread m.shared.store (clock_inside m.threads.items m.clocks c.args.i m.agree inside) c.begin_outside.ensures.others m.births,
           (
             room_less m.threads.items c.args.i c.index_mut.result.now c.begin_outside.new.thread m.shared.rows inside c.index_mut.ensures.value c.begin_outside.ensures.due m.room,
-            tt,
+            (waits_still m.threads.items c.args.i c.index_mut.result.now c.begin_outside.new.thread m.shared.lock m.shared.lock m.shared.rows.items m.shared.rows.items m.shared.store m.shared.wanted inside c.index_mut.ensures.value (c.begin_outside.ensures.brings m.shared.rows.items) (λ n. refl) (λ k held. held) m.wanted, tt),
           ),
         ),
       ),

@@ -1,4 +1,4 @@
-use Rattle.std.proofs.Common.{◌≡◌, ℕ, ◌*◌, ◌≤◌, List, [], length, map, replicate, sym, ap, ap₂, ◌∙◌, subst, rules}
+use Rattle.std.proofs.Common.{◌≡◌, ℕ, ◌*◌, ◌≤◌, None, List, [], length, map, replicate, sym, ap, ap₂, ◌∙◌, subst, rules}
 use Rattle.std.proofs.lemmas.List.{length-replicate}
 use Rattle.posix_terms.specs.declared.limits.TheConstants.Limits as limit
 use Rattle.det_mutex.specs.Attempt.{new_lock}
@@ -13,6 +13,8 @@ use Rattle.lock_machine.specs.Births.{BornWithin, time_of}
 use Rattle.lock_machine.proofs.Bearing.{born_first}
 use Rattle.std.specs.Vec.{vec_len}
 use Rattle.lock_machine.proofs.RowRoom.{room_first}
+use Rattle.det_mutex.specs.declared.lock.DetLock.{DetLock}
+use Rattle.lock_machine.proofs.Wanting.{waits_first}
 use Rattle.lock_machine.proofs.machine.LockMachine.new.Goals as goal
 
 pub invariant_of-result-2 : goal.invariant_of-result-2
@@ -30,7 +32,7 @@ invariant_of-result-2 c =
               (subst (λ (t : Stored). BornWithin (2 * time_of (replicate count first_clock)) t) (sym table) (born_first count)),
           (
             room_first c.in_ok-first_threads.field-0.items count c.new-4.result threads none,
-            tt,
+            (waits_first c.in_ok-first_threads.field-0.items c.new-2.result c.new-4.result.items c.in_ok-new.field-0 None (ap (λ (l : DetLock). l.holder) c.new-2.ensures), tt),
           ),
         ),
       ),

@@ -10,6 +10,7 @@ use Rattle.lock_machine.proofs.EventShows.{item_agrees, item_recorded, phase_at,
 use Rattle.lock_machine.proofs.Resting.{outlook_is, record_rests}
 use Rattle.lock_machine.proofs.RowRoom.{room_kept}
 use Rattle.lock_machine.proofs.Bearing.{few_kept}
+use Rattle.lock_machine.proofs.Wanting.{waits_still}
 use Rattle.lock_machine.proofs.machine.LockMachine.take_outcome.Goals as goal
 
 pub invariant_of-self-inside : goal.invariant_of-self-inside
@@ -27,7 +28,7 @@ invariant_of-self-inside c =
           m.births,
           (
             room_kept m.threads.items c.args.i c.index_mut.result.now c.record.new.thread m.shared.rows c.record.new.rows inside c.index_mut.ensures.value c.record.ensures.room m.room,
-            tt,
+            (waits_still m.threads.items c.args.i c.index_mut.result.now c.record.new.thread m.shared.lock m.shared.lock m.shared.rows.items c.record.new.rows.items m.shared.store m.shared.wanted inside c.index_mut.ensures.value c.record.ensures.brings c.record.ensures.calls (λ k held. held) m.wanted, tt),
           ),
         ),
       ),

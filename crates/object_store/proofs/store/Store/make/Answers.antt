@@ -1,39 +1,56 @@
-use Rattle.std.proofs.Common.{◌≡◌, ◌≤◌, ℕ, true, arith, sym, subst, rules, Option, Some, None}
-use Rattle.descriptor_table.specs.Plans.{planned, read_count}
+use Rattle.std.proofs.Common.{◌≡◌, ◌≤◌, ℕ, Bool, true, false, ap, arith, refl, sym, subst, rules, Option, Some, None}
+use Rattle.file_descriptions.specs.Descriptions.{AreSound}
+use Rattle.descriptor_table.specs.Table.{IsSound}
+use Rattle.descriptor_table.specs.declared.plan.Decided.{Decided}
+use Rattle.descriptor_table.specs.declared.plan.Op.{Op}
+use Rattle.sequential_object.specs.Locked.{keeps_table}
+use Rattle.descriptor_table.specs.Plans.{MovesKnown, planned, read_count}
 use Rattle.descriptor_table.specs.declared.plan.Op.TheVariants as op
 use Rattle.descriptor_table.specs.declared.plan.Plan.TheVariants as plan
 use Rattle.object_store.specs.Acting.{acts_inside}
 use Rattle.object_store.specs.Patience.{act_bytes, turn_bytes}
-use Rattle.object_store.specs.Store.{EndsTurn, IsPlanned, LeavesTable, Makes, Replies, Stored}
+use Rattle.object_store.specs.Store.{EndsTurn, IsPlanned, KeepsStore, LeavesTable, Makes, Stored}
 use Rattle.posix_terms.specs.declared.reply.Reply.{Reply}
 use Rattle.posix_terms.specs.Calls.{Call}
 use Rattle.sequential_object.specs.declared.turn_end.TurnEnd.{TurnEnd}
 use Rattle.sequential_object.specs.declared.turn_end.TurnEnd.TheVariants as end
 use Rattle.object_store.specs.declared.patience.TurnStart.TheVariants as start
-use Rattle.object_store.proofs.Making.{AsksNothing, act_alone, act_replied, act_waits, reply_alone, turn_replied}
+use Rattle.object_store.proofs.Making.{AsksNothing, act_alone, decided_change, decided_known, decided_planned, act_replied, act_waits, plan_keeps}
 use Rattle.object_store.proofs.Outside.{goes_out}
 use Rattle.object_store.proofs.store.Store.make.Goals as goal
 use Rattle.object_store.proofs.store.Store.make.Goals.{in-Some, in-None}
 
-pub returns-in-Reply-clause-makes : goal.returns-in-Reply-clause-makes
-returns-in-Reply-clause-makes c =
+pub go_out-requires-clause-change : goal.go_out-requires-clause-change
+go_out-requires-clause-change c =
     let h = c.args.self.now in
-    let call = c.args.call.now in
-    let planned_is : planned h.table call ≡ plan.Reply c.in-Reply.reply = search rules in
-    let replies : Replies c.args.carried h call c.settle.result c.settle.new.self = search rules in
-    turn_replied h c.settle.new.self call c.settle.result c.args.patience c.args.carried (reply_alone c.table_follows_step.ensures.follows h call c.in-Reply.reply planned_is) replies
+    let sound : IsSound h.table = search rules in
+    let all : AreSound h.table.descriptions = search rules in
+    decided_change c.table_follows_step.ensures.follows h c.args.call.now c.args.locking sound all c.requires.decided
 
-pub returns-in-Node-default-Ask-default-clause-makes : goal.returns-in-Node-default-Ask-default-clause-makes
-returns-in-Node-default-Ask-default-clause-makes c =
+pub returns-in-Ask-clause-makes : goal.returns-in-Ask-clause-makes
+returns-in-Ask-clause-makes c =
     let h = c.args.self.now in
     let call = c.args.call.now in
-    let x = c.in-Node-default-Ask-default in
-    let is : planned h.table call ≡ plan.Node x.node (op.Ask x.errand) x.keep_table = search rules in
-    let leaves : LeavesTable x.keep_table h call c.go_out.new.self = search rules in
-    goes_out c.table_follows_step.ensures.follows h c.go_out.new.self call x.node x.errand x.keep_table c.args.patience c.args.carried is leaves
+    let x = c.args.locking in
+    let its : x.op ≡ op.Ask c.in-Ask.errand = search rules in
+    let is : planned h.table call ≡ plan.Node x.object (op.Ask c.in-Ask.errand) x.keep_table =
+    subst (λ (act : Op). planned h.table call ≡ plan.Node x.object act x.keep_table) its (ap (λ (d : Decided). d.plan) c.requires.decided) in
+    let leaves : LeavesTable (keeps_table call) h call c.go_out.new.self = search rules in
+    λ settings w patience stands.
+    goes_out c.table_follows_step.ensures.follows h c.go_out.new.self call x.object c.in-Ask.errand x.keep_table c.args.patience c.args.carried is
+    (subst (λ (b : Bool). LeavesTable b h call c.go_out.new.self) (sym (plan_keeps c.table_follows_step.ensures.follows h call x.object (op.Ask c.in-Ask.errand) x.keep_table w is stands)) leaves) settings w patience stands
+
+pub returns-in-Ask-clause-room : goal.returns-in-Ask-clause-room
+returns-in-Ask-clause-room c =
+    let h = c.args.self.now in
+    let sound : IsSound h.table = search rules in
+    let all : AreSound h.table.descriptions = search rules in
+    let its : c.args.locking.op ≡ op.Ask c.in-Ask.errand = search rules in
+    let known = (decided_known c.table_follows_step.ensures.follows h c.args.call.now c.args.locking sound all c.requires.decided).1 in
+    (refl, (subst (λ (act : Op). MovesKnown h.table (read_count c.args.call.now) act) its known).1)
 
 pub returns-after-act : goal.returns-after-act
-returns-after-act c = record { makes = makes; room = few; births = c.act.ensures.births }
+returns-after-act c = record { makes = makes; kept = kept (keeps_table c.args.call.now); room = few; births = c.act.ensures.births }
   where
     h : Stored
     h = c.args.self.now
@@ -41,14 +58,14 @@ returns-after-act c = record { makes = makes; room = few; births = c.act.ensures
     call : Call
     call = c.args.call.now
 
-    planned_is : IsPlanned c.args.self.now c.args.call.now c.in-Node.node c.in-Node.op
-    planned_is = search rules
+    planned_is : IsPlanned c.args.self.now c.args.call.now c.args.locking.object c.args.locking.op
+    planned_is = decided_planned h call c.args.locking c.requires.decided
 
-    inside : acts_inside c.in-Node.op ≡ true
+    inside : acts_inside c.args.locking.op ≡ true
     inside = search rules
 
     alone : AsksNothing c.args.self.now c.args.call.now
-    alone = act_alone c.table_follows_step.ensures.follows c.args.self.now c.args.call.now c.in-Node.node c.in-Node.op planned_is inside
+    alone = act_alone c.table_follows_step.ensures.follows c.args.self.now c.args.call.now c.args.locking.object c.args.locking.op planned_is inside
 
     ends_turn : (e : Option Reply) → c.act.result ≡ e → EndsTurn c.args.carried h call e c.act.new.self
     ends_turn e is = subst (λ (x : Option Reply). EndsTurn c.args.carried h call x c.act.new.self) is c.act.ensures.ends
@@ -58,6 +75,10 @@ returns-after-act c = record { makes = makes; room = few; births = c.act.ensures
 
     brings : (e : Option Reply) → c.act.result ≡ e → act_bytes e ≤ read_count call
     brings e is = subst (λ (x : Option Reply). act_bytes x ≤ read_count call) is c.act.ensures.few
+
+    kept : (b : Bool) → KeepsStore b (start.Ended c.match-act.result) c.args.self.now c.act.new.self
+    kept true = tt
+    kept false = tt
 
     few : turn_bytes c.match-act.result ≤ read_count c.args.call.now
     few =

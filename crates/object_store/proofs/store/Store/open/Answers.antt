@@ -18,4 +18,4 @@ returns-clause-reply c =
     let cut : c.cut_body.new.self ≡ record new { bodies = cut_bodies new c.args.node c.args.cut } = search rules in
     subst (λ (z : Stored). RepliesAlways h call c.numbers_reply.result z) (cut_changed h new c.args.node c.args.cut bodies ∙ sym cut)
     (subst (λ (r : Reply). RepliesAlways h call r (record { table = new.table; bodies = cut_bodies h c.args.node c.args.cut })) (sym c.numbers_reply.ensures)
-    (open_makes c.change-given.ensures.follows h call c.args.node c.args.cut new.table c.change-given.result (c.args.keep_table, c.requires.planned) made tells inside))
+    (open_makes c.change-given.ensures.follows h call c.args.node c.args.cut new.table c.change-given.result c.requires.planned made tells inside))

@@ -22,4 +22,4 @@ returns-clause-reply c =
     let cleared : c.clear_pair.new.self ≡ holding new c.args.node (Pair new_pair) = search rules in
     subst (λ (z : Stored). RepliesAlways h call c.numbers_reply.result z) (held_changed h new c.args.node (Pair new_pair) bodies ∙ sym cleared)
     (subst (λ (r : Reply). RepliesAlways h call r (record { table = new.table; bodies = slice_set h.bodies c.args.node (keeping (Pair new_pair) (kept_at h c.args.node)) })) (sym c.numbers_reply.ensures)
-    (pair_makes c.change-given.ensures.follows h call c.args.node new.table c.change-given.result (c.args.keep_table, c.requires.planned) made tells inside))
+    (pair_makes c.change-given.ensures.follows h call c.args.node new.table c.change-given.result c.requires.planned made tells inside))

@@ -12,4 +12,4 @@ returns-clause-reply c =
     let made : TableMade h call None new.table = search rules in
     let bodies : new.bodies ≡ h.bodies = search rules in
     subst (λ (z : Stored). RepliesAlways h call c.release_reply.result z) (changed_is h new bodies)
-    (subst (λ (r : Reply). RepliesAlways h call r (record h { table = new.table })) (sym c.release_reply.ensures) (release_makes c.change.ensures.follows h call c.args.node new.table (c.args.keep_table, c.requires.planned) made))
+    (subst (λ (r : Reply). RepliesAlways h call r (record h { table = new.table })) (sym c.release_reply.ensures) (release_makes c.change.ensures.follows h call c.args.node new.table c.requires.planned made))
