@@ -8,14 +8,18 @@ from concurrent.futures import ProcessPoolExecutor
 
 TOP = os.path.dirname(os.path.dirname(os.path.realpath(__file__)))
 PROGRAM = TOP + "/crates/detio_cmd/out/detio_cmd"
+UNPROVED = TOP + "/crates/detio_cmd/out/unproved"
 SECONDS = 30
 
 
 def program_of(path):
-    """The program at this path, or the one that was built here."""
+    """The program at this path, or the one that was built here: the proved one, or else the other, which is then said."""
+    if not path and not os.access(PROGRAM, os.X_OK) and os.access(UNPROVED, os.X_OK):
+        print("the program here is not proved, and slow: tools/build makes the proved one", file=sys.stderr, flush=True)
+        path = UNPROVED
     path = os.path.realpath(path or PROGRAM)
     if not os.access(path, os.X_OK):
-        sys.exit(f"there is no program {path}: `./detio --version` builds it, or name another with --program")
+        sys.exit(f"there is no program {path}: `tools/build` builds it, or name another with --program")
     return path
 
 
