@@ -11,6 +11,8 @@ use std::fs::{File, OpenOptions};
 use std::io;
 use std::io::{ErrorKind, Seek};
 use std::net::{Net, TcpListener, TcpStream};
+use std::thread::sleep;
+use std::time::{Clock, Duration, Instant};
 
 /// A door to the host. It has parameters so that contracts of reads and writes speak of whatever file or
 /// stream there is.
@@ -86,7 +88,7 @@ fn open_or_make<F: Drop, O: Opener<F>>(
     }
 }
 
-/// A listener that never waits, and its port.
+/// A listener that never waits by itself, and its port.
 pub(crate) fn listen<R: Net<Listener = TcpListener, Stream = TcpStream>>(
     rt: &R,
     request: &Request,
@@ -103,6 +105,16 @@ pub(crate) fn connect<R: Net<Listener = TcpListener, Stream = TcpStream>>(
     request: &Request,
 ) -> io::Result<TcpStream> {
     TcpStream::connect(rt, (LOOPBACK, port_of(request.asked)?))
+}
+
+/// The stream, whose reads and writes wait no longer than this where they wait. It stays as it is without a bound,
+/// and with one of no time, which the host has none for: then no call is to wait.
+pub(crate) fn bounded(stream: TcpStream, longest: Option<Duration>) -> io::Result<TcpStream> {
+    if longest.is_some_and(|wait| !wait.is_zero()) {
+        stream.set_read_timeout(longest)?;
+        stream.set_write_timeout(longest)?;
+    }
+    Ok(stream)
 }
 
 impl HostDoor {
@@ -124,6 +136,39 @@ impl HostDoor {
                 Ok(stream)
             }
             HostDoor::File(_) | HostDoor::Stream(_) => Err(ErrorKind::InvalidInput.into()),
+        }
+    }
+
+    /// The same. Where there is no connection it looks again, a millisecond apart, until so much time is over.
+    pub(crate) fn accept_within<C: Clock>(
+        &self,
+        clock: &C,
+        wait: Duration,
+    ) -> io::Result<TcpStream> {
+        if wait.is_zero() {
+            return self.accept();
+        }
+        let begun = Instant::now(clock)?;
+        // Each sleep takes a millisecond or more, except for the last, so there are never more of them.
+        for _ in 0..=wait.as_millis() {
+            match self.accept() {
+                Err(error) if error.kind() == ErrorKind::WouldBlock => {}
+                found => return found,
+            }
+            let left = wait.saturating_sub(begun.elapsed(clock)?);
+            if left.is_zero() {
+                break;
+            }
+            sleep(clock, left.min(Duration::from_millis(1)));
+        }
+        self.accept()
+    }
+
+    /// Has the reads and writes of a stream wait from now on, or not. Any other door stays as it is.
+    pub(crate) fn set_waits(&self, waits: bool) -> io::Result<()> {
+        match self {
+            HostDoor::Stream(stream) => stream.set_nonblocking(!waits),
+            HostDoor::File(_) | HostDoor::Listener(_) => Ok(()),
         }
     }
 

@@ -14,7 +14,7 @@ ghost use Rattle.host_doors.specs.Opening.{outcome_of, HasDoor};
 
 use crate::channel::{Channel, read_asked, write_asked};
 use crate::counts::Counts;
-use crate::door::{HostDoor, connect, listen, open_file};
+use crate::door::{HostDoor, bounded, connect, listen, open_file};
 use crate::error::error_of;
 use crate::opened::Opened;
 use crate::outside::Outside;
@@ -25,6 +25,7 @@ use std::fs::{File, Files};
 use std::io;
 use std::marker::Model;
 use std::net::{Net, TcpListener, TcpStream};
+use std::time::{Clock, Duration};
 
 /// The real outside: host files, and TCP on the loopback address. Contracts see the counts of outcomes given
 /// and of failures.
@@ -35,10 +36,16 @@ use std::net::{Net, TcpListener, TcpStream};
 /// not answer the request. A door of another sort is `EINVAL`, and so is a call that lacks what the request
 /// needs: a path in UTF-8, bytes or an offset. An opening passes `O_EXCL` and `O_NONBLOCK` by. A `close` always
 /// succeeds, since what the host says to it is not told.
+///
+/// How long a read or a write of a stream and an accept wait for the peer is said where the outside is made. No
+/// contract tells it, and no other call has a bound: a `connect` waits where too many connections are under way, and
+/// so does the opening of a named pipe.
 #[derive(Drop)]
 pub struct HostDoors<R> {
     rt: R,
     alloc: Global,
+    /// The longest that a call waits for its peer, where that has a bound.
+    longest: Option<Duration>,
     counts: Counts,
 }
 
@@ -49,14 +56,43 @@ impl<R> Model for HostDoors<R> {
 }
 
 impl<R> HostDoors<R> {
-    /// No outcome was given yet. The memory for what is read comes from `alloc`.
+    /// No outcome was given yet. The memory for what is read comes from `alloc`. A read or a write of a stream
+    /// waits for as long as the peer likes, also where the call is not to wait; an accept never waits.
     pub fn new(rt: R, alloc: Global) -> HostDoors<R>
         ensures { result ≡ record { given = 0; failures = 0 } }
     {
         HostDoors {
             rt,
             alloc,
+            longest: None,
             counts: Counts::NONE,
+        }
+    }
+
+    /// As `new`, but a read or a write of a stream and an accept wait no longer than `wait`, and then fail with
+    /// `EAGAIN`. Where the call is not to wait, or `wait` is no time, they take what is there, or fail with
+    /// `EAGAIN` at once. A stream keeps the bound with which it was opened.
+    pub fn waiting(rt: R, alloc: Global, wait: Duration) -> HostDoors<R>
+        ensures { result ≡ record { given = 0; failures = 0 } }
+    {
+        let mut doors = HostDoors::new(rt, alloc);
+        doors.longest = Some(wait);
+        doors
+    }
+
+    /// How long an accept is to wait for a connection.
+    fn time_to_accept(&self, waits: bool) -> Duration {
+        match self.longest {
+            Some(wait) if waits => wait,
+            _ => Duration::ZERO,
+        }
+    }
+
+    /// Has the next read or write of a stream wait or not. Without a bound each of them waits.
+    fn set_waits(&self, door: &HostDoor, waits: bool) -> io::Result<()> {
+        match self.longest {
+            Some(wait) => door.set_waits(waits && !wait.is_zero()),
+            None => Ok(()),
         }
     }
 
@@ -169,7 +205,7 @@ impl<R> HostDoors<R> {
     }
 }
 
-impl<R: Files<File = File> + Net<Listener = TcpListener, Stream = TcpStream>> Outside
+impl<R: Files<File = File> + Net<Listener = TcpListener, Stream = TcpStream> + Clock> Outside
     for HostDoors<R> {
     type Door = HostDoor;
 
@@ -194,30 +230,40 @@ impl<R: Files<File = File> + Net<Listener = TcpListener, Stream = TcpStream>> Ou
         Ok(self.answer_opening(request, found.map(|file| (HostDoor::File(file), 0))))
     }
 
+    #[tactic(auto, unfolding(posix_terms::specs::Outcomes::fits))]
     fn read(
         &mut self,
         _thread: usize,
         _number: u64,
         request: &Request,
         door: &mut HostDoor,
+        waits: bool,
     ) -> Result<Outcome, DoorStop>
         requires count { CanCount self.old.given self.old.failures }
         ensures { GivesAny request.now self.old self.new result }
     {
+        if let Err(error) = self.set_waits(door, waits) {
+            return Ok(self.fail(error_of(error.kind())));
+        }
         self.read_from(request, door)
     }
 
+    #[tactic(auto, unfolding(posix_terms::specs::Outcomes::fits))]
     fn write(
         &mut self,
         _thread: usize,
         _number: u64,
         request: &Request,
         door: &mut HostDoor,
+        waits: bool,
     ) -> Result<Outcome, DoorStop>
         requires count { CanCount self.old.given self.old.failures }
         ensures gives { GivesAny request.now self.old self.new result }
         ensures ok { IsOk result }
     {
+        if let Err(error) = self.set_waits(door, waits) {
+            return Ok(self.fail(error_of(error.kind())));
+        }
         Ok(self.write_to(request, door))
     }
 
@@ -262,7 +308,8 @@ impl<R: Files<File = File> + Net<Listener = TcpListener, Stream = TcpStream>> Ou
         ensures ok { IsOk result }
         ensures door { IfOk result (λ o. HasDoor o.outcome o.door) }
     {
-        let found = connect(&self.rt, request);
+        let longest = self.longest;
+        let found = connect(&self.rt, request).and_then(|stream| bounded(stream, longest));
         Ok(self.answer_opening(request, found.map(|stream| (HostDoor::Stream(stream), 0))))
     }
 
@@ -272,13 +319,16 @@ impl<R: Files<File = File> + Net<Listener = TcpListener, Stream = TcpStream>> Ou
         _number: u64,
         request: &Request,
         door: &mut HostDoor,
+        waits: bool,
     ) -> Result<Opened<HostDoor>, DoorStop>
         requires count { CanCount self.old.given self.old.failures }
         ensures gives { GivesAny request.now self.old self.new (outcome_of result) }
         ensures ok { IsOk result }
         ensures door { IfOk result (λ o. HasDoor o.outcome o.door) }
     {
-        let found = door.accept();
+        let longest = self.longest;
+        let found = door.accept_within(&self.rt, self.time_to_accept(waits));
+        let found = found.and_then(|stream| bounded(stream, longest));
         Ok(self.answer_opening(request, found.map(|stream| (HostDoor::Stream(stream), 0))))
     }
 

@@ -5,10 +5,11 @@
 //! handed the thread, the number of the outcome among those of the thread, and the door where there
 //! is one. By its contract an outcome fits what was asked, a success of an opening brings a door,
 //! and each outcome is counted. [`HostDoors`] are host files and TCP on the loopback address; what
-//! fails there is an outcome too. [`ScriptDoors`] give a list of outcomes behind a [`Gate`], and
-//! [`LogDoors`] what a log has for a thread. Where there is no outcome a [`DoorStop`] says why, and
-//! the outside is as it was. A read of the host takes memory for the bytes asked for, and without
-//! it nothing is read.
+//! fails there is an outcome too, and so is `EAGAIN` of a call that found no bytes, no room or no
+//! connection within the time that it may wait for its peer. [`ScriptDoors`] give a list of
+//! outcomes behind a [`Gate`], and [`LogDoors`] what a log has for a thread. Where there is no
+//! outcome a [`DoorStop`] says why, and the outside is as it was. A read of the host takes memory
+//! for the bytes asked for, and without it nothing is read.
 //!
 //! ```rust
 //! use host_doors::{DoorStop, NoGate, Outside, ScriptDoor, ScriptDoors};
@@ -24,9 +25,9 @@
 //!     asked: 5,
 //!     call: Call::Read { descriptor: 0, count: 5 },
 //! };
-//! let first = doors.read(0, 0, &request, &mut door);
+//! let first = doors.read(0, 0, &request, &mut door, true);
 //! assert!(rt; matches!(first, Ok(Outcome::Fail(Errno::EIO))));
-//! let second = doors.read(0, 1, &request, &mut door);
+//! let second = doors.read(0, 1, &request, &mut door, true);
 //! assert!(rt; matches!(second, Err(DoorStop::EndOfLog)));
 //! ```
 #![tactic(auto)]

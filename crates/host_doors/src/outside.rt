@@ -11,6 +11,9 @@ use posix_terms::{Outcome, Request};
 /// What one thread reaches outside. Each call has the thread, the number of its outcome among those of the
 /// thread, the request and, where there is one, the door. It gives an outcome that answers the request, and
 /// with a success of an opening a door; or it says why there is none, and then the outside is as it was.
+///
+/// A read, a write and an accept are also told what `EAGAIN` makes of them. Where it `waits`, the call is blocked
+/// and made again at a later turn; else `EAGAIN` is its reply.
 pub trait Outside {
     type Door: Send + Drop;
 
@@ -43,6 +46,7 @@ pub trait Outside {
         number: u64,
         request: &Request,
         door: &mut Self::Door,
+        waits: bool,
     ) -> Result<Outcome, DoorStop>
         requires count { CanCount (given self.old) (failures self.old) }
         ensures gives { IfOk result (λ o. GivesOne given failures gives self.old number request.now o self.new) }
@@ -56,6 +60,7 @@ pub trait Outside {
         number: u64,
         request: &Request,
         door: &mut Self::Door,
+        waits: bool,
     ) -> Result<Outcome, DoorStop>
         requires count { CanCount (given self.old) (failures self.old) }
         ensures gives { IfOk result (λ o. GivesOne given failures gives self.old number request.now o self.new) }
@@ -97,13 +102,15 @@ pub trait Outside {
         ensures door { IfOk result (λ o. HasDoor o.outcome o.door) }
         ensures same { OnErr result (self.new ≡ self.old) };
 
-    /// Takes a connection of a listener (`accept`). It never waits: where there is none, it answers `EAGAIN`.
+    /// Takes a connection of a listener (`accept`). Where there is none it answers `EAGAIN`; it may wait for one
+    /// before that.
     fn accept(
         &mut self,
         thread: usize,
         number: u64,
         request: &Request,
         door: &mut Self::Door,
+        waits: bool,
     ) -> Result<Opened<Self::Door>, DoorStop>
         requires count { CanCount (given self.old) (failures self.old) }
         ensures gives { IfOk result (λ o. GivesOne given failures gives self.old number request.now o.outcome self.new) }

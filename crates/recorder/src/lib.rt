@@ -11,6 +11,10 @@
 //! Where no run was started, [`NotStarted`] says why and hands all back. Nothing is promised of
 //! time.
 //!
+//! [`record_as`] makes the same run in a [`Manner`]: calls may go outside one after the other, in
+//! the order of their turns, and a [`Watch`] may be shown the machine each time that no thread has
+//! asked anything for a while. What is promised of a run is the same in each manner.
+//!
 //! ```rust
 //! use input_log::MemorySink;
 //! use posix_terms::Settings;
@@ -42,8 +46,10 @@ mod events;
 mod history;
 mod leave;
 mod noting;
+mod order;
 mod outside;
 mod outsides;
+mod pulse;
 mod room;
 mod run;
 mod seat;
@@ -51,10 +57,12 @@ mod settle;
 mod shared;
 mod threads;
 mod transcripts;
+mod watch;
 
 pub use ended::{Ended, NotStarted, StartFault};
 pub use history::History;
-pub use outsides::hosts;
-pub use run::{record_actors, run_recorded};
+pub use outsides::{hosts, hosts_waiting};
+pub use run::{record_actors, record_as, run_recorded};
 pub use thread_scripts::BoxedActor;
+pub use watch::{Manner, Unwatched, Watch};
 pub use worker_notes::{Brought, Noted, Own};

@@ -5,13 +5,12 @@ ghost use Rattle.thread_scripts.specs.Meaning.{next_of};
 ghost use Rattle.worker_notes.specs.Plays.{last_reply};
 
 use crate::asked::copied;
-use crate::events::{ask, record};
+use crate::events::{Journey, ask, record};
 use crate::leave::Leave;
 use crate::outside::reach;
 use crate::shared::Shared;
 use host_doors::Outside;
 use input_log::LogSink;
-use posix_terms::Request;
 use std::sync::Wait;
 use thread_scripts::Actor;
 use worker_notes::{Brought, Noted, last_reply};
@@ -42,24 +41,29 @@ pub fn ask_next<A: Actor, S: LogSink, D: Drop, R: Wait>(
     })
 }
 
-// Makes this request of thread i outside, which gets the outcome of this number, while others make their events; and has its outcome recorded.
+// Makes this journey of thread i, which gets the outcome of this number, while others make their events; and has
+// its outcome recorded.
 pub fn bring<O: Outside, S: LogSink, R: Wait>(
     rt: &R,
     shared: &Shared<S, O::Door>,
     i: usize,
     outside: &mut O,
     number: u32,
-    request: Request,
-    door: Option<O::Door>,
+    journey: Journey<O::Door>,
 ) -> Result<Brought, Leave>
     requires count { CanCount (O.given outside.old) (O.failures outside.old) }
-    ensures request { IfOk result (λ note. note.request ≡ request) }
-    ensures gives { IfOk result (λ note. O.gives outside.old number request note.outcome outside.new) }
+    ensures request { IfOk result (λ note. note.request ≡ journey.request) }
+    ensures gives { IfOk result (λ note. O.gives outside.old number journey.request note.outcome outside.new) }
     ensures given { O.given outside.new ≤ O.given outside.old + 1 }
     ensures failures { O.failures outside.new ≤ O.failures outside.old + 1 }
-    ensures ahead { (outside.new ≡ outside.old) ⊎ (outcome : Outcome) × O.gives outside.old number request outcome outside.new }
+    ensures ahead { (outside.new ≡ outside.old) ⊎ (outcome : Outcome) × O.gives outside.old number journey.request outcome outside.new }
 {
-    let reached = reach(outside, i, number, &request, door)?;
+    let Journey {
+        request,
+        door,
+        waits,
+    } = journey;
+    let reached = reach(outside, i, number, &request, door, waits)?;
     let outcome = reached.outcome.try_clone()?;
     record(rt, shared, i, number, reached)?;
     Ok(Brought { request, outcome })

@@ -13,13 +13,15 @@ pub struct Reached<D> {
     pub opened: Option<D>,
 }
 
-// Makes the request of thread i outside, which is to get the outcome of this number.
+// Makes the request of thread i outside, which is to get the outcome of this number. EAGAIN makes the call wait, or is
+// its reply.
 pub fn reach<O: Outside>(
     outside: &mut O,
     i: usize,
     number: u32,
     request: &Request,
     door: Option<O::Door>,
+    waits: bool,
 ) -> Result<Reached<O::Door>, Leave>
     requires count { CanCount (O.given outside.old) (O.failures outside.old) }
     ensures gives { IfOk result (λ r. O.gives outside.old number request.now r.outcome outside.new) }
@@ -29,7 +31,7 @@ pub fn reach<O: Outside>(
 {
     let reached = match door {
         None => open(outside, i, number, request)?,
-        Some(door) => pass(outside, i, number, request, door)?,
+        Some(door) => pass(outside, i, number, request, door, waits)?,
     };
     Ok(reached)
 }
@@ -71,6 +73,7 @@ fn pass<O: Outside>(
     number: u32,
     request: &Request,
     door: O::Door,
+    waits: bool,
 ) -> Result<Reached<O::Door>, Leave>
     requires count { CanCount (O.given outside.old) (O.failures outside.old) }
     ensures gives { IfOk result (λ r. O.gives outside.old number request.now r.outcome outside.new) }
@@ -87,8 +90,8 @@ fn pass<O: Outside>(
             }),
             Err(why) => Err(left(i, number, why)),
         },
-        OutKind::Accept => accept(outside, i, number, request, door),
-        _ => lend(outside, i, number, request, door),
+        OutKind::Accept => accept(outside, i, number, request, door, waits),
+        _ => lend(outside, i, number, request, door, waits),
     }
 }
 
@@ -99,6 +102,7 @@ fn accept<O: Outside>(
     number: u32,
     request: &Request,
     door: O::Door,
+    waits: bool,
 ) -> Result<Reached<O::Door>, Leave>
     requires count { CanCount (O.given outside.old) (O.failures outside.old) }
     ensures gives { IfOk result (λ r. O.gives outside.old number request.now r.outcome outside.new) }
@@ -107,7 +111,7 @@ fn accept<O: Outside>(
     ensures same { OnErr result (outside.new ≡ outside.old) }
 {
     let mut door = door;
-    match outside.accept(i, number as u64, request, &mut door) {
+    match outside.accept(i, number as u64, request, &mut door, waits) {
         Ok(accepted) => Ok(Reached {
             outcome: accepted.outcome,
             back: Some(door),
@@ -124,6 +128,7 @@ fn lend<O: Outside>(
     number: u32,
     request: &Request,
     door: O::Door,
+    waits: bool,
 ) -> Result<Reached<O::Door>, Leave>
     requires count { CanCount (O.given outside.old) (O.failures outside.old) }
     ensures gives { IfOk result (λ r. O.gives outside.old number request.now r.outcome outside.new) }
@@ -133,8 +138,8 @@ fn lend<O: Outside>(
 {
     let mut door = door;
     let came = match request.kind {
-        OutKind::Read => outside.read(i, number as u64, request, &mut door),
-        OutKind::Write => outside.write(i, number as u64, request, &mut door),
+        OutKind::Read => outside.read(i, number as u64, request, &mut door, waits),
+        OutKind::Write => outside.write(i, number as u64, request, &mut door, waits),
         OutKind::Seek => outside.seek(i, number as u64, request, &mut door),
         OutKind::Shutdown => outside.shutdown(i, number as u64, request, &mut door),
         // No other request takes a door along.

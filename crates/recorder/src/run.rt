@@ -13,9 +13,11 @@ ghost use Rattle.worker_notes.specs.Agrees.{Agree};
 use crate::conclude::conclude;
 use crate::ended::{Ended, NotStarted, StartFault};
 use crate::history::History;
+use crate::pulse::Pulse;
 use crate::room::{Room, room_for};
 use crate::shared::Shared;
-use crate::threads::run_all;
+use crate::threads::{Crew, run_all};
+use crate::watch::{Manner, Unwatched, Watch};
 use host_doors::Outside;
 use input_log::{Header, LogSink, LogWriter};
 use logged_machine::{Machine, Stop};
@@ -101,14 +103,20 @@ pub fn record_actors<
     ensures fault { IfErr result (λ n. IsRefusal n.fault (vec_len actors) (vec_len outsides) settings) }
     ensures sink { IfErr result (λ n. IsBack S.taken S.failures n.fault (vec_len actors) settings sink n.sink) }
 {
-    run_actors(rt, alloc, actors, outsides, sink, settings)
+    let manner = Manner {
+        in_turn: false,
+        watch: Unwatched,
+    };
+    record_as(rt, alloc, actors, outsides, sink, settings, manner)
 }
 
-// As `record_actors`, but for what follows of the notes.
-fn run_actors<
+/// As [`record_actors`], in this manner. The same is promised whatever it is; that calls go outside
+/// in the order of the turns, and what the watch is shown, is tested.
+pub fn record_as<
     A: Actor + Send + Drop,
     O: Outside + Send + Drop,
     S: LogSink + Send + Drop,
+    W: Watch + Send + Drop,
     R: Threads + Wait + Sync,
 >(
     rt: &R,
@@ -117,6 +125,7 @@ fn run_actors<
     outsides: Vec<O>,
     sink: S,
     settings: Settings,
+    manner: Manner<W>,
 ) -> Result<Ended<A, O, S>, NotStarted<A, O, S>>
     requires taken { S.taken sink ≡ [] }
     requires sound { S.failures sink ≡ 0 }
@@ -127,19 +136,50 @@ fn run_actors<
     ensures transcripts { IfOk result (λ e. AreTold (vec_len actors) e.history.rows e.stop e.transcripts) }
     ensures ended { IfOk result (λ e. e.stop ≡ None → AreEnded e.own.items) }
     ensures answered { IfOk result (λ e. e.stop ≡ None → AreAnswered e.history.rows) }
+    ensures fails { IfOk result (λ e. e.stop ≡ Some stop.Sink → S.failures e.sink ≡ 1) }
+    ensures steps { IfOk result (λ e. (e.stop ≡ Some stop.Strayed) ⊎ ArePlayedFrom A.state (is_some e.stop) 0 e.history.rows e.history.asked actors.items e.actors.items) }
+    ensures calls { IfOk result (λ e. (e.stop ≡ Some stop.Strayed) ⊎ AreLedFrom O.gives (is_some e.stop) 0 e.history.rows outsides.items e.outsides.items) }
     ensures told { IfOk result (λ e. AreTrue O.gives A.state actors.items outsides.items e.own.items e.actors.items e.outsides.items) }
     ensures back { IfErr result (λ n. (n.actors ≡ actors) × (n.outsides ≡ outsides)) }
     ensures fault { IfErr result (λ n. IsRefusal n.fault (vec_len actors) (vec_len outsides) settings) }
     ensures sink { IfErr result (λ n. IsBack S.taken S.failures n.fault (vec_len actors) settings sink n.sink) }
 {
-    match room_for(alloc, actors.len(), outsides.len(), settings) {
-        Ok(room) => start(rt, alloc, room, actors, outsides, sink, settings),
-        Err(fault) => Err(NotStarted {
-            fault,
-            actors,
-            outsides,
-            sink,
-        }),
+    let crew = Crew { actors, outsides };
+    run_crew(rt, alloc, crew, sink, settings, manner)
+}
+
+// As `record_as`, but for what follows of the notes.
+fn run_crew<
+    A: Actor + Send + Drop,
+    O: Outside + Send + Drop,
+    S: LogSink + Send + Drop,
+    W: Watch + Send + Drop,
+    R: Threads + Wait + Sync,
+>(
+    rt: &R,
+    alloc: Global,
+    crew: Crew<A, O>,
+    sink: S,
+    settings: Settings,
+    manner: Manner<W>,
+) -> Result<Ended<A, O, S>, NotStarted<A, O, S>>
+    requires taken { S.taken sink ≡ [] }
+    requires sound { S.failures sink ≡ 0 }
+    requires unused { All (IsUnused O.given O.failures) crew.outsides.items }
+    ensures started { OnOk result (refusal (vec_len crew.actors) (vec_len crew.outsides) settings ≡ None) }
+    ensures run { IfOk result (λ e. IsRecorded O.Door settings (vec_len crew.actors) e.history e.own.items (S.taken e.sink) (S.failures e.sink) e.stop) }
+    ensures agrees { IfOk result (λ e. (e.stop ≡ Some stop.Strayed) ⊎ Agree e.history.rows e.history.asked e.own.items) }
+    ensures transcripts { IfOk result (λ e. AreTold (vec_len crew.actors) e.history.rows e.stop e.transcripts) }
+    ensures ended { IfOk result (λ e. e.stop ≡ None → AreEnded e.own.items) }
+    ensures answered { IfOk result (λ e. e.stop ≡ None → AreAnswered e.history.rows) }
+    ensures told { IfOk result (λ e. AreTrue O.gives A.state crew.actors.items crew.outsides.items e.own.items e.actors.items e.outsides.items) }
+    ensures back { IfErr result (λ n. (n.actors ≡ crew.actors) × (n.outsides ≡ crew.outsides)) }
+    ensures fault { IfErr result (λ n. IsRefusal n.fault (vec_len crew.actors) (vec_len crew.outsides) settings) }
+    ensures sink { IfErr result (λ n. IsBack S.taken S.failures n.fault (vec_len crew.actors) settings sink n.sink) }
+{
+    match room_for(alloc, crew.actors.len(), crew.outsides.len(), settings) {
+        Ok(room) => start(rt, alloc, room, crew, sink, settings, manner),
+        Err(fault) => Err(not_started(fault, crew, sink)),
     }
 }
 
@@ -148,51 +188,64 @@ fn start<
     A: Actor + Send + Drop,
     O: Outside + Send + Drop,
     S: LogSink + Send + Drop,
+    W: Watch + Send + Drop,
     R: Threads + Wait + Sync,
 >(
     rt: &R,
     alloc: Global,
     room: Room,
-    actors: Vec<A>,
-    outsides: Vec<O>,
+    crew: Crew<A, O>,
     sink: S,
     settings: Settings,
+    manner: Manner<W>,
 ) -> Result<Ended<A, O, S>, NotStarted<A, O, S>>
     requires taken { S.taken sink ≡ [] }
     requires sound { S.failures sink ≡ 0 }
-    requires unused { All (IsUnused O.given O.failures) outsides.items }
-    requires some { 1 ≤ vec_len actors }
-    requires within_limit { vec_len actors ≤ limit.THREADS }
-    requires one_each { vec_len outsides ≡ vec_len actors }
-    requires range { in_range (header_for settings (vec_len actors)) ≡ true }
-    requires started { refusal (vec_len actors) (vec_len outsides) settings ≡ None }
+    requires unused { All (IsUnused O.given O.failures) crew.outsides.items }
+    requires some { 1 ≤ vec_len crew.actors }
+    requires within_limit { vec_len crew.actors ≤ limit.THREADS }
+    requires one_each { vec_len crew.outsides ≡ vec_len crew.actors }
+    requires range { in_range (header_for settings (vec_len crew.actors)) ≡ true }
+    requires started { refusal (vec_len crew.actors) (vec_len crew.outsides) settings ≡ None }
     requires no_own { room.own.items ≡ [] }
-    requires own { vec_len actors ≤ vec_capacity room.own }
+    requires own { vec_len crew.actors ≤ vec_capacity room.own }
     requires no_transcripts { room.transcripts.items ≡ [] }
-    requires transcripts { vec_len actors ≤ vec_capacity room.transcripts }
-    ensures run { IfOk result (λ e. IsRecorded O.Door settings (vec_len actors) e.history e.own.items (S.taken e.sink) (S.failures e.sink) e.stop) }
+    requires transcripts { vec_len crew.actors ≤ vec_capacity room.transcripts }
+    ensures run { IfOk result (λ e. IsRecorded O.Door settings (vec_len crew.actors) e.history e.own.items (S.taken e.sink) (S.failures e.sink) e.stop) }
     ensures agrees { IfOk result (λ e. (e.stop ≡ Some stop.Strayed) ⊎ Agree e.history.rows e.history.asked e.own.items) }
-    ensures transcripts { IfOk result (λ e. AreTold (vec_len actors) e.history.rows e.stop e.transcripts) }
+    ensures transcripts { IfOk result (λ e. AreTold (vec_len crew.actors) e.history.rows e.stop e.transcripts) }
     ensures ended { IfOk result (λ e. e.stop ≡ None → AreEnded e.own.items) }
     ensures answered { IfOk result (λ e. e.stop ≡ None → AreAnswered e.history.rows) }
-    ensures told { IfOk result (λ e. AreTrue O.gives A.state actors.items outsides.items e.own.items e.actors.items e.outsides.items) }
-    ensures back { IfErr result (λ n. (n.actors ≡ actors) × (n.outsides ≡ outsides)) }
-    ensures fault { IfErr result (λ n. IsRefusal n.fault (vec_len actors) (vec_len outsides) settings) }
-    ensures sink { IfErr result (λ n. IsBack S.taken S.failures n.fault (vec_len actors) settings sink n.sink) }
+    ensures told { IfOk result (λ e. AreTrue O.gives A.state crew.actors.items crew.outsides.items e.own.items e.actors.items e.outsides.items) }
+    ensures back { IfErr result (λ n. (n.actors ≡ crew.actors) × (n.outsides ≡ crew.outsides)) }
+    ensures fault { IfErr result (λ n. IsRefusal n.fault (vec_len crew.actors) (vec_len crew.outsides) settings) }
+    ensures sink { IfErr result (λ n. IsBack S.taken S.failures n.fault (vec_len crew.actors) settings sink n.sink) }
 {
-    let header = Header::new(actors.len() as u16, settings);
+    let header = Header::new(crew.actors.len() as u16, settings);
     let log = match LogWriter::begin(sink, header) {
         Ok(log) => log,
-        Err((_, sink)) => return Ok(without_log(alloc, header, room, actors, outsides, sink)),
+        Err((_, sink)) => return Ok(without_log(alloc, header, room, crew, sink)),
     };
-    match Machine::new(alloc, actors.len(), settings, log) {
-        Ok(machine) => Ok(run_with(rt, alloc, header, machine, room, actors, outsides)),
-        Err(log) => Err(NotStarted {
-            fault: StartFault::Memory,
-            actors,
-            outsides,
-            sink: log.into_sink(),
-        }),
+    match Machine::new(alloc, crew.actors.len(), settings, log) {
+        Ok(machine) => Ok(run_with(rt, alloc, header, machine, room, crew, manner)),
+        Err(log) => Err(not_started(StartFault::Memory, crew, log.into_sink())),
+    }
+}
+
+// All is handed back.
+fn not_started<A: Drop, O: Drop, S: LogSink + Drop>(
+    fault: StartFault,
+    crew: Crew<A, O>,
+    sink: S,
+) -> NotStarted<A, O, S>
+    ensures { result ≡ record { fault = fault; actors = crew.actors; outsides = crew.outsides; sink = sink } }
+{
+    let Crew { actors, outsides } = crew;
+    NotStarted {
+        fault,
+        actors,
+        outsides,
+        sink,
     }
 }
 
@@ -202,28 +255,28 @@ fn without_log<A: Actor + Drop, O: Outside + Drop, S: LogSink + Drop>(
     alloc: Global,
     header: Header,
     room: Room,
-    actors: Vec<A>,
-    outsides: Vec<O>,
+    crew: Crew<A, O>,
     sink: S,
 ) -> Ended<A, O, S>
-    requires threads { header.threads ≡ vec_len actors }
-    requires one_each { vec_len outsides ≡ vec_len actors }
+    requires threads { header.threads ≡ vec_len crew.actors }
+    requires one_each { vec_len crew.outsides ≡ vec_len crew.actors }
     requires no_own { room.own.items ≡ [] }
-    requires own { vec_len actors ≤ vec_capacity room.own }
+    requires own { vec_len crew.actors ≤ vec_capacity room.own }
     requires no_transcripts { room.transcripts.items ≡ [] }
-    requires transcripts { vec_len actors ≤ vec_capacity room.transcripts }
+    requires transcripts { vec_len crew.actors ≤ vec_capacity room.transcripts }
     requires part { TakesPart [] (header_text header) (S.taken sink) }
     requires failed { S.failures sink ≡ 1 }
     ensures log { HasNoLog header result.history (S.taken result.sink) (S.failures result.sink) result.stop }
     ensures agrees { Agree result.history.rows result.history.asked result.own.items }
-    ensures transcripts { result.transcripts ≡ transcripts_of (vec_len actors) [] }
-    ensures told { AreTrue O.gives A.state actors.items outsides.items result.own.items result.actors.items result.outsides.items }
+    ensures transcripts { result.transcripts ≡ transcripts_of (vec_len crew.actors) [] }
+    ensures told { AreTrue O.gives A.state crew.actors.items crew.outsides.items result.own.items result.actors.items result.outsides.items }
 {
     let Room {
         own,
         transcripts,
         ..
     } = room;
+    let Crew { actors, outsides } = crew;
     let mut own = own;
     let mut transcripts = transcripts;
     for _ in 0..actors.len() {
@@ -250,6 +303,7 @@ fn run_with<
     A: Actor + Send + Drop,
     O: Outside + Send + Drop,
     S: LogSink + Send + Drop,
+    W: Watch + Send + Drop,
     R: Threads + Wait + Sync,
 >(
     rt: &R,
@@ -257,27 +311,30 @@ fn run_with<
     header: Header,
     machine: Machine<S, O::Door>,
     room: Room,
-    actors: Vec<A>,
-    outsides: Vec<O>,
+    crew: Crew<A, O>,
+    manner: Manner<W>,
 ) -> Ended<A, O, S>
-    requires one_each { vec_len outsides ≡ vec_len actors }
-    requires unused { All (IsUnused O.given O.failures) outsides.items }
+    requires one_each { vec_len crew.outsides ≡ vec_len crew.actors }
+    requires unused { All (IsUnused O.given O.failures) crew.outsides.items }
     requires no_own { room.own.items ≡ [] }
-    requires own { vec_len actors ≤ vec_capacity room.own }
+    requires own { vec_len crew.actors ≤ vec_capacity room.own }
     ensures run { IsRun O.Door header result.history result.own.items (S.taken result.sink) (S.failures result.sink) result.stop }
     ensures agrees { (result.stop ≡ Some stop.Strayed) ⊎ Agree result.history.rows result.history.asked result.own.items }
-    ensures transcripts { AreTold (vec_len actors) result.history.rows result.stop result.transcripts }
+    ensures transcripts { AreTold (vec_len crew.actors) result.history.rows result.stop result.transcripts }
     ensures ended { result.stop ≡ None → AreEnded result.own.items }
     ensures answered { result.stop ≡ None → AreAnswered result.history.rows }
-    ensures told { AreTrue O.gives A.state actors.items outsides.items result.own.items result.actors.items result.outsides.items }
+    ensures told { AreTrue O.gives A.state crew.actors.items crew.outsides.items result.own.items result.actors.items result.outsides.items }
 {
-    let threads = actors.len();
+    let threads = crew.actors.len();
     let Room { own, turns, .. } = room;
+    let Manner { in_turn, watch } = manner;
     let shared = Shared {
         machine: Mutex::new(machine),
         turns,
+        in_turn,
+        pulse: Pulse::new(),
     };
-    let gathered = run_all(rt, alloc, &shared, actors, outsides, own);
+    let gathered = run_all(rt, alloc, &shared, crew, own, watch);
     let Shared { machine, .. } = shared;
     conclude(alloc, threads, header, machine.into_inner(), gathered)
 }

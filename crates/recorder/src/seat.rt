@@ -2,13 +2,13 @@ ghost use Rattle.std.specs.Prelude.{◌≡◌, IfOk};
 ghost use Rattle.recorder.specs.Seats.{IsCalling, IsReady, IsTrueTo, StandsBehind};
 
 use crate::asked::{Asked, is_end, kind};
-use crate::events::{Next, go_on, leave};
+use crate::events::{Journey, Next, go_on, leave};
 use crate::leave::Leave;
 use crate::noting::{ask_next, bring};
 use crate::shared::Shared;
 use host_doors::Outside;
 use input_log::LogSink;
-use posix_terms::{Limits, Reply, Request};
+use posix_terms::{Limits, Reply};
 use std::alloc::Global;
 use std::marker::Model;
 use std::snapshot::Snapshot;
@@ -151,7 +151,7 @@ impl<A: Actor, O: Outside> Seat<A, O> {
                     self.hear(reply);
                     return Ok(());
                 }
-                Next::Go(request, door) => self.go(rt, shared, i, request, door)?,
+                Next::Go(journey) => self.go(rt, shared, i, journey)?,
             }
         }
         unreachable!()
@@ -167,14 +167,13 @@ impl<A: Actor, O: Outside> Seat<A, O> {
         note_reply(&mut self.own.steps, reply);
     }
 
-    // Makes this request outside, while others make their events, and has its outcome recorded.
+    // Makes this journey, while others make their events, and has its outcome recorded.
     fn go<S: LogSink, R: Wait>(
         &mut self,
         rt: &R,
         shared: &Shared<S, O::Door>,
         i: usize,
-        request: Request,
-        door: Option<O::Door>,
+        journey: Journey<O::Door>,
     ) -> Result<(), Leave>
         requires calling { IsCalling self.old }
         ensures from { self.new.from ≡ self.old.from }
@@ -188,7 +187,7 @@ impl<A: Actor, O: Outside> Seat<A, O> {
         self.own.outcomes.reserve(1)?;
         self.ahead = true;
         self.number = number + 1;
-        let note = bring(rt, shared, i, &mut self.outside, number, request, door)?;
+        let note = bring(rt, shared, i, &mut self.outside, number, journey)?;
         self.own.outcomes.push_reserved(note);
         self.ahead = false;
         Ok(())

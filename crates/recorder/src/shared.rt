@@ -1,3 +1,4 @@
+use crate::pulse::Pulse;
 use input_log::LogSink;
 use logged_machine::Machine;
 use std::sync::{Condvar, Mutex};
@@ -7,4 +8,7 @@ use std::sync::{Condvar, Mutex};
 pub struct Shared<S: LogSink, D: Drop> {
     pub machine: Mutex<Machine<S, D>>,
     pub turns: Vec<Condvar>,
+    // whether calls go outside in the order of the turns
+    pub in_turn: bool,
+    pub pulse: Pulse,
 }

@@ -6,15 +6,23 @@ use crate::events::leave;
 use crate::leave::Leave;
 use crate::seat::{Returned, work};
 use crate::shared::Shared;
+use crate::watch::{Watch, keep_watch};
 use host_doors::Outside;
 use input_log::LogSink;
 use std::alloc::Global;
 use std::snapshot::Snapshot;
 use std::sync::Wait;
 use std::thread;
-use std::thread::{Promise, PromisedHandle, Scope, Threads};
+use std::thread::{JoinHandle, Promise, PromisedHandle, Scope, Threads};
 use thread_scripts::Actor;
 use worker_notes::Own;
+
+// The actors of a run, each with its outside.
+#[derive(Drop)]
+pub struct Crew<A, O> {
+    pub actors: Vec<A>,
+    pub outsides: Vec<O>,
+}
 
 // What the workers brought back, by thread.
 #[derive(Drop)]
@@ -35,37 +43,88 @@ impl<A: Actor, O: Outside> Promise<Returned<A, O>> for Promised<A, O> {
     ghost kept_by = { λ p r. IsTrueTo O O.gives (A.state p.actor.value) p.outside.value r.own (A.state r.actor) r.outside };
 }
 
-// Runs each actor in a thread of its own, to its end or until the machine is stopped. Once there is room for the notes it takes no memory itself.
+// Runs each actor in a thread of its own, to its end or until the machine is stopped, and beside them the watcher. Once there is room for
+// the notes it takes no memory itself.
 pub fn run_all<
     A: Actor + Send + Drop,
     O: Outside + Send + Drop,
     S: LogSink + Send + Drop,
+    W: Watch + Send + Drop,
     R: Threads + Wait + Sync,
 >(
     rt: &R,
     alloc: Global,
     shared: &Shared<S, O::Door>,
-    actors: Vec<A>,
-    outsides: Vec<O>,
+    crew: Crew<A, O>,
     own: Vec<Own>,
+    watch: W,
 ) -> Gathered<A, O>
-    requires one_each { vec_len outsides ≡ vec_len actors }
-    requires unused { All (IsUnused O.given O.failures) outsides.items }
+    requires one_each { vec_len crew.outsides ≡ vec_len crew.actors }
+    requires unused { All (IsUnused O.given O.failures) crew.outsides.items }
     requires none { own.items ≡ [] }
-    requires room { vec_len actors ≤ vec_capacity own }
-    ensures { AreTrue O.gives A.state actors.items outsides.items result.own.items result.actors.items result.outsides.items }
+    requires room { vec_len crew.actors ≤ vec_capacity own }
+    ensures { AreTrue O.gives A.state crew.actors.items crew.outsides.items result.own.items result.actors.items result.outsides.items }
 {
     thread::scope(
         thread::scope_env(),
         rt,
         move |scope| -> Gathered<A, O>
-            requires one_each { vec_len outsides ≡ vec_len actors }
-            requires unused { All (IsUnused O.given O.failures) outsides.items }
+            requires one_each { vec_len crew.outsides ≡ vec_len crew.actors }
+            requires unused { All (IsUnused O.given O.failures) crew.outsides.items }
             requires none { own.items ≡ [] }
-            requires room { vec_len actors ≤ vec_capacity own }
-            ensures { AreTrue O.gives A.state actors.items outsides.items result.own.items result.actors.items result.outsides.items }
-        { run_in(scope, rt, alloc, shared, actors, outsides, own) },
+            requires room { vec_len crew.actors ≤ vec_capacity own }
+            ensures { AreTrue O.gives A.state crew.actors.items crew.outsides.items result.own.items result.actors.items result.outsides.items }
+        { run_watched(scope, rt, alloc, shared, crew, own, watch) },
     )
+}
+
+// Runs the actors while the watcher looks, and ends it when all workers are back.
+fn run_watched<
+    's,
+    E,
+    A: Actor + Send + Drop + 's,
+    O: Outside + Send + Drop + 's,
+    S: LogSink + Send + Drop + 's,
+    W: Watch + Send + Drop + 's,
+    R: Threads + Wait + Sync + 's,
+>(
+    scope: &Scope<'s, E>,
+    rt: &'s R,
+    alloc: Global,
+    shared: &'s Shared<S, O::Door>,
+    crew: Crew<A, O>,
+    own: Vec<Own>,
+    watch: W,
+) -> Gathered<A, O>
+    requires one_each { vec_len crew.outsides ≡ vec_len crew.actors }
+    requires unused { All (IsUnused O.given O.failures) crew.outsides.items }
+    requires none { own.items ≡ [] }
+    requires room { vec_len crew.actors ≤ vec_capacity own }
+    ensures { AreTrue O.gives A.state crew.actors.items crew.outsides.items result.own.items result.actors.items result.outsides.items }
+{
+    let watcher = start_watcher(scope, rt, shared, watch);
+    let gathered = run_in(scope, rt, alloc, shared, crew, own);
+    shared.pulse.end();
+    if let Some(watcher) = watcher {
+        watcher.join(rt);
+    }
+    gathered
+}
+
+// Starts the thread of the watcher, if there is one. Where no thread can be made the run goes on unwatched.
+fn start_watcher<
+    's,
+    E,
+    S: LogSink + Send + Drop + 's,
+    D: Send + Drop + 's,
+    W: Watch + Send + Drop + 's,
+    R: Wait + Sync + 's,
+>(scope: &Scope<'s, E>, rt: &'s R, shared: &'s Shared<S, D>, watch: W) -> Option<JoinHandle<()>> {
+    let pause = watch.pause()?;
+    match scope.spawn(move || keep_watch(rt, shared, pause, watch)) {
+        Ok(watcher) => Some(watcher),
+        Err(_) => None,
+    }
 }
 
 fn run_in<
@@ -80,16 +139,16 @@ fn run_in<
     rt: &'s R,
     alloc: Global,
     shared: &'s Shared<S, O::Door>,
-    actors: Vec<A>,
-    outsides: Vec<O>,
+    crew: Crew<A, O>,
     own: Vec<Own>,
 ) -> Gathered<A, O>
-    requires one_each { vec_len outsides ≡ vec_len actors }
-    requires unused { All (IsUnused O.given O.failures) outsides.items }
+    requires one_each { vec_len crew.outsides ≡ vec_len crew.actors }
+    requires unused { All (IsUnused O.given O.failures) crew.outsides.items }
     requires none { own.items ≡ [] }
-    requires room { vec_len actors ≤ vec_capacity own }
-    ensures { AreTrue O.gives A.state actors.items outsides.items result.own.items result.actors.items result.outsides.items }
+    requires room { vec_len crew.actors ≤ vec_capacity own }
+    ensures { AreTrue O.gives A.state crew.actors.items crew.outsides.items result.own.items result.actors.items result.outsides.items }
 {
+    let Crew { actors, outsides } = crew;
     let mut actors = actors;
     let mut outsides = outsides;
     let mut own = own;

@@ -1,5 +1,5 @@
 //! The tests of recorded runs, over outsides that are lists of outcomes; of replays by threads, of runs that were recorded and of logs that are
-//! written down here; of runs in which something goes wrong (`hostile`); and of `comparator`.
+//! written down here; of runs in which something goes wrong (`hostile`); of runs in turn, and of runs that are watched; and of `comparator`.
 #![tactic(auto)]
 
 #[cfg(test)]
@@ -10,6 +10,8 @@ mod full_clock;
 mod generated;
 #[cfg(test)]
 mod hostile;
+#[cfg(test)]
+mod in_turn;
 #[cfg(test)]
 mod outcomes;
 #[cfg(test)]
@@ -25,4 +27,8 @@ mod seen;
 #[cfg(test)]
 mod short_write;
 #[cfg(test)]
+mod sockets;
+#[cfg(test)]
 mod stops;
+#[cfg(test)]
+mod watched;

@@ -61,6 +61,15 @@ impl ScriptActor {
         }
     }
 
+    /// How many lines of the script lie before the next one. Empty lines and comments do not count.
+    /// Once a call was given, and before the step after it, that is the number of the call's own
+    /// line, from 1.
+    pub fn place(&self) -> usize
+        ensures { result ≡ self.now.place }
+    {
+        self.state.place
+    }
+
     /// The next step, as [`Actor::next`] gives it, for a caller that gives up where there is no memory for it: the reply goes into
     /// the registers uncopied and nothing is saved, so the actor is of no more use then.
     #[tactic(auto, using(crate::proofs::Ending::next_ends, crate::proofs::Ending::next_script))]

@@ -20,12 +20,12 @@ fn reach<O: Outside>(
 {
     match request.kind {
         OutKind::Open => Ok(outside.open(0, number, request)?.outcome),
-        OutKind::Read => outside.read(0, number, request, &mut door),
-        OutKind::Write => outside.write(0, number, request, &mut door),
+        OutKind::Read => outside.read(0, number, request, &mut door, true),
+        OutKind::Write => outside.write(0, number, request, &mut door, true),
         OutKind::Seek => outside.seek(0, number, request, &mut door),
         OutKind::Listen => Ok(outside.listen(0, number, request)?.outcome),
         OutKind::Connect => Ok(outside.connect(0, number, request)?.outcome),
-        OutKind::Accept => Ok(outside.accept(0, number, request, &mut door)?.outcome),
+        OutKind::Accept => Ok(outside.accept(0, number, request, &mut door, true)?.outcome),
         OutKind::Shutdown => outside.shutdown(0, number, request, &mut door),
         OutKind::Close => outside.close(0, number, request, door),
     }

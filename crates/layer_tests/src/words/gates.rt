@@ -56,6 +56,7 @@ fn read<C: Clock>(doors: &mut ScriptDoors<PairGate<C>>, place: Place) -> Result<
         place.number,
         &plain(OutKind::Read, 1),
         &mut ScriptDoor,
+        true,
     )
 }
 

@@ -9,7 +9,7 @@ use std::fs::remove_file;
 use std::process::{self, Abort};
 use std::test::Fail;
 use std::thread::{Threads, join, sleep};
-use std::time::Duration;
+use std::time::{Duration, Instant};
 
 fn host(rt: HostRuntime) -> HostDoors<HostRuntime>
     ensures { result ≡ record { given = 0; failures = 0 } }
@@ -79,11 +79,11 @@ fn write(rt: HostRuntime, bytes: &[u8], door: &mut HostDoor) -> Result<Outcome, 
             bytes: Bytes::from_slice(rt.alloc(), bytes)?,
         },
     };
-    host(rt).write(0, 0, &request, door)
+    host(rt).write(0, 0, &request, door, true)
 }
 
 fn read(rt: HostRuntime, count: u64, door: &mut HostDoor) -> Result<Outcome, DoorStop> {
-    host(rt).read(0, 0, &plain(OutKind::Read, count), door)
+    host(rt).read(0, 0, &plain(OutKind::Read, count), door, true)
 }
 
 fn seek(
@@ -541,7 +541,7 @@ fn connect(rt: HostRuntime, port: u64) -> Result<Opened<HostDoor>, DoorStop> {
 }
 
 fn accept(rt: HostRuntime, listener: &mut HostDoor) -> Result<Opened<HostDoor>, DoorStop> {
-    host(rt).accept(0, 0, &plain(OutKind::Accept, 0), listener)
+    host(rt).accept(0, 0, &plain(OutKind::Accept, 0), listener, true)
 }
 
 /// A listener at a port that the host chose.
@@ -703,13 +703,186 @@ fn a_peer_goes_away_while_a_write_waits(rt: HostRuntime) -> Result<(), Fail> {
     Ok(())
 }
 
+/// How a call is made that finds nothing: the bound of its waits, whether it waits, and how long it takes at least,
+/// all in milliseconds.
+struct Bound {
+    longest: u64,
+    waits: bool,
+    least: u64,
+}
+
+/// No test may take the longest of these bounds. The host's clock goes in steps, so a wait may end a little before.
+const BOUNDS: &[Bound] = &[
+    Bound {
+        longest: 30,
+        waits: true,
+        least: 20,
+    },
+    Bound {
+        longest: 0,
+        waits: true,
+        least: 0,
+    },
+    Bound {
+        longest: 60_000,
+        waits: false,
+        least: 0,
+    },
+];
+
+fn bounded(rt: HostRuntime, bound: &Bound) -> HostDoors<HostRuntime>
+    ensures { result ≡ record { given = 0; failures = 0 } }
+{
+    HostDoors::waiting(rt, rt.alloc(), Duration::from_millis(bound.longest))
+}
+
+/// Whether as much time is over as the call takes at least.
+fn is_over(rt: HostRuntime, bound: &Bound, begun: Instant) -> Result<bool, Fail> {
+    Ok(begun.elapsed(&rt)? >= Duration::from_millis(bound.least))
+}
+
+fn read_bounded(rt: HostRuntime, bound: &Bound, door: &mut HostDoor) -> Result<Outcome, DoorStop> {
+    bounded(rt, bound).read(0, 0, &plain(OutKind::Read, 9), door, bound.waits)
+}
+
+fn write_bounded(rt: HostRuntime, bound: &Bound, door: &mut HostDoor) -> Result<Outcome, DoorStop> {
+    let bytes = Bytes::from_slice(rt.alloc(), &[7; 32_767])?;
+    let request = Request {
+        kind: OutKind::Write,
+        asked: 32_767,
+        call: Call::Write {
+            descriptor: 3,
+            bytes,
+        },
+    };
+    bounded(rt, bound).write(0, 0, &request, door, bound.waits)
+}
+
+fn accept_bounded(
+    rt: HostRuntime,
+    bound: &Bound,
+    listener: &mut HostDoor,
+) -> Result<Opened<HostDoor>, DoorStop> {
+    bounded(rt, bound).accept(0, 0, &plain(OutKind::Accept, 0), listener, bound.waits)
+}
+
+const AGAIN: Came = Came::Failure(Errno::EAGAIN);
+
+fn finds_no_bytes(rt: HostRuntime, bound: &Bound, door: &mut HostDoor) -> Result<bool, Fail> {
+    let begun = Instant::now(&rt)?;
+    let again = is_so(&read_bounded(rt, bound, door), &AGAIN);
+    Ok(again && is_over(rt, bound, begun)?)
+}
+
+/// Whether one of the writes to a stream, which nobody reads, finds it full.
+fn finds_it_full(rt: HostRuntime, bound: &Bound, door: &mut HostDoor) -> Result<bool, Fail> {
+    for _ in 0..1_000 {
+        let begun = Instant::now(&rt)?;
+        let came = write_bounded(rt, bound, door);
+        if is_so(&came, &AGAIN) {
+            return is_over(rt, bound, begun);
+        }
+    }
+    Ok(false)
+}
+
+fn finds_nobody(rt: HostRuntime, bound: &Bound, listener: &mut HostDoor) -> Result<bool, Fail> {
+    let begun = Instant::now(&rt)?;
+    let again = refuses(accept_bounded(rt, bound, listener), Errno::EAGAIN);
+    Ok(again && is_over(rt, bound, begun)?)
+}
+
+/// The connection that is under way to a listener, accepted with a bound.
+fn accepted_bounded(rt: HostRuntime, bound: &Bound, listener: &mut HostDoor) -> Option<HostDoor> {
+    for _ in 0..1_000 {
+        if let Some(stream) = door_of(accept_bounded(rt, bound, listener)) {
+            return Some(stream);
+        }
+        sleep(&rt, Duration::from_millis(1));
+    }
+    None
+}
+
+/// A stream that was connected with a bound, and one that was accepted with it.
+fn connected_bounded(
+    rt: HostRuntime,
+    bound: &Bound,
+    listener: &mut HostDoor,
+    port: u64,
+) -> Result<(HostDoor, HostDoor), Fail> {
+    let made = bounded(rt, bound).connect(0, 0, &plain(OutKind::Connect, port));
+    let near = door_of(made).ok_or("a connection")?;
+    let far = accepted_bounded(rt, bound, listener).ok_or("the other side of it")?;
+    Ok((near, far))
+}
+
+/// Whether bytes that are under way are read all the same.
+fn finds_bytes(rt: HostRuntime, bound: &Bound, door: &mut HostDoor) -> bool {
+    for _ in 0..1_000 {
+        let came = read_bounded(rt, bound, door);
+        if !is_so(&came, &AGAIN) {
+            return is_so(&came, &Came::Success(4, b"late"));
+        }
+        sleep(&rt, Duration::from_millis(1));
+    }
+    false
+}
+
+/// Whether each call at a listener and at both ends of a stream ends by its bound.
+fn are_bounded(rt: HostRuntime, bound: &Bound) -> Result<bool, Fail> {
+    let (mut listener, port) = any_listener(rt)?;
+    let nobody = finds_nobody(rt, bound, &mut listener)?;
+    let (mut near, mut far) = connected_bounded(rt, bound, &mut listener, port)?;
+    let quiet = finds_no_bytes(rt, bound, &mut near)? && finds_no_bytes(rt, bound, &mut far)?;
+    let full = finds_it_full(rt, bound, &mut near)?;
+    let late = is_so(&write(rt, b"late", &mut far), &Came::Success(4, b""));
+    Ok(nobody && quiet && full && late && finds_bytes(rt, bound, &mut near))
+}
+
+#[test]
+fn no_call_waits_longer_than_its_bound(rt: HostRuntime) -> Result<(), Fail> {
+    for (number, bound) in BOUNDS.iter().enumerate() {
+        assert!(rt; are_bounded(rt, bound)?, "bound {number}");
+    }
+    Ok(())
+}
+
+/// A bound that no test may take.
+const LONG: Bound = Bound {
+    longest: 60_000,
+    waits: true,
+    least: 0,
+};
+
+fn connects_late(rt: HostRuntime, port: u64) -> bool {
+    sleep(&rt, Duration::from_millis(50));
+    door_of(connect(rt, port)).is_some()
+}
+
+/// Whether an accept that waits gets the connection that comes then.
+fn meets_late(threads: &impl Threads, rt: HostRuntime) -> Result<bool, Fail> {
+    let (mut listener, port) = any_listener(rt)?;
+    let (came, connected) = join(
+        threads,
+        move || door_of(accept_bounded(rt, &LONG, &mut listener)).is_some(),
+        move || connects_late(rt, port),
+    );
+    Ok(came && connected)
+}
+
+#[test]
+fn an_accept_waits_for_a_connection(rt: HostRuntime) -> Result<(), Fail> {
+    assert!(rt; meets_late(&rt, rt)?);
+    Ok(())
+}
+
 /// A thread with an outside of its own, which reads this from a file.
 fn reads(mut outside: HostDoors<HostRuntime>, mut door: HostDoor, wanted: &Came) -> bool
     requires room { outside.given < 1000 }
     requires few { outside.failures < 1000 }
 {
     is_so(
-        &outside.read(0, 0, &plain(OutKind::Read, 9), &mut door),
+        &outside.read(0, 0, &plain(OutKind::Read, 9), &mut door, true),
         wanted,
     )
 }

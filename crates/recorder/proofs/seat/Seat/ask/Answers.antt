@@ -1,4 +1,4 @@
-use Rattle.std.proofs.Common.{◌≡◌, ap}
+use Rattle.std.proofs.Common.{ap}
 use Rattle.thread_scripts.specs.Meaning.{next_of}
 use Rattle.worker_notes.specs.Plays.{last_reply}
 use Rattle.worker_notes.specs.declared.own.Noted.{Noted}

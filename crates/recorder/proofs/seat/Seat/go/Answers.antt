@@ -1,4 +1,3 @@
-use Rattle.worker_notes.specs.declared.own.Brought.{Brought}
 use Rattle.recorder.proofs.Seating.{seated_gone}
 use Rattle.recorder.proofs.seat.Seat.go.Goals as goal
 
