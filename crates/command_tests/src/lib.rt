@@ -21,6 +21,8 @@ mod listed;
 #[cfg(test)]
 mod logs;
 #[cfg(test)]
+mod notices;
+#[cfg(test)]
 mod overlap;
 #[cfg(test)]
 mod recording;

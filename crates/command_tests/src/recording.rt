@@ -3,15 +3,17 @@ ghost use Rattle.recorder.specs.Each.{IsUnused};
 
 use crate::devices::{Sources, Text, sources};
 use crate::told::{Told, replay};
-use commands::{LogTo, NewLog, NotCreated, Recorded, record_over};
+use commands::{LogTo, NewLog, NotCreated, RecordOptions, Recorded, record_over};
 use host_doors::Outside;
 use input_log::FileSink;
 use posix_terms::Settings;
 use recorder::hosts;
+use std::alloc::Global;
 use std::fs::{self, remove_file};
 use std::sync::Wait;
 use std::test::Fail;
 use std::thread::Threads;
+use std::time::Duration;
 use std::{io, process};
 
 /// Where the log of a run goes: to a new file at this path, which has so much room.
@@ -57,6 +59,16 @@ pub(crate) fn file_has(rt: HostRuntime, path: &str, bytes: &[u8]) -> io::Result<
     Ok(fs::read(&rt, path)?.as_slice() == bytes)
 }
 
+// With the clocks of the turns, and two seconds before it is said where a run stands.
+fn options(settings: Settings) -> RecordOptions {
+    RecordOptions {
+        settings,
+        turns: true,
+        in_turn: false,
+        pause: Duration::from_secs(2),
+    }
+}
+
 // The status of a recorded run.
 fn status_of(recorded: io::Result<Recorded<FileSink>>) -> io::Result<u8> {
     Ok(recorded?.status)
@@ -74,16 +86,33 @@ pub(crate) fn record<O: Outside + Send + Drop>(
     requires unused { All (IsUnused O.given O.failures) outsides.items }
 {
     let alloc = log.host.alloc();
+    let log = LogTo { path: "a.log", log };
+    record_to(rt, alloc, settings, log, outsides, scripts)
+}
+
+/// The same, with the log at any place.
+pub(crate) fn record_to<O: Outside + Send + Drop, L: NewLog<FileSink> + Drop>(
+    rt: &(impl Threads + Wait + Sync),
+    alloc: Global,
+    settings: Settings,
+    log: LogTo<'_, L>,
+    outsides: Vec<O>,
+    scripts: Sources<'_>,
+) -> io::Result<Told>
+    requires one_each { length outsides.items ≡ length scripts.items }
+    requires unused { All (IsUnused O.given O.failures) outsides.items }
+{
     let mut output: Vec<u8> = Vec::new(alloc);
     let mut errors: Vec<u8> = Vec::new(alloc);
+    let notices: Vec<u8> = Vec::new(alloc);
     let status = status_of(record_over(
         rt,
         alloc,
-        settings,
-        true,
-        LogTo { path: "a.log", log },
+        options(settings),
+        log,
         outsides,
         scripts,
+        notices,
         &mut output,
         &mut errors,
     ));

@@ -37,7 +37,7 @@ mod told;
 pub use command_texts::{Source, cannot_write, no_memory};
 pub use compare::compare_over;
 pub use plain::plain_over;
-pub use record::{LogTo, NewLog, NotCreated, Recorded, record_over};
+pub use record::{LogTo, NewLog, NotCreated, RecordOptions, Recorded, record_over};
 pub use replay::{replay_over, replay_threads_over};
 pub use settings::{DEFAULTS, settings_of};
 pub use show::show_over;

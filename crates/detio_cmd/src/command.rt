@@ -24,7 +24,9 @@ Exit statuses:
   1  a difference, a divergence or the end of a log
   2  wrong usage
   3  a bad script or log
-  4  a file that cannot be read or written, no memory, a full clock, threads that strayed";
+  4  a file that cannot be read or written, no memory, a full clock, threads that strayed
+
+It runs scripts, not programs. Each command's --help has its limits, its statuses and an example.";
 
 const PLAIN_ABOUT: &str = "Runs 1 to 8 scripts together and prints their transcripts";
 
@@ -78,8 +80,13 @@ as x6869, or a register b0 to b3. PATH has no spaces. NAME has 1 to 14 lower-cas
 Registers start at 0, and b0 to b3 empty. A reply sets r0: the count, the length of the data, the
 number, the first number of a pair, the length of a file or the port of a listener by fstat, 0 for
 done, or minus the code of the error. The second number of a pair, which pipe and socketpair give, goes
-to r1, and so does the number of names of fstat; data go to b0. A thread also ends once it has executed
-10000 lines.
+to r1, and so does the number of names of fstat; data go to b0.
+
+A thread also ends once it has executed 10000 lines. Nothing is printed of that, and the status is 0: the
+last row of such a thread is not that of its script's last line.
+
+Limits: 8 scripts of 1000 lines; 32 descriptors, 48 objects (files, pipes, pairs and doors), 64 names; 65536
+bytes in a file, 32768 in a pipe and in each direction of a pair; 32767 bytes in a call, 255 in a path.
 
 The last line is end. host_open, the tcp calls and the calls on what they open go outside the run, where
 nothing comes from under plain: the run stops once the thread that has the turn is at such a call, and
@@ -87,7 +94,17 @@ the last line is
   stop end of log THREAD
 Under detio record they get what the host gives, and by its log detio replay runs the scripts again.
 
-The path /dev/stdin reads a script from standard input.";
+Threads that contend take turns by their clocks, and a thread that makes one call after another may be served
+each time before one of a greater number. work before a call, or in a loop, lets others go first.
+
+The path /dev/stdin reads a script from standard input.
+
+Exit statuses:
+  0  all threads came to their end
+  1  end of log: a thread is at a call that goes outside
+  2  wrong usage
+  3  a bad script
+  4  a script that cannot be read, output that cannot be written, no memory, a full clock";
 
 const PLAIN_AFTER_HELP: &str = "Example:
   printf 'work 3\\nopen /a rw create\\n' > late.script
@@ -114,15 +131,36 @@ failures too, goes into the log before the thread hears its reply.
 detio replay runs the scripts by that log and prints the same lines, with no host file and no network. A log
 of a run that was cut off is good up to its last whole record.
 
-The log is a new file, or takes the place of the one at its path, once all scripts have been read. It has
-room for 16777216 bytes.
+A read or a write of a stream and an accept wait at the host for a peer, at most as long as --wait says. Then
+EAGAIN goes into the log, and the call is made again at a later turn of its thread, so its peer gets the turn;
+after as many turns as --patience says it fails with EINTR. With the defaults that is some ten seconds. With
+nonblock on the descriptor nothing waits, and EAGAIN is the reply. A thread that accepts again and again takes
+the table before threads of greater numbers: give a server's script last.
+
+Replies and turns are the same in each run in which the outcomes are. When a call reaches the host is not: without
+--in-turn calls of several threads reach it in any order. With it each waits until those granted before it
+have their records.
+
+Where no thread has come to a new step for two seconds, standard error says which threads are outside, in which
+call and line, and who waits for whom. It is said once, until a thread goes on.
+
+The log is a new file, or takes the place of the log at its path, once all scripts have been read. A file there
+that is not empty and is not a log stays, unless --force is given, and a log that is one of the scripts is
+wrong usage. Two recorders must not share a log. It has room for 16777216 bytes; a script has 1000 lines, of which a
+thread executes 10000.
 
 The last line is end where all threads came to their end, or one of
   stop memory
   stop sink                     the log could not be written: no room, or the device is full
   stop clock full
   stop strayed                  what the threads noted is not what the history says: a fault of this program
-after which the lines before are what each thread saw until then.";
+after which the lines before are what each thread saw until then.
+
+Exit statuses:
+  0  all threads came to their end
+  2  wrong usage
+  3  a bad script
+  4  a file that cannot be read or written, no memory, a full clock, threads that strayed";
 
 const RECORD_AFTER_HELP: &str = "Example:
   printf 'host_open out.txt w create\\nwrite 0 x6869\\nclose 0\\n' > hi.script
@@ -147,8 +185,8 @@ const REPLAY_LONG_ABOUT: &str =
 
 The scripts run as under plain, with the patience and the door cost of the log's header. No host file is
 opened and nothing is sent: each call that goes outside takes the next record of its thread from the log.
-There is one script for each thread of the log, in the same order. Of a log that is torn behind its header
-the records before the tear count, as detio show prints them.
+There is one script for each thread of the log, in the same order. Of a log that is torn after its header
+the records before the tear count, as detio show prints them. A log has at most 16777216 bytes.
 
 The last line is end where all threads came to their end and every record was used, or one of
   stop end of log THREAD
@@ -165,12 +203,19 @@ end prints the same lines. One that stops does so at once, wherever the other th
 saw, and which stop is told where there are several, can change from run to run. The last line may then also
 be stop memory or stop strayed, as under detio record.
 
-What is no log, and a log of another number of threads, has one line on standard error:
+What is not a log, and a log of another number of threads, has one line on standard error:
   log: bad magic
   log: bad version
   log: bad record at PLACE
   log: torn at 0 after 0 records
-  log has COUNT threads, COUNT scripts given";
+  log has COUNT threads, COUNT scripts given
+
+Exit statuses:
+  0  all threads came to their end, and every record was used
+  1  the end of the log, or a divergence
+  2  wrong usage
+  3  a bad script or log
+  4  a file that cannot be read, output that cannot be written, no memory, a full clock, threads that strayed";
 
 const REPLAY_AFTER_HELP: &str = "Example:
   printf 'host_open nofile r\\nopen /b rw create\\n' > missing.script
@@ -184,22 +229,30 @@ prints
   end";
 
 const COMPARE_ABOUT: &str =
-    "Tells whether two logs give the threads of the same scripts the same replies";
+    "Says whether two logs give the threads of the same scripts the same replies";
 
 const COMPARE_LONG_ABOUT: &str =
-    "Tells whether two logs give the threads of the same scripts the same replies.
+    "Says whether two logs give the threads of the same scripts the same replies.
 
 The scripts are replayed by each of the two logs, as detio replay does, and what each thread saw is compared row
 by row: the call, the turn with its clock, and the reply. One line is printed:
   same                  each thread saw the same
   differs THREAD ROW    the first thread that differs, and the first of its rows that does
 
-Both are counted from 0. Where one log gave a thread fewer rows, it is the row behind the last of these. A
+Both are counted from 0. Where one log gave a thread fewer rows, it is the row after the last of these. A
 replay that stops, at the end of its log or where it diverges, is compared as far as it came, and why it
-stopped is not: detio replay tells that. So a log that was cut off is compared with the whole one.
+stopped is not: detio replay says that. So a log that was cut off is compared with the whole one. A log has at
+most 16777216 bytes.
 
 What cannot be replayed has one line on standard error, as by detio replay: first for the log of --log, then
-for that of --with.";
+for that of --with.
+
+Exit statuses:
+  0  same
+  1  differs
+  2  wrong usage
+  3  a bad script or log
+  4  a file that cannot be read, output that cannot be written, no memory";
 
 const COMPARE_AFTER_HELP: &str = "Example:
   printf 'host_open notes r\\nopen /b rw create\\n' > open.script
@@ -217,20 +270,26 @@ const SHOW_ABOUT: &str = "Prints a log";
 
 const SHOW_LONG_ABOUT: &str = "Prints a log.
 
-The first line tells what the log was written under. A line for each record follows, in order: thread,
+The first line says what the log was written under. A line for each record follows, in order: thread,
 number among the records of that thread, kind of the request and outcome. The outcome is ok, a value and
 the bytes that were read in hexadecimal, - for none, or fail and the name of the error. The last line is
 end and the number of records, or open and that number where the log is not closed.
 
-What is no log has one line on standard error, for its first fault:
+What is not a log has one line on standard error, for its first fault:
   log: bad magic
   log: bad version
   log: bad record at PLACE
   log: torn at PLACE after COUNT records
 
-A place is counted in bytes from 0. Where a log is torn behind its header, the first line and the lines of
+A place is counted in bytes from 0. Where a log is torn after its header, the first line and the lines of
 the records before the tear are printed on standard output. A file of more than 16777216 bytes cannot be
-read.";
+read.
+
+Exit statuses:
+  0  the log was printed
+  2  wrong usage
+  3  a bad log
+  4  a file that cannot be read, output that cannot be written, no memory";
 
 const SHOW_AFTER_HELP: &str = "Example:
   printf 'DIOL\\0\\1\\0\\1\\0\\0\\3\\350\\0\\0\\0\\144E\\0\\0\\0\\0' > empty.log
@@ -327,7 +386,31 @@ fn record<'a>(alloc: Global) -> Result<Command<'a>, AllocError> {
         RECORD_LONG_ABOUT,
         RECORD_AFTER_HELP,
     );
-    with_door_cost(alloc, command.arg(log)?.arg(patience)?)
+    let command = command.arg(log)?.arg(force(alloc))?.arg(wait(alloc))?;
+    with_door_cost(alloc, command.arg(in_turn(alloc))?.arg(patience)?)
+}
+
+fn force<'a>(alloc: Global) -> Arg<'a> {
+    Arg::new(alloc, "force")
+        .long("force")
+        .action(ArgAction::SetTrue)
+        .help("Replaces a file at the log's path that is not a log")
+}
+
+fn wait<'a>(alloc: Global) -> Arg<'a> {
+    Arg::new(alloc, "wait")
+        .long("wait")
+        .value_name("MS")
+        .value_parser(value_parser!(u32).range(0..=60_000))
+        .default_value("10")
+        .help("How long a call waits for a peer before others get a turn")
+}
+
+fn in_turn<'a>(alloc: Global) -> Arg<'a> {
+    Arg::new(alloc, "in-turn")
+        .long("in-turn")
+        .action(ArgAction::SetTrue)
+        .help("Makes the calls to the outside in the order of their turns")
 }
 
 fn replay<'a>(alloc: Global) -> Result<Command<'a>, AllocError> {

@@ -16,17 +16,30 @@ use host_doors::Outside;
 use input::{open_scripts, open_source};
 use record::{HostOutsides, NewOutsides, run_record};
 use std::alloc::AllocError;
-use std::io;
+use std::fs::File;
 use std::process::ExitCode;
 use std::sync::Wait;
 use std::thread::Threads;
+use std::{fs, io};
 
 fn main(rt: HostRuntime) -> ExitCode {
+    let held = places_held(&rt);
     let status = match run(&rt, &rt, HostOutsides { rt }) {
         Ok(status) => status,
         Err(AllocError) => no_memory(&mut rt.stderr()).unwrap_or(4),
     };
+    drop(held);
     ExitCode::from(status)
+}
+
+// What is opened first gets the lowest free descriptors: where a standard stream is closed, one of these takes its place, so that no log
+// and no script does. From them nothing is read, and to them nothing can be written.
+fn places_held(rt: &HostRuntime) -> [Option<File>; 3] {
+    [null(rt), null(rt), null(rt)]
+}
+
+fn null(rt: &HostRuntime) -> Option<File> {
+    fs::open(rt, "/dev/null").ok()
 }
 
 // Runs the command that the command line names, and answers the exit status.

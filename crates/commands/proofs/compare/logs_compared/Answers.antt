@@ -1,4 +1,4 @@
-use Rattle.std.proofs.Common.{◌≡◌, ℕ, List, Option, map, rules, subst, Ok, Err}
+use Rattle.std.proofs.Common.{ℕ, List, Option, map, rules, subst, Ok, Err}
 use Rattle.std.specs.Prelude.{IfOk}
 use Rattle.std.proofs.lemmas.Result.{IfOk-weaker}
 use Rattle.command_texts.specs.FirstFaults.{IsUnread}
