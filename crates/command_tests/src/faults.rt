@@ -1,75 +1,53 @@
 use crate::devices::{Device, numbered, sources};
-use crate::runs::{end_well, refuse};
 use crate::told::{Told, plain};
 use commands::{DEFAULTS, cannot_write, no_memory, plain_over};
 use posix_terms::Settings;
 use std::alloc::Global;
 use std::io;
-use std::process::Abort;
 use std::test::Fail;
-
-const BAD: &[(&[&str], &str)] = &[
-    (&["close 0\nclose 0 0\n"], "script 0: bad line 2\n"),
-    (&["work r1\n"], "script 0: bad line 1\n"),
-    (&["jump a\nlabel b\n"], "script 0: bad line 1\n"),
-    (&["# \n\nread 0 1 1"], "script 0: bad line 3\n"),
-    // Of several scripts the first that is none is told.
-    (&["close 0\n", "end\nx\n"], "script 1: bad line 2\n"),
-    (&["end\nend\nx\n", "x\n"], "script 0: bad line 3\n"),
-];
-
-// Asserts that scripts are bad, with this line on standard error and nothing on standard output.
-fn assert_bad(rt: &impl Abort, alloc: Global, scripts: &[&str], wanted: &str) -> Result<(), Fail> {
-    assert!(rt; refuse(alloc, DEFAULTS, scripts, 3, wanted)?, "{wanted}");
-    Ok(())
-}
-
-// Faults: their text on standard error, nothing on standard output, and their status.
-#[test]
-fn faults(rt: HostRuntime) -> Result<(), Fail> {
-    for (scripts, wanted) in BAD {
-        assert_bad(&rt, rt.alloc(), scripts, wanted)?;
-    }
-    Ok(())
-}
-
-// Asserts what is told of this script, which is too long, by itself, beside a good one and beside bad ones.
-fn assert_too_long(rt: &impl Abort, alloc: Global, long: &str) -> Result<(), Fail> {
-    assert_bad(rt, alloc, &[long], "script 0: too long\n")?;
-    assert_bad(rt, alloc, &["close 0\n", long], "script 1: too long\n")?;
-    assert_bad(rt, alloc, &["x\n", long], "script 0: bad line 1\n")?;
-    assert_bad(rt, alloc, &[long, "x\n"], "script 0: too long\n")
-}
-
-#[test]
-fn faults_of_long_scripts(rt: HostRuntime) -> Result<(), Fail> {
-    // One line more than a script may have.
-    let text = "\n".repeat(rt.alloc(), 1001)?;
-    assert_too_long(&rt, rt.alloc(), text.as_str())
-}
 
 const OUT_OF_RANGE: &[(u32, u32)] = &[(0, 100), (1_000_001, 100), (1000, 0), (1000, 1_000_001)];
 
-const REFUSED: &[(&[&str], u8, &str)] = &[
-    (&["end"], 2, "patience and door cost are 1 to 1000000\n"),
-    (&["x"], 3, "script 0: bad line 1\n"),
+const BAD_SCRIPT: Device = Device::Text(b"x\n");
+
+const GOOD_SCRIPT: Device = Device::Text(b"end\n");
+
+// Settings out of range are told last. The command line lets none through.
+const REFUSED: &[(&[Device], u8, &str)] = &[
+    (
+        &[GOOD_SCRIPT],
+        2,
+        "patience and door cost are 1 to 1000000\n",
+    ),
+    (&[BAD_SCRIPT], 3, "script 0: bad line 1\n"),
     (&[], 2, "needs 1 to 8 scripts\n"),
 ];
 
-// Asserts what is refused where the settings are out of range.
-fn assert_refused(rt: &impl Abort, alloc: Global, settings: Settings) -> Result<(), Fail> {
-    for (scripts, status, line) in REFUSED {
-        assert!(rt;
-            refuse(alloc, settings, scripts, *status, line)?,
-            "{} {}: {line}",
-            settings.patience,
-            settings.door_cost
-        );
-    }
-    Ok(())
+// Whether `plain` tells just this of scripts on these devices, and prints nothing.
+fn refuses(
+    alloc: Global,
+    settings: Settings,
+    devices: &[Device],
+    status: u8,
+    line: &str,
+) -> io::Result<bool> {
+    Ok(plain(alloc, settings, false, numbered(alloc, devices)?)?.is(status, "", line))
 }
 
-// Settings out of range are told last.
+// Whether that is told of each of these rows.
+fn refuses_all(
+    alloc: Global,
+    settings: Settings,
+    rows: &[(&[Device], u8, &str)],
+) -> io::Result<bool> {
+    for (devices, status, line) in rows {
+        if !refuses(alloc, settings, devices, *status, line)? {
+            return Ok(false);
+        }
+    }
+    Ok(true)
+}
+
 #[test]
 fn faults_of_settings(rt: HostRuntime) -> Result<(), Fail> {
     for (patience, door_cost) in OUT_OF_RANGE {
@@ -77,29 +55,13 @@ fn faults_of_settings(rt: HostRuntime) -> Result<(), Fail> {
             patience: *patience,
             door_cost: *door_cost,
         };
-        assert_refused(&rt, rt.alloc(), settings)?;
-    }
-    Ok(())
-}
-
-#[test]
-fn settings_at_their_limits(rt: HostRuntime) -> Result<(), Fail> {
-    for limit in &[1, 1_000_000] {
-        let settings = Settings {
-            patience: *limit,
-            door_cost: *limit,
-        };
         assert!(rt;
-            end_well(rt.alloc(), settings, &["end"], "end\n")?,
-            "{limit}"
+            refuses_all(rt.alloc(), settings, REFUSED)?,
+            "{patience} {door_cost}"
         );
     }
     Ok(())
 }
-
-const BAD_SCRIPT: Device = Device::Text(b"x\n");
-
-const GOOD_SCRIPT: Device = Device::Text(b"end\n");
 
 const UNREADABLE: &[(&[Device], u8, &str)] = &[
     // The number of scripts is looked at before anything is read.
@@ -113,16 +75,21 @@ const UNREADABLE: &[(&[Device], u8, &str)] = &[
     (&[Device::Endless, Device::Broken], 4, "cannot read 0\n"),
 ];
 
-// Whether `plain` tells just this of scripts on these devices, and prints nothing.
-fn refuses(alloc: Global, devices: &[Device], status: u8, line: &str) -> io::Result<bool> {
-    Ok(plain(alloc, DEFAULTS, false, numbered(alloc, devices)?)?.is(status, "", line))
-}
-
 #[test]
 fn failing_readers(rt: HostRuntime) -> Result<(), Fail> {
-    for (devices, status, wanted) in UNREADABLE {
-        assert!(rt; refuses(rt.alloc(), devices, *status, wanted)?, "{wanted}");
-    }
+    assert!(rt; refuses_all(rt.alloc(), DEFAULTS, UNREADABLE)?);
+    Ok(())
+}
+
+// A file is read up to its greatest size.
+const GREATEST: &[(&[Device], u8, &str)] = &[
+    (&[Device::EmptyLines(16_777_216)], 3, "script 0: too long\n"),
+    (&[Device::EmptyLines(16_777_217)], 4, "cannot read 0\n"),
+];
+
+#[test]
+fn a_file_is_read_up_to_its_greatest_size(rt: HostRuntime) -> Result<(), Fail> {
+    assert!(rt; refuses_all(rt.alloc(), DEFAULTS, GREATEST)?);
     Ok(())
 }
 
@@ -138,20 +105,6 @@ fn plain_to_full_device(alloc: Global) -> io::Result<Told> {
 #[test]
 fn full_device(rt: HostRuntime) -> Result<(), Fail> {
     assert!(rt; plain_to_full_device(rt.alloc())?.is(4, "", "cannot write -\n"));
-    Ok(())
-}
-
-const GREATEST: &[(usize, u8, &str)] = &[
-    (16_777_216, 3, "script 0: too long\n"),
-    (16_777_217, 4, "cannot read 0\n"),
-];
-
-#[test]
-fn a_file_is_read_up_to_its_greatest_size(rt: HostRuntime) -> Result<(), Fail> {
-    for (lines, status, wanted) in GREATEST {
-        let devices = [Device::EmptyLines(*lines)];
-        assert!(rt; refuses(rt.alloc(), &devices, *status, wanted)?, "{lines}");
-    }
     Ok(())
 }
 

@@ -1,9 +1,8 @@
-//! Tests of what the commands read, print and record, in a crate of their own: rt proves a crate once more from nothing
-//! with its tests.
+//! Tests of what the commands read, print and record, over devices, lists and the host, where no example can show it:
+//! what scripts and logs in files print is in `examples/`. They stand in a crate of their own: rt proves a crate once more
+//! from nothing with its tests.
 #![tactic(auto)]
 
-#[cfg(test)]
-mod by_threads;
 #[cfg(test)]
 mod compares;
 #[cfg(test)]
@@ -15,8 +14,6 @@ mod generated;
 #[cfg(test)]
 mod hosts;
 #[cfg(test)]
-mod limits;
-#[cfg(test)]
 mod listed;
 #[cfg(test)]
 mod logs;
@@ -27,20 +24,10 @@ mod overlap;
 #[cfg(test)]
 mod recording;
 #[cfg(test)]
-mod refusals;
-#[cfg(test)]
 mod replays;
-#[cfg(test)]
-mod runs;
-#[cfg(test)]
-mod scripts;
 #[cfg(test)]
 mod sizes;
 #[cfg(test)]
-mod streams;
-#[cfg(test)]
 mod told;
-#[cfg(test)]
-mod turns;
 #[cfg(test)]
 mod unrecorded;

@@ -11,14 +11,6 @@ pub(crate) const SETTINGS: Settings = Settings {
     door_cost: 100,
 };
 
-pub(crate) const OLD: OpenFlags = OpenFlags {
-    create: false,
-    exclusive: false,
-    truncate: false,
-    append: false,
-    nonblock: false,
-};
-
 pub(crate) const CREATE: OpenFlags = OpenFlags {
     create: true,
     exclusive: false,

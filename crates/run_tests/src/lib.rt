@@ -1,4 +1,5 @@
-//! The tests of the lock machine's events, of runs and of replays. They stand in a crate of their own since a crate with tests is proved twice.
+//! The tests of plain runs, of machines under drivers by chance and of the history of a replay: what a run or a replay prints
+//! is in `examples/`. They stand in a crate of their own since a crate with tests is proved twice.
 #![tactic(auto)]
 
 #[cfg(test)]
@@ -6,11 +7,7 @@ mod dice;
 #[cfg(test)]
 mod driven;
 #[cfg(test)]
-mod lock_machines;
-#[cfg(test)]
 mod machine_runs;
-#[cfg(test)]
-mod machines;
 #[cfg(test)]
 mod plain_runs;
 #[cfg(test)]

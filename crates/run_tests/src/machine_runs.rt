@@ -1,9 +1,10 @@
 use crate::plain_runs::{Came, NotRun, SHORT_TEXT, SHORT_WRITE_LOG, plain};
 use crate::seen::{Seen, replied, was_blocked};
-use call_machine::{History, Plain, PlainFault, Stop};
+use call_machine::{History, Plain, Stop};
 use posix_terms::{Errno, HistoryRow, OutKind, Outcome, Settings, Step, Transcripts};
 use std::alloc::Global;
-use std::process::Abort;
+
+const NOTHING: &[Came] = &[];
 
 const DEFAULTS: Settings = Settings {
     patience: 1000,
@@ -25,57 +26,6 @@ const THREE_TURNS: Settings = Settings {
     patience: 3,
     door_cost: 100,
 };
-
-// Why there is no run of these scripts, for which this comes; none where there is one.
-fn refusal(alloc: Global, texts: &[&str], came: &[&[Came]], settings: Settings) -> Option<NotRun> {
-    plain(alloc, texts, came, settings).err()
-}
-
-const THREADS: Option<NotRun> = Some(NotRun::Plain(PlainFault::Threads));
-
-const NOTHING: &[Came] = &[];
-
-// Scripts, and what comes for each.
-const WRONG_NUMBERS: &[(&[&str], &[&[Came]])] = &[
-    (&[], &[]),
-    (&[""; 9], &[NOTHING; 9]),
-    (&[""], &[]),
-    (&["", ""], &[&[]]),
-];
-
-#[test]
-fn refuses_wrong_numbers(rt: HostRuntime) {
-    for (texts, came) in WRONG_NUMBERS {
-        assert_eq!(rt;
-            refusal(rt.alloc(), texts, came, DEFAULTS),
-            THREADS,
-            "{} scripts, {} lists",
-            texts.len(),
-            came.len()
-        );
-    }
-}
-
-#[test]
-fn refuses_wrong_settings(rt: HostRuntime) {
-    let rows: &[(u32, u32)] = &[(0, 1), (1, 0), (1_000_001, 1), (1, 1_000_001)];
-    for (patience, door_cost) in rows {
-        let settings = Settings {
-            patience: *patience,
-            door_cost: *door_cost,
-        };
-        assert_eq!(rt;
-            refusal(rt.alloc(), &[""], &[&[]], settings),
-            Some(NotRun::Plain(PlainFault::Settings)),
-            "patience {patience}, door cost {door_cost}"
-        );
-        assert_eq!(rt;
-            refusal(rt.alloc(), &[], &[], settings),
-            THREADS,
-            "no scripts, patience {patience}, door cost {door_cost}"
-        );
-    }
-}
 
 // ## What is wanted of a run
 
@@ -183,45 +133,28 @@ fn not_met(alloc: Global, case: &Case) -> Result<Option<usize>, NotRun> {
     Ok(first_not_met(&plain, case.wanted))
 }
 
-// Asserts that each run has all that is wanted of it.
-fn assert_runs(rt: &impl Abort, alloc: Global, cases: &[Case]) {
-    for (number, case) in cases.iter().enumerate() {
-        assert_eq!(rt;
-            not_met(alloc, case),
-            Ok(None),
-            "run {number}, of {:?}",
-            case.texts
-        );
-    }
-}
-
 // ## Runs that stay in memory
 
-// An open, a write and a failed close, of four steps.
-const KEPT: &[Case] = &[Case {
-    texts: &["open /a rw create\nwrite 0 x68656c6c6f\nclose 7"],
-    came: &[NOTHING],
-    settings: DEFAULTS,
-    wanted: &[
-        Wanted::Whole,
-        Wanted::Rows(&[
-            (1, 0, Some(Seen::Number(0))),
-            (5, 0, Some(Seen::Count(5))),
-            (9, 0, Some(Seen::Fail(Errno::EBADF))),
-        ]),
-        Wanted::Asked(4),
-        Wanted::Inside,
-        Wanted::Saw(&[3]),
-    ],
-}];
-
-#[test]
-fn keeps_the_history(rt: HostRuntime) {
-    assert_runs(&rt, rt.alloc(), KEPT);
-}
-
-// The log of a run for which nothing comes: a header with the number of threads and the settings, and an end without records.
-const LOGS: &[Case] = &[
+const IN_MEMORY: &[Case] = &[
+    // An open, a write and a failed close, of four steps.
+    Case {
+        texts: &["open /a rw create\nwrite 0 x68656c6c6f\nclose 7"],
+        came: &[NOTHING],
+        settings: DEFAULTS,
+        wanted: &[
+            Wanted::Whole,
+            Wanted::Rows(&[
+                (1, 0, Some(Seen::Number(0))),
+                (5, 0, Some(Seen::Count(5))),
+                (9, 0, Some(Seen::Fail(Errno::EBADF))),
+            ]),
+            Wanted::Asked(4),
+            Wanted::Inside,
+            Wanted::Saw(&[3]),
+        ],
+    },
+    // The log of a run for which nothing comes: a header with the number of threads and the settings, and an end
+    // without records.
     Case {
         texts: &[""],
         came: &[NOTHING],
@@ -237,53 +170,36 @@ const LOGS: &[Case] = &[
         },
         wanted: &[Wanted::Log(b"DIOL\0\x01\0\x03\0\0\0\x07\0\x0f\x42\x40E\0\0\0\0")],
     },
+    // Rows stand in the order of their turns: the early one at 1, and the late one at 4.
+    Case {
+        texts: &[
+            "work 3\nopen /a rw create",
+            "open /b rw create\nwork 1000000",
+        ],
+        came: &[NOTHING; 2],
+        settings: DEFAULTS,
+        wanted: &[
+            Wanted::Whole,
+            Wanted::Rows(&[(1, 1, Some(Seen::Number(0))), (4, 0, Some(Seen::Number(1)))]),
+        ],
+    },
+    // A call has a row for each turn at which it is blocked, and one for its last: it is blocked at 5 and 9, and
+    // interrupted at 13.
+    Case {
+        texts: &["pipe\nread 0 4"],
+        came: &[NOTHING],
+        settings: THREE_TURNS,
+        wanted: &[
+            Wanted::Whole,
+            Wanted::Rows(&[
+                (1, 0, Some(Seen::Pair(0, 1))),
+                (5, 0, None),
+                (9, 0, None),
+                (13, 0, Some(Seen::Fail(Errno::EINTR))),
+            ]),
+        ],
+    },
 ];
-
-#[test]
-fn writes_the_log(rt: HostRuntime) {
-    assert_runs(&rt, rt.alloc(), LOGS);
-}
-
-// The early one at 1, and the late one at 4.
-const IN_ORDER: &[Case] = &[Case {
-    texts: &[
-        "work 3\nopen /a rw create",
-        "open /b rw create\nwork 1000000",
-    ],
-    came: &[NOTHING; 2],
-    settings: DEFAULTS,
-    wanted: &[
-        Wanted::Whole,
-        Wanted::Rows(&[(1, 1, Some(Seen::Number(0))), (4, 0, Some(Seen::Number(1)))]),
-    ],
-}];
-
-#[test]
-fn rows_stand_in_the_order_of_their_turns(rt: HostRuntime) {
-    assert_runs(&rt, rt.alloc(), IN_ORDER);
-}
-
-// Blocked at 5 and 9, interrupted at 13.
-const BLOCKED: &[Case] = &[Case {
-    texts: &["pipe\nread 0 4"],
-    came: &[NOTHING],
-    settings: THREE_TURNS,
-    wanted: &[
-        Wanted::Whole,
-        Wanted::Rows(&[
-            (1, 0, Some(Seen::Pair(0, 1))),
-            (5, 0, None),
-            (9, 0, None),
-            (13, 0, Some(Seen::Fail(Errno::EINTR))),
-        ]),
-    ],
-}];
-
-// A call has a row for each turn at which it is blocked, and one for its last.
-#[test]
-fn blocked_turns_have_rows(rt: HostRuntime) {
-    assert_runs(&rt, rt.alloc(), BLOCKED);
-}
 
 // ## Runs that go outside
 
@@ -291,30 +207,112 @@ const FOUND: Came = (OutKind::Open, Ok(0));
 
 const NOT_READY: Came = (OutKind::Write, Err(Errno::EAGAIN));
 
-// An open, 3 bytes written, and EIO; and a log of three records.
-const SHORT_WRITE: &[Case] = &[Case {
-    texts: &[SHORT_TEXT],
-    came: &[&[
-        FOUND,
-        (OutKind::Write, Ok(3)),
-        (OutKind::Write, Err(Errno::EIO)),
-    ]],
-    settings: DEFAULTS,
-    wanted: &[
-        Wanted::Whole,
-        Wanted::Rows(&[
-            (1, 0, Some(Seen::Number(0))),
-            (105, 0, Some(Seen::Count(3))),
-            (209, 0, Some(Seen::Fail(Errno::EIO))),
-        ]),
-        Wanted::Log(SHORT_WRITE_LOG),
-    ],
-}];
+const WRITE_A: &str = "host_open out w\nwrite 0 x61";
 
-#[test]
-fn a_short_host_write(rt: HostRuntime) {
-    assert_runs(&rt, rt.alloc(), SHORT_WRITE);
-}
+const READY_AT_LAST_LOG: &[u8] = b"DIOL\0\x01\0\x01\0\0\0\x03\0\0\0\x64\
+    R\0\0\0\0\0\0\x01\0\0\0\0\0\0\0\0\0\0\0\
+    R\0\0\0\0\0\x01\x03\x06\0\0\0\0\0\0\0\0\0\0\
+    R\0\0\0\0\0\x02\x03\x06\0\0\0\0\0\0\0\0\0\0\
+    R\0\0\0\0\0\x03\x03\0\0\0\0\0\0\0\0\x01\0\0\
+    E\0\0\0\x04";
+
+const OUTSIDE: &[Case] = &[
+    // An open, 3 bytes written, and EIO; and a log of three records.
+    Case {
+        texts: &[SHORT_TEXT],
+        came: &[&[
+            FOUND,
+            (OutKind::Write, Ok(3)),
+            (OutKind::Write, Err(Errno::EIO)),
+        ]],
+        settings: DEFAULTS,
+        wanted: &[
+            Wanted::Whole,
+            Wanted::Rows(&[
+                (1, 0, Some(Seen::Number(0))),
+                (105, 0, Some(Seen::Count(3))),
+                (209, 0, Some(Seen::Fail(Errno::EIO))),
+            ]),
+            Wanted::Log(SHORT_WRITE_LOG),
+        ],
+    },
+    // EAGAIN makes a door call wait, up to its patience: it is blocked at 105, and interrupted at 209.
+    Case {
+        texts: &[WRITE_A],
+        came: &[&[FOUND, NOT_READY, NOT_READY]],
+        settings: TWO_TURNS,
+        wanted: &[
+            Wanted::Whole,
+            Wanted::Rows(&[
+                (1, 0, Some(Seen::Number(0))),
+                (105, 0, None),
+                (209, 0, Some(Seen::Fail(Errno::EINTR))),
+            ]),
+        ],
+    },
+    // At the end of its patience it fails, and at once where its description is not to block.
+    Case {
+        texts: &[WRITE_A],
+        came: &[&[FOUND, NOT_READY]],
+        settings: ONE_TURN,
+        wanted: &[
+            Wanted::Whole,
+            Wanted::Rows(&[
+                (1, 0, Some(Seen::Number(0))),
+                (105, 0, Some(Seen::Fail(Errno::EINTR))),
+            ]),
+        ],
+    },
+    Case {
+        texts: &["host_open out w\nsetfl 0 nonblock\nwrite 0 x61"],
+        came: &[&[FOUND, NOT_READY]],
+        settings: ONE_TURN,
+        wanted: &[
+            Wanted::Whole,
+            Wanted::Rows(&[
+                (1, 0, Some(Seen::Number(0))),
+                (105, 0, Some(Seen::Done)),
+                (107, 0, Some(Seen::Fail(Errno::EAGAIN))),
+            ]),
+        ],
+    },
+    // Each turn of a call that is made again has a record, and is in the history with its outcome: it is blocked at
+    // 105 and 209, and written at 313. That is a log of four records, and four rows, of which two have replies.
+    Case {
+        texts: &[WRITE_A],
+        came: &[&[FOUND, NOT_READY, NOT_READY, (OutKind::Write, Ok(1))]],
+        settings: THREE_TURNS,
+        wanted: &[
+            Wanted::Whole,
+            Wanted::Log(READY_AT_LAST_LOG),
+            Wanted::Rows(&[
+                (1, 0, Some(Seen::Number(0))),
+                (105, 0, None),
+                (209, 0, None),
+                (313, 0, Some(Seen::Count(1))),
+            ]),
+            Wanted::Failed(2, Errno::EAGAIN),
+            Wanted::Saw(&[2]),
+        ],
+    },
+];
+
+// ## Runs in which an outcome is missing, is of another kind, or does not fit
+
+const DIVERGING: &[&str] = &[
+    "host_open a w create\nwrite 0 x6162",
+    "open /c rw create\npipe",
+];
+
+const NINE_TURNS: Settings = Settings {
+    patience: 9,
+    door_cost: 3,
+};
+
+// The log of what came for the diverging scripts, up to the outcome that does not answer: examples/log-of-a-diverged-run
+// replays it.
+const FOUND_LOG: &[u8] = b"DIOL\0\x01\0\x02\0\0\0\x09\0\0\0\x03\
+    R\0\0\0\0\0\0\x01\0\0\0\0\0\0\0\0\0\0\0";
 
 const UNANSWERED: &[Case] = &[
     Case {
@@ -357,120 +355,60 @@ const UNANSWERED: &[Case] = &[
             Wanted::Saw(&[1]),
         ],
     },
-];
-
-// Where an outcome is missing, is of another kind, or does not fit.
-#[test]
-fn stops_where_an_outcome_does_not_answer(rt: HostRuntime) {
-    assert_runs(&rt, rt.alloc(), UNANSWERED);
-}
-
-// Thread 0 stops it, behind its open.
-const ONE_WITHOUT: &[Case] = &[Case {
-    texts: &[
-        "host_open a r\nread 0 1",
-        "work 300\nopen /a rw create\nwrite 1 x61",
-    ],
-    came: &[&[FOUND], NOTHING],
-    settings: DEFAULTS,
-    wanted: &[
-        Wanted::Stops(Stop::EndOfLog(0)),
-        Wanted::HasRows(2),
-        Wanted::Saw(&[1, 0]),
-    ],
-}];
-
-// A thread that lacks its outcome holds up nobody who does not want what it holds.
-#[test]
-fn one_thread_without_an_outcome(rt: HostRuntime) {
-    assert_runs(&rt, rt.alloc(), ONE_WITHOUT);
-}
-
-const WRITE_A: &str = "host_open out w\nwrite 0 x61";
-
-// Blocked at 105, interrupted at 209.
-const NOT_READY_TWICE: &[Case] = &[Case {
-    texts: &[WRITE_A],
-    came: &[&[FOUND, NOT_READY, NOT_READY]],
-    settings: TWO_TURNS,
-    wanted: &[
-        Wanted::Whole,
-        Wanted::Rows(&[
-            (1, 0, Some(Seen::Number(0))),
-            (105, 0, None),
-            (209, 0, Some(Seen::Fail(Errno::EINTR))),
-        ]),
-    ],
-}];
-
-// EAGAIN makes a door call wait, up to its patience.
-#[test]
-fn a_door_that_is_not_ready(rt: HostRuntime) {
-    assert_runs(&rt, rt.alloc(), NOT_READY_TWICE);
-}
-
-const NEVER_READY: &[Case] = &[
+    // A thread that lacks its outcome holds up nobody who does not want what it holds. Thread 0 stops the run, after
+    // its open.
     Case {
-        texts: &[WRITE_A],
-        came: &[&[FOUND, NOT_READY]],
-        settings: ONE_TURN,
+        texts: &[
+            "host_open a r\nread 0 1",
+            "work 300\nopen /a rw create\nwrite 1 x61",
+        ],
+        came: &[&[FOUND], NOTHING],
+        settings: DEFAULTS,
         wanted: &[
-            Wanted::Whole,
-            Wanted::Rows(&[
-                (1, 0, Some(Seen::Number(0))),
-                (105, 0, Some(Seen::Fail(Errno::EINTR))),
-            ]),
+            Wanted::Stops(Stop::EndOfLog(0)),
+            Wanted::HasRows(2),
+            Wanted::Saw(&[1, 0]),
+        ],
+    },
+    // An outcome that does not answer ends a plain run at once, and is not in its log.
+    Case {
+        texts: DIVERGING,
+        came: &[&[(OutKind::Write, Ok(0))], NOTHING],
+        settings: NINE_TURNS,
+        wanted: &[
+            Wanted::Stops(Stop::Diverged(0, 0)),
+            Wanted::Saw(&[0, 0]),
+            Wanted::Log(b"DIOL\0\x01\0\x02\0\0\0\x09\0\0\0\x03"),
         ],
     },
     Case {
-        texts: &["host_open out w\nsetfl 0 nonblock\nwrite 0 x61"],
-        came: &[&[FOUND, NOT_READY]],
-        settings: ONE_TURN,
+        texts: DIVERGING,
+        came: &[&[FOUND, (OutKind::Seek, Ok(0))], NOTHING],
+        settings: NINE_TURNS,
         wanted: &[
-            Wanted::Whole,
-            Wanted::Rows(&[
-                (1, 0, Some(Seen::Number(0))),
-                (105, 0, Some(Seen::Done)),
-                (107, 0, Some(Seen::Fail(Errno::EAGAIN))),
-            ]),
+            Wanted::Stops(Stop::Diverged(0, 1)),
+            Wanted::Saw(&[1, 0]),
+            Wanted::Log(FOUND_LOG),
+        ],
+    },
+    Case {
+        texts: DIVERGING,
+        came: &[&[FOUND, (OutKind::Write, Ok(3))], NOTHING],
+        settings: NINE_TURNS,
+        wanted: &[
+            Wanted::Stops(Stop::Diverged(0, 1)),
+            Wanted::Saw(&[1, 0]),
+            Wanted::Log(FOUND_LOG),
         ],
     },
 ];
 
-// At the end of its patience it fails, and at once where its description is not to block.
+// Each run has all that is wanted of it.
 #[test]
-fn a_door_that_is_never_ready(rt: HostRuntime) {
-    assert_runs(&rt, rt.alloc(), NEVER_READY);
-}
-
-const READY_AT_LAST_LOG: &[u8] = b"DIOL\0\x01\0\x01\0\0\0\x03\0\0\0\x64\
-    R\0\0\0\0\0\0\x01\0\0\0\0\0\0\0\0\0\0\0\
-    R\0\0\0\0\0\x01\x03\x06\0\0\0\0\0\0\0\0\0\0\
-    R\0\0\0\0\0\x02\x03\x06\0\0\0\0\0\0\0\0\0\0\
-    R\0\0\0\0\0\x03\x03\0\0\0\0\0\0\0\0\x01\0\0\
-    E\0\0\0\x04";
-
-// Blocked at 105 and 209, written at 313: a log of four records, and four rows, of which two have replies.
-const READY_AT_LAST: &[Case] = &[Case {
-    texts: &[WRITE_A],
-    came: &[&[FOUND, NOT_READY, NOT_READY, (OutKind::Write, Ok(1))]],
-    settings: THREE_TURNS,
-    wanted: &[
-        Wanted::Whole,
-        Wanted::Log(READY_AT_LAST_LOG),
-        Wanted::Rows(&[
-            (1, 0, Some(Seen::Number(0))),
-            (105, 0, None),
-            (209, 0, None),
-            (313, 0, Some(Seen::Count(1))),
-        ]),
-        Wanted::Failed(2, Errno::EAGAIN),
-        Wanted::Saw(&[2]),
-    ],
-}];
-
-// Each turn of a call that is made again has a record, and is in the history with its outcome.
-#[test]
-fn each_blocked_turn_outside_has_a_record_and_a_row(rt: HostRuntime) {
-    assert_runs(&rt, rt.alloc(), READY_AT_LAST);
+fn plain_runs(rt: HostRuntime) {
+    for cases in &[IN_MEMORY, OUTSIDE, UNANSWERED] {
+        for case in *cases {
+            assert_eq!(rt; not_met(rt.alloc(), case), Ok(None), "of {:?}", case.texts);
+        }
+    }
 }

@@ -4,16 +4,14 @@ use crate::dice::Dice;
 use crate::driven::{Driven, machine};
 use crate::plain_runs::parsed;
 use crate::random_scripts::{made_up, script_texts};
-use call_machine::{Finished, Plain, PlainFault, Refused, plain_run};
+use call_machine::{Finished, Refused};
 use input_log::MemorySink;
 use lock_machine::{Attempt, Phase};
 use posix_terms::{
-    Answer, Given, HistoryRow, OutKind, Outcome, Outcomes, Reply, Request, Row, Settings,
-    Transcript,
+    Answer, HistoryRow, OutKind, Outcome, Reply, Request, Row, Settings, Transcript,
 };
 use replayer::{ReplayFault, replay};
 use std::alloc::{AllocError, Global};
-use std::mem::replace;
 use std::process::Abort;
 use std::test::Fail;
 use thread_scripts::{Actor, Memory, Script, ScriptActor, ScriptFault, Step, parse};
@@ -38,7 +36,6 @@ enum Fault {
     Memory,
     Refused(Refused),
     Script(ScriptFault),
-    Plain(PlainFault),
     // a thread is outside and asked nothing
     AskedNothing,
     // another door went out than the call needs
@@ -72,16 +69,10 @@ impl From<ScriptFault> for Fault {
     }
 }
 
-impl From<PlainFault> for Fault {
-    fn from(fault: PlainFault) -> Fault {
-        Fault::Plain(fault)
-    }
-}
-
 // ## A thread of a run
 
-// A thread: the script that plays it, the last reply that it heard, what it asked outside with the door that it took along, what came for it
-// so far, and how many of its attempts failed.
+// A thread: the script that plays it, the last reply that it heard, what it asked outside with the door that it took
+// along, how many outcomes came for it so far, and how many of its attempts failed.
 #[derive(Drop)]
 struct Player {
     seed: u64,
@@ -89,19 +80,19 @@ struct Player {
     last: Option<Reply>,
     request: Option<Request>,
     door: Option<u8>,
-    given: Vec<Given>,
+    came: u64,
     failed: usize,
 }
 
 impl Player {
-    fn new(alloc: Global, seed: u64, script: Script) -> Player {
+    fn new(seed: u64, script: Script) -> Player {
         Player {
             seed,
             actor: ScriptActor::new(script),
             last: None,
             request: None,
             door: None,
-            given: Vec::new(alloc),
+            came: 0,
             failed: 0,
         }
     }
@@ -193,21 +184,14 @@ impl Player {
         }
     }
 
-    // The next outcome for what it asked, of which it keeps a copy.
+    // The next outcome for what it asked.
     fn outcome(&mut self, alloc: Global) -> Result<Outcome, Fault> {
         let Some(request) = &self.request else {
             return Err(Fault::AskedNothing);
         };
-        let number = self.given.len() as u64;
-        let mut dice = Dice::new(self.seed.wrapping_add(number));
-        let outcome = made_up(alloc, &mut dice, request)?;
-        keep(&mut self.given, request.kind, &outcome)?;
-        Ok(outcome)
-    }
-
-    // What came for it, which it has no more.
-    fn outcomes(&mut self, alloc: Global) -> Outcomes {
-        Outcomes::from_vec(replace(&mut self.given, Vec::new(alloc)))
+        let mut dice = Dice::new(self.seed.wrapping_add(self.came));
+        self.came = self.came.saturating_add(1);
+        Ok(made_up(alloc, &mut dice, request)?)
     }
 
     fn answer(&mut self, machine: &mut Driven, i: usize) -> Result<bool, Fault>
@@ -218,13 +202,6 @@ impl Player {
         }
         Ok(true)
     }
-}
-
-// Adds a copy of an outcome.
-fn keep(given: &mut Vec<Given>, kind: OutKind, outcome: &Outcome) -> Result<(), AllocError> {
-    let outcome = outcome.try_clone()?;
-    given.push(Given { kind, outcome })?;
-    Ok(())
 }
 
 // ## Doors, each the number of the kind of request that it was opened by
@@ -322,7 +299,7 @@ fn players(alloc: Global, texts: &[Vec<u8>], dice: &mut Dice) -> Result<Vec<Play
     let mut players = Vec::new(alloc);
     for text in texts {
         let script = parse(alloc, text.as_slice())?;
-        players.push(Player::new(alloc, dice.roll(), script))?;
+        players.push(Player::new(dice.roll(), script))?;
     }
     Ok(players)
 }
@@ -406,27 +383,6 @@ impl Run {
         Err(Fault::WithoutEnd)
     }
 
-    // What came for each thread, which its player has no more.
-    fn outcomes(&mut self, alloc: Global) -> Result<Vec<Outcomes>, AllocError> {
-        let mut outcomes = Vec::new(alloc);
-        for player in self.players.iter_mut() {
-            outcomes.push(player.outcomes(alloc))?;
-        }
-        Ok(outcomes)
-    }
-
-    // The plain run of the same scripts, for which the same comes.
-    fn plain(&mut self, alloc: Global) -> Result<Plain, Fault> {
-        let scripts = parsed(alloc, self.texts.as_slice())?;
-        Ok(plain_run(alloc, scripts, self.outcomes(alloc)?, SETTINGS)?)
-    }
-
-    // Whether the plain run comes to its end and gives the same.
-    fn is_plain(&mut self, alloc: Global) -> Result<bool, Fault> {
-        let plain = self.plain(alloc)?;
-        Ok(is_same(&plain, self.machine.history(), self.texts.len()))
-    }
-
     // Whether all threads ended, and the replay of the machine's log gives what they saw.
     fn is_replayed(self, alloc: Global) -> Result<bool, Fault> {
         let are_ended = self.machine.turn_holder().is_none();
@@ -434,13 +390,6 @@ impl Run {
         let is_replayed = is_replayed(alloc, texts.as_slice(), &machine.finish())?;
         Ok(are_ended && is_replayed)
     }
-}
-
-// Whether a plain run came to its end with these rows.
-fn is_same(plain: &Plain, rows: &[HistoryRow], threads: usize) -> bool {
-    plain.stop.is_none()
-        && plain.history.rows() == rows
-        && all_saw(plain.transcripts.threads(), threads, rows)
 }
 
 // Whether what is left came to its end, and the replay of its log gives what its threads saw.
@@ -493,24 +442,18 @@ impl Met {
     }
 }
 
-// Whether the run of this seed gives what the plain run gives.
-fn is_the_plain_run(
-    alloc: Global,
-    choice: Choice,
-    seed: u64,
-    met: &mut Met,
-) -> Result<bool, Fault> {
+// Whether the log of the run of this seed is replayed to what its threads saw. That this is what the plain run gives is
+// proved of each machine (`faithful`).
+fn is_same_again(alloc: Global, choice: Choice, seed: u64, met: &mut Met) -> Result<bool, Fault> {
     let mut dice = Dice::new(seed);
     let mut run = Run::new(alloc, &mut dice)?;
     run.drive(alloc, choice, &mut dice)?;
     met.count(run.machine.history(), run.players.as_slice());
-    let is_plain = run.is_plain(alloc)?;
-    let is_replayed = run.is_replayed(alloc)?;
-    Ok(is_plain && is_replayed)
+    run.is_replayed(alloc)
 }
 
 // The runs of these seeds, from the first one on. Enough of them met what makes threads wait for one another.
-fn are_the_plain_runs(
+fn are_same_again(
     rt: &(impl Abort + Eprint),
     alloc: Global,
     choice: Choice,
@@ -518,8 +461,8 @@ fn are_the_plain_runs(
 ) -> Result<(), Fail> {
     let mut met = Met::default();
     for seed in first..first.saturating_add(RUNS) {
-        match is_the_plain_run(alloc, choice, seed, &mut met) {
-            Ok(same) => assert!(rt; same, "what the plain run gives, at seed {seed}"),
+        match is_same_again(alloc, choice, seed, &mut met) {
+            Ok(same) => assert!(rt; same, "what the threads saw, at seed {seed}"),
             Err(fault) => {
                 let _ = eprintln!(rt; "seed {seed}");
                 return Err(fault.into());
@@ -535,20 +478,20 @@ fn are_the_plain_runs(
 
 #[test]
 fn any_thread_goes_on(rt: HostRuntime) -> Result<(), Fail> {
-    are_the_plain_runs(&rt, rt.alloc(), Choice::Any, 0)
+    are_same_again(&rt, rt.alloc(), Choice::Any, 0)
 }
 
 #[test]
 fn mostly_a_lesser_thread_goes_on(rt: HostRuntime) -> Result<(), Fail> {
-    are_the_plain_runs(&rt, rt.alloc(), Choice::Lesser, 1000)
+    are_same_again(&rt, rt.alloc(), Choice::Lesser, 1000)
 }
 
 #[test]
 fn mostly_a_greater_thread_goes_on(rt: HostRuntime) -> Result<(), Fail> {
-    are_the_plain_runs(&rt, rt.alloc(), Choice::Greater, 2000)
+    are_same_again(&rt, rt.alloc(), Choice::Greater, 2000)
 }
 
 #[test]
 fn mostly_the_same_thread_goes_on(rt: HostRuntime) -> Result<(), Fail> {
-    are_the_plain_runs(&rt, rt.alloc(), Choice::Same, 3000)
+    are_same_again(&rt, rt.alloc(), Choice::Same, 3000)
 }

@@ -11,7 +11,7 @@ pub(crate) enum Seen {
     Fail(Errno),
 }
 
-pub(crate) fn is_reply(reply: &Reply, seen: Seen) -> bool {
+fn is_reply(reply: &Reply, seen: Seen) -> bool {
     match (reply, seen) {
         (Reply::Count(count), Seen::Count(wanted)) => *count == wanted,
         (Reply::Data(data), Seen::Data(wanted)) => data.as_slice() == wanted,

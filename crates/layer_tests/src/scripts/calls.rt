@@ -1,4 +1,4 @@
-use crate::scripts::asserts::assert_first_steps;
+use crate::scripts::asserts::assert_steps;
 use std::test::Fail;
 
 /// Scripts with the most and the fewest flags, and with bytes of many forms.
@@ -23,11 +23,7 @@ const OPERANDS: &[(&str, &str)] = &[
     ),
 ];
 
-#[test]
-fn reads_every_operand(rt: HostRuntime) -> Result<(), Fail> {
-    assert_first_steps(&rt, rt.alloc(), OPERANDS)
-}
-
+/// Numbers at their limits, and scripts without a step.
 const LIMITS: &[(&str, &str)] = &[
     (
         "lseek 00000000000000000000009223372036854775807 -9223372036854775808 cur",
@@ -41,11 +37,6 @@ const LIMITS: &[(&str, &str)] = &[
     ("", "End\n"),
     ("\n \n#\t\r\n", "End\n"),
 ];
-
-#[test]
-fn reads_numbers_at_their_limits(rt: HostRuntime) -> Result<(), Fail> {
-    assert_first_steps(&rt, rt.alloc(), LIMITS)
-}
 
 const DESCRIPTOR_CALLS: &[(&str, &str)] = &[
     (
@@ -86,11 +77,6 @@ const DESCRIPTOR_CALLS: &[(&str, &str)] = &[
     ),
 ];
 
-#[test]
-fn reads_calls_on_descriptors(rt: HostRuntime) -> Result<(), Fail> {
-    assert_first_steps(&rt, rt.alloc(), DESCRIPTOR_CALLS)
-}
-
 const STREAM_CALLS: &[(&str, &str)] = &[
     ("pipe", "Call(Pipe)\n"),
     ("  pipe ", "Call(Pipe)\n"),
@@ -109,11 +95,6 @@ const STREAM_CALLS: &[(&str, &str)] = &[
     ),
 ];
 
-#[test]
-fn reads_calls_on_pipes_and_pairs(rt: HostRuntime) -> Result<(), Fail> {
-    assert_first_steps(&rt, rt.alloc(), STREAM_CALLS)
-}
-
 const PORT_CALLS: &[(&str, &str)] = &[
     ("tcp_listen 0", "Call(TcpListen { port: 0 })\n"),
     ("tcp_listen -1", "Call(TcpListen { port: -1 })\n"),
@@ -123,11 +104,6 @@ const PORT_CALLS: &[(&str, &str)] = &[
     ),
     ("tcp_accept 3", "Call(TcpAccept { descriptor: 3 })\n"),
 ];
-
-#[test]
-fn reads_calls_on_ports(rt: HostRuntime) -> Result<(), Fail> {
-    assert_first_steps(&rt, rt.alloc(), PORT_CALLS)
-}
 
 const HOST_OPENS: &[(&str, &str)] = &[
     (
@@ -141,11 +117,6 @@ const HOST_OPENS: &[(&str, &str)] = &[
          create: false, exclusive: false, truncate: true, append: false, nonblock: false } })\n",
     ),
 ];
-
-#[test]
-fn reads_host_open(rt: HostRuntime) -> Result<(), Fail> {
-    assert_first_steps(&rt, rt.alloc(), HOST_OPENS)
-}
 
 /// `/` is 47, and `a` to `d` are 97 to 100.
 const PATH_CALLS: &[(&str, &str)] = &[
@@ -164,7 +135,58 @@ const PATH_CALLS: &[(&str, &str)] = &[
     ("rmdir /", "Call(Rmdir { path: Bytes { items: [47] } })\n"),
 ];
 
+/// Sums are modulo 2 to the 64th, and registers are empty at first.
+const SUMS: &[(&str, &str)] = &[
+    (
+        "set r5 9223372036854775807\nadd r5 1\nset r15 r5\nadd r15 r5\nlseek r5 r15 set",
+        "Call(Lseek { descriptor: -9223372036854775808, offset: 0, whence: Set })\n",
+    ),
+    (
+        "set r6 -9223372036854775808\nadd r6 -1\nset r7 r6\nadd r7 r6\nlseek r6 r7 set",
+        "Call(Lseek { descriptor: 9223372036854775807, offset: -2, whence: Set })\n",
+    ),
+    (
+        "lseek r0 r15 set",
+        "Call(Lseek { descriptor: 0, offset: 0, whence: Set })\n",
+    ),
+    (
+        "setb b3 x6869\nsetb b2 b3\nsetb b3 x\nwrite 0 b2",
+        "Call(Write { descriptor: 0, bytes: Bytes { items: [104, 105] } })\n",
+    ),
+    (
+        "write 0 b1",
+        "Call(Write { descriptor: 0, bytes: Bytes { items: [] } })\n",
+    ),
+];
+
+/// Jumps to a label below, and the longest work.
+const JUMPS: &[(&str, &str)] = &[
+    (
+        "jump abcdefghij0123\n# x\n\nend\nlabel abcdefghij0123\nclose 3",
+        "Call(Close { descriptor: 3 })\n",
+    ),
+    ("jfail a\nend\nlabel a\nclose 3", "End\n"),
+    ("work 0001000000", "Work(1000000)\n"),
+];
+
+const FIRST_STEPS: &[&[(&str, &str)]] = &[
+    OPERANDS,
+    LIMITS,
+    DESCRIPTOR_CALLS,
+    STREAM_CALLS,
+    PORT_CALLS,
+    HOST_OPENS,
+    PATH_CALLS,
+    SUMS,
+    JUMPS,
+];
+
 #[test]
-fn reads_calls_on_paths(rt: HostRuntime) -> Result<(), Fail> {
-    assert_first_steps(&rt, rt.alloc(), PATH_CALLS)
+fn reads_every_call(rt: HostRuntime) -> Result<(), Fail> {
+    for rows in FIRST_STEPS.iter() {
+        for (text, wanted) in rows.iter() {
+            assert_steps(&rt, rt.alloc(), text, &[], wanted)?;
+        }
+    }
+    Ok(())
 }

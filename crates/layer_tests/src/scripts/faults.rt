@@ -1,9 +1,9 @@
 use crate::scripts::asserts::assert_fault;
-use std::alloc::{AllocError, Global};
+use std::alloc::Global;
 use std::fmt::Display;
 use std::process::Abort;
 use std::test::Fail;
-use thread_scripts::{Memory, ScriptFault, parse};
+use thread_scripts::{Memory, ScriptFault};
 
 /// Texts with the number of their first bad line.
 const BAD_LINES: &[(&[u8], usize)] = &[
@@ -47,13 +47,6 @@ const BAD_LINES: &[(&[u8], usize)] = &[
     (b"read 0 1 1", 1),
     (b"close 0\nclose \xc8\nclose 0\n", 2),
 ];
-
-#[test]
-fn tells_the_first_bad_line(rt: HostRuntime) {
-    for (text, line) in BAD_LINES.iter() {
-        assert_fault(&rt, rt.alloc(), text, Some(ScriptFault::BadLine(*line)));
-    }
-}
 
 /// Lines with an operand too few, too many or of another form.
 const BAD_CALLS: &[&str] = &[
@@ -135,112 +128,63 @@ const BAD_CALLS: &[&str] = &[
     "tcp_shutdown 0",
 ];
 
-#[test]
-fn refuses_calls_of_another_form(rt: HostRuntime) {
-    for text in BAD_CALLS.iter() {
-        assert_fault(
-            &rt,
-            rt.alloc(),
-            text.as_bytes(),
-            Some(ScriptFault::BadLine(1)),
-        );
-    }
-}
-
 /// Texts that misuse registers, jumps or labels, with the number of their first bad line.
-const BAD_REGISTERS_AND_LABELS: &[(&str, usize)] = &[
-    ("close r16", 1),
-    ("close r01", 1),
-    ("close R1", 1),
-    ("close r", 1),
-    ("close b0", 1),
-    ("write 0 b4", 1),
-    ("write 0 b00", 1),
-    ("work", 1),
-    ("work -0", 1),
-    ("work +1", 1),
-    ("work r0", 1),
-    ("work 1000001", 1),
-    ("work 1 1", 1),
-    ("end 0", 1),
-    ("set r16 0", 1),
-    ("set b0 0", 1),
-    ("set r0", 1),
-    ("set r0 x61", 1),
-    ("set r0 b0", 1),
-    ("set 0 0", 1),
-    ("add r0", 1),
-    ("add r0 9223372036854775808", 1),
-    ("setb b4 x", 1),
-    ("setb r0 x", 1),
-    ("setb b0 r0", 1),
-    ("setb b0", 1),
-    ("label", 1),
-    ("label A", 1),
-    ("label a-b", 1),
-    ("label abcdefghijklmno", 1),
-    ("label a b\njump a", 1),
-    ("jump", 1),
-    ("jump a", 1),
-    ("jump a b\nlabel a", 1),
-    ("label a\n# label a\nlabel a", 3),
-    ("label b\nlabel a\njump b\nlabel a\njump c", 4),
-    ("jump a\nfly\nlabel a", 2),
-    ("jump a\nlabel a x", 1),
-    ("jump a\nlabel A", 1),
-    ("jzero r0 b\nlabel a", 1),
-    ("jzero r16 a\nlabel a", 1),
-    ("label a\njzero a", 2),
-    ("label a\njfail a a", 2),
+const BAD_REGISTERS_AND_LABELS: &[(&[u8], usize)] = &[
+    (b"close r16", 1),
+    (b"close r01", 1),
+    (b"close R1", 1),
+    (b"close r", 1),
+    (b"close b0", 1),
+    (b"write 0 b4", 1),
+    (b"write 0 b00", 1),
+    (b"work", 1),
+    (b"work -0", 1),
+    (b"work +1", 1),
+    (b"work r0", 1),
+    (b"work 1000001", 1),
+    (b"work 1 1", 1),
+    (b"end 0", 1),
+    (b"set r16 0", 1),
+    (b"set b0 0", 1),
+    (b"set r0", 1),
+    (b"set r0 x61", 1),
+    (b"set r0 b0", 1),
+    (b"set 0 0", 1),
+    (b"add r0", 1),
+    (b"add r0 9223372036854775808", 1),
+    (b"setb b4 x", 1),
+    (b"setb r0 x", 1),
+    (b"setb b0 r0", 1),
+    (b"setb b0", 1),
+    (b"label", 1),
+    (b"label A", 1),
+    (b"label a-b", 1),
+    (b"label abcdefghijklmno", 1),
+    (b"label a b\njump a", 1),
+    (b"jump", 1),
+    (b"jump a", 1),
+    (b"jump a b\nlabel a", 1),
+    (b"label a\n# label a\nlabel a", 3),
+    (b"label b\nlabel a\njump b\nlabel a\njump c", 4),
+    (b"jump a\nfly\nlabel a", 2),
+    (b"jump a\nlabel a x", 1),
+    (b"jump a\nlabel A", 1),
+    (b"jzero r0 b\nlabel a", 1),
+    (b"jzero r16 a\nlabel a", 1),
+    (b"label a\njzero a", 2),
+    (b"label a\njfail a a", 2),
 ];
 
 #[test]
-fn tells_bad_registers_and_labels(rt: HostRuntime) {
-    for (text, line) in BAD_REGISTERS_AND_LABELS.iter() {
-        assert_fault(
-            &rt,
-            rt.alloc(),
-            text.as_bytes(),
-            Some(ScriptFault::BadLine(*line)),
-        );
+fn tells_the_first_bad_line(rt: HostRuntime) {
+    for rows in &[BAD_LINES, BAD_REGISTERS_AND_LABELS] {
+        for (text, line) in rows.iter() {
+            assert_fault(&rt, rt.alloc(), text, *line);
+        }
     }
-}
-
-/// Whether a text is a script without lines that do something.
-fn is_idle(alloc: Global, text: &[u8]) -> Result<bool, Fail> {
-    Ok(parse(alloc, text)?.lines().is_empty())
-}
-
-#[test]
-fn counts_every_line(rt: HostRuntime) -> Result<(), Fail> {
-    let alloc = rt.alloc();
-    let mut text = vec![in alloc; b'\n'; 999]?;
-    text.push(b'#')?;
-    assert!(rt; is_idle(alloc, &text)?);
-    text.push(b'\n')?;
-    assert!(rt; is_idle(alloc, &text)?);
-    text.push(b'?')?;
-    assert_fault(&rt, rt.alloc(), &text, Some(ScriptFault::TooLong));
-    Ok(())
-}
-
-/// A line that writes so many bytes.
-fn long_write(alloc: Global, count: usize) -> Result<Vec<u8>, AllocError> {
-    let mut text = b"write 0 x".to_vec(alloc)?;
-    for _ in 0..count {
-        text.push(b'0')?;
-        text.push(b'0')?;
+    for text in BAD_CALLS.iter() {
+        assert_fault(&rt, rt.alloc(), text.as_bytes(), 1);
     }
-    Ok(text)
-}
-
-#[test]
-fn bounds_byte_texts(rt: HostRuntime) -> Result<(), Fail> {
-    let alloc = rt.alloc();
-    assert_fault(&rt, rt.alloc(), &long_write(alloc, 32_767)?, None);
-    let fault = Some(ScriptFault::BadLine(1));
-    assert_fault(&rt, rt.alloc(), &long_write(alloc, 32_768)?, fault);
-    Ok(())
 }
 
 /// Asserts that a fault is printed as this text.

@@ -1,11 +1,9 @@
-use crate::scripts::asserts::{assert_first_steps, assert_steps, script};
-use posix_terms::{Errno, Reply};
-use std::alloc::Global;
-use std::process::Abort;
+use crate::scripts::asserts::{Heard, assert_steps, script};
+use posix_terms::Errno;
 use std::test::Fail;
 use thread_scripts::{
-    Actor, ScriptActor, Step, accepted_exactly, bad_line_is_the_first, jumps_lead_to_labels,
-    read_scripts_keep_rules, runs_end, script_stays, too_long_is_counted,
+    accepted_exactly, bad_line_is_the_first, jumps_lead_to_labels, read_scripts_keep_rules,
+    runs_end, script_stays, too_long_is_counted,
 };
 
 /// A script that writes `hello` to a file and reads it back.
@@ -23,20 +21,6 @@ const HELLO_STEPS: &str = "\
     End\n\
     End\n";
 
-#[test]
-fn gives_the_steps_of_a_file_written_and_read(rt: HostRuntime) -> Result<(), Fail> {
-    assert_eq!(rt; script(rt.alloc(), HELLO)?.lines().len(), 5);
-    let replies = &[
-        Some(Reply::Number(0)),
-        Some(Reply::Count(5)),
-        Some(Reply::Number(0)),
-        Some(Reply::Number(0)),
-        Some(Reply::Done),
-        None,
-    ];
-    assert_steps(&rt, rt.alloc(), HELLO, replies, HELLO_STEPS)
-}
-
 const LOOP: &str =
     "set r2 -2\nlabel a\nopen /a r\njfail b\nend\nlabel b\nadd r2 1\njzero r2 c\njump a\nlabel c";
 
@@ -53,75 +37,65 @@ const OPENED_ONCE: &str = "\
     create: false, exclusive: false, truncate: false, append: false, nonblock: false } })\n\
     End\n";
 
-#[test]
-fn loops_as_often_as_it_counts(rt: HostRuntime) -> Result<(), Fail> {
-    let alloc = rt.alloc();
-    let replies = &[
-        Some(Reply::Fail(Errno::ENOENT)),
-        Some(Reply::Fail(Errno::ENOENT)),
-        None,
-    ];
-    assert_steps(&rt, alloc, LOOP, replies, OPENED_TWICE)?;
-    let replies = &[Some(Reply::Number(0))];
-    assert_steps(&rt, alloc, LOOP, replies, OPENED_ONCE)
-}
-
-const JUMPS: &[(&str, &str)] = &[
+/// Scripts, what they hear after their first step, and their steps.
+const RUNS: &[(&str, &[Heard], &str)] = &[
     (
-        "jump abcdefghij0123\n# x\n\nend\nlabel abcdefghij0123\nclose 3",
-        "Call(Close { descriptor: 3 })\n",
+        HELLO,
+        &[
+            Heard::Number(0),
+            Heard::Count(5),
+            Heard::Number(0),
+            Heard::Number(0),
+            Heard::Done,
+            Heard::Nothing,
+        ],
+        HELLO_STEPS,
     ),
-    ("jfail a\nend\nlabel a\nclose 3", "End\n"),
-    ("work 0001000000", "Work(1000000)\n"),
+    // A loop goes round as often as it counts.
+    (
+        LOOP,
+        &[
+            Heard::Fail(Errno::ENOENT),
+            Heard::Fail(Errno::ENOENT),
+            Heard::Nothing,
+        ],
+        OPENED_TWICE,
+    ),
+    (LOOP, &[Heard::Number(0)], OPENED_ONCE),
+    // The failure of the last call stays until the next one; what else is done meanwhile does not change it.
+    (
+        "close 0\nset r1 1\njfail a\nend\nlabel a\njfail b\nend\nlabel b\nclose 3",
+        &[Heard::Fail(Errno::EBADF)],
+        "Call(Close { descriptor: 0 })\nCall(Close { descriptor: 3 })\n",
+    ),
+    // After a work it is forgotten.
+    (
+        "close 0\nwork 7\njfail a\nend\nlabel a\nclose 3",
+        &[Heard::Fail(Errno::EBADF), Heard::Nothing],
+        "Call(Close { descriptor: 0 })\nWork(7)\nEnd\n",
+    ),
+    // Bytes that were read fill a byte register, and another reply leaves it.
+    (
+        "setb b0 x6869\nread 0 3\nwrite 1 b0",
+        &[Heard::Data(b"abc")],
+        "Call(Read { descriptor: 0, count: 3 })\n\
+         Call(Write { descriptor: 1, bytes: Bytes { items: [97, 98, 99] } })\n",
+    ),
+    (
+        "setb b0 x6869\nread 0 3\nwrite 1 b0",
+        &[Heard::Done],
+        "Call(Read { descriptor: 0, count: 3 })\n\
+         Call(Write { descriptor: 1, bytes: Bytes { items: [104, 105] } })\n",
+    ),
 ];
 
 #[test]
-fn jumps_and_works(rt: HostRuntime) -> Result<(), Fail> {
-    let alloc = rt.alloc();
-    assert_first_steps(&rt, alloc, JUMPS)?;
-    let late = "close 0\nset r1 1\njfail a\nend\nlabel a\njfail b\nend\nlabel b\nclose 3";
-    let replies = &[Some(Reply::Fail(Errno::EBADF))];
-    let wanted = "Call(Close { descriptor: 0 })\nCall(Close { descriptor: 3 })\n";
-    assert_steps(&rt, alloc, late, replies, wanted)?;
-    let forgotten = "close 0\nwork 7\njfail a\nend\nlabel a\nclose 3";
-    let replies = &[Some(Reply::Fail(Errno::EBADF)), None];
-    let wanted = "Call(Close { descriptor: 0 })\nWork(7)\nEnd\n";
-    assert_steps(&rt, alloc, forgotten, replies, wanted)
-}
-
-/// Whether the actor comes to its end, after the reply that its call was done.
-fn is_at_end(actor: &mut ScriptActor) -> Result<bool, Fail> {
-    Ok(actor.next(Some(&Reply::Done))? == Step::End)
-}
-
-/// How many calls a script makes, with the reply to each that it was done.
-fn count_calls(alloc: Global, text: &str) -> Result<usize, Fail> {
-    let mut actor = ScriptActor::new(script(alloc, text)?);
-    for count in 0..20_000 {
-        if is_at_end(&mut actor)? {
-            return Ok(count);
-        }
+fn gives_the_steps_of_runs(rt: HostRuntime) -> Result<(), Fail> {
+    assert_eq!(rt; script(rt.alloc(), HELLO)?.lines().len(), 5);
+    for (text, heard, wanted) in RUNS.iter() {
+        assert_steps(&rt, rt.alloc(), text, heard, wanted)?;
     }
-    Ok(20_000)
-}
-
-/// Asserts that a script makes so many calls.
-fn assert_count(rt: &impl Abort, alloc: Global, text: &str, wanted: usize) -> Result<(), Fail> {
-    assert_eq!(rt; count_calls(alloc, text)?, wanted, "in {text:?}");
     Ok(())
-}
-
-#[test]
-fn ends_after_ten_thousand_lines(rt: HostRuntime) -> Result<(), Fail> {
-    let alloc = rt.alloc();
-    assert_steps(&rt, alloc, "label a\njump a\nclose 0", &[], "End\n")?;
-    assert_count(&rt, alloc, "label a\nclose 0\njump a", 3_333)?;
-    assert_count(&rt, alloc, "end\nclose 0", 0)?;
-    // the last line that is executed is a call
-    let text = "set r9 1\n# x\nset r9 1\nlabel a\nclose 0\njump a";
-    assert_count(&rt, alloc, text, 3_333)?;
-    let text = "set r9 1\nset r9 1\nset r9 1\nlabel a\nclose 0\njump a";
-    assert_count(&rt, alloc, text, 3_332)
 }
 
 #[test]

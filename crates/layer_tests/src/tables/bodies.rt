@@ -1,8 +1,7 @@
 use memory_files::FileBody;
 use pipes::{PipeAnswer, PipeBody};
 use posix_terms::{Errno, ShutdownHow, Side};
-use std::alloc::Global;
-use std::process::Abort;
+use std::alloc::{AllocError, Global};
 use std::test::Fail;
 use stream_sockets::PairBody;
 
@@ -52,14 +51,18 @@ fn file_answers(file: &mut FileBody, step: &FileStep) -> bool {
     }
 }
 
-// Asserts that a new file is empty and answers these steps so, one after another.
-fn assert_file(rt: &impl Abort, alloc: Global, steps: &[FileStep]) -> Result<(), Fail> {
+// Whether a new file is empty and answers these steps so, one after another.
+fn is_file(alloc: Global, steps: &[FileStep]) -> Result<bool, AllocError> {
     let mut file = FileBody::new(alloc)?;
-    assert!(rt; file.is_empty());
-    for (number, step) in steps.iter().enumerate() {
-        assert!(rt; file_answers(&mut file, step), "at step {number}");
+    if !file.is_empty() {
+        return Ok(false);
     }
-    Ok(())
+    for step in steps {
+        if !file_answers(&mut file, step) {
+            return Ok(false);
+        }
+    }
+    Ok(true)
 }
 
 const WRITTEN: &[FileStep] = &[
@@ -72,22 +75,14 @@ const WRITTEN: &[FileStep] = &[
     FileStep::Has(0, b"\0abc"),
 ];
 
-#[test]
-fn reads_what_was_written(rt: HostRuntime) -> Result<(), Fail> {
-    assert_file(&rt, rt.alloc(), WRITTEN)
-}
-
-#[test]
-fn lengths_are_set(rt: HostRuntime) -> Result<(), Fail> {
-    let mut file = FileBody::new(rt.alloc())?;
-    assert!(rt; file.write_at(1, b"abc") == Ok(3));
-    file.set_len(2);
-    file.set_len(3);
-    assert!(rt; has(&file, 0, b"\0a\0"));
-    file.clear();
-    assert!(rt; file.is_empty());
-    Ok(())
-}
+const SET: &[FileStep] = &[
+    FileStep::Write(1, b"abc", Ok(3)),
+    FileStep::SetLen(2),
+    FileStep::SetLen(3),
+    FileStep::Has(0, b"\0a\0"),
+    FileStep::Clear,
+    FileStep::Len(0),
+];
 
 const AT_THE_LIMIT: &[FileStep] = &[
     FileStep::Write(65_530, b"0123456789", Ok(6)),
@@ -97,11 +92,6 @@ const AT_THE_LIMIT: &[FileStep] = &[
     FileStep::Write(u64::MAX, b"", Ok(0)),
     FileStep::Len(65_536),
 ];
-
-#[test]
-fn stops_at_the_limit(rt: HostRuntime) -> Result<(), Fail> {
-    assert_file(&rt, rt.alloc(), AT_THE_LIMIT)
-}
 
 const PAGES_READ_ZERO: &[FileStep] = &[
     FileStep::Write(0, &[0xff; 600], Ok(600)),
@@ -115,11 +105,6 @@ const PAGES_READ_ZERO: &[FileStep] = &[
     FileStep::Reads(65_535, b"\0"),
 ];
 
-#[test]
-fn pages_read_zero(rt: HostRuntime) -> Result<(), Fail> {
-    assert_file(&rt, rt.alloc(), PAGES_READ_ZERO)
-}
-
 // All pages are taken, given back, and one of them is taken again behind a gap.
 const PAGES_TAKEN_AGAIN: &[FileStep] = &[
     FileStep::Write(0, &[0xff; 32_768], Ok(32_768)),
@@ -132,11 +117,6 @@ const PAGES_TAKEN_AGAIN: &[FileStep] = &[
     FileStep::Has(1_020, b"\0\0abcd"),
     FileStep::Has(511, b"\0\0\0\0\0\0\0\0\0"),
 ];
-
-#[test]
-fn pages_are_taken_again(rt: HostRuntime) -> Result<(), Fail> {
-    assert_file(&rt, rt.alloc(), PAGES_TAKEN_AGAIN)
-}
 
 // What is done to a pipe, and what it answers. A read is one of three bytes, which are nines before.
 enum PipeStep {
@@ -162,13 +142,15 @@ fn pipe_answers(pipe: &mut PipeBody, step: &PipeStep) -> bool {
     }
 }
 
-// Asserts that a new pipe answers these steps so, one after another.
-fn assert_pipe(rt: &impl Abort, alloc: Global, steps: &[PipeStep]) -> Result<(), Fail> {
+// Whether a new pipe answers these steps so, one after another.
+fn is_pipe(alloc: Global, steps: &[PipeStep]) -> Result<bool, AllocError> {
     let mut pipe = PipeBody::new(alloc)?;
-    for (number, step) in steps.iter().enumerate() {
-        assert!(rt; pipe_answers(&mut pipe, step), "at step {number}");
+    for step in steps {
+        if !pipe_answers(&mut pipe, step) {
+            return Ok(false);
+        }
     }
-    Ok(())
+    Ok(true)
 }
 
 const NINES: &[u8] = b"\x09\x09\x09";
@@ -181,11 +163,6 @@ const FILLED_PIPE: &[PipeStep] = &[
     PipeStep::Take(true, PipeAnswer::Data(2), b"de\x09"),
 ];
 
-#[test]
-fn first_in_first_out(rt: HostRuntime) -> Result<(), Fail> {
-    assert_pipe(&rt, rt.alloc(), FILLED_PIPE)
-}
-
 const EMPTY_PIPE: &[PipeStep] = &[
     PipeStep::Take(true, PipeAnswer::Block, NINES),
     PipeStep::Take(false, PipeAnswer::End, NINES),
@@ -194,11 +171,6 @@ const EMPTY_PIPE: &[PipeStep] = &[
     PipeStep::Take(false, PipeAnswer::End, NINES),
 ];
 
-#[test]
-fn an_empty_pipe_blocks_or_ends(rt: HostRuntime) -> Result<(), Fail> {
-    assert_pipe(&rt, rt.alloc(), EMPTY_PIPE)
-}
-
 const FULL_PIPE: &[PipeStep] = &[
     PipeStep::Put(&[7; 32_767], true, PipeAnswer::Count(32_767)),
     PipeStep::Put(b"ab", true, PipeAnswer::Block),
@@ -206,25 +178,6 @@ const FULL_PIPE: &[PipeStep] = &[
     PipeStep::Put(b"a", true, PipeAnswer::Block),
     PipeStep::Put(b"", true, PipeAnswer::Count(0)),
 ];
-
-#[test]
-fn a_full_pipe_blocks(rt: HostRuntime) -> Result<(), Fail> {
-    assert_pipe(&rt, rt.alloc(), FULL_PIPE)
-}
-
-#[test]
-fn bytes_of_a_pipe_go_round(rt: HostRuntime) -> Result<(), Fail> {
-    let mut pipe = PipeBody::new(rt.alloc())?;
-    let mut into = [9; 32_766];
-    assert!(rt; pipe.put(&[7; 32_766], true) == PipeAnswer::Count(32_766));
-    assert!(rt; pipe.take(&mut into[..32_765], true) == PipeAnswer::Data(32_765));
-    // two of these bytes stand at the end of the room, and two at its start
-    assert!(rt; pipe.put(b"abcd", true) == PipeAnswer::Count(4));
-    assert!(rt; pipe.take(&mut into, true) == PipeAnswer::Data(5));
-    assert!(rt; &into[..6] == b"\x07abcd\x07".as_slice());
-    assert!(rt; pipe.take(&mut into, true) == PipeAnswer::Block);
-    Ok(())
-}
 
 // What is done to one side of a pair, and what it answers. A read is one of three bytes, which are nines before.
 enum PairStep {
@@ -255,13 +208,15 @@ fn pair_answers(pair: &mut PairBody, step: &PairStep) -> bool {
     }
 }
 
-// Asserts that a new pair answers these steps so, one after another.
-fn assert_pair(rt: &impl Abort, alloc: Global, steps: &[PairStep]) -> Result<(), Fail> {
+// Whether a new pair answers these steps so, one after another.
+fn is_pair(alloc: Global, steps: &[PairStep]) -> Result<bool, AllocError> {
     let mut pair = PairBody::new(alloc)?;
-    for (number, step) in steps.iter().enumerate() {
-        assert!(rt; pair_answers(&mut pair, step), "at step {number}");
+    for step in steps {
+        if !pair_answers(&mut pair, step) {
+            return Ok(false);
+        }
     }
-    Ok(())
+    Ok(true)
 }
 
 const HALF_CLOSED: &[PairStep] = &[
@@ -273,11 +228,6 @@ const HALF_CLOSED: &[PairStep] = &[
     PairStep::Take(Side::Side1, true, PipeAnswer::End, NINES),
 ];
 
-#[test]
-fn a_half_closed_pair(rt: HostRuntime) -> Result<(), Fail> {
-    assert_pair(&rt, rt.alloc(), HALF_CLOSED)
-}
-
 const OTHER_HALF: &[PairStep] = &[
     PairStep::Shut(Side::Side0, ShutdownHow::Write),
     PairStep::Put(Side::Side1, b"d", true, PipeAnswer::Count(1)),
@@ -285,11 +235,6 @@ const OTHER_HALF: &[PairStep] = &[
     PairStep::Take(Side::Side0, false, PipeAnswer::End, NINES),
     PairStep::Put(Side::Side1, b"e", false, PipeAnswer::Broken),
 ];
-
-#[test]
-fn the_other_half_of_a_pair(rt: HostRuntime) -> Result<(), Fail> {
-    assert_pair(&rt, rt.alloc(), OTHER_HALF)
-}
 
 const SHUT_READING: &[PairStep] = &[
     PairStep::Put(Side::Side1, b"ab", true, PipeAnswer::Count(2)),
@@ -299,11 +244,6 @@ const SHUT_READING: &[PairStep] = &[
     PairStep::Put(Side::Side1, b"c", true, PipeAnswer::Broken),
     PairStep::Put(Side::Side0, b"d", true, PipeAnswer::Count(1)),
 ];
-
-#[test]
-fn shut_reading_drops_what_waits(rt: HostRuntime) -> Result<(), Fail> {
-    assert_pair(&rt, rt.alloc(), SHUT_READING)
-}
 
 const CLEARED: &[PairStep] = &[
     PairStep::Shut(Side::Side0, ShutdownHow::Read),
@@ -315,18 +255,45 @@ const CLEARED: &[PairStep] = &[
     PairStep::Put(Side::Side0, b"d", true, PipeAnswer::Broken),
 ];
 
-#[test]
-fn a_cleared_pair_is_as_new(rt: HostRuntime) -> Result<(), Fail> {
-    assert_pair(&rt, rt.alloc(), CLEARED)
-}
-
 const FULL_STREAM: &[PairStep] = &[
     PairStep::Put(Side::Side0, &[7; 32_768], true, PipeAnswer::Count(32_768)),
     PairStep::Put(Side::Side0, b"a", true, PipeAnswer::Block),
     PairStep::Put(Side::Side1, b"a", true, PipeAnswer::Count(1)),
 ];
 
+// What is done to a new body each, and what that shows.
+const FILES: &[(&str, &[FileStep])] = &[
+    ("reads what was written", WRITTEN),
+    ("lengths are set", SET),
+    ("stops at the limit", AT_THE_LIMIT),
+    ("pages read zero", PAGES_READ_ZERO),
+    ("pages are taken again", PAGES_TAKEN_AGAIN),
+];
+
+const PIPES: &[(&str, &[PipeStep])] = &[
+    ("first in first out", FILLED_PIPE),
+    ("an empty pipe blocks or ends", EMPTY_PIPE),
+    ("a full pipe blocks", FULL_PIPE),
+];
+
+const PAIRS: &[(&str, &[PairStep])] = &[
+    ("a half closed pair", HALF_CLOSED),
+    ("the other half of a pair", OTHER_HALF),
+    ("shut reading drops what waits", SHUT_READING),
+    ("a cleared pair is as new", CLEARED),
+    ("a full stream blocks", FULL_STREAM),
+];
+
 #[test]
-fn a_full_stream_blocks(rt: HostRuntime) -> Result<(), Fail> {
-    assert_pair(&rt, rt.alloc(), FULL_STREAM)
+fn bodies_answer(rt: HostRuntime) -> Result<(), Fail> {
+    for (what, steps) in FILES {
+        assert!(rt; is_file(rt.alloc(), steps)?, "{what}");
+    }
+    for (what, steps) in PIPES {
+        assert!(rt; is_pipe(rt.alloc(), steps)?, "{what}");
+    }
+    for (what, steps) in PAIRS {
+        assert!(rt; is_pair(rt.alloc(), steps)?, "{what}");
+    }
+    Ok(())
 }

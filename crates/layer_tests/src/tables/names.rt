@@ -1,6 +1,5 @@
 use directories::{Names, Node};
 use posix_terms::Errno;
-use std::process::Abort;
 
 // What is done with a path, and what it answers. What is added is the file 7.
 enum Answer {
@@ -11,6 +10,10 @@ enum Answer {
     DirRemoved(Result<(), Errno>),
     // It is only asked whether the directory could be removed.
     DirChecked(Result<(), Errno>),
+    // So many names lead to the file 7.
+    Named(usize),
+    // Whether there are as many names as there may be.
+    Full(bool),
 }
 
 // Whether the names answer so of a path.
@@ -22,14 +25,20 @@ fn answers(names: &mut Names, path: &[u8], wanted: &Answer) -> bool {
         Answer::DirMade(wanted) => names.make_dir(path) == *wanted,
         Answer::DirRemoved(wanted) => names.remove_dir(path) == *wanted,
         Answer::DirChecked(wanted) => names.check_remove_dir(path) == *wanted,
+        Answer::Named(wanted) => names.links(7) == *wanted,
+        Answer::Full(wanted) => names.is_full() == *wanted,
     }
 }
 
-// Asserts that the names answer so of these paths, one after another.
-fn assert_answers(rt: &impl Abort, names: &mut Names, rows: &[(&[u8], Answer)]) {
-    for (path, wanted) in rows.iter() {
-        assert!(rt; answers(names, path, wanted), "at {path:?}");
+// Whether the names answer so of these paths, one after another, where there are none at first.
+fn all_answer(rows: &[(&[u8], Answer)]) -> bool {
+    let mut names = Names::new();
+    for (path, wanted) in rows {
+        if !answers(&mut names, path, wanted) {
+            return false;
+        }
     }
+    true
 }
 
 // What paths name, where there are a directory `/d` and a file 7 in it.
@@ -55,20 +64,10 @@ const PATHS: &[(&[u8], Answer)] = &[
         Answer::Resolved(Err(Errno::ENAMETOOLONG)),
     ),
     (b"/abcdefghijklmno/.", Answer::Resolved(Err(Errno::EINVAL))),
+    (&[b'/'; 255], Answer::Resolved(Ok(Some(Node::Directory)))),
+    (&[b'/'; 256], Answer::Resolved(Err(Errno::ENAMETOOLONG))),
+    (b"/", Answer::Full(false)),
 ];
-
-#[test]
-fn refuses_paths_in_order(rt: HostRuntime) {
-    assert_answers(&rt, &mut Names::new(), PATHS);
-}
-
-#[test]
-fn paths_end_at_255_bytes(rt: HostRuntime) {
-    let names = Names::new();
-    let slashes = [b'/'; 256];
-    assert!(rt; names.resolve(&slashes[..255]) == Ok(Some(Node::Directory)));
-    assert!(rt; names.resolve(&slashes) == Err(Errno::ENAMETOOLONG));
-}
 
 const DIRECTORIES: &[(&[u8], Answer)] = &[
     (b"/d", Answer::DirMade(Ok(()))),
@@ -85,11 +84,6 @@ const DIRECTORIES: &[(&[u8], Answer)] = &[
     (b"/d", Answer::Resolved(Ok(None))),
 ];
 
-#[test]
-fn directories_change(rt: HostRuntime) {
-    assert_answers(&rt, &mut Names::new(), DIRECTORIES);
-}
-
 // With no look at what the path names.
 #[test]
 fn a_name_is_given_and_taken(rt: HostRuntime) {
@@ -100,7 +94,7 @@ fn a_name_is_given_and_taken(rt: HostRuntime) {
     assert!(rt; names.resolve(b"/a") == Ok(None));
 }
 
-// After these the file 7 has two names.
+// The file 7 gets two names, and loses one.
 const TWO_NAMES: &[(&[u8], Answer)] = &[
     (b"/d", Answer::DirMade(Ok(()))),
     (b"/d/x", Answer::Added(Ok(()))),
@@ -109,34 +103,21 @@ const TWO_NAMES: &[(&[u8], Answer)] = &[
     (b"/", Answer::Removed(Err(Errno::EPERM))),
     (b"/e", Answer::Removed(Err(Errno::ENOENT))),
     (b"/y", Answer::Added(Ok(()))),
+    (b"/", Answer::Named(2)),
+    (b"/d/x", Answer::Removed(Ok(7))),
+    (b"/", Answer::Named(1)),
+];
+
+// What is done with names, and what that shows.
+const NAMES: &[(&str, &[(&[u8], Answer)])] = &[
+    ("paths are refused in order", PATHS),
+    ("directories change", DIRECTORIES),
+    ("files change", TWO_NAMES),
 ];
 
 #[test]
-fn files_change(rt: HostRuntime) {
-    let mut names = Names::new();
-    assert_answers(&rt, &mut names, TWO_NAMES);
-    assert!(rt; names.links(7) == 2);
-    assert!(rt; names.remove(b"/d/x") == Ok(7));
-    assert!(rt; names.links(7) == 1);
-}
-
-// Whether a file gets one more name, of so many before it; there is room for 64.
-fn is_named(names: &mut Names, count: u8) -> bool {
-    let path = [b'a' + count.min(99) / 10, b'0' + count % 10];
-    if count < 64 {
-        names.add(&path, 3) == Ok(())
-    } else {
-        names.add(&path, 3) == Err(Errno::ENOSPC)
+fn names_answer(rt: HostRuntime) {
+    for (what, rows) in NAMES {
+        assert!(rt; all_answer(rows), "{what}");
     }
-}
-
-#[test]
-fn there_are_at_most_64_names(rt: HostRuntime) {
-    let mut names = Names::new();
-    for count in 0..65u8 {
-        assert!(rt; is_named(&mut names, count), "after {count}");
-    }
-    assert!(rt; names.add(b"a0", 3) == Err(Errno::EEXIST));
-    assert!(rt; names.links(3) == 64);
-    assert!(rt; names.is_full());
 }

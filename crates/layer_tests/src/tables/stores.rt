@@ -3,7 +3,6 @@ use descriptor_table::{Errand, read_count};
 use object_store::{AtTable, Store, TurnEnd, TurnStart, end_outside};
 use posix_terms::{Access, Bytes, Call, Carried, Errno, OpenFlags, OutKind, Outcome, Reply};
 use std::alloc::{AllocError, Global};
-use std::process::Abort;
 use std::test::Fail;
 
 const HOST_FILE: OpenFlags = OpenFlags {
@@ -186,23 +185,15 @@ fn holds(alloc: Global, store: &mut Store, ask: &Ask, turn: &Turn) -> Result<boo
     becomes(alloc, store, &call, turn)
 }
 
-// Asserts that this becomes of these calls, one after another.
-fn assert_turns(
-    rt: &impl Abort,
-    alloc: Global,
-    store: &mut Store,
-    rows: &[(Ask, Turn)],
-) -> Result<(), Fail> {
-    for (number, (ask, turn)) in rows.iter().enumerate() {
-        assert!(rt; holds(alloc, store, ask, turn)?, "at row {number}");
-    }
-    Ok(())
-}
-
-// The same in a new store.
-fn assert_store(rt: &impl Abort, alloc: Global, rows: &[(Ask, Turn)]) -> Result<(), Fail> {
+// Whether this becomes of these calls, one after another, in a new store.
+fn all_hold(alloc: Global, rows: &[(Ask, Turn)]) -> Result<bool, AllocError> {
     let mut store = Store::new(alloc)?;
-    assert_turns(rt, alloc, &mut store, rows)
+    for (ask, turn) in rows {
+        if !holds(alloc, &mut store, ask, turn)? {
+            return Ok(false);
+        }
+    }
+    Ok(true)
 }
 
 const LOCKS: &[(Ask, Turn)] = &[
@@ -215,11 +206,6 @@ const LOCKS: &[(Ask, Turn)] = &[
     ),
 ];
 
-#[test]
-fn a_call_locks_its_object(rt: HostRuntime) -> Result<(), Fail> {
-    assert_store(&rt, rt.alloc(), LOCKS)
-}
-
 const EMPTY_PIPE: &[(Ask, Turn)] = &[
     (Ask::Pipe, Turn::Ends(0, End::Pair(0, 1))),
     (Ask::Read, Turn::Ends(0, End::Blocked(1))),
@@ -227,21 +213,11 @@ const EMPTY_PIPE: &[(Ask, Turn)] = &[
     (Ask::Read, Turn::Ends(2, End::Fail(Errno::EINTR))),
 ];
 
-#[test]
-fn a_read_of_an_empty_pipe_waits(rt: HostRuntime) -> Result<(), Fail> {
-    assert_store(&rt, rt.alloc(), EMPTY_PIPE)
-}
-
 const WRITTEN_PIPE: &[(Ask, Turn)] = &[
     (Ask::Pipe, Turn::Ends(0, End::Pair(0, 1))),
     (Ask::Write(1, b"abc"), Turn::Ends(0, End::Count(3))),
     (Ask::Read, Turn::Ends(1, End::Data(b"abc"))),
 ];
-
-#[test]
-fn what_was_written_is_read(rt: HostRuntime) -> Result<(), Fail> {
-    assert_store(&rt, rt.alloc(), WRITTEN_PIPE)
-}
 
 const OPEN: Errand = Errand {
     kind: OutKind::Open,
@@ -258,11 +234,6 @@ const FAILED_DOOR: &[(Ask, Turn)] = &[
     ),
     (Ask::HostOpen, Turn::Opens(Ok(0), End::Number(0))),
 ];
-
-#[test]
-fn a_door_that_fails_leaves_no_number(rt: HostRuntime) -> Result<(), Fail> {
-    assert_store(&rt, rt.alloc(), FAILED_DOOR)
-}
 
 // What a write of three bytes to a door asks.
 const WRITE: Errand = Errand {
@@ -282,11 +253,6 @@ const WRITTEN_DOOR: &[(Ask, Turn)] = &[
     ),
 ];
 
-#[test]
-fn a_door_is_written(rt: HostRuntime) -> Result<(), Fail> {
-    assert_store(&rt, rt.alloc(), WRITTEN_DOOR)
-}
-
 const WAITING_DOOR: &[(Ask, Turn)] = &[
     (Ask::HostOpen, Turn::Asks(OPEN)),
     (Ask::HostOpen, Turn::Opens(Ok(0), End::Number(0))),
@@ -301,11 +267,6 @@ const WAITING_DOOR: &[(Ask, Turn)] = &[
     ),
 ];
 
-#[test]
-fn a_door_that_is_not_ready_waits(rt: HostRuntime) -> Result<(), Fail> {
-    assert_store(&rt, rt.alloc(), WAITING_DOOR)
-}
-
 const CLOSE: Errand = Errand {
     kind: OutKind::Close,
     asked: 0,
@@ -313,26 +274,17 @@ const CLOSE: Errand = Errand {
     door: Some(0),
 };
 
+// Its number is free whatever comes of the close.
 const CLOSED_DOOR: &[(Ask, Turn)] = &[
     (Ask::HostOpen, Turn::Asks(OPEN)),
     (Ask::HostOpen, Turn::Opens(Ok(0), End::Number(0))),
     (Ask::Close(0), Turn::Asks(CLOSE)),
+    (Ask::HostOpen, Turn::Opens(Ok(0), End::Number(0))),
+    (
+        Ask::Close(0),
+        Turn::Comes(CLOSE, Err(Errno::EIO), 0, End::Fail(Errno::EIO)),
+    ),
 ];
-
-const FAILED_CLOSE: &[(Ask, Turn)] = &[(
-    Ask::Close(0),
-    Turn::Comes(CLOSE, Err(Errno::EIO), 0, End::Fail(Errno::EIO)),
-)];
-
-// Its number is free whatever comes of the close.
-#[test]
-fn a_door_is_closed(rt: HostRuntime) -> Result<(), Fail> {
-    let alloc = rt.alloc();
-    let mut store = Store::new(alloc)?;
-    assert_turns(&rt, alloc, &mut store, CLOSED_DOOR)?;
-    assert!(rt; store.table.lowest_free(0) == Some(0));
-    assert_turns(&rt, alloc, &mut store, FAILED_CLOSE)
-}
 
 const LISTENER: &[(Ask, Turn)] = &[
     (
@@ -346,11 +298,6 @@ const LISTENER: &[(Ask, Turn)] = &[
     ),
     (Ask::Listen, Turn::Opens(Ok(8_080), End::Number(0))),
 ];
-
-#[test]
-fn a_listener_is_opened_at_its_port(rt: HostRuntime) -> Result<(), Fail> {
-    assert_store(&rt, rt.alloc(), LISTENER)
-}
 
 const ACCEPTED: &[(Ask, Turn)] = &[
     (Ask::Listen, Turn::Opens(Ok(8_080), End::Number(0))),
@@ -370,7 +317,23 @@ const ACCEPTED: &[(Ask, Turn)] = &[
     (Ask::Accept, Turn::Opens(Ok(0), End::Number(1))),
 ];
 
+// What is done in a new store each, and what that shows.
+const STORES: &[(&str, &[(Ask, Turn)])] = &[
+    ("a call locks its object", LOCKS),
+    ("a read of an empty pipe waits", EMPTY_PIPE),
+    ("what was written is read", WRITTEN_PIPE),
+    ("a door that fails leaves no number", FAILED_DOOR),
+    ("a door is written", WRITTEN_DOOR),
+    ("a door that is not ready waits", WAITING_DOOR),
+    ("a door is closed", CLOSED_DOOR),
+    ("a listener is opened at its port", LISTENER),
+    ("a listener accepts", ACCEPTED),
+];
+
 #[test]
-fn a_listener_accepts(rt: HostRuntime) -> Result<(), Fail> {
-    assert_store(&rt, rt.alloc(), ACCEPTED)
+fn stores_make_turns(rt: HostRuntime) -> Result<(), Fail> {
+    for (what, rows) in STORES {
+        assert!(rt; all_hold(rt.alloc(), rows)?, "{what}");
+    }
+    Ok(())
 }

@@ -4,7 +4,6 @@ use posix_terms::{
     Access, Bytes, Call, Errno, ObjectKind, OpenFlags, OutKind, Outcome, Reply, ShutdownHow,
 };
 use std::alloc::{AllocError, Global};
-use std::process::Abort;
 use std::test::Fail;
 
 const CREATE: OpenFlags = OpenFlags {
@@ -257,23 +256,15 @@ fn holds(alloc: Global, table: &mut Table, row: &Row) -> Result<bool, AllocError
     })
 }
 
-// Asserts that a table makes this of these rows, one after another.
-fn assert_rows(
-    rt: &impl Abort,
-    alloc: Global,
-    table: &mut Table,
-    rows: &[Row],
-) -> Result<(), Fail> {
-    for (number, row) in rows.iter().enumerate() {
-        assert!(rt; holds(alloc, table, row)?, "at row {number}");
-    }
-    Ok(())
-}
-
-// Asserts that a new table makes this of these rows, one after another.
-fn assert_table(rt: &impl Abort, alloc: Global, rows: &[Row]) -> Result<(), Fail> {
+// The first of these rows of which a new table makes something else, when they come one after another.
+fn first_other(alloc: Global, rows: &[Row]) -> Result<Option<usize>, AllocError> {
     let mut table = Table::new(alloc)?;
-    assert_rows(rt, alloc, &mut table, rows)
+    for (number, row) in rows.iter().enumerate() {
+        if !holds(alloc, &mut table, row)? {
+            return Ok(Some(number));
+        }
+    }
+    Ok(None)
 }
 
 // The file `/a` is opened twice, as 0 and 2, and `/b` once. The object of `/a` ends with its name and both descriptors.
@@ -305,11 +296,6 @@ const TWO_FILES: &[Row] = &[
     Row::Made(4, 3),
 ];
 
-#[test]
-fn an_object_ends_with_its_last_name_and_descriptor(rt: HostRuntime) -> Result<(), Fail> {
-    assert_table(&rt, rt.alloc(), TWO_FILES)
-}
-
 const SHARED: &[Row] = &[
     Row::Makes(
         Ask::Open(b"/a"),
@@ -328,11 +314,6 @@ const SHARED: &[Row] = &[
     ),
 ];
 
-#[test]
-fn descriptors_share_a_description(rt: HostRuntime) -> Result<(), Fail> {
-    assert_table(&rt, rt.alloc(), SHARED)
-}
-
 const DUP2_OF_NOTHING: &[Row] = &[
     Row::Makes(
         Ask::Open(b"/a"),
@@ -341,11 +322,6 @@ const DUP2_OF_NOTHING: &[Row] = &[
     ),
     Row::Makes(Ask::Dup2(9, 0), Told::Fail(Errno::EBADF), NewNumbers::None),
 ];
-
-#[test]
-fn a_duplicate_of_nothing_is_refused(rt: HostRuntime) -> Result<(), Fail> {
-    assert_table(&rt, rt.alloc(), DUP2_OF_NOTHING)
-}
 
 const LONG_WRITES: &[Row] = &[
     Row::Makes(
@@ -357,111 +333,12 @@ const LONG_WRITES: &[Row] = &[
     Row::Writes(32_768, Some(Errno::EINVAL)),
 ];
 
-#[test]
-fn a_write_has_at_most_32_767_bytes(rt: HostRuntime) -> Result<(), Fail> {
-    assert_table(&rt, rt.alloc(), LONG_WRITES)
-}
-
-// Whether the open of a path is of this object, which is new or not, at this descriptor.
-fn opens(
-    alloc: Global,
-    table: &mut Table,
-    path: &[u8],
-    node: usize,
-    cut: bool,
-    descriptor: i64,
-) -> Result<bool, AllocError> {
-    let call = Call::Open {
-        path: Bytes::from_slice(alloc, path)?,
-        access: Access::ReadWrite,
-        flags: CREATE,
-    };
-    let told = Told::Node(node, Op::Open { cut });
-    let numbers = NewNumbers::One(descriptor);
-    Ok(call_makes(table, &call, None, &told, numbers))
-}
-
-// Opens a file at 32 descriptors.
-fn open_all(alloc: Global, table: &mut Table) -> Result<bool, AllocError> {
-    for descriptor in 0..32 {
-        if !opens(alloc, table, b"/a", 0, descriptor == 0, descriptor)? {
-            return Ok(false);
-        }
-    }
-    Ok(true)
-}
-
-const ALL_OPEN: &[Row] = &[
-    Row::Makes(
-        Ask::Open(b"/a"),
-        Told::Fail(Errno::EMFILE),
-        NewNumbers::None,
-    ),
-    Row::LowestFree(0, None),
-];
-
-#[test]
-fn there_are_at_most_32_descriptors(rt: HostRuntime) -> Result<(), Fail> {
-    let mut table = Table::new(rt.alloc())?;
-    assert!(rt; open_all(rt.alloc(), &mut table)?);
-    assert_rows(&rt, rt.alloc(), &mut table, ALL_OPEN)
-}
-
-// Whether the close of descriptor 0 lets an object go.
-fn releases(table: &mut Table, node: usize) -> bool {
-    let call = Call::Close { descriptor: 0 };
-    let told = Told::Node(node, Op::Release);
-    call_makes(table, &call, None, &told, NewNumbers::None)
-}
-
-// Opens so many files and closes them again, at descriptor 0.
-fn make_files(alloc: Global, table: &mut Table, files: u8) -> Result<bool, AllocError> {
-    for count in 0..files.min(50) {
-        let path = [b'a' + count / 10, b'0' + count % 10];
-        let node = usize::from(count);
-        if !opens(alloc, table, &path, node, true, 0)? || !releases(table, node) {
-            return Ok(false);
-        }
-    }
-    Ok(true)
-}
-
-const ALL_OBJECTS: &[Row] = &[
-    Row::Makes(
-        Ask::Open(b"/x"),
-        Told::Fail(Errno::ENOSPC),
-        NewNumbers::None,
-    ),
-    Row::Makes(
-        Ask::Unlink(b"/b3"),
-        Told::Node(13, Op::Release),
-        NewNumbers::None,
-    ),
-    Row::Makes(
-        Ask::Open(b"/x"),
-        Told::Node(13, Op::Open { cut: true }),
-        NewNumbers::One(0),
-    ),
-];
-
-#[test]
-fn there_are_at_most_48_objects(rt: HostRuntime) -> Result<(), Fail> {
-    let mut table = Table::new(rt.alloc())?;
-    assert!(rt; make_files(rt.alloc(), &mut table, 48)?);
-    assert_rows(&rt, rt.alloc(), &mut table, ALL_OBJECTS)
-}
-
 const PIPE: &[Row] = &[
     Row::Makes(Ask::Pipe, Told::Node(0, Op::Pipe), NewNumbers::Two(0, 1)),
     Row::Ends(0, (1, 1)),
     Row::Makes(Ask::Close(0), Told::Node(0, Op::Release), NewNumbers::None),
     Row::Ends(0, (0, 1)),
 ];
-
-#[test]
-fn a_pipe_has_two_ends(rt: HostRuntime) -> Result<(), Fail> {
-    assert_table(&rt, rt.alloc(), PIPE)
-}
 
 // A file and a pipe are made; an open of a path that leads through the file changes nothing.
 const DECIDED: &[Row] = &[
@@ -495,11 +372,6 @@ const DECIDED: &[Row] = &[
     Row::Made(3, 2),
 ];
 
-#[test]
-fn a_change_is_made_as_it_was_decided(rt: HostRuntime) -> Result<(), Fail> {
-    assert_table(&rt, rt.alloc(), DECIDED)
-}
-
 const SHUTDOWN_OF_A_FILE: &[Row] = &[
     Row::Makes(
         Ask::Open(b"/a"),
@@ -512,11 +384,6 @@ const SHUTDOWN_OF_A_FILE: &[Row] = &[
         NewNumbers::None,
     ),
 ];
-
-#[test]
-fn a_file_is_no_socket(rt: HostRuntime) -> Result<(), Fail> {
-    assert_table(&rt, rt.alloc(), SHUTDOWN_OF_A_FILE)
-}
 
 const CONNECT: Errand = Errand {
     kind: OutKind::Connect,
@@ -550,11 +417,6 @@ const AMONG_FILES: &[Row] = &[
     ),
 ];
 
-#[test]
-fn an_opening_gives_the_lowest_number(rt: HostRuntime) -> Result<(), Fail> {
-    assert_table(&rt, rt.alloc(), AMONG_FILES)
-}
-
 // A call that listens is planned, and opens nothing, where its port is taken outside.
 const LISTENED_IN_VAIN: &[Row] = &[
     Row::Comes(
@@ -574,11 +436,6 @@ const LISTENED_IN_VAIN: &[Row] = &[
     Row::Made(0, 0),
     Row::LowestFree(0, Some(0)),
 ];
-
-#[test]
-fn a_failed_opening_changes_nothing(rt: HostRuntime) -> Result<(), Fail> {
-    assert_table(&rt, rt.alloc(), LISTENED_IN_VAIN)
-}
 
 // The opening of a stream, at descriptor 0.
 const STREAM: Row = Row::Comes(
@@ -604,11 +461,6 @@ const READ_OF_A_STREAM: &[Row] = &[
     ),
 ];
 
-#[test]
-fn a_read_of_a_door_asks(rt: HostRuntime) -> Result<(), Fail> {
-    assert_table(&rt, rt.alloc(), READ_OF_A_STREAM)
-}
-
 const CLOSE_OF_A_STREAM: &[Row] = &[
     STREAM,
     Row::Makes(
@@ -627,11 +479,6 @@ const CLOSE_OF_A_STREAM: &[Row] = &[
     Row::LowestFree(0, Some(0)),
 ];
 
-#[test]
-fn a_close_of_a_door_asks_and_frees_its_number(rt: HostRuntime) -> Result<(), Fail> {
-    assert_table(&rt, rt.alloc(), CLOSE_OF_A_STREAM)
-}
-
 const DUP2_OVER_A_STREAM: &[Row] = &[
     STREAM,
     Row::Makes(
@@ -641,11 +488,6 @@ const DUP2_OVER_A_STREAM: &[Row] = &[
     ),
     Row::Plans(Ask::Dup2(1, 0), Told::Fail(Errno::EBUSY)),
 ];
-
-#[test]
-fn dup2_closes_no_door(rt: HostRuntime) -> Result<(), Fail> {
-    assert_table(&rt, rt.alloc(), DUP2_OVER_A_STREAM)
-}
 
 // The opening of a listener at port 8,080, at descriptor 0.
 const LISTENER: Row = Row::Comes(
@@ -668,11 +510,6 @@ const FSTAT_OF_A_LISTENER: &[Row] = &[
     Row::Plans(Ask::Fstat(0), Told::Stat(ObjectKind::Listener, 8_080, 0)),
 ];
 
-#[test]
-fn a_listener_tells_its_port(rt: HostRuntime) -> Result<(), Fail> {
-    assert_table(&rt, rt.alloc(), FSTAT_OF_A_LISTENER)
-}
-
 const ACCEPT_OF_NOBODY: &[Row] = &[
     LISTENER,
     Row::Comes(
@@ -691,7 +528,34 @@ const ACCEPT_OF_NOBODY: &[Row] = &[
     ),
 ];
 
+// What is done at a new table each, and what that shows.
+const TABLES: &[(&str, &[Row])] = &[
+    (
+        "an object ends with its last name and descriptor",
+        TWO_FILES,
+    ),
+    ("descriptors share a description", SHARED),
+    ("a duplicate of nothing is refused", DUP2_OF_NOTHING),
+    ("a write has at most 32,767 bytes", LONG_WRITES),
+    ("a pipe has two ends", PIPE),
+    ("a change is made as it was decided", DECIDED),
+    ("a file is no socket", SHUTDOWN_OF_A_FILE),
+    ("an opening gives the lowest number", AMONG_FILES),
+    ("a failed opening changes nothing", LISTENED_IN_VAIN),
+    ("a read of a door asks", READ_OF_A_STREAM),
+    (
+        "a close of a door asks and frees its number",
+        CLOSE_OF_A_STREAM,
+    ),
+    ("dup2 closes no door", DUP2_OVER_A_STREAM),
+    ("a listener tells its port", FSTAT_OF_A_LISTENER),
+    ("accept takes the listener along", ACCEPT_OF_NOBODY),
+];
+
 #[test]
-fn accept_takes_the_listener_along(rt: HostRuntime) -> Result<(), Fail> {
-    assert_table(&rt, rt.alloc(), ACCEPT_OF_NOBODY)
+fn tables_plan_and_change(rt: HostRuntime) -> Result<(), Fail> {
+    for (what, rows) in TABLES {
+        assert_eq!(rt; first_other(rt.alloc(), rows)?, None, "{what}");
+    }
+    Ok(())
 }
