@@ -5,5 +5,6 @@ pub mod Rows
 pub mod Outside
 pub mod DoorRows
 pub mod Maps
+pub mod Whole
 pub mod Tidy
 pub mod Unused

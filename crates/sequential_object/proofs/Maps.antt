@@ -1,7 +1,8 @@
 -- What a map has after a change, and a test of its entries.
-use Rattle.std.proofs.Common.{◌≡◌, ℕ, ◌==◌, ◌&&◌, ◌||◌, List, [], ◌∷◌, Some, None, Bool, true, false, cond, T, refl, sym, ap, ◌∙◌, arith}
+use Rattle.std.proofs.Common.{◌≡◌, ◌⊎◌, ℕ, ◌==◌, ◌&&◌, ◌||◌, List, [], ◌∷◌, Option, Some, None, is_some, Bool, true, false, cond, T, inl, inr, refl, sym, ap, ◌∙◌, arith}
 use Rattle.std.proofs.lemmas.Bool.{false≢true}
 use Rattle.std.proofs.lemmas.Bool.Decides.{nat_tests}
+use Rattle.std.proofs.lemmas.Cmp.{lists_total}
 use Rattle.std.proofs.lemmas.Option.{none-some, same_Some}
 use Rattle.std.specs.Cmp.{IsTotalOrder, eq_by_cmp_equiv, nat_cmp_total, unsigned_tied}
 use Rattle.std.specs.FinMap as fin
@@ -11,6 +12,10 @@ use Rattle.std.specs.List.{list_any}
 use Rattle.std.specs.Ordering.{eq_by_cmp, is_eq, is_lt, nat_cmp}
 use Rattle.std.specs.declared.cmp.Ordering.{Ordering}
 use Rattle.std.specs.declared.cmp.Ordering.TheVariants.{Less, Equal, Greater}
+use Rattle.sequential_object.specs.Object.{path_cmp}
+
+pub paths_total : IsTotalOrder path_cmp
+paths_total = lists_total (lists_total nat_cmp_total)
 
 pub same_number : (n m : ℕ) → (n == m) ≡ true → n ≡ m
 same_number n m h = grind (arith, nat_tests)
@@ -42,6 +47,22 @@ module _ {K X : Type 0} {R : K → K → Ordering} (o : IsTotalOrder R) where
       by_tie true t = absurd (apart (get_tied o m q k (is_tie (R q k) t) ∙ there))
       by_tie false t = get-remove o m k q ∙ ap (λ (b : Bool). cond b None (fin.get m q)) t ∙ there
 
+  -- what is there after an insertion was inserted, or was there
+  pub inserted_is : (m : FinMap R X) (k : K) (v : X) (q : K) (x : X) → fin.get (fin.insert m k v) q ≡ Some x → (v ≡ x) ⊎ (fin.get m q ≡ Some x)
+  inserted_is m k v q x is = by_tie (eq_by_cmp R q k) (sym (get-insert o m k v q) ∙ is)
+    where
+      by_tie : (b : Bool) → cond b (Some v) (fin.get m q) ≡ Some x → (v ≡ x) ⊎ (fin.get m q ≡ Some x)
+      by_tie true at = inl (same_Some v x at)
+      by_tie false at = inr at
+
+  -- what is there after a removal was there
+  pub left_is : (m : FinMap R X) (k q : K) (x : X) → fin.get (fin.remove m k) q ≡ Some x → fin.get m q ≡ Some x
+  left_is m k q x is = by_tie (eq_by_cmp R q k) (sym (get-remove o m k q) ∙ is)
+    where
+      by_tie : (b : Bool) → cond b None (fin.get m q) ≡ Some x → fin.get m q ≡ Some x
+      by_tie true at = absurd (none-some x at)
+      by_tie false at = at
+
 tied_not : (x y : ℕ) → (x ≡ y → ⊥) → eq_by_cmp nat_cmp x y ≡ false
 tied_not x y apart = unsigned_tied x y ∙ grind (arith, nat_tests)
 
@@ -54,6 +75,14 @@ module _ {X : Type 0} where
 
   pub insert_other : (m : FinMap nat_cmp X) (k : ℕ) (x : X) (q : ℕ) → (q ≡ k → ⊥) → fin.get (fin.insert m k x) q ≡ fin.get m q
   insert_other m k x q apart = get-insert nat_cmp_total m k x q ∙ ap (λ (b : Bool). cond b (Some x) (fin.get m q)) (tied_not q k apart)
+
+  -- what is there stays there
+  pub insert_there : (m : FinMap nat_cmp X) (k : ℕ) (x : X) (q : ℕ) → is_some (fin.get m q) ≡ true → is_some (fin.get (fin.insert m k x) q) ≡ true
+  insert_there m k x q there = by_tie (eq_by_cmp nat_cmp q k) (get-insert nat_cmp_total m k x q)
+    where
+      by_tie : (b : Bool) → fin.get (fin.insert m k x) q ≡ cond b (Some x) (fin.get m q) → is_some (fin.get (fin.insert m k x) q) ≡ true
+      by_tie true is = ap (λ (o : Option X). is_some o) is
+      by_tie false is = ap (λ (o : Option X). is_some o) is ∙ there
 
   pub remove_same : (m : FinMap nat_cmp X) (k : ℕ) → fin.get (fin.remove m k) k ≡ None
   remove_same m k = get-remove nat_cmp_total m k k ∙ ap (λ (b : Bool). cond b None (fin.get m k)) (tied_same k)

@@ -1,9 +1,7 @@
 -- States that hold nothing unused, by what refers to what, and how the changes of a state keep them so.
-use Rattle.std.proofs.Common.{◌≡◌, ◌⊎◌, ℕ, zero, suc, ◌+◌, ◌<◌, ◌||◌, ℤ, pos, negsuc, List, [], Option, Some, None, Bool, true, false, if◌then◌else◌, inl, inr, refl, sym, ap, ◌∙◌, subst, arith}
+use Rattle.std.proofs.Common.{◌≡◌, ◌⊎◌, ℕ, zero, suc, ◌<◌, ◌||◌, ◌&&◌, ℤ, pos, negsuc, List, [], Option, Some, None, is_some, Bool, true, false, if◌then◌else◌, inl, inr, refl, sym, ap, ◌∙◌, subst, arith}
 use Rattle.std.proofs.lemmas.Bool.{cases_eq, false≢true}
 use Rattle.std.proofs.lemmas.Option.{none-some, same_Some}
-use Rattle.std.proofs.lemmas.Cmp.{lists_total}
-use Rattle.std.specs.Cmp.{IsTotalOrder, nat_cmp_total}
 use Rattle.std.specs.FinMap as fin
 use Rattle.std.specs.FinMap.{FinMap, get-empty}
 use Rattle.std.specs.Ordering.{nat_cmp}
@@ -11,14 +9,12 @@ use Rattle.sequential_object.specs.Descriptors.{freed, has_description, has_desc
 use Rattle.sequential_object.specs.Duplicates.{shared}
 use Rattle.sequential_object.specs.Names.{PathMap, with_paths}
 use Rattle.sequential_object.specs.Object.{Content, Description, Directory, File, FileNode, Node, State, any_below, empty_state, path_cmp, with_content, with_object}
-use Rattle.sequential_object.specs.Unused.{EndsAreOpen, HoldsNothingUnused, IsOpenAt}
+use Rattle.sequential_object.specs.Unused.{EndsAreOpen, HoldsNothingUnused, IsOpenAt, is_a_file}
 use Rattle.posix_terms.specs.declared.call.Access.{Access}
 use Rattle.posix_terms.specs.declared.limits.TheConstants.Limits as limit
 use Rattle.posix_terms.specs.declared.object.End.{End}
-use Rattle.sequential_object.proofs.Maps.{any_of, insert_keeps, insert_other, insert_same, left_there, number_same, remove_other, same_number, standing_in}
-
-pub paths_total : IsTotalOrder path_cmp
-paths_total = lists_total (lists_total nat_cmp_total)
+use Rattle.sequential_object.proofs.Maps.{any_of, insert_keeps, insert_other, insert_same, left_there, number_same, paths_total, remove_other, same_number, standing_in}
+use Rattle.sequential_object.proofs.Whole.{AreNumbered, IsWhole, NamesKnown, StaysFile, content_whole, file_is_there, file_whole, freed_whole, object_whole, opened_whole, own_whole, paths_whole, removed_whole, shared_whole, undescribed_whole}
 
 -- ## What refers to what
 
@@ -40,34 +36,35 @@ pub record Named (paths : PathMap) (object : ℕ) : Type 0 where
   pub path : List (List ℕ)
   pub refers : fin.get paths path ≡ Some (FileNode object)
 
--- what refers to an object
-abbrev pub Used : State → ℕ → Type 0
-Used s object = Described s.descriptions object ⊎ Named s.paths object
-
-abbrev pub AreNumbered : State → Type 0
-AreNumbered s = (key : ℕ) (d : Description) → fin.get s.descriptions key ≡ Some d → key < s.next_description
+-- what refers to an object of this content; a path refers to a file
+abbrev pub Used : State → ℕ → Content → Type 0
+Used s object c = Described s.descriptions object ⊎ ((is_a_file (Some c) ≡ true) × Named s.paths object)
 
 pub record IsTidy (s : State) : Type 0 where
   pub opens : (key : ℕ) (d : Description) → fin.get s.descriptions key ≡ Some d → Open s.descriptors key
-  pub uses : (object : ℕ) (c : Content) → fin.get s.objects object ≡ Some c → Used s object
-  pub numbered : AreNumbered s
+  pub uses : (object : ℕ) (c : Content) → fin.get s.objects object ≡ Some c → Used s object c
+  pub whole : IsWhole s
 
 -- nothing is unused but one object, which may be
 pub record IsTidyBut (object : ℕ) (s : State) : Type 0 where
   pub opens : (key : ℕ) (d : Description) → fin.get s.descriptions key ≡ Some d → Open s.descriptors key
-  pub uses : (other : ℕ) (c : Content) → (other ≡ object → ⊥) → fin.get s.objects other ≡ Some c → Used s other
-  pub numbered : AreNumbered s
+  pub uses : (other : ℕ) (c : Content) → (other ≡ object → ⊥) → fin.get s.objects other ≡ Some c → Used s other c
+  pub whole : IsWhole s
 
 -- nothing is unused but one description, which may be
 pub record IsTidyWithout (key : ℕ) (s : State) : Type 0 where
   pub opens : (other : ℕ) (d : Description) → (other ≡ key → ⊥) → fin.get s.descriptions other ≡ Some d → Open s.descriptors other
-  pub uses : (object : ℕ) (c : Content) → fin.get s.objects object ≡ Some c → Used s object
-  pub numbered : AreNumbered s
+  pub uses : (object : ℕ) (c : Content) → fin.get s.objects object ≡ Some c → Used s object c
+  pub whole : IsWhole s
 
 pub but_one : (s : State) (object : ℕ) → IsTidy s → IsTidyBut object s
-but_one s object h = record { opens = h.opens; uses = λ other c apart at. h.uses other c at; numbered = h.numbered }
+but_one s object h = record { opens = h.opens; uses = λ other c apart at. h.uses other c at; whole = h.whole }
 
 -- ## By tests
+
+or_right : (a b : Bool) → b ≡ true → (a || b) ≡ true
+or_right true b h = refl
+or_right false b h = h
 
 any_of_first : (n : ℕ) (p : ℕ → Bool) → any_below n p ≡ true → (m : ℕ) × (m < n) × (p m ≡ true)
 any_of_first zero p any = absurd (false≢true any)
@@ -91,10 +88,6 @@ first_of_any (suc n) p m below holds =
       | inl e ↦ or_right (any_below n p) (p n) (ap p (sym e) ∙ holds)
       | inr apart ↦ ap (λ (b : Bool). b || p n) (first_of_any n p m (omega arith) holds)
     ]
-  where
-    or_right : (a b : Bool) → b ≡ true → (a || b) ≡ true
-    or_right true b h = refl
-    or_right false b h = h
 
 is_key_some : (o : Option ℕ) (key : ℕ) → is_key o key ≡ true → o ≡ Some key
 is_key_some None key h = absurd (false≢true h)
@@ -160,35 +153,55 @@ named_of s object has =
 has_named : (s : State) (object : ℕ) → Named s.paths object → has_path s object ≡ true
 has_named s object n = any_of path_cmp (λ (x : Node). is_file x object) s.paths n.path (FileNode object) n.refers (number_same object object refl)
 
-used_of : (s : State) (object : ℕ) → (has_description s object || has_path s object) ≡ true → Used s object
-used_of s object has = by_test (has_description s object) refl
+either_used : (s : State) (object : ℕ) (c : Content) (named : Bool) → (named ≡ true → (is_a_file (Some c) ≡ true) × Named s.paths object) → (has_description s object || named) ≡ true → Used s object c
+either_used s object c named by_path has = by_test (has_description s object) refl
   where
-    by_test : (b : Bool) → has_description s object ≡ b → Used s object
+    by_test : (b : Bool) → has_description s object ≡ b → Used s object c
     by_test true h = inl (described_of s object h)
-    by_test false h = inr (named_of s object (ap (λ (b : Bool). b || has_path s object) (sym h) ∙ has))
+    by_test false h = inr (by_path (ap (λ (b : Bool). b || named) (sym h) ∙ has))
 
-has_used : (s : State) (object : ℕ) → AreNumbered s → Used s object → (has_description s object || has_path s object) ≡ true
-has_used s object numbered (inl d) = ap (λ (b : Bool). b || has_path s object) (has_described s object numbered d)
-has_used s object numbered (inr n) = or_right (has_description s object) (has_path s object) (has_named s object n)
+used_of : (s : State) (object : ℕ) (c : Content) → (has_description s object || (is_a_file (Some c) && has_path s object)) ≡ true → Used s object c
+used_of s object c has = either_used s object c (is_a_file (Some c) && has_path s object) (by_file (is_a_file (Some c))) has
   where
-    or_right : (a b : Bool) → b ≡ true → (a || b) ≡ true
-    or_right true b h = refl
-    or_right false b h = h
+    by_file : (b : Bool) → (b && has_path s object) ≡ true → (b ≡ true) × Named s.paths object
+    by_file true h = (refl, named_of s object h)
+    by_file false h = absurd (false≢true h)
+
+-- where a path names files only
+kept_used : (s : State) (object : ℕ) (c : Content) → IsWhole s → fin.get s.objects object ≡ Some c → (has_description s object || has_path s object) ≡ true → Used s object c
+kept_used s object c whole at has =
+    either_used s object c (has_path s object)
+    (λ h. let n = named_of s object h in (ap is_a_file (sym at) ∙ whole.names n.path object n.refers, n)) has
+
+has_used : (s : State) (object : ℕ) (c : Content) → AreNumbered s → Used s object c → (has_description s object || (is_a_file (Some c) && has_path s object)) ≡ true
+has_used s object c numbered (inl d) = ap (λ (b : Bool). b || (is_a_file (Some c) && has_path s object)) (has_described s object numbered d)
+has_used s object c numbered (inr n) = or_right (has_description s object) (is_a_file (Some c) && has_path s object) (ap (λ (b : Bool). b && has_path s object) n.0 ∙ has_named s object n.1)
+
+-- what is used is there
+used_there : (s : State) (object : ℕ) (c : Content) → IsWhole s → Used s object c → is_some (fin.get s.objects object) ≡ true
+used_there s object c whole (inl d) = ap (λ (k : ℕ). is_some (fin.get s.objects k)) (sym d.refers) ∙ whole.refers d.key d.description d.there
+used_there s object c whole (inr n) = file_is_there (fin.get s.objects object) (whole.names n.1.path object n.1.refers)
 
 pub tidy_of : (s : State) → HoldsNothingUnused s → IsTidy s
 tidy_of s h =
     record {
       opens = λ key d at. open_of s key (h.described key d at);
-      uses = λ object c at. used_of s object (h.used object c at);
-      numbered = h.numbered;
+      uses = λ object c at. used_of s object c (h.used object c at);
+      whole = record { opens = h.opens; refers = h.refers; names = h.names; within = h.within; numbered = h.numbered; made = h.made };
     }
 
 pub nothing_unused : (s : State) → IsTidy s → HoldsNothingUnused s
 nothing_unused s h =
+    let whole = h.whole in
     record {
       described = λ key d at. has_open s key (h.opens key d at);
-      used = λ object c at. has_used s object h.numbered (h.uses object c at);
-      numbered = h.numbered;
+      used = λ object c at. has_used s object c whole.numbered (h.uses object c at);
+      opens = whole.opens;
+      refers = whole.refers;
+      names = whole.names;
+      within = whole.within;
+      numbered = whole.numbered;
+      made = whole.made;
     }
 
 pub starts_tidy : HoldsNothingUnused empty_state
@@ -196,21 +209,28 @@ starts_tidy =
     record {
       described = λ key d at. absurd (none-some d (sym (get-empty nat_cmp key) ∙ at));
       used = λ object c at. absurd (none-some c (sym (get-empty nat_cmp object) ∙ at));
+      opens = λ n key at. absurd (none-some key (sym (get-empty nat_cmp n) ∙ at));
+      refers = λ key d at. absurd (none-some d (sym (get-empty nat_cmp key) ∙ at));
+      names = λ path object at. absurd (none-some (FileNode object) (sym (get-empty path_cmp path) ∙ at));
+      within = λ n key at. absurd (none-some key (sym (get-empty nat_cmp n) ∙ at));
       numbered = λ key d at. absurd (none-some d (sym (get-empty nat_cmp key) ∙ at));
+      made = λ object c at. absurd (none-some c (sym (get-empty nat_cmp object) ∙ at));
     }
 
 -- ## States
 
 -- a new content of an object that is used
-pub content_tidy : (s : State) (object : ℕ) (c : Content) → Used s object → IsTidy s → IsTidy (with_content s object c)
-content_tidy s object c used h =
+pub content_tidy : (s : State) (object : ℕ) (c : Content) → Used s object c → StaysFile s object c → IsTidy s → IsTidy (with_content s object c)
+content_tidy s object c used kind h =
     record {
       opens = h.opens;
       uses = λ other d at. elim (cases_eq other object) [
-        | inl own ↦ subst (Used s) (sym own) used
+        | inl own ↦
+            let same : c ≡ d = same_Some c d (sym (insert_same s.objects object c) ∙ ap (fin.get (fin.insert s.objects object c)) (sym own) ∙ at) in
+            subst (Used s other) same (subst (λ (k : ℕ). Used s k c) (sym own) used)
         | inr apart ↦ h.uses other d (sym (insert_other s.objects object c other apart) ∙ at)
       ];
-      numbered = h.numbered;
+      whole = content_whole s object c (used_there s object c h.whole used) kind h.whole;
     }
 
 -- a new object, which nothing refers to yet
@@ -219,32 +239,32 @@ object_tidy s c h =
     record {
       opens = h.opens;
       uses = λ other d apart at. h.uses other d (sym (insert_other s.objects s.next_object c other apart) ∙ at);
-      numbered = h.numbered;
+      whole = object_whole s c h.whole;
     }
 
 -- paths by which each file keeps its names
 abbrev pub KeepsFiles : PathMap → PathMap → Type 0
 KeepsFiles old new = (path : List (List ℕ)) (object : ℕ) → fin.get old path ≡ Some (FileNode object) → fin.get new path ≡ Some (FileNode object)
 
-used_by : (s : State) (paths : PathMap) (object : ℕ) → ((path : List (List ℕ)) → fin.get s.paths path ≡ Some (FileNode object) → fin.get paths path ≡ Some (FileNode object)) → Used s object → Described s.descriptions object ⊎ Named paths object
-used_by s paths object kept (inl d) = inl d
-used_by s paths object kept (inr n) = inr (record { path = n.path; refers = kept n.path n.refers })
+used_by : (s : State) (paths : PathMap) (object : ℕ) (c : Content) → ((path : List (List ℕ)) → fin.get s.paths path ≡ Some (FileNode object) → fin.get paths path ≡ Some (FileNode object)) → Used s object c → Used (with_paths s paths) object c
+used_by s paths object c kept (inl d) = inl d
+used_by s paths object c kept (inr n) = inr (n.0, record { path = n.1.path; refers = kept n.1.path n.1.refers })
 
-pub paths_tidy : (s : State) (paths : PathMap) → KeepsFiles s.paths paths → IsTidy s → IsTidy (with_paths s paths)
-paths_tidy s paths kept h =
+pub paths_tidy : (s : State) (paths : PathMap) → KeepsFiles s.paths paths → NamesKnown s.paths paths → IsTidy s → IsTidy (with_paths s paths)
+paths_tidy s paths kept known h =
     record {
       opens = h.opens;
-      uses = λ object c at. used_by s paths object (λ path is. kept path object is) (h.uses object c at);
-      numbered = h.numbered;
+      uses = λ object c at. used_by s paths object c (λ path is. kept path object is) (h.uses object c at);
+      whole = paths_whole s paths known h.whole;
     }
 
 -- paths by which each other file keeps its names
-pub unnamed_tidy : (s : State) (paths : PathMap) (object : ℕ) → ((path : List (List ℕ)) (other : ℕ) → (other ≡ object → ⊥) → fin.get s.paths path ≡ Some (FileNode other) → fin.get paths path ≡ Some (FileNode other)) → IsTidy s → IsTidyBut object (with_paths s paths)
-unnamed_tidy s paths object kept h =
+pub unnamed_tidy : (s : State) (paths : PathMap) (object : ℕ) → ((path : List (List ℕ)) (other : ℕ) → (other ≡ object → ⊥) → fin.get s.paths path ≡ Some (FileNode other) → fin.get paths path ≡ Some (FileNode other)) → NamesKnown s.paths paths → IsTidy s → IsTidyBut object (with_paths s paths)
+unnamed_tidy s paths object kept known h =
     record {
       opens = h.opens;
-      uses = λ other c apart at. used_by s paths other (λ path is. kept path other apart is) (h.uses other c at);
-      numbered = h.numbered;
+      uses = λ other c apart at. used_by s paths other c (λ path is. kept path other apart is) (h.uses other c at);
+      whole = paths_whole s paths known h.whole;
     }
 
 pub file_tidy : (s : State) (components : List (List ℕ)) → fin.get s.paths components ≡ None → IsTidy s → IsTidyBut s.next_object (with_file s components)
@@ -252,19 +272,19 @@ file_tidy s components new h =
     record {
       opens = h.opens;
       uses = λ other c apart at.
-          used_by s (fin.insert s.paths components (FileNode s.next_object)) other (λ path is. insert_keeps paths_total s.paths components (FileNode s.next_object) path (FileNode other) new is)
+          used_by s (fin.insert s.paths components (FileNode s.next_object)) other c (λ path is. insert_keeps paths_total s.paths components (FileNode s.next_object) path (FileNode other) new is)
           (h.uses other c (sym (insert_other s.objects s.next_object (File []) other apart) ∙ at));
-      numbered = h.numbered;
+      whole = file_whole s components h.whole;
     }
 
-pub cut_tidy : (s : State) (object : ℕ) (b : Bool) → IsTidy s → IsTidyBut object (truncated s object b)
-cut_tidy s object true h =
-    record {
-      opens = h.opens;
-      uses = λ other c apart at. h.uses other c (sym (insert_other s.objects object (File []) other apart) ∙ at);
-      numbered = h.numbered;
-    }
-cut_tidy s object false h = but_one s object h
+-- a file with a name, which may be cut
+pub cut_tidy : (s : State) (object : ℕ) (b : Bool) → Named s.paths object → IsTidy s → IsTidy (truncated s object b)
+cut_tidy s object true named h = content_tidy s object (File []) (inr (refl, named)) (λ _. refl) h
+cut_tidy s object false named h = h
+
+pub cut_there : (s : State) (object : ℕ) (b : Bool) → Named s.paths object → IsTidy s → (let after = truncated s object b in is_some (fin.get after.objects object)) ≡ true
+cut_there s object true named h = ap (λ (o : Option Content). is_some o) (insert_same s.objects object (File []))
+cut_there s object false named h = file_is_there (fin.get s.objects object) (let whole = h.whole in whole.names named.path object named.refers)
 
 -- a description that is changed, and stays one of its object
 redescribed : (m : FinMap nat_cmp Description) (key : ℕ) (x y : Description) (object : ℕ) → fin.get m key ≡ Some x → x.object ≡ y.object → Described m object → Described (fin.insert m key y) object
@@ -283,16 +303,13 @@ own_tidy s key x y there own h =
         | inl is ↦ subst (Open s.descriptors) (sym is) (h.opens key x there)
         | inr apart ↦ h.opens other d (sym (insert_other s.descriptions key y other apart) ∙ at)
       ];
-      uses = λ object c at. by_use object (h.uses object c at);
-      numbered = λ other d at. elim (cases_eq other key) [
-        | inl is ↦ subst (λ (n : ℕ). n < s.next_description) (sym is) (h.numbered key x there)
-        | inr apart ↦ h.numbered other d (sym (insert_other s.descriptions key y other apart) ∙ at)
-      ];
+      uses = λ object c at. by_use object c (h.uses object c at);
+      whole = own_whole s key x y there own h.whole;
     }
   where
-    by_use : (object : ℕ) → Used s object → Described (fin.insert s.descriptions key y) object ⊎ Named s.paths object
-    by_use object (inl d) = inl (redescribed s.descriptions key x y object there own d)
-    by_use object (inr n) = inr n
+    by_use : (object : ℕ) (c : Content) → Used s object c → Used (record s { descriptions = fin.insert s.descriptions key y }) object c
+    by_use object c (inl d) = inl (redescribed s.descriptions key x y object there own d)
+    by_use object c (inr n) = inr n
 
 -- a number that refers to no description is no description's only one
 open_still : (m : FinMap nat_cmp ℕ) (n key other : ℕ) → (fin.get m n ≡ Some other → ⊥) → Open m other → Open (fin.insert m n key) other
@@ -303,12 +320,12 @@ open_still m n key other free o =
       refers = insert_other m n key o.number (λ (is : o.number ≡ n). free (ap (fin.get m) (sym is) ∙ o.refers)) ∙ o.refers;
     }
 
-pub shared_tidy : (s : State) (n key : ℕ) → ((other : ℕ) (d : Description) → fin.get s.descriptions other ≡ Some d → fin.get s.descriptors n ≡ Some other → ⊥) → IsTidy s → IsTidy (shared s n key)
-shared_tidy s n key free h =
+pub shared_tidy : (s : State) (n key : ℕ) → ((other : ℕ) (d : Description) → fin.get s.descriptions other ≡ Some d → fin.get s.descriptors n ≡ Some other → ⊥) → n < limit.DESCRIPTORS → is_some (fin.get s.descriptions key) ≡ true → IsTidy s → IsTidy (shared s n key)
+shared_tidy s n key free below there h =
     record {
       opens = λ other d at. open_still s.descriptors n key other (free other d at) (h.opens other d at);
       uses = h.uses;
-      numbered = h.numbered;
+      whole = shared_whole s n key below there h.whole;
     }
 
 -- a number that is free
@@ -316,8 +333,8 @@ pub record IsFree (s : State) (n : ℕ) : Type 0 where
   pub free : fin.get s.descriptors n ≡ None
   pub below : n < limit.DESCRIPTORS
 
-pub opened_tidy : (s : State) (n object : ℕ) (which : End) (access : Access) (append nonblock : Bool) → IsFree s n → IsTidyBut object s → IsTidy (opened s n object which access append nonblock)
-opened_tidy s n object which access append nonblock number h =
+pub opened_tidy : (s : State) (n object : ℕ) (which : End) (access : Access) (append nonblock : Bool) → IsFree s n → is_some (fin.get s.objects object) ≡ true → IsTidyBut object s → IsTidy (opened s n object which access append nonblock)
+opened_tidy s n object which access append nonblock number there h =
     record {
       opens = λ key d at. elim (cases_eq key s.next_description) [
         | inl is ↦ record { number = n; below = number.below; refers = insert_same s.descriptors n s.next_description ∙ ap (λ (k : ℕ). Some k) (sym is) }
@@ -325,29 +342,24 @@ opened_tidy s n object which access append nonblock number h =
       ];
       uses = λ other c at. elim (cases_eq other object) [
         | inl is ↦ inl (record { key = s.next_description; description = x; there = insert_same s.descriptions s.next_description x; refers = sym is })
-        | inr apart ↦ by_use other (h.uses other c apart at)
+        | inr apart ↦ by_use other c (h.uses other c apart at)
       ];
-      numbered = λ key d at. elim (cases_eq key s.next_description) [
-        | inl is ↦ omega arith
-        | inr apart ↦ later key (h.numbered key d (sym (insert_other s.descriptions s.next_description x key apart) ∙ at))
-      ];
+      whole = opened_whole s n object which access append nonblock number.below there h.whole;
     }
   where
     x : Description
     x = record { object = object; «end» = which; access = access; offset = 0; append = append; nonblock = nonblock }
 
-    later : (key : ℕ) → key < s.next_description → key < s.next_description + 1
-    later key below = omega arith
-
     still : (other : ℕ) → Described s.descriptions other → Described (fin.insert s.descriptions s.next_description x) other
     still other d =
-        let below : d.key < s.next_description = h.numbered d.key d.description d.there in
+        let whole = h.whole in
+        let below : d.key < s.next_description = whole.numbered d.key d.description d.there in
         let apart : d.key ≡ s.next_description → ⊥ = λ is. omega arith in
         record { key = d.key; description = d.description; there = insert_other s.descriptions s.next_description x d.key apart ∙ d.there; refers = d.refers }
 
-    by_use : (other : ℕ) → Used s other → Described (fin.insert s.descriptions s.next_description x) other ⊎ Named s.paths other
-    by_use other (inl d) = inl (still other d)
-    by_use other (inr n) = inr n
+    by_use : (other : ℕ) (c : Content) → Used s other c → Used (opened s n object which access append nonblock) other c
+    by_use other c (inl d) = inl (still other d)
+    by_use other c (inr n) = inr n
 
 -- an object that may be unused is removed where it is
 pub unused_tidy : (s : State) (object : ℕ) → IsTidyBut object s → IsTidy (without_unused s object)
@@ -358,17 +370,24 @@ unused_tidy s object h = by_test (has_description s object || has_path s object)
         record {
           opens = h.opens;
           uses = λ other c at. elim (cases_eq other object) [
-            | inl own ↦ subst (Used s) (sym own) (used_of s object has)
+            | inl own ↦ subst (λ (k : ℕ). Used s k c) (sym own) (kept_used s object c h.whole (ap (fin.get s.objects) (sym own) ∙ at) has)
             | inr apart ↦ h.uses other c apart at
           ];
-          numbered = h.numbered;
+          whole = h.whole;
         }
     by_test false has =
         record {
           opens = h.opens;
           uses = λ other c at. let was = left_there s.objects object other c at in h.uses other c was.0 was.1;
-          numbered = h.numbered;
+          whole =
+              removed_whole s object
+              (λ key d at is. neither (ap (λ (b : Bool). b || has_path s object) (has_described s object (let whole = h.whole in whole.numbered) (record { key = key; description = d; there = at; refers = is }))))
+              (λ path at. neither (or_right (has_description s object) (has_path s object) (has_named s object (record { path = path; refers = at }))))
+              h.whole;
         }
+      where
+        neither : (has_description s object || has_path s object) ≡ true → ⊥
+        neither it = false≢true (sym has ∙ it)
 
 -- a description that may have no descriptor is removed where it has none, and then its object
 pub released_tidy : (s : State) (key : ℕ) (d : Description) → fin.get s.descriptions key ≡ Some d → IsTidyWithout key s → IsTidy (released s key d)
@@ -377,11 +396,11 @@ released_tidy s key d there h = by_test (has_descriptor s key) refl
     left : State
     left = record s { descriptions = fin.remove s.descriptions key }
 
-    still : (object : ℕ) → (object ≡ d.object → ⊥) → Used s object → Used left object
-    still object apart (inl e) =
+    still : (object : ℕ) (c : Content) → (object ≡ d.object → ⊥) → Used s object c → Used left object c
+    still object c apart (inl e) =
         let kept : e.key ≡ key → ⊥ = λ is. apart (sym e.refers ∙ ap (λ (z : Description). z.object) (same_Some e.description d (sym e.there ∙ ap (fin.get s.descriptions) is ∙ there))) in
         inl (record { key = e.key; description = e.description; there = remove_other s.descriptions key e.key kept ∙ e.there; refers = e.refers })
-    still object apart (inr n) = inr n
+    still object c apart (inr n) = inr n
 
     by_test : (b : Bool) → has_descriptor s key ≡ b → IsTidy (if b then s else without_unused left d.object)
     by_test true has =
@@ -391,13 +410,16 @@ released_tidy s key d there h = by_test (has_descriptor s key) refl
             | inr apart ↦ h.opens other e apart at
           ];
           uses = h.uses;
-          numbered = h.numbered;
+          whole = h.whole;
         }
     by_test false has =
         unused_tidy left d.object (record {
           opens = λ other e at. let was = left_there s.descriptions key other e at in h.opens other e was.0 was.1;
-          uses = λ object c apart at. still object apart (h.uses object c at);
-          numbered = λ other e at. h.numbered other e (left_there s.descriptions key other e at).1;
+          uses = λ object c apart at. still object c apart (h.uses object c at);
+          whole =
+              undescribed_whole s key
+              (λ n at. false≢true (sym has ∙ has_open s key (record { number = n; below = (let whole = h.whole in whole.within n key at); refers = at })))
+              h.whole;
         })
 
 pub freed_tidy : (s : State) (descriptor : ℤ) (key : ℕ) → key_at s descriptor ≡ Some key → IsTidy s → IsTidyWithout key (freed s descriptor)
@@ -406,7 +428,7 @@ freed_tidy s (pos n) key is h =
     record {
       opens = λ other d apart at. still other apart (h.opens other d at);
       uses = h.uses;
-      numbered = h.numbered;
+      whole = freed_whole s n h.whole;
     }
   where
     still : (other : ℕ) → (other ≡ key → ⊥) → Open s.descriptors other → Open (fin.remove s.descriptors n) other

@@ -1,12 +1,15 @@
 -- Each call keeps a state in which nothing is unused.
-use Rattle.std.proofs.Common.{◌≡◌, ℕ, zero, suc, ◌+◌, ◌-◌, ◌<◌, ◌≤◌, ◌==◌, ℤ, pos, negsuc, List, [], ◌∷◌, length, Option, Some, None, is_some, Result, Ok, Err, Bool, true, false, not, ◌&&◌, ◌||◌, nat_lt, nat_le, if◌then◌else◌, inl, refl, sym, ap, ◌∙◌, subst, arith}
+use Rattle.std.proofs.Common.{◌≡◌, ◌⊎◌, ℕ, zero, suc, ◌+◌, ◌-◌, ◌<◌, ◌≤◌, ◌==◌, ℤ, pos, negsuc, List, [], ◌∷◌, length, Option, Some, None, is_some, Result, Ok, Err, Bool, true, false, not, ◌&&◌, ◌||◌, nat_lt, nat_le, if◌then◌else◌, inl, inr, refl, sym, ap, ◌∙◌, subst, arith}
 use Rattle.std.proofs.lemmas.Bool.{true≢false}
+use Rattle.std.proofs.lemmas.Bool.Decides.{nat_tests}
 use Rattle.std.proofs.lemmas.Option.{none-some, same_Some}
 use Rattle.std.specs.FinMap as fin
 use Rattle.std.specs.FinMap.{FinMap}
+use Rattle.std.specs.Cmp.{int_eq_equiv}
 use Rattle.std.specs.Ordering.{int_eq, nat_cmp}
 use Rattle.std.specs.Prelude.{◌+ℤ◌, is_ok}
 use Rattle.posix_terms.specs.Calls.{can_read, can_write}
+use Rattle.posix_terms.specs.Ends.{side_of}
 use Rattle.sequential_object.specs.Descriptors.{close_result, described, ends_door, freed, has_description, has_descriptor, has_path, key_at, lowest_free, lowest_from, open_node, open_result, open_there, opened, released, truncated, with_file}
 use Rattle.sequential_object.specs.Doors.{NewDoor, host_open_result, host_path, listener_in, opens, port_of, tcp_accept_result, tcp_connect_result, tcp_listen_result}
 use Rattle.sequential_object.specs.Duplicates.{closed, descriptor_number, dup_from_result, ends_a_door, dup_result, dup2_result, shared}
@@ -19,8 +22,8 @@ use Rattle.sequential_object.specs.Refusals.{◌>>=◌, count_of, position_of, r
 use Rattle.sequential_object.specs.Sockets.{NewEnd, pipe_result, shut_content, shuttable, shutdown_result, socketpair_result, two_ends, two_numbers}
 use Rattle.sequential_object.specs.Status.{fstat_result, getfl_result, setfl_result, stat_content}
 use Rattle.sequential_object.specs.Step.{Carried, concluded, effect_of, failed, is_again, step, waited}
-use Rattle.sequential_object.specs.Streams.{Breaks, Ends, NoRoom, NothingYet, Reading, Reads, Writes, Writing, new_pair}
-use Rattle.sequential_object.specs.Transfers.{base_of, file_in, ftruncate_result, lseek_result, not_listener, offset_of, pread_result, pwrite_result, read_content, read_done, read_result, readable, seek_content, seekable, size_of, start_of, with_offset, writable, write_content, write_done, write_file, write_result}
+use Rattle.sequential_object.specs.Streams.{Breaks, Ends, NoRoom, NothingYet, Reading, Reads, Writes, Writing, new_pair, shut}
+use Rattle.sequential_object.specs.Transfers.{base_of, file_in, ftruncate_result, lseek_result, not_listener, offset_of, pread_result, pwrite_result, read_content, read_done, read_result, readable, seek_content, seekable, size_of, start_of, with_offset, writable, write_content, write_done, write_result}
 use Rattle.sequential_object.specs.Unused.{HoldsNothingUnused}
 use Rattle.posix_terms.specs.declared.call.Access.{Access}
 use Rattle.posix_terms.specs.Calls.{Call}
@@ -31,16 +34,16 @@ use Rattle.posix_terms.specs.declared.call.Whence.{Whence}
 use Rattle.posix_terms.specs.declared.errno.Errno.{Errno}
 use Rattle.posix_terms.specs.declared.errno.Errno.TheVariants.{EBADF, EBUSY, EEXIST, EINVAL, EMFILE, ENFILE, ENOENT, ENOSPC, ENOTEMPTY, ESPIPE}
 use Rattle.posix_terms.specs.declared.limits.TheConstants.Limits as limit
-use Rattle.posix_terms.specs.declared.object.Door.TheVariants as door
 use Rattle.posix_terms.specs.declared.object.End.TheVariants as part
 use Rattle.posix_terms.specs.declared.outcome.OutKind.TheVariants as kind
 use Rattle.posix_terms.specs.declared.outcome.Outcome.{Outcome}
 use Rattle.posix_terms.specs.declared.outcome.Outcome.TheVariants as out
 use Rattle.posix_terms.specs.declared.reply.Reply.TheVariants as reply
 use Rattle.posix_terms.specs.declared.transcript.Settings.{Settings}
-use Rattle.sequential_object.proofs.Maps.{insert_keeps, insert_other, insert_same, remove_keeps, remove_same}
+use Rattle.sequential_object.proofs.Maps.{insert_keeps, insert_other, insert_same, inserted_is, left_is, paths_total, remove_keeps, remove_other, remove_same}
 use Rattle.sequential_object.proofs.Refused.{waited_alone}
-use Rattle.sequential_object.proofs.Tidy.{IsFree, IsTidy, KeepsFiles, Used, but_one, content_tidy, cut_tidy, file_tidy, freed_tidy, nothing_unused, object_tidy, opened_tidy, own_tidy, paths_tidy, paths_total, released_tidy, shared_tidy, tidy_of, unnamed_tidy, unused_tidy}
+use Rattle.sequential_object.proofs.Tidy.{IsFree, IsTidy, KeepsFiles, Named, Used, but_one, content_tidy, cut_there, cut_tidy, file_tidy, freed_tidy, nothing_unused, object_tidy, opened_tidy, own_tidy, paths_tidy, released_tidy, shared_tidy, tidy_of, unnamed_tidy, unused_tidy}
+use Rattle.sequential_object.proofs.Whole.{NamesKnown, StaysFile, same_kind}
 
 -- ## Effects
 
@@ -73,6 +76,10 @@ either_effect false x y hx hy = hy
 either_decision : (b : Bool) (x y : Decision) → TidyBy x.does → TidyBy y.does → TidyBy (does_of (Ok (if b then x else y)))
 either_decision true x y hx hy = hx
 either_decision false x y hx hy = hy
+
+otherwise_decision : (b : Bool) (x y : Decision) → TidyBy x.does → (b ≡ false → TidyBy y.does) → TidyBy (does_of (Ok (if b then x else y)))
+otherwise_decision true x y hx hy = hx
+otherwise_decision false x y hx hy = hy refl
 
 -- ## Chains that gave something
 
@@ -194,12 +201,30 @@ added_keeps paths path node new h =
     let free = no_node paths components (is_none (node_at paths components) (not_refused (is_some (node_at paths components)) EEXIST two.0 two.1.0)) in
     subst (KeepsFiles paths) (same_ok (fin.insert paths components node) new three.1.1) (λ q object is. insert_keeps paths_total paths components node q (FileNode object) free is)
 
+same_file : (a b : ℕ) → Some (FileNode a) ≡ Some (FileNode b) → a ≡ b
+same_file a b h = cc
+
+-- a new name is that of a directory, or of a file that has a name
+abbrev AlreadyNamed : PathMap → Node → Type 0
+AlreadyNamed paths node = (object : ℕ) → node ≡ FileNode object → (before : List (List ℕ)) × (fin.get paths before ≡ Some (FileNode object))
+
+added_known : (paths : PathMap) (path : List ℕ) (node : Node) (new : PathMap) → AlreadyNamed paths node → added paths path node ≡ Ok new → NamesKnown paths new
+unfolding added
+added_known paths path node new known h =
+    let one = gave (resolved paths path) _ new h in
+    let components = one.0 in
+    let two = gave (refuse_if (is_some (node_at paths components)) EEXIST) _ new one.1.1 in
+    let three = gave (refuse_if (nat_le limit.NAMES (fin.len paths)) ENOSPC) _ new two.1.1 in
+    subst (NamesKnown paths) (same_ok (fin.insert paths components node) new three.1.1) (λ q object is.
+    by_name q object (inserted_is paths_total paths components node q (FileNode object) is))
+  where
+    by_name : (q : List (List ℕ)) (object : ℕ) → (node ≡ FileNode object) ⊎ (fin.get paths q ≡ Some (FileNode object)) → (before : List (List ℕ)) × (fin.get paths before ≡ Some (FileNode object))
+    by_name q object (inl is) = known object is
+    by_name q object (inr at) = (q, at)
+
 -- a file that loses a name; each other one keeps its names
 abbrev KeepsOthers : PathMap → PathMap × ℕ → Type 0
 KeepsOthers paths without = (path : List (List ℕ)) (other : ℕ) → (other ≡ without.1 → ⊥) → fin.get paths path ≡ Some (FileNode other) → fin.get without.0 path ≡ Some (FileNode other)
-
-same_file : (a b : ℕ) → Some (FileNode a) ≡ Some (FileNode b) → a ≡ b
-same_file a b h = cc
 
 removed_keeps : (paths : PathMap) (path : List ℕ) (without : PathMap × ℕ) → removed paths path ≡ Ok without → KeepsOthers paths without
 unfolding removed
@@ -211,31 +236,51 @@ removed_keeps paths path without h =
     subst (KeepsOthers paths) (same_ok (fin.remove paths components, two.0) without two.1.1) (λ q other apart is.
     remove_keeps paths_total paths components q (FileNode other) (λ at. apart (same_file other two.0 (sym at ∙ its))) is)
 
-removed_dir_keeps : (paths : PathMap) (components : List (List ℕ)) (o : Option Node) (new : PathMap) → node_at paths components ≡ o → removed_dir_at paths components o ≡ Ok new → KeepsFiles paths new
-removed_dir_keeps paths components None new is h = absurd (true≢false (sym (ap is_ok h)))
-removed_dir_keeps paths components (Some (FileNode object)) new is h = absurd (true≢false (sym (ap is_ok h)))
-removed_dir_keeps paths [] (Some Directory) new is h = absurd (true≢false (sym (ap is_ok h)))
-removed_dir_keeps paths (name ∷ names) (Some Directory) new is h =
+removed_known : (paths : PathMap) (path : List ℕ) (without : PathMap × ℕ) → removed paths path ≡ Ok without → NamesKnown paths without.0
+unfolding removed
+removed_known paths path without h =
+    let one = gave (resolved paths path) _ without h in
+    let components = one.0 in
+    let two = gave (file_node (node_at paths components)) _ without one.1.1 in
+    subst (λ (w : PathMap × ℕ). NamesKnown paths w.0) (same_ok (fin.remove paths components, two.0) without two.1.1)
+    (λ q object is. (q, left_is paths_total paths components q (FileNode object) is))
+
+-- without the name of a directory, each file has the names that it had
+abbrev SameFiles : PathMap → PathMap → Type 0
+SameFiles old new = KeepsFiles old new × NamesKnown old new
+
+removed_dir_same : (paths : PathMap) (components : List (List ℕ)) (o : Option Node) (new : PathMap) → node_at paths components ≡ o → removed_dir_at paths components o ≡ Ok new → SameFiles paths new
+removed_dir_same paths components None new is h = absurd (true≢false (sym (ap is_ok h)))
+removed_dir_same paths components (Some (FileNode object)) new is h = absurd (true≢false (sym (ap is_ok h)))
+removed_dir_same paths [] (Some Directory) new is h = absurd (true≢false (sym (ap is_ok h)))
+removed_dir_same paths (name ∷ names) (Some Directory) new is h =
     let components : List (List ℕ) = name ∷ names in
     let one = gave (refuse_if (length components == 0) EBUSY) _ new h in
     let two = gave (refuse_if (has_entries paths components) ENOTEMPTY) _ new one.1.1 in
-    subst (KeepsFiles paths) (same_ok (fin.remove paths components) new two.1.1) (λ q object at. remove_keeps paths_total paths components q (FileNode object) (λ other. no_file object (sym is ∙ other)) at)
+    subst (SameFiles paths) (same_ok (fin.remove paths components) new two.1.1) (
+      (λ q object at. remove_keeps paths_total paths components q (FileNode object) (λ other. no_file object (sym is ∙ other)) at),
+      (λ q object at. (q, left_is paths_total paths components q (FileNode object) at)),
+    )
   where
     no_file : (object : ℕ) → Some Directory ≡ Some (FileNode object) → ⊥
     no_file object e = cc
 
-dir_keeps : (paths : PathMap) (path : List ℕ) (new : PathMap) → removed_dir paths path ≡ Ok new → KeepsFiles paths new
+dir_same : (paths : PathMap) (path : List ℕ) (new : PathMap) → removed_dir paths path ≡ Ok new → SameFiles paths new
 unfolding removed_dir
-dir_keeps paths path new h = let one = gave (resolved paths path) _ new h in removed_dir_keeps paths one.0 (node_at paths one.0) new refl one.1.1
+dir_same paths path new h = let one = gave (resolved paths path) _ new h in removed_dir_same paths one.0 (node_at paths one.0) new refl one.1.1
 
 -- ## Descriptors
 
-own_used : (s : State) (key : ℕ) (d : Description) → fin.get s.descriptions key ≡ Some d → Used s d.object
-own_used s key d there = inl (record { key = key; description = d; there = there; refers = refl })
+own_used : (s : State) (key : ℕ) (d : Description) (c : Content) → fin.get s.descriptions key ≡ Some d → Used s d.object c
+own_used s key d c there = inl (record { key = key; description = d; there = there; refers = refl })
 
 cut_free : (s : State) (object : ℕ) (b : Bool) (n : ℕ) → IsFree s n → IsFree (truncated s object b) n
 cut_free s object true n f = record { free = f.free; below = f.below }
 cut_free s object false n f = f
+
+-- a new object is there
+next_there : (s : State) (c : Content) → is_some (fin.get (fin.insert s.objects s.next_object c) s.next_object) ≡ true
+next_there s c = ap (λ (o : Option Content). is_some o) (insert_same s.objects s.next_object c)
 
 freed_there : (s : State) (descriptor : ℤ) (key : ℕ) (d : Description) → fin.get s.descriptions key ≡ Some d → (let after = freed s descriptor in fin.get after.descriptions key ≡ Some d)
 freed_there s (pos n) key d there = there
@@ -259,23 +304,39 @@ released_descriptors s key d = by_tests (has_descriptor s key) (has_description 
 found_of : (s : State) (o : Option ℕ) (key : ℕ) (d : Description) → o ≡ Some key → fin.get s.descriptions key ≡ Some d → found_at s o ≡ Ok (key, d)
 found_of s o key d at there = ap (found_at s) at ∙ ap (keyed s key) there
 
-target_tidy : (s : State) (m key : ℕ) → IsTidy s → IsTidy (shared (closed s (pos m) (described s (pos m))) m key)
-target_tidy s m key h = by_result (described s (pos m)) refl
+-- a target that refers to the description of another number from now on
+target_tidy : (s : State) (n m key : ℕ) → fin.get s.descriptors n ≡ Some key → (n ≡ m → ⊥) → m < limit.DESCRIPTORS → IsTidy s → IsTidy (shared (closed s (pos m) (described s (pos m))) m key)
+target_tidy s n m key refers apart below h = by_result (described s (pos m)) refl
   where
     by_result : (r : Result (ℕ × Description) Errno) → described s (pos m) ≡ r → IsTidy (shared (closed s (pos m) r) m key)
     by_result (Ok found) is =
-        shared_tidy (released (freed s (pos m)) found.0 found.1) m key
-        (λ other d there at. none-some other (sym (ap (λ (x : FinMap nat_cmp ℕ). fin.get x m) (released_descriptors (freed s (pos m)) found.0 found.1) ∙ remove_same s.descriptors m) ∙ at))
-        (closed_tidy s (pos m) found (is_found s (pos m) found is) h)
-    by_result (Err e) is = shared_tidy s m key (λ other d there at. true≢false (sym (ap is_ok (sym is ∙ found_of s (fin.get s.descriptors m) other d at there)))) h
+        let after = released (freed s (pos m)) found.0 found.1 in
+        let tidy = closed_tidy s (pos m) found (is_found s (pos m) found is) h in
+        let same = released_descriptors (freed s (pos m)) found.0 found.1 in
+        shared_tidy after m key
+        (λ other d there at. none-some other (sym (ap (λ (x : FinMap nat_cmp ℕ). fin.get x m) same ∙ remove_same s.descriptors m) ∙ at))
+        below
+        (let whole = tidy.whole in whole.opens n key (ap (λ (x : FinMap nat_cmp ℕ). fin.get x n) same ∙ remove_other s.descriptors m n apart ∙ refers))
+        tidy
+    by_result (Err e) is =
+        shared_tidy s m key (λ other d there at. true≢false (sym (ap is_ok (sym is ∙ found_of s (fin.get s.descriptors m) other d at there)))) below
+        (let whole = h.whole in whole.opens n key refers) h
 
-number_is : (target : ℤ) (e : Errno) (n : ℕ) → descriptor_number target e ≡ Ok n → target ≡ pos n
+-- a number that a descriptor can have
+record IsNumber (target : ℤ) (n : ℕ) : Type 0 where
+  is : target ≡ pos n
+  below : n < limit.DESCRIPTORS
+
+number_is : (target : ℤ) (e : Errno) (n : ℕ) → descriptor_number target e ≡ Ok n → IsNumber target n
 number_is (negsuc m) e n h = absurd (true≢false (sym (ap is_ok h)))
-number_is (pos m) e n h = by_test (nat_lt m limit.DESCRIPTORS) h
+number_is (pos m) e n h = by_test (nat_lt m limit.DESCRIPTORS) refl h
   where
-    by_test : (b : Bool) → (if b then Ok m else Err e) ≡ Ok n → pos m ≡ pos n
-    by_test true h = ap pos (same_ok m n h)
-    by_test false h = absurd (true≢false (sym (ap is_ok h)))
+    lower : nat_lt m limit.DESCRIPTORS ≡ true → m ≡ n → n < limit.DESCRIPTORS
+    lower below same = grind (arith, nat_tests)
+
+    by_test : (b : Bool) → nat_lt m limit.DESCRIPTORS ≡ b → (if b then Ok m else Err e) ≡ Ok n → IsNumber (pos m) n
+    by_test true below h = record { is = ap pos (same_ok m n h); below = lower below (same_ok m n h) }
+    by_test false below h = absurd (true≢false (sym (ap is_ok h)))
 
 -- two numbers that are free, and no one number
 record AreFree (s : State) (numbers : ℕ × ℕ) : Type 0 where
@@ -300,18 +361,20 @@ two_free s numbers h =
 
 -- ## Each call
 
-by_there : (s : State) (node : Node) (access : Access) (flags : OpenFlags) → IsTidy s → TidyBy (does_of (open_there s node access flags))
-by_there s Directory access flags h = record { it = tt }
-by_there s (FileNode object) access flags h =
-    decides (some_or (lowest_free s) EMFILE) _ (λ n is.
-    record { it = opened_tidy (truncated s object flags.truncate) n object part.Only access flags.append flags.nonblock (cut_free s object flags.truncate n (free_is s n is)) (cut_tidy s object flags.truncate h) })
+by_there : (s : State) (components : List (List ℕ)) (node : Node) (access : Access) (flags : OpenFlags) → IsTidy s → node_at s.paths components ≡ Some node → TidyBy (does_of (open_there s node access flags))
+by_there s components Directory access flags h is = record { it = tt }
+by_there s components (FileNode object) access flags h is =
+    decides (some_or (lowest_free s) EMFILE) _ (λ n found.
+    let cut : State = truncated s object flags.truncate in
+    let named : Named s.paths object = record { path = components; refers = file_there s.paths components object is } in
+    record { it = opened_tidy cut n object part.Only access flags.append flags.nonblock (cut_free s object flags.truncate n (free_is s n found)) (cut_there s object flags.truncate named h) (but_one cut object (cut_tidy s object flags.truncate named h)) })
 
 by_node : (s : State) (components : List (List ℕ)) (o : Option Node) (access : Access) (flags : OpenFlags) → IsTidy s → node_at s.paths components ≡ o → TidyBy (does_of (open_node s components o access flags))
 by_node s components None access flags h none =
     decides (refuse_if (not flags.create) ENOENT) _ (λ _ _. decides (refuse_if (nat_le limit.NAMES (fin.len s.paths) || nat_le limit.OBJECTS (fin.len s.objects)) ENOSPC) _ (λ _ _. decides (some_or (lowest_free s) EMFILE) _ (λ n is.
     let f = free_is s n is in
-    record { it = opened_tidy (with_file s components) n s.next_object part.Only access flags.append flags.nonblock (record { free = f.free; below = f.below }) (file_tidy s components (no_node s.paths components none) h) })))
-by_node s components (Some node) access flags h is = decides (refuse_if (flags.create && flags.exclusive) EEXIST) _ (λ _ _. by_there s node access flags h)
+    record { it = opened_tidy (with_file s components) n s.next_object part.Only access flags.append flags.nonblock (record { free = f.free; below = f.below }) (next_there s (File [])) (file_tidy s components (no_node s.paths components none) h) })))
+by_node s components (Some node) access flags h is = decides (refuse_if (flags.create && flags.exclusive) EEXIST) _ (λ _ _. by_there s components node access flags h is)
 
 by_open : (s : State) (path : List ℕ) (access : Access) (flags : OpenFlags) → IsTidy s → TidyBy (does_of (open_result s path access flags))
 unfolding open_result
@@ -325,46 +388,46 @@ by_close s descriptor h =
     let tidy = closed_tidy s descriptor found (is_found s descriptor found is) h in
     either_effect (ends_door s descriptor found) (asks_of after kind.Close 0 false (λ value bytes. reply.Done)) (Completes after reply.Done) (record { it = ((λ value bytes. tidy), tidy) }) (record { it = tidy }))
 
-by_reading : (s : State) (key : ℕ) (d : Description) (content : List ℕ → Content) (reading : Reading) → fin.get s.descriptions key ≡ Some d → IsTidy s → TidyBy (read_done s d content reading)
-by_reading s key d content (Reads bytes left) there h = record { it = content_tidy s d.object (content left) (own_used s key d there) h }
-by_reading s key d content Ends there h = record { it = h }
-by_reading s key d content NothingYet there h = either d.nonblock _ _ (record { it = tt }) (record { it = tt })
+by_reading : (s : State) (key : ℕ) (d : Description) (content : List ℕ → Content) (reading : Reading) → fin.get s.descriptions key ≡ Some d → ((left : List ℕ) → StaysFile s d.object (content left)) → IsTidy s → TidyBy (read_done s d content reading)
+by_reading s key d content (Reads bytes left) there kind h = record { it = content_tidy s d.object (content left) (own_used s key d (content left) there) (kind left) h }
+by_reading s key d content Ends there kind h = record { it = h }
+by_reading s key d content NothingYet there kind h = either d.nonblock _ _ (record { it = tt }) (record { it = tt })
 
-by_read_content : (s : State) (key : ℕ) (d : Description) (n : ℕ) (c : Content) → fin.get s.descriptions key ≡ Some d → IsTidy s → TidyBy (does_of (Ok (read_content s key d n c)))
-by_read_content s key d n (File file) there h = record { it = own_tidy s key d _ there refl h }
-by_read_content s key d n (Pipe bytes) there h = either_decision (n == 0) _ _ (record { it = h }) (by_reading s key d Pipe _ there h)
-by_read_content s key d n (Pair p) there h = either_decision (n == 0) _ _ (record { it = h }) (by_reading s key d _ _ there h)
-by_read_content s key d n (DoorTo x) there h = either_decision (n == 0) _ _ (record { it = h }) (record { it = ((λ value bytes. h), h) })
+by_read_content : (s : State) (key : ℕ) (d : Description) (n : ℕ) (c : Content) → fin.get s.descriptions key ≡ Some d → content_of s d.object ≡ c → IsTidy s → TidyBy (does_of (Ok (read_content s key d n c)))
+by_read_content s key d n (File file) there is h = record { it = own_tidy s key d _ there refl h }
+by_read_content s key d n (Pipe bytes) there is h = either_decision (n == 0) _ _ (record { it = h }) (by_reading s key d Pipe _ there (λ left. same_kind s d.object (Pipe bytes) is) h)
+by_read_content s key d n (Pair p) there is h = either_decision (n == 0) _ _ (record { it = h }) (by_reading s key d _ _ there (λ left. same_kind s d.object (Pair p) is) h)
+by_read_content s key d n (DoorTo x) there is h = either_decision (n == 0) _ _ (record { it = h }) (record { it = ((λ value bytes. h), h) })
 
 by_read : (s : State) (descriptor count : ℤ) → IsTidy s → TidyBy (does_of (read_result s descriptor count))
 unfolding read_result
 by_read s descriptor count h =
     decides (readable s descriptor) _ (λ found is. decides (count_of count) _ (λ n _.
-    by_read_content s found.0 found.1 n (content_of s (let d = found.1 in d.object)) (let its = readable_found s descriptor found is in its.there) h))
+    by_read_content s found.0 found.1 n (content_of s (let d = found.1 in d.object)) (let its = readable_found s descriptor found is in its.there) refl h))
 
-by_writing : (s : State) (key : ℕ) (d : Description) (n : ℕ) (content : List ℕ → Content) (writing : Writing) → fin.get s.descriptions key ≡ Some d → IsTidy s → TidyBy (write_done s d n content writing)
-by_writing s key d n content (Writes left) there h = record { it = content_tidy s d.object (content left) (own_used s key d there) h }
-by_writing s key d n content Breaks there h = record { it = tt }
-by_writing s key d n content NoRoom there h = either d.nonblock _ _ (record { it = tt }) (record { it = tt })
+by_writing : (s : State) (key : ℕ) (d : Description) (n : ℕ) (content : List ℕ → Content) (writing : Writing) → fin.get s.descriptions key ≡ Some d → ((left : List ℕ) → StaysFile s d.object (content left)) → IsTidy s → TidyBy (write_done s d n content writing)
+by_writing s key d n content (Writes left) there kind h = record { it = content_tidy s d.object (content left) (own_used s key d (content left) there) (kind left) h }
+by_writing s key d n content Breaks there kind h = record { it = tt }
+by_writing s key d n content NoRoom there kind h = either d.nonblock _ _ (record { it = tt }) (record { it = tt })
 
-written_tidy : (s : State) (key : ℕ) (d : Description) (offset : ℕ) (c : Content) → fin.get s.descriptions key ≡ Some d → IsTidy s → IsTidy (with_content (with_offset s key d offset) d.object c)
-written_tidy s key d offset c there h =
+written_tidy : (s : State) (key : ℕ) (d : Description) (offset : ℕ) (bytes : List ℕ) → fin.get s.descriptions key ≡ Some d → IsTidy s → IsTidy (with_content (with_offset s key d offset) d.object (File bytes))
+written_tidy s key d offset bytes there h =
     let moved : Description = record d { offset = offset } in
-    content_tidy (with_offset s key d offset) d.object c (own_used (with_offset s key d offset) key moved (insert_same s.descriptions key moved)) (own_tidy s key d moved there refl h)
+    content_tidy (with_offset s key d offset) d.object (File bytes) (own_used (with_offset s key d offset) key moved (File bytes) (insert_same s.descriptions key moved)) (λ _. refl) (own_tidy s key d moved there refl h)
 
-by_write_content : (s : State) (key : ℕ) (d : Description) (bytes : List ℕ) (c : Content) → fin.get s.descriptions key ≡ Some d → IsTidy s → TidyBy (does_of (Ok (write_content s key d bytes c)))
-by_write_content s key d bytes (File file) there h =
+by_write_content : (s : State) (key : ℕ) (d : Description) (bytes : List ℕ) (c : Content) → fin.get s.descriptions key ≡ Some d → content_of s d.object ≡ c → IsTidy s → TidyBy (does_of (Ok (write_content s key d bytes c)))
+by_write_content s key d bytes (File file) there is h =
     either (length bytes == 0) _ _ (record { it = h })
-    (chain (written file (start_of d file) bytes) _ (λ w _. record { it = written_tidy s key d (start_of d file + w.1) (File w.0) there h }))
-by_write_content s key d bytes (Pipe waiting) there h = either_decision (length bytes == 0) _ _ (record { it = h }) (by_writing s key d _ Pipe _ there h)
-by_write_content s key d bytes (Pair p) there h = either_decision (length bytes == 0) _ _ (record { it = h }) (by_writing s key d _ _ _ there h)
-by_write_content s key d bytes (DoorTo x) there h = either_decision (length bytes == 0) _ _ (record { it = h }) (record { it = ((λ value sent. h), h) })
+    (chain (written file (start_of d file) bytes) _ (λ w _. record { it = written_tidy s key d (start_of d file + w.1) w.0 there h }))
+by_write_content s key d bytes (Pipe waiting) there is h = either_decision (length bytes == 0) _ _ (record { it = h }) (by_writing s key d _ Pipe _ there (λ left. same_kind s d.object (Pipe waiting) is) h)
+by_write_content s key d bytes (Pair p) there is h = either_decision (length bytes == 0) _ _ (record { it = h }) (by_writing s key d _ _ _ there (λ left. same_kind s d.object (Pair p) is) h)
+by_write_content s key d bytes (DoorTo x) there is h = either_decision (length bytes == 0) _ _ (record { it = h }) (record { it = ((λ value sent. h), h) })
 
 by_write : (s : State) (descriptor : ℤ) (bytes : List ℕ) → IsTidy s → TidyBy (does_of (write_result s descriptor bytes))
 unfolding write_result
 by_write s descriptor bytes h =
     decides (writable s descriptor bytes) _ (λ found is.
-    by_write_content s found.0 found.1 bytes (content_of s (let d = found.1 in d.object)) (let its = writable_found s descriptor bytes found is in its.there) h)
+    by_write_content s found.0 found.1 bytes (content_of s (let d = found.1 in d.object)) (let its = writable_found s descriptor bytes found is in its.there) refl h)
 
 by_pread : (s : State) (descriptor count position : ℤ) → IsTidy s → TidyBy (does_of (pread_result s descriptor count position))
 unfolding pread_result
@@ -376,7 +439,7 @@ unfolding pwrite_result
 by_pwrite s descriptor bytes position h =
     decides (described s descriptor) _ (λ found is. let d = found.1 in
     decides (file_in (content_of s d.object) ESPIPE) _ (λ file _. decides (refuse_if (not (can_write d.access)) EBADF) _ (λ _ _. decides (refuse_if (nat_lt limit.COUNT (length bytes)) EINVAL) _ (λ _ _. decides (position_of position) _ (λ start _.
-    either (length bytes == 0) _ _ (record { it = h }) (chain (written file start bytes) _ (λ w _. record { it = content_tidy s d.object (File w.0) (own_used s found.0 d (let its = is_found s descriptor found is in its.there)) h })))))))
+    either (length bytes == 0) _ _ (record { it = h }) (chain (written file start bytes) _ (λ w _. record { it = content_tidy s d.object (File w.0) (own_used s found.0 d (File w.0) (let its = is_found s descriptor found is in its.there)) (λ _. refl) h })))))))
 
 by_seek : (s : State) (key : ℕ) (d : Description) (offset : ℤ) (from : Whence) (c : Content) → fin.get s.descriptions key ≡ Some d → IsTidy s → TidyBy (seek_content s key d offset from c)
 by_seek s key d offset from (File file) there h = chain (offset_of (pos (base_of from d.offset (length file)) +ℤ offset)) _ (λ to _. record { it = own_tidy s key d _ there refl h })
@@ -396,7 +459,7 @@ unfolding ftruncate_result
 by_ftruncate s descriptor size h =
     decides (described s descriptor) _ (λ found is. let d = found.1 in
     decides (refuse_if (not (can_write d.access)) EINVAL) _ (λ _ _. decides (file_in (content_of s d.object) EINVAL) _ (λ file _. decides (size_of size) _ (λ n _.
-    record { it = content_tidy s d.object (File (resized file n)) (own_used s found.0 d (let its = is_found s descriptor found is in its.there)) h }))))
+    record { it = content_tidy s d.object (File (resized file n)) (own_used s found.0 d (File (resized file n)) (let its = is_found s descriptor found is in its.there)) (λ _. refl) h }))))
 
 by_stat : (s : State) (object : ℕ) (c : Content) → IsTidy s → TidyBy (does_of (Ok (stat_content s object c)))
 by_stat s object (File file) h = record { it = h }
@@ -409,27 +472,46 @@ unfolding fstat_result
 by_fstat s descriptor h = decides (described s descriptor) _ (λ found _. let d = found.1 in by_stat s d.object (content_of s d.object) h)
 
 -- one more descriptor of a description, at a number that is free
-free_shared : (s : State) (n key : ℕ) → fin.get s.descriptors n ≡ None → IsTidy s → IsTidy (shared s n key)
-free_shared s n key free h = shared_tidy s n key (λ other d there at. none-some other (sym free ∙ at)) h
+free_shared : (s : State) (n : ℕ) (found : ℕ × Description) → IsFree s n → fin.get s.descriptions found.0 ≡ Some found.1 → IsTidy s → IsTidy (shared s n found.0)
+free_shared s n found f there h =
+    shared_tidy s n found.0 (λ other d _ at. none-some other (sym f.free ∙ at)) f.below (ap (λ (o : Option Description). is_some o) there) h
 
 by_dup : (s : State) (descriptor : ℤ) → IsTidy s → TidyBy (does_of (dup_result s descriptor))
 unfolding dup_result
 by_dup s descriptor h =
-    decides (described s descriptor) _ (λ found _. decides (some_or (lowest_free s) EMFILE) _ (λ n is.
-    record { it = free_shared s n found.0 (let f = free_is s n is in f.free) h }))
+    decides (described s descriptor) _ (λ found of. decides (some_or (lowest_free s) EMFILE) _ (λ n is.
+    record { it = free_shared s n found (free_is s n is) (let its = is_found s descriptor found of in its.there) h }))
 
 by_dup_from : (s : State) (descriptor least : ℤ) → IsTidy s → TidyBy (does_of (dup_from_result s descriptor least))
 unfolding dup_from_result
 by_dup_from s descriptor least h =
-    decides (described s descriptor) _ (λ found _. decides (descriptor_number least EINVAL) _ (λ first _. decides (some_or (lowest_from s (limit.DESCRIPTORS - first) first) EMFILE) _ (λ n is.
-    record { it = free_shared s n found.0 (let f = lowest_is s (limit.DESCRIPTORS - first) first n (some_gave (lowest_from s (limit.DESCRIPTORS - first) first) EMFILE n is) in f.free) h })))
+    decides (described s descriptor) _ (λ found of. decides (descriptor_number least EINVAL) _ (λ first _. decides (some_or (lowest_from s (limit.DESCRIPTORS - first) first) EMFILE) _ (λ n is.
+    record { it = free_shared s n found (from_free first n (lowest_is s (limit.DESCRIPTORS - first) first n (some_gave (lowest_from s (limit.DESCRIPTORS - first) first) EMFILE n is))) (let its = is_found s descriptor found of in its.there) h })))
+  where
+    from_free : (first n : ℕ) → IsLowest s (limit.DESCRIPTORS - first) first n → IsFree s n
+    from_free first n it =
+        let least : first ≤ n = it.least in
+        let below : n < first + (limit.DESCRIPTORS - first) = it.below in
+        record { free = it.free; below = omega arith }
+
+ints_same : (m n : ℕ) → m ≡ n → int_eq (pos m) (pos n) ≡ true
+ints_same m n same = subst (λ (k : ℕ). int_eq (pos m) (pos k) ≡ true) same (int_eq_equiv.refl (pos m))
 
 by_dup2 : (s : State) (descriptor target : ℤ) → IsTidy s → TidyBy (does_of (dup2_result s descriptor target))
 unfolding dup2_result
 by_dup2 s descriptor target h =
-    decides (described s descriptor) _ (λ found _. decides (descriptor_number target EBADF) _ (λ n is. decides (refuse_if (not (int_eq descriptor target) && ends_a_door s target (described s target)) EBUSY) _ (λ _ _.
-    either_decision (int_eq descriptor target) _ _ (record { it = h })
-    (record { it = subst (λ (to : ℤ). IsTidy (shared (closed s to (described s to)) n found.0)) (sym (number_is target EBADF n is)) (target_tidy s n found.0 h) }))))
+    decides (described s descriptor) _ (λ found of. decides (descriptor_number target EBADF) _ (λ n is. decides (refuse_if (not (int_eq descriptor target) && ends_a_door s target (described s target)) EBUSY) _ (λ _ _.
+    otherwise_decision (int_eq descriptor target) _ _ (record { it = h })
+    (λ apart. record { it = by_target descriptor target found.0 n (let its = is_found s descriptor found of in its.at) (number_is target EBADF n is) apart }))))
+  where
+    by_number : (from to : ℤ) (key n : ℕ) → key_at s from ≡ Some key → to ≡ pos n → n < limit.DESCRIPTORS → int_eq from (pos n) ≡ false → IsTidy (shared (closed s to (described s to)) n key)
+    by_number (negsuc m) to key n at is below apart = absurd (none-some key at)
+    by_number (pos m) to key n at is below apart =
+        subst (λ (x : ℤ). IsTidy (shared (closed s x (described s x)) n key)) (sym is)
+        (target_tidy s m n key at (λ same. true≢false (sym (ints_same m n same) ∙ apart)) below h)
+
+    by_target : (from to : ℤ) (key n : ℕ) → key_at s from ≡ Some key → IsNumber to n → int_eq from to ≡ false → IsTidy (shared (closed s to (described s to)) n key)
+    by_target from to key n at it apart = by_number from to key n at it.is it.below (ap (int_eq from) (sym it.is) ∙ apart)
 
 by_getfl : (s : State) (descriptor : ℤ) → IsTidy s → TidyBy (does_of (getfl_result s descriptor))
 unfolding getfl_result
@@ -442,20 +524,29 @@ by_setfl s descriptor append nonblock h =
     record { it = own_tidy s found.0 found.1 (record found.1 { append = append; nonblock = nonblock }) (let its = is_found s descriptor found is in its.there) refl h })
 
 by_link : (s : State) (old_path new_path : List ℕ) → IsTidy s → TidyBy (does_of (link_result s old_path new_path))
-unfolding link_result
-by_link s old_path new_path h = decides (file_named s.paths old_path) _ (λ object _. decides (added s.paths new_path (FileNode object)) _ (λ paths is. record { it = paths_tidy s paths (added_keeps s.paths new_path (FileNode object) paths is) h }))
+unfolding link_result file_named
+by_link s old_path new_path h = decides (file_named s.paths old_path) _ (λ object named. decides (added s.paths new_path (FileNode object)) _ (λ paths is. record { it = paths_tidy s paths (added_keeps s.paths new_path (FileNode object) paths is) (added_known s.paths new_path (FileNode object) paths (old_name object named) is) h }))
+  where
+    same_node : (a b : ℕ) → FileNode a ≡ FileNode b → a ≡ b
+    same_node a b e = cc
+
+    old_name : (object : ℕ) → file_named s.paths old_path ≡ Ok object → AlreadyNamed s.paths (FileNode object)
+    old_name object named other is =
+        let one = gave (resolved s.paths old_path) _ object named in
+        let at = file_there s.paths one.0 object (file_node_is (node_at s.paths one.0) object one.1.1) in
+        (one.0, at ∙ ap (λ (k : ℕ). Some (FileNode k)) (same_node object other is))
 
 by_unlink : (s : State) (path : List ℕ) → IsTidy s → TidyBy (does_of (unlink_result s path))
 unfolding unlink_result
-by_unlink s path h = decides (removed s.paths path) _ (λ without is. record { it = unused_tidy (with_paths s without.0) without.1 (unnamed_tidy s without.0 without.1 (removed_keeps s.paths path without is) h) })
+by_unlink s path h = decides (removed s.paths path) _ (λ without is. record { it = unused_tidy (with_paths s without.0) without.1 (unnamed_tidy s without.0 without.1 (removed_keeps s.paths path without is) (removed_known s.paths path without is) h) })
 
 by_mkdir : (s : State) (path : List ℕ) → IsTidy s → TidyBy (does_of (mkdir_result s path))
 unfolding mkdir_result
-by_mkdir s path h = decides (added s.paths path Directory) _ (λ paths is. record { it = paths_tidy s paths (added_keeps s.paths path Directory paths is) h })
+by_mkdir s path h = decides (added s.paths path Directory) _ (λ paths is. record { it = paths_tidy s paths (added_keeps s.paths path Directory paths is) (added_known s.paths path Directory paths (λ object e. cc) is) h })
 
 by_rmdir : (s : State) (path : List ℕ) → IsTidy s → TidyBy (does_of (rmdir_result s path))
 unfolding rmdir_result
-by_rmdir s path h = decides (removed_dir s.paths path) _ (λ paths is. record { it = paths_tidy s paths (dir_keeps s.paths path paths is) h })
+by_rmdir s path h = decides (removed_dir s.paths path) _ (λ paths is. let same = dir_same s.paths path paths is in record { it = paths_tidy s paths same.0 same.1 h })
 
 ends_tidy : (s : State) (c : Content) (numbers : ℕ × ℕ) (one other : NewEnd) → AreFree s numbers → IsTidy s
     → IsTidy (opened (opened (with_object s c) numbers.0 s.next_object one.which one.access false false) numbers.1 s.next_object other.which other.access false false)
@@ -463,10 +554,10 @@ ends_tidy s c numbers one other free h =
     let first = free.first in
     let second = free.second in
     let between : State = opened (with_object s c) numbers.0 s.next_object one.which one.access false false in
-    let tidy = opened_tidy (with_object s c) numbers.0 s.next_object one.which one.access false false (record { free = first.free; below = first.below }) (object_tidy s c h) in
+    let tidy = opened_tidy (with_object s c) numbers.0 s.next_object one.which one.access false false (record { free = first.free; below = first.below }) (next_there s c) (object_tidy s c h) in
     opened_tidy between numbers.1 s.next_object other.which other.access false false
     (record { free = insert_other s.descriptors numbers.0 s.next_description numbers.1 free.apart ∙ second.free; below = second.below })
-    (but_one between s.next_object tidy)
+    (next_there s c) (but_one between s.next_object tidy)
 
 by_two_ends : (s : State) (c : Content) (one other : NewEnd) → IsTidy s → TidyBy (does_of (two_ends s c one other))
 by_two_ends s c one other h =
@@ -481,21 +572,21 @@ by_socketpair : (s : State) → IsTidy s → TidyBy (does_of (socketpair_result 
 unfolding socketpair_result
 by_socketpair s h = by_two_ends s (Pair new_pair) _ _ h
 
-by_shut : (s : State) (key : ℕ) (d : Description) (how : ShutdownHow) (c : Content) → fin.get s.descriptions key ≡ Some d → IsTidy s → TidyBy (Ok (shut_content s d how c))
-by_shut s key d how (Pair p) there h = record { it = content_tidy s d.object _ (own_used s key d there) h }
-by_shut s key d how (File bytes) there h = record { it = ((λ value bytes. h), h) }
-by_shut s key d how (Pipe bytes) there h = record { it = ((λ value bytes. h), h) }
-by_shut s key d how (DoorTo x) there h = record { it = ((λ value bytes. h), h) }
+by_shut : (s : State) (key : ℕ) (d : Description) (how : ShutdownHow) (c : Content) → fin.get s.descriptions key ≡ Some d → content_of s d.object ≡ c → IsTidy s → TidyBy (Ok (shut_content s d how c))
+by_shut s key d how (Pair p) there is h = record { it = content_tidy s d.object (Pair (shut p (side_of d.«end») how)) (own_used s key d (Pair (shut p (side_of d.«end») how)) there) (same_kind s d.object (Pair p) is) h }
+by_shut s key d how (File bytes) there is h = record { it = ((λ value bytes. h), h) }
+by_shut s key d how (Pipe bytes) there is h = record { it = ((λ value bytes. h), h) }
+by_shut s key d how (DoorTo x) there is h = record { it = ((λ value bytes. h), h) }
 
 by_shutdown : (s : State) (descriptor : ℤ) (how : ShutdownHow) → IsTidy s → TidyBy (does_of (shutdown_result s descriptor how))
 unfolding shutdown_result
-by_shutdown s descriptor how h = decides (described s descriptor) _ (λ found is. let d = found.1 in decides (shuttable (content_of s d.object)) _ (λ _ _. by_shut s found.0 d how (content_of s d.object) (let its = is_found s descriptor found is in its.there) h))
+by_shutdown s descriptor how h = decides (described s descriptor) _ (λ found is. let d = found.1 in decides (shuttable (content_of s d.object)) _ (λ _ _. by_shut s found.0 d how (content_of s d.object) (let its = is_found s descriptor found is in its.there) refl h))
 
 by_opens : (s : State) (o : NewDoor) → IsTidy s → TidyBy (does_of (opens s o))
 by_opens s o h =
     decides (some_or (lowest_free s) EMFILE) _ (λ n is. decides (refuse_if (nat_le limit.OBJECTS (fin.len s.objects)) ENFILE) _ (λ _ _.
     let f = free_is s n is in
-    record { it = ((λ value bytes. opened_tidy (with_object s (DoorTo (o.door value))) n s.next_object (part.Door (o.door value)) o.access o.append false (record { free = f.free; below = f.below }) (object_tidy s (DoorTo (o.door value)) h)), h) }))
+    record { it = ((λ value bytes. opened_tidy (with_object s (DoorTo (o.door value))) n s.next_object (part.Door (o.door value)) o.access o.append false (record { free = f.free; below = f.below }) (next_there s (DoorTo (o.door value))) (object_tidy s (DoorTo (o.door value)) h)), h) }))
 
 by_host_open : (s : State) (path : List ℕ) (access : Access) (flags : OpenFlags) → IsTidy s → TidyBy (does_of (host_open_result s path access flags))
 unfolding host_open_result

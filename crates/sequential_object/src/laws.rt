@@ -22,10 +22,13 @@ pub fn calls_outside()
     ensures leaves { LeavesAlike }
 {}
 
-/// The maps hold nothing unused: each description has a descriptor, and each object, be it a file, a pipe, a pair
-/// or a door, has a description or a path. It is so at the start (`starts`), and each turn of each call keeps it so
-/// (`steps`), whether it succeeds, fails or waits, and while its outcome is missing. So a pipe, a pair or a door has an
-/// end just where some description is of it (`ends`).
+/// The maps hold nothing unused: each description has a descriptor, a pipe, a pair and a door have
+/// a description, and a file has a description or a path. And what is referred to is there: the
+/// description of a descriptor, the object of a description, and the file that a path names. The
+/// keys of descriptions and of objects are below the next ones, so that a new key is none that is
+/// in use. It is so at the start (`starts`), and each turn of each call keeps it so (`steps`),
+/// whether it succeeds, fails or waits, and while its outcome is missing. So a pipe, a pair or a
+/// door has an end exactly when some description is of it (`ends`).
 pub fn nothing_unused_is_held()
     ensures starts { StartsTidy }
     ensures steps { StepsKeepTidy }
