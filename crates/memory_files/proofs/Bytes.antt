@@ -89,7 +89,7 @@ overlaid_middle file position bytes k inside = grind (arith, places)
 overlaid_end : (file : List ℕ) (position : ℕ) (bytes : List ℕ) (k : ℕ) → position + length bytes ≤ k → get_or (overlaid file position bytes) k 0 ≡ get_or file k 0
 overlaid_end file position bytes k behind = grind (arith, places)
 
-pub overlaid_bytes : (old new : List (Option (List ℕ))) (size position : ℕ) (bytes : List ℕ) → ZeroFrom old size → ((k : ℕ) → k < position → byte_at new k ≡ byte_at old k) → ((k : ℕ) → k < length bytes → byte_at new (position + k) ≡ get_or bytes k 0) → ((k : ℕ) → position + length bytes ≤ k → byte_at new k ≡ byte_at old k) → bytes_of new (max size (position + length bytes)) ≡ overlaid (bytes_of old size) position bytes
+overlaid_bytes : (old new : List (Option (List ℕ))) (size position : ℕ) (bytes : List ℕ) → ZeroFrom old size → ((k : ℕ) → k < position → byte_at new k ≡ byte_at old k) → ((k : ℕ) → k < length bytes → byte_at new (position + k) ≡ get_or bytes k 0) → ((k : ℕ) → position + length bytes ≤ k → byte_at new k ≡ byte_at old k) → bytes_of new (max size (position + length bytes)) ≡ overlaid (bytes_of old size) position bytes
 overlaid_bytes old new size position bytes blank before inside behind =
     let long = length_bytes new (max size (position + length bytes)) in
     ext_get_or 0 (bytes_of new (max size (position + length bytes))) (overlaid (bytes_of old size) position bytes)
@@ -105,7 +105,7 @@ overlaid_bytes old new size position bytes blank before inside behind =
       ]
     ]))
 
-pub written_bytes : (file new : List ℕ) (position : ℕ) (bytes : List ℕ) (count : ℕ) → 0 < length bytes → position < 65536 → count ≡ min (length bytes) (65536 - position) → new ≡ overlaid file position (take count bytes) → written file position bytes ≡ Ok (new, count)
+written_bytes : (file new : List ℕ) (position : ℕ) (bytes : List ℕ) (count : ℕ) → 0 < length bytes → position < 65536 → count ≡ min (length bytes) (65536 - position) → new ≡ overlaid file position (take count bytes) → written file position bytes ≡ Ok (new, count)
 written_bytes file new position bytes count some below is overlays =
     let not_none : nat_eq (length bytes) 0 ≡ false = grind (arith, nat_tests) in
     let not_full : nat_le 65536 position ≡ false = grind (arith, nat_tests) in
@@ -114,5 +114,19 @@ written_bytes file new position bytes count some below is overlays =
     let len : length (take count bytes) ≡ count = length-take count bytes ∙ omega arith in
     rw (not_none, not_full, fitting, overlays) (ap (λ n. Ok (overlaid file position (take count bytes), n)) len)
 
-pub not_empty : (bytes : List ℕ) → false ≡ nat_eq (length bytes) 0 → 0 < length bytes
+not_empty : (bytes : List ℕ) → false ≡ nat_eq (length bytes) 0 → 0 < length bytes
 not_empty bytes is = grind (arith, nat_tests)
+
+-- what a write of the bytes that fit leaves
+pub written_over : (old new : List (Option (List ℕ))) (size ends position count : ℕ) (bytes : List ℕ)
+    → ZeroFrom old size → false ≡ nat_eq (length bytes) 0 → position < 65536 → count ≡ min (length bytes) (65536 - position)
+    → ((k : ℕ) → k < position → byte_at new k ≡ byte_at old k)
+    → ((k : ℕ) → k < length (take count bytes) → byte_at new (position + k) ≡ get_or (take count bytes) k 0)
+    → ((k : ℕ) → position + length (take count bytes) ≤ k → byte_at new k ≡ byte_at old k)
+    → ends ≡ max size (position + count)
+    → written (bytes_of old size) position bytes ≡ Ok (bytes_of new ends, count)
+written_over old new size ends position count bytes blank some below is before inside behind last =
+    let len : length (take count bytes) ≡ count = length-take count bytes ∙ omega (arith, is) in
+    let overlays = overlaid_bytes old new size position (take count bytes) blank before inside behind in
+    let long : ends ≡ max size (position + length (take count bytes)) = last ∙ ap (λ n. max size (position + n)) (sym len) in
+    written_bytes (bytes_of old size) (bytes_of new ends) position bytes count (not_empty bytes some) below is (ap (bytes_of new) long ∙ overlays)

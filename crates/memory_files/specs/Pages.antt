@@ -1,6 +1,6 @@
 -- Internal: no contract of the headline or of a command stands on it.
 -- How the bytes of a file stand in pages of 512 bytes. Each of its 128 places names a page or is empty.
-use Rattle.std.specs.Prelude.{ℕ, ◌≡◌, ◌≢◌, ◌+◌, ◌*◌, ◌≤◌, ◌/◌, ◌%◌, ◌==◌, nat_lt, Bool, false, List, [], length, map, Option, None, Some, if◌then◌else◌, slice_index, slice_index_or}
+use Rattle.std.specs.Prelude.{ℕ, ◌≡◌, ◌≢◌, ◌⊎◌, ◌+◌, ◌*◌, ◌≤◌, ◌/◌, ◌%◌, ◌==◌, nat_lt, Bool, false, List, [], length, map, Option, None, Some, if◌then◌else◌, slice_index, slice_index_or}
 use Rattle.std.specs.Option.{is_none}
 use Rattle.std.specs.List.{All, count_by, range_with_len}
 
@@ -42,6 +42,11 @@ SameAt place old new = slice_index_or new place None ≡ slice_index_or old plac
 -- no place but this one holds something else than before
 abbrev pub SameBut : ℕ → List (Option (List ℕ)) → List (Option (List ℕ)) → Type 0
 SameBut place old new = (other : ℕ) → other ≢ place → SameAt other old new
+
+-- each place that has none of so many bytes from this position on holds what it held before
+abbrev pub SameOutside : ℕ → ℕ → List (Option (List ℕ)) → List (Option (List ℕ)) → Type 0
+SameOutside position count old new =
+    (place : ℕ) → (512 * place + 512 ≤ position) ⊎ (position + count ≤ 512 * place) → SameAt place old new
 
 -- the pool has 128 pages of 512 bytes. Each stands once among what places name and the free ones, and no other
 -- page does; and for each empty place there is a free page

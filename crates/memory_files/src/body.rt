@@ -1,6 +1,6 @@
 ghost use Rattle.std.specs.Prelude.{◌≡◌, ℕ, ◌+◌, ◌-◌, ◌<◌, ◌≤◌, ◌==◌, List, [], length, take, drop, IfOk, IfErr};
 ghost use Rattle.sequential_object.specs.Files.{bytes_at, written, resized};
-ghost use Rattle.memory_files.specs.Pages.{bytes_of, EmptyBehind, ZeroFrom};
+ghost use Rattle.memory_files.specs.Pages.{bytes_of, EmptyBehind, SameOutside, ZeroFrom};
 
 use crate::pages::Pages;
 use posix_terms::{Errno, Limits};
@@ -59,17 +59,7 @@ impl FileBody {
         ensures within_limit { 0 < length bytes.now → IfOk result (λ count. position + count ≤ 65536) }
         ensures err { IfErr result (λ error. (written self.old position bytes.now ≡ Err error) × (self.new ≡ self.old)) }
     {
-        if bytes.is_empty() {
-            return Ok(0);
-        }
-        if position >= Limits::FILE_BYTES as u64 {
-            return Err(Errno::EFBIG);
-        }
-        let start = position as usize;
-        let count = bytes.len().min(Limits::FILE_BYTES - start);
-        self.pages.write(start, &bytes[..count]);
-        self.size = self.size.max(start + count);
-        Ok(count)
+        write_over(&mut self.pages, &mut self.size, position, bytes)
     }
 
     /// Cuts the file to this many bytes, or extends it to them with 0 bytes.
@@ -77,11 +67,7 @@ impl FileBody {
         requires { size ≤ 65536 }
         ensures { self.new ≡ resized self.old size }
     {
-        let size = size as usize;
-        if size < self.size {
-            self.pages.cut(size, self.size);
-        }
-        self.size = size;
+        resize(&mut self.pages, &mut self.size, size as usize);
     }
 
     /// How many bytes the file has.
@@ -105,4 +91,57 @@ impl FileBody {
     {
         self.set_len(0);
     }
+}
+
+// The work of `write_at`, over the pages of a file. A place where no byte is written holds what it
+// held before (`others`), so a gap takes no page.
+#[tactic(auto, using(crate::proofs::Bytes::written_over))]
+fn write_over(
+    pages: &mut Pages,
+    size: &mut usize,
+    position: u64,
+    bytes: &[u8],
+) -> Result<usize, Errno>
+    requires within { size.old ≤ 65536 }
+    requires empty { EmptyBehind pages.old size.old }
+    requires zero { ZeroFrom pages.old size.old }
+    ensures ok { IfOk result (λ count. written (bytes_of pages.old size.old) position bytes.now ≡ Ok (bytes_of pages.new size.new, count)) }
+    ensures within_limit { 0 < length bytes.now → IfOk result (λ count. position + count ≤ 65536) }
+    ensures err { IfErr result (λ error. (written (bytes_of pages.old size.old) position bytes.now ≡ Err error) × (pages.new ≡ pages.old) × (size.new ≡ size.old)) }
+    ensures others { IfOk result (λ count. SameOutside position count pages.old pages.new) }
+    ensures within { size.new ≤ 65536 }
+    ensures empty { EmptyBehind pages.new size.new }
+    ensures zero { ZeroFrom pages.new size.new }
+{
+    if bytes.is_empty() {
+        return Ok(0);
+    }
+    if position >= Limits::FILE_BYTES as u64 {
+        return Err(Errno::EFBIG);
+    }
+    let start = position as usize;
+    let count = bytes.len().min(Limits::FILE_BYTES - start);
+    pages.write(start, &bytes[..count]);
+    *size = (*size).max(start + count);
+    Ok(count)
+}
+
+// The work of `set_len`, over the pages of a file. An extension takes no page, and a cut gives back
+// those that lie after it.
+#[tactic(auto, using(crate::proofs::Bytes::resized_bytes))]
+fn resize(pages: &mut Pages, size: &mut usize, to: usize)
+    requires fits { to ≤ 65536 }
+    requires within { size.old ≤ 65536 }
+    requires empty { EmptyBehind pages.old size.old }
+    requires zero { ZeroFrom pages.old size.old }
+    ensures bytes { bytes_of pages.new size.new ≡ resized (bytes_of pages.old size.old) to }
+    ensures extension { size.old ≤ to → pages.new ≡ pages.old }
+    ensures size { size.new ≡ to }
+    ensures empty { EmptyBehind pages.new to }
+    ensures zero { ZeroFrom pages.new to }
+{
+    if to < *size {
+        pages.cut(to, *size);
+    }
+    *size = to;
 }
