@@ -1,17 +1,15 @@
 -- What came for a thread are the outcomes of its rows, and a thread that is outside has room for one.
-use Rattle.std.proofs.Common.{◌≡◌, ℕ, ◌<◌, List, [], ◌∷◌, ◌++◌, length, map, filter_map, Option, Some, None, Bool, true, false, cond, nat_lt, is_none, ◌==◌, sym, refl, ap, ap₂, ◌∙◌, subst, ⊎_elim}
-use Rattle.std.proofs.lemmas.Bool.{false≢true, eqb-true, eq-eqb, ne_eqb, and_parts, cond-true, cond-false, cases_eq, cases_Bool}
+use Rattle.std.proofs.Common.{◌≡◌, ℕ, ◌<◌, List, [], ◌∷◌, ◌++◌, length, map, Option, Some, None, Bool, true, false, cond, nat_lt, sym, refl, ap, ap₂, ◌∙◌, subst, ⊎_elim}
+use Rattle.std.proofs.lemmas.Bool.{false≢true, cases_eq, cases_Bool}
 use Rattle.std.proofs.lemmas.List.{get_or-set_same}
 use Rattle.std.proofs.lemmas.Option.{none-some}
-use Rattle.std.specs.List.{cons_option}
 use Rattle.lock_model.specs.CallTable.{CallTable, Plan, Way}
 use Rattle.sequential_object.specs.declared.turn_end.TurnEnd.{TurnEnd}
 use Rattle.sequential_object.specs.declared.turn_end.TurnEnd.TheVariants as turn_end
 use Rattle.lock_model.specs.CallTable.Plan.{No_object, Object}
 use Rattle.lock_model.specs.CallTable.Way.{Inside, Door, Keeps_table}
 use Rattle.lock_model.specs.Came.{CameIsRows, RoomOutside}
-use Rattle.lock_model.specs.Legal.{handed_on}
-use Rattle.lock_model.specs.Machine.{Setup, Effect, Moved, Event, after_step, answered, answer, with_outcome, moves, moves_in, is_open, first_of, row_after, move, advance, failed, new_row, planned, reached, wants, can_attempt, attempt, is_allowed, happens}
+use Rattle.lock_model.specs.Machine.{Setup, Effect, Moved, Event, after_step, answered, answer, with_outcome, moves, moves_in, is_open, first_of, row_after, move, advance, failed, planned, reached, wants, can_attempt, attempt, is_allowed, happens}
 use Rattle.lock_model.specs.Machine.Event.{Advances, Attempts}
 use Rattle.lock_model.specs.Runs.{run, supplied, own}
 use Rattle.lock_model.specs.State.{Job, Phase, Thread, Row, State, nobody, thread_of, start}
@@ -24,11 +22,11 @@ use Rattle.posix_terms.specs.declared.transcript.Turn.{Turn}
 use Rattle.sequential_object.specs.Step.{Carried}
 use Rattle.posix_terms.specs.declared.step.Step.{Step}
 use Rattle.posix_terms.specs.declared.step.Step.TheVariants as step
-use Rattle.lock_model.proofs.Commute.{row_open, row_closed, row_other, row_turn, thread_move, thread_advance, advance_move}
+use Rattle.lock_model.proofs.Commute.{row_open, row_closed, row_turn, thread_move, thread_advance, advance_move}
 use Rattle.lock_model.proofs.Turn.{moves_out, thread_moved}
 use Rattle.lock_model.proofs.Attempt.{move_of, can_out, attempt_other}
 use Rattle.lock_model.proofs.Growth.{at_moves, at_attempt, wanting_within}
-use Rattle.lock_model.proofs.Walk.{Holding, Pending, Part, next_world, opened, opened_other, opened_off, Walk, first_none, none_is}
+use Rattle.lock_model.proofs.Walk.{Holding, Pending, Walk, first_none}
 use Rattle.lock_model.proofs.Kept.{Right, busy_phase, busy_found, right_event, right_start, run_keeps, first_thread, start_thread}
 use Rattle.lock_model.proofs.Follows.{each_thread}
 use Rattle.lock_model.proofs.OfRows.{of_attempt, of_filled, of_other, of_same}

@@ -221,7 +221,7 @@ right_row calls v b s r us p full =
       outcome = λ o q.
           let came : p.job.outcome ≡ Some o = sym out ∙ q in (
             sym (ap goes_outside p.plan) ∙ (sym full.whole ∙ ap is_some came),
-            sym (λ k. calls.fits (calls.asks (p.found k) (p.call k) (p.carried k) (p.turn k)) (p.turn k) o) ∙ full.fits o came,
+            sym (λ k. calls.fits (calls.asks (p.found k) (p.call k) (p.carried k)) o) ∙ full.fits o came,
           );
       whole = λ q. ap is_some out ∙ (full.whole ∙ ap goes_outside p.plan);
     }

@@ -47,7 +47,7 @@ right_open calls s v b r us none p =
       answer = λ a q. absurd (none-some a (sym none ∙ q));
       outcome = λ o q.
           let g = pending_outcome calls (thread_of s r.turn.thread).phase p.job o p.holding (p.outcome ∙ q) in
-          (sym (ap goes_outside p.plan) ∙ g.0, sym (λ k. calls.fits (calls.asks (p.found k) (p.call k) (p.carried k) (p.turn k)) (p.turn k) o) ∙ g.1);
+          (sym (ap goes_outside p.plan) ∙ g.0, sym (λ k. calls.fits (calls.asks (p.found k) (p.call k) (p.carried k)) o) ∙ g.1);
       whole = λ q. absurd (true≢false (sym (ap is_none none) ∙ q));
     }
 

@@ -13,9 +13,8 @@ use Rattle.sequential_object.specs.Worlds.{World}
 use Rattle.posix_terms.specs.Calls.{Call}
 use Rattle.posix_terms.specs.declared.transcript.Turn.{Turn}
 use Rattle.sequential_object.specs.Step.{Carried}
-use Rattle.lock_model.proofs.Commute.{row_open, row_closed, row_other, row_turn}
+use Rattle.lock_model.proofs.Commute.{row_closed, row_other, row_turn}
 use Rattle.lock_model.proofs.Growth.{at_attempt}
-use Rattle.lock_model.proofs.Kept.{busy_found}
 use Rattle.lock_model.proofs.Walk.{Part, Pending, Walk, next_world, none_is, opened, opened_off, opened_other}
 
 -- what each row of a thread has of this, if it has any

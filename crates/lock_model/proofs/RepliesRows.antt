@@ -1,5 +1,5 @@
 -- The replies that a thread got are those of its rows.
-use Rattle.std.proofs.Common.{◌≡◌, ℕ, List, [], ◌∷◌, ◌++◌, map, Option, Some, None, Bool, true, false, is_none, ◌==◌, sym, refl, ap, ◌∙◌, subst, ⊎_elim}
+use Rattle.std.proofs.Common.{◌≡◌, ℕ, List, [], ◌++◌, map, Option, Some, None, Bool, true, false, is_none, ◌==◌, sym, refl, ap, ◌∙◌, subst, ⊎_elim}
 use Rattle.std.proofs.lemmas.Bool.{and_parts, cases_eq, cases_Bool}
 use Rattle.std.proofs.lemmas.List.{append-nil}
 use Rattle.std.specs.List.{cons_option}
@@ -7,11 +7,10 @@ use Rattle.lock_model.specs.CallTable.{CallTable}
 use Rattle.sequential_object.specs.declared.turn_end.TurnEnd.{TurnEnd}
 use Rattle.sequential_object.specs.declared.turn_end.TurnEnd.TheVariants as turn_end
 use Rattle.lock_model.specs.Came.{RepliesAreRows}
-use Rattle.lock_model.specs.Machine.{Setup, Effect, Moved, Event, after_step, answer, answered, attempt, can_attempt, happens, is_allowed, is_open, move, moves, row_after, with_outcome}
+use Rattle.lock_model.specs.Machine.{Setup, Effect, Moved, Event, after_step, answer, answered, attempt, happens, is_allowed, is_open, move, moves, row_after, with_outcome}
 use Rattle.lock_model.specs.Machine.Event.{Advances, Attempts}
 use Rattle.lock_model.specs.Runs.{own, run, supplied}
-use Rattle.lock_model.specs.State.{Job, Phase, Row, State, Thread, nobody, start, thread_of}
-use Rattle.lock_model.specs.State.Phase.{Granted, Recorded}
+use Rattle.lock_model.specs.State.{Job, Row, State, Thread, nobody, start, thread_of}
 use Rattle.sequential_object.specs.Worlds.{World}
 use Rattle.lock_model.specs.Transcripts.{replies_of, reply_in}
 use Rattle.posix_terms.specs.Calls.{Call}

@@ -6,7 +6,6 @@ use Rattle.sequential_object.specs.declared.turn_end.TurnEnd.{TurnEnd}
 use Rattle.posix_terms.specs.Calls.{Call}
 use Rattle.posix_terms.specs.declared.outcome.Given.{Given}
 use Rattle.sequential_object.specs.Step.{Carried}
-use Rattle.posix_terms.specs.declared.transcript.Turn.{Turn}
 
 -- what a call that takes an object does with it: it acts inside, or goes outside through a door, or does so and keeps the table to its answer
 pub data Way : Type 0 where
@@ -52,7 +51,7 @@ pub record CallTable : Type 0 where
   -- the world after a call that keeps the table
   pub kept_change : World → Call → Carried → Given → World
   -- what a call that goes outside asks there
-  pub asks : World → Call → Carried → Turn → Request
-  -- an outcome that this request can have, at the turn of its call
-  pub fits : Request → Turn → Given → Bool
+  pub asks : World → Call → Carried → Request
+  -- an outcome that this request can have
+  pub fits : Request → Given → Bool
   pub answer : World → Call → Option Given → Carried → TurnEnd

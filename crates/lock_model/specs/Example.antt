@@ -35,8 +35,8 @@ alike x plan a =
       plan = λ w c b. plan;
       change = λ w c b. w;
       kept_change = λ w c b o. w;
-      asks = λ w c b turn. x.request;
-      fits = λ r turn o. true;
+      asks = λ w c b. x.request;
+      fits = λ r o. true;
       answer = λ w c o b. a;
     }
 

@@ -30,7 +30,7 @@ changed calls w c b (Some o) true = calls.kept_change w c b o
 -- a row is right where its call found this world and carried this: its answer is the call's; it has an outcome only where the call goes outside, and one that fits; and once answered it has one wherever the call goes outside
 pub record IsRight (calls : CallTable) (w : World) (b : Carried) (r : Row) : Type 0 where
   pub answer : (a : TurnEnd) → r.answer ≡ Some a → a ≡ calls.answer w r.call r.outcome b
-  pub outcome : (o : Given) → r.outcome ≡ Some o → (goes_outside (calls.plan w r.call b) ≡ true) × (calls.fits (calls.asks w r.call b r.turn) r.turn o ≡ true)
+  pub outcome : (o : Given) → r.outcome ≡ Some o → (goes_outside (calls.plan w r.call b) ≡ true) × (calls.fits (calls.asks w r.call b) o ≡ true)
   pub whole : is_none r.answer ≡ false → is_some r.outcome ≡ goes_outside (calls.plan w r.call b)
 
 -- the outcome of a call, chosen where it needs one and has none

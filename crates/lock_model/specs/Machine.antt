@@ -73,7 +73,7 @@ begin_outside limits t job =
 
 -- an outcome that the request of a granted call can have
 abbrev pub fits_job : CallTable → Job → Given → Bool
-fits_job calls job o = calls.fits (calls.asks job.found job.call job.carried job.turn) job.turn o
+fits_job calls job o = calls.fits (calls.asks job.found job.call job.carried) o
 
 abbrev pub with_outcome : Thread → Job → Given → Moved
 with_outcome t job o =

@@ -31,8 +31,8 @@ real_calls settings =
       -- whatever the outcome: it frees the table before it goes outside
       change = λ w c b. world_with w (step settings w.object c None b).after;
       kept_change = λ w c b o. world_with w (step settings w.object c (Some o.outcome) b).after;
-      asks = λ w c b turn. asks w.object c b;
-      fits = λ r turn o. answers_request r o;
+      asks = λ w c b. asks w.object c b;
+      fits = λ r o. answers_request r o;
       answer = λ w c o b. answer_in (step settings w.object c (outcome_in o) b);
     }
 
