@@ -6,7 +6,7 @@ use Rattle.posix_terms.specs.Calls.{Call}
 use Rattle.posix_terms.specs.declared.transcript.HistoryRow.{HistoryRow}
 use Rattle.det_mutex.specs.declared.lock.DetLock.{DetLock}
 use Rattle.descriptor_table.specs.Plans.{answered, decided_of}
-use Rattle.object_store.specs.Store.{Stored, decided_as}
+use Rattle.object_store.specs.Store.{Stored, locking_of}
 use Rattle.object_store.specs.declared.patience.Locking.{Locking}
 use Rattle.lock_machine.specs.declared.thread.Phase.{Phase}
 use Rattle.lock_machine.specs.declared.thread.Phase.TheVariants as phase
@@ -40,9 +40,9 @@ KeepsCalls rows later = (n : ℕ) → call_at later n ≡ call_at rows n
 
 -- ## What was decided of it
 
--- this is what the table decides of the call
+-- this is there, and is what the table decides of the call
 abbrev pub IsWanted : Stored → Call → Option Locking → Type 0
-IsWanted h call wanted = option_map (λ x. decided_as x) wanted ≡ Some (answered (decided_of h.table call))
+IsWanted h call wanted = option_map (λ x. Some x) wanted ≡ Some (locking_of (answered (decided_of h.table call)))
 
 -- of the call that a thread holds the table for
 abbrev pub HasDecided : Phase → List HistoryRow → Stored → Option Locking → Type 0

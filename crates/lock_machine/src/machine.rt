@@ -3,7 +3,7 @@ ghost use Rattle.posix_terms.specs.declared.limits.TheConstants.Limits as limit;
 ghost use Rattle.logical_clocks.specs.TurnOrder.{has_turn, turn_holder};
 ghost use Rattle.lock_machine.specs.Births.{BornWithin, time_of};
 ghost use Rattle.lock_machine.specs.Lives.{Agree};
-ghost use Rattle.lock_machine.specs.Threads.{Thread as Seen};
+ghost use Rattle.lock_machine.specs.Threads.{Thread as Seen, have_ended};
 ghost use Rattle.lock_machine.specs.Views.{clocks_of};
 ghost use Rattle.lock_machine.specs.Wanted.{AllHaveDecided};
 ghost use Rattle.lock_machine.specs.Waiting.{HasRoom, waiting};
@@ -111,6 +111,18 @@ impl LockMachine {
         ensures { result ≡ has_turn (clocks_of self.now.threads) i }
     {
         self.clocks.is_turn(i)
+    }
+
+    /// Whether all threads have ended.
+    pub fn have_ended(&self) -> bool
+        ensures { result ≡ have_ended self.now.threads }
+    {
+        for i in 0..self.len() {
+            if !matches!(self.phase(i), Phase::Ended) {
+                return false;
+            }
+        }
+        true
     }
 
     /// The patience of its calls, and the cost of going outside.

@@ -1,6 +1,6 @@
 ghost use Rattle.std.specs.Prelude.{◌≡◌, ◌<◌, ◌&&◌, not, true, false, Ok, Err, IfErr, IfOk, OnErr, is_ok, is_some, length, unwrap_or};
 ghost use Rattle.logical_clocks.specs.TurnOrder.{has_turn};
-ghost use Rattle.lock_machine.specs.Refusals.{Comes, OnMemory, Tried, WantsNone, attempted, goes_outside, has_answer, is_blocked, is_end, is_outside, outlook, phase_at, recorded_as, still_wants, wants_lock, wants_object, wants_table, works};
+ghost use Rattle.lock_machine.specs.Refusals.{Comes, OnMemory, Rests, Tried, WantsNone, attempted, goes_outside, has_answer, is_blocked, is_end, is_outside, outlook, phase_at, recorded_as, still_wants, wants_lock, wants_object, wants_table, works};
 ghost use Rattle.lock_machine.specs.Shows.{AdvancesQuietly, AsksFor, Attempts, MayAdvance, MayAsk, RecordsGiven, Tells, has_moved};
 ghost use Rattle.lock_machine.specs.Views.{clocks_of};
 ghost use Rattle.lock_machine.specs.Whole.{settings_in};
@@ -134,12 +134,13 @@ impl LockMachine {
         outlook(outing, given, self.came(i), self.shared.rows.as_slice())
     }
 
-    /// This outcome comes for thread i, which is outside. Where it does not answer what was asked, that is told, and nothing changes:
-    /// [`LockMachine::outlook`] tells it before.
+    /// This outcome comes for thread i, which is outside. Where it does not answer what was asked, that
+    /// is reported, and nothing changes (`rests`): [`LockMachine::outlook`] reports it before.
     pub fn record(&mut self, i: usize, given: Given) -> Result<Progress, Refused>
         requires { i < length self.old.threads }
         ensures event { Comes (is_outside (phase_at self.old i)) result self.old self.new (λ o. RecordsGiven (unwrap_or o progress.Stays) i given self.old self.new) }
         ensures value { result ≡ recorded_as (is_outside (phase_at self.old i)) (outlook self.old i given) }
+        ensures rests { IfOk result (λ made. Rests (has_moved made) self.old self.new) }
         ensures count { length self.new.threads ≡ length self.old.threads }
         ensures settings { settings_in self.new ≡ settings_in self.old }
     {

@@ -1,6 +1,7 @@
 -- Each act of the store, as the table plans it, makes its call.
 use Rattle.std.proofs.Common.{◌≡◌, ℕ, ◌+◌, ◌<◌, ◌==◌, List, [], length, None, Result, Ok, Err, Bool, true, false, refl, sym, ap, ◌∙◌, subst, Option, Some}
 use Rattle.std.proofs.lemmas.Bool.{true≢false}
+use Rattle.std.proofs.lemmas.Option.{none-some, same_Some}
 use Rattle.std.specs.Prelude.{ℤ, ◌+ℤ◌, pos, slice_index_or, slice_set, if◌then◌else◌}
 use Rattle.posix_terms.specs.Ends.{is_end, side_of, peer_of}
 use Rattle.sequential_object.specs.Files.{bytes_at, resized, written}
@@ -33,7 +34,7 @@ use Rattle.descriptor_table.specs.Plans.{IsKnownNumber, LocksKnown, MovesKnown, 
 use Rattle.descriptor_table.specs.Table.{IsSound, TableState}
 use Rattle.descriptor_table.specs.declared.plan.NewNumbers.{NewNumbers}
 use Rattle.descriptor_table.specs.declared.plan.NewNumbers.TheVariants as numbers
-use Rattle.descriptor_table.specs.declared.plan.Decided.{Decided}
+use Rattle.descriptor_table.specs.declared.plan.Change.{Change}
 use Rattle.descriptor_table.specs.declared.plan.Op.{Op}
 use Rattle.descriptor_table.specs.declared.plan.Op.TheVariants as op
 use Rattle.descriptor_table.specs.declared.plan.Opened.{Opened}
@@ -49,7 +50,7 @@ use Rattle.object_store.specs.Bodies.{Kept, first_kept, keeping}
 use Rattle.object_store.specs.Patience.{Waits}
 use Rattle.object_store.specs.Acting.{acts_inside, ActsOn, HasRead, HasWritten, Seeks, Writes, WritesFile, cut_bodies, held_by, holding, moved, offset_of_key, release_reply, rewritten, start_at}
 use Rattle.object_store.specs.declared.patience.Locking.{Locking}
-use Rattle.object_store.specs.Store.{IsChange, IsDecided, EndsTurn, IsPlanned, Makes, Replies, RepliesAlways, Stands, Stored, TableMade, body_at, kept_at}
+use Rattle.object_store.specs.Store.{IsChange, IsDecided, EndsTurn, IsPlanned, Makes, Replies, RepliesAlways, Stands, Stored, TableMade, body_at, kept_at, locking_in}
 use Rattle.object_store.proofs.Doing.{EndsAlways, end_replies, bodies_same, bodies_set, ends_reply, made_ends, moved_ends, released_ends, rested_ends, stays_ends}
 use Rattle.object_store.proofs.Doing.Moves.{ByRead, ByWrite, BySeek}
 use Rattle.object_store.proofs.Shapes.{HasAct, planned_fits}
@@ -60,19 +61,25 @@ use Rattle.object_store.proofs.Stepping.{Rewrites}
 pub has_body : (h : Stored) (node : ℕ) → length h.bodies ≡ limit.OBJECTS → node < limit.OBJECTS → node < length h.bodies
 has_body h node all inside = subst (λ (n : ℕ). node < n) (sym all) inside
 
--- what was decided of a call is its plan, and its change
+-- what is decided of a call that takes the lock of an object is its plan and its change
+locking_is : (p : Plan) (by : Change) (x : Locking) → locking_in p by ≡ Some x → ((keep : Bool) × (p ≡ plan.Node x.object x.op keep)) × (by ≡ x.change)
+locking_is (plan.Node node act keep) by x is =
+    let same : record { object = node; op = act; change = by } ≡ x = same_Some (record { object = node; op = act; change = by }) x is in
+    subst (λ (z : Locking). ((kept : Bool) × (plan.Node node act keep ≡ plan.Node z.object z.op kept)) × (by ≡ z.change)) same ((keep, refl), refl)
+locking_is (plan.Reply r) by x is = absurd (none-some x is)
+
 pub decided_planned : (h : Stored) (c : Call) (x : Locking) → IsDecided h c x → IsPlanned h c x.object x.op
-decided_planned h c x is = (x.keep_table, ap (λ (d : Decided). d.plan) is)
+decided_planned h c x is = (locking_is (planned h.table c) (change_of h.table c) x is).0
 
 pub decided_change : TableFollows → (h : Stored) (c : Call) (x : Locking) → IsSound h.table → AreSound h.table.descriptions → IsDecided h c x → IsChange h c x.change
 decided_change law h c x sound all is =
-    let its : change_of h.table c ≡ x.change = ap (λ (d : Decided). d.change) is in
+    let its : change_of h.table c ≡ x.change = (locking_is (planned h.table c) (change_of h.table c) x is).1 in
     (sym its, subst (CanChange h.table c) its (law.calls h.table c sound all).can)
 
 -- so its object has a number, and what its act moves is there
 pub decided_known : TableFollows → (h : Stored) (c : Call) (x : Locking) → IsSound h.table → AreSound h.table.descriptions → IsDecided h c x
     → IsKnownNumber h.table x.object × MovesKnown h.table (read_count c) x.op
-decided_known law h c x sound all is = subst (LocksKnown h.table (read_count c)) (ap (λ (d : Decided). d.plan) is) (law.calls h.table c sound all).known
+decided_known law h c x sound all is = subst (LocksKnown h.table (read_count c)) (decided_planned h c x is).1 (law.calls h.table c sound all).known
 
 pub act_of : (h : Stored) (c : Call) (node : ℕ) (act : Op) → IsPlanned h c node act → HasAct c act
 act_of h c node act (keep, is) = (planned_fits h.table c node act keep is).0

@@ -21,13 +21,14 @@ use Rattle.file_descriptions.specs.Descriptions.{AreSound}
 use Rattle.file_descriptions.specs.declared.description.Description.{Description}
 use Rattle.descriptor_table.specs.Agreement.{ChangesAsStep, NumbersStay, OffsetsStay, object_of, request_of}
 use Rattle.descriptor_table.specs.Changes.{CanChange}
-use Rattle.descriptor_table.specs.Plans.{answered, bytes_asked, change_of, decided_of, decides, planned, read_count, reply_bytes}
+use Rattle.descriptor_table.specs.Plans.{answered, bytes_asked, change_of, decided_of, planned, read_count, reply_bytes}
 use Rattle.descriptor_table.specs.Shows as shown
 use Rattle.descriptor_table.specs.Table.{IsSound, TableState, empty_table}
 use Rattle.descriptor_table.specs.declared.plan.Errand.{Errand}
 use Rattle.descriptor_table.specs.declared.plan.NewNumbers.TheVariants as numbers
 use Rattle.descriptor_table.specs.declared.plan.Op.{Op}
 use Rattle.descriptor_table.specs.declared.plan.Op.TheVariants as op
+use Rattle.descriptor_table.specs.declared.plan.Plan.{Plan}
 use Rattle.descriptor_table.specs.declared.plan.Plan.TheVariants as plan
 use Rattle.sequential_object.specs.Numbers.{world_with}
 use Rattle.sequential_object.specs.Answers.{answer_in, numbered}
@@ -103,13 +104,17 @@ StartsIn settings w carried old c (start.GoesOut errand) new = GoesOut settings 
 abbrev pub Makes : ℕ → Carried → Stored → Call → TurnStart → Stored → Type 0
 Makes patience carried old c x new = (settings : Settings) (w : World) → settings.patience ≡ patience → Stands old w → StartsIn settings w carried old c x new
 
--- a call that takes the lock of an object, as it was decided
-abbrev pub decided_as : Locking → Decided
-decided_as x = decides (plan.Node x.object x.op x.keep_table) x.change
+-- what is decided of a call that takes the lock of an object: the object, what it does there, and its change of the table
+abbrev pub locking_in : Plan → Change → Option Locking
+locking_in (plan.Node node act keep_table) change = Some (record { object = node; op = act; change = change })
+locking_in (plan.Reply r) change = None
+
+abbrev pub locking_of : Decided → Option Locking
+locking_of d = locking_in d.plan d.change
 
 -- this was decided of the call
 abbrev pub IsDecided : Stored → Call → Locking → Type 0
-IsDecided h c x = answered (decided_of h.table c) ≡ decided_as x
+IsDecided h c x = locking_of (answered (decided_of h.table c)) ≡ Some x
 
 -- a change that was decided of a call, and can be made
 abbrev pub IsChange : Stored → Call → Change → Type 0

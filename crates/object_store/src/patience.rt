@@ -21,14 +21,12 @@ pub enum AtTable {
     Locks(Locking),
 }
 
-/// What was decided of a call that takes the lock of an object: the object's number, what the call does there,
-/// whether it keeps the table to its answer, and what it changes in the table. It holds as long as the table stays
-/// as it is.
+/// What was decided of a call that takes the lock of an object: the object's number, what the call
+/// does there, and what it changes in the table. It holds as long as the table stays as it is.
 #[derive(Clone, Copy)]
 pub struct Locking {
     pub object: usize,
     pub op: Op,
-    pub keep_table: bool,
     pub change: Change,
 }
 

@@ -71,14 +71,9 @@ impl Store {
         let Decided { plan, change } = self.table.decide(call);
         match plan {
             Plan::Reply(reply) => AtTable::Answers(self.settle(call, carried, reply, change)),
-            Plan::Node {
-                node,
-                op,
-                keep_table,
-            } => AtTable::Locks(Locking {
+            Plan::Node { node, op, .. } => AtTable::Locks(Locking {
                 object: node,
                 op,
-                keep_table,
                 change,
             }),
         }
@@ -114,12 +109,7 @@ impl Store {
         // What holds of every table holds of this one.
         let _ = self.table.made();
         table_follows_step();
-        let Locking {
-            object,
-            op,
-            change,
-            ..
-        } = locking;
+        let Locking { object, op, change } = locking;
         match op {
             Op::Ask(errand) => {
                 self.go_out(call, change);

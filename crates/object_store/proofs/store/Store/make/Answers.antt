@@ -1,7 +1,6 @@
 use Rattle.std.proofs.Common.{◌≡◌, ◌≤◌, ℕ, Bool, true, false, ap, arith, refl, sym, subst, rules, Option, Some, None}
 use Rattle.file_descriptions.specs.Descriptions.{AreSound}
 use Rattle.descriptor_table.specs.Table.{IsSound}
-use Rattle.descriptor_table.specs.declared.plan.Decided.{Decided}
 use Rattle.descriptor_table.specs.declared.plan.Op.{Op}
 use Rattle.sequential_object.specs.Locked.{keeps_table}
 use Rattle.descriptor_table.specs.Plans.{MovesKnown, planned, read_count}
@@ -33,12 +32,12 @@ returns-in-Ask-clause-makes c =
     let call = c.args.call.now in
     let x = c.args.locking in
     let its : x.op ≡ op.Ask c.in-Ask.errand = search rules in
-    let is : planned h.table call ≡ plan.Node x.object (op.Ask c.in-Ask.errand) x.keep_table =
-    subst (λ (act : Op). planned h.table call ≡ plan.Node x.object act x.keep_table) its (ap (λ (d : Decided). d.plan) c.requires.decided) in
+    let (keep, planned_is) = decided_planned h call x c.requires.decided in
+    let is : planned h.table call ≡ plan.Node x.object (op.Ask c.in-Ask.errand) keep = subst (λ (act : Op). planned h.table call ≡ plan.Node x.object act keep) its planned_is in
     let leaves : LeavesTable (keeps_table call) h call c.go_out.new.self = search rules in
     λ settings w patience stands.
-    goes_out c.table_follows_step.ensures.follows h c.go_out.new.self call x.object c.in-Ask.errand x.keep_table c.args.patience c.args.carried is
-    (subst (λ (b : Bool). LeavesTable b h call c.go_out.new.self) (sym (plan_keeps c.table_follows_step.ensures.follows h call x.object (op.Ask c.in-Ask.errand) x.keep_table w is stands)) leaves) settings w patience stands
+    goes_out c.table_follows_step.ensures.follows h c.go_out.new.self call x.object c.in-Ask.errand keep c.args.patience c.args.carried is
+    (subst (λ (b : Bool). LeavesTable b h call c.go_out.new.self) (sym (plan_keeps c.table_follows_step.ensures.follows h call x.object (op.Ask c.in-Ask.errand) keep w is stands)) leaves) settings w patience stands
 
 pub returns-in-Ask-clause-room : goal.returns-in-Ask-clause-room
 returns-in-Ask-clause-room c =

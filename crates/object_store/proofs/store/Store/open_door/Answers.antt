@@ -1,19 +1,33 @@
-use Rattle.std.proofs.Common.{◌≡◌, Some, false, ap, subst, rules}
+use Rattle.std.proofs.Common.{◌≡◌, Some, true, false, ap, arith, refl, subst, sym, ◌∙◌, rules}
+use Rattle.std.proofs.lemmas.Option.{none-some}
 use Rattle.file_descriptions.specs.Descriptions.{AreSound}
 use Rattle.descriptor_table.specs.Table.{IsSound}
-use Rattle.descriptor_table.specs.declared.plan.Decided.{Decided}
 use Rattle.descriptor_table.specs.declared.plan.Op.{Op}
-use Rattle.object_store.proofs.Making.{decided_change}
+use Rattle.object_store.proofs.Making.{AsksNothing, act_alone, decided_change, decided_planned}
 use Rattle.descriptor_table.specs.Agreement.{TellsAsStep}
 use Rattle.descriptor_table.specs.Plans.{planned}
 use Rattle.descriptor_table.specs.declared.plan.Op.TheVariants as op
 use Rattle.descriptor_table.specs.declared.plan.Plan.TheVariants as plan
+use Rattle.object_store.specs.Acting.{acts_inside}
 use Rattle.object_store.specs.Store.{TableMade, at_port}
 use Rattle.sequential_object.specs.declared.turn_end.TurnEnd.TheVariants as end
 use Rattle.posix_terms.specs.declared.errno.Errno.TheVariants.{EIO}
 use Rattle.posix_terms.specs.declared.reply.Reply.TheVariants.{Fail}
 use Rattle.object_store.proofs.Outside.{door_opens, off_port}
 use Rattle.object_store.proofs.store.Store.open_door.Goals as goal
+
+pub returns-in_default : goal.returns-in_default
+returns-in_default c =
+    let h = c.args.self.now in
+    let call = c.args.call.now in
+    let x = c.args.locking in
+    let inside : acts_inside x.op ≡ true = search rules in
+    let alone : AsksNothing h call = act_alone c.table_follows_step.ensures.follows h call x.object x.op (decided_planned h call x c.requires.decided) inside in
+    record {
+      opens = λ settings w r patience stands keeps asked fits. absurd (none-some r (sym (alone w c.args.carried stands) ∙ asked));
+      few = refl;
+      births = (omega arith, omega arith);
+    }
 
 pub returns-then-not-is_at_port-clause-opens : goal.returns-then-not-is_at_port-clause-opens
 returns-then-not-is_at_port-clause-opens c =
@@ -22,10 +36,10 @@ returns-then-not-is_at_port-clause-opens c =
     let x = c.args.locking in
     let errand = c.in-Ask.errand in
     let its : x.op ≡ op.Ask errand = search rules in
-    let is : planned h.table call ≡ plan.Node x.object (op.Ask errand) x.keep_table =
-    subst (λ (act : Op). planned h.table call ≡ plan.Node x.object act x.keep_table) its (ap (λ (d : Decided). d.plan) c.requires.decided) in
+    let (keep, planned_is) = decided_planned h call x c.requires.decided in
+    let is : planned h.table call ≡ plan.Node x.object (op.Ask errand) keep = subst (λ (act : Op). planned h.table call ≡ plan.Node x.object act keep) its planned_is in
     let off : at_port call c.args.outcome.now ≡ false = search rules in
-    off_port c.table_follows_step.ensures.follows h h call x.object errand x.keep_table c.args.outcome.now (end.Reply (Fail EIO)) c.args.patience c.args.carried is off
+    off_port c.table_follows_step.ensures.follows h h call x.object errand keep c.args.outcome.now (end.Reply (Fail EIO)) c.args.patience c.args.carried is off
 
 pub returns-clause-opens : goal.returns-clause-opens
 returns-clause-opens c =
@@ -35,12 +49,12 @@ returns-clause-opens c =
     let x = c.args.locking in
     let errand = c.in-Ask.errand in
     let its : x.op ≡ op.Ask errand = search rules in
-    let is : planned h.table call ≡ plan.Node x.object (op.Ask errand) x.keep_table =
-    subst (λ (act : Op). planned h.table call ≡ plan.Node x.object act x.keep_table) its (ap (λ (d : Decided). d.plan) c.requires.decided) in
+    let (keep, planned_is) = decided_planned h call x c.requires.decided in
+    let is : planned h.table call ≡ plan.Node x.object (op.Ask errand) keep = subst (λ (act : Op). planned h.table call ≡ plan.Node x.object act keep) its planned_is in
     let made : TableMade h call (Some c.args.outcome.now) new.table = search rules in
     let tells : TellsAsStep h.table call (Some c.args.outcome.now) c.change-given.result = search rules in
     let bodies : new.bodies ≡ h.bodies = search rules in
-    door_opens c.table_follows_step.ensures.follows c.failed_calls_change_nothing.ensures c.blocked_calls_change_nothing.ensures h new call x.object errand x.keep_table c.args.outcome.now c.change-given.result c.end_opening.result c.args.patience c.args.carried is made tells bodies c.end_opening.ensures.ends
+    door_opens c.table_follows_step.ensures.follows c.failed_calls_change_nothing.ensures c.blocked_calls_change_nothing.ensures h new call x.object errand keep c.args.outcome.now c.change-given.result c.end_opening.result c.args.patience c.args.carried is made tells bodies c.end_opening.ensures.ends
 
 pub change-given-requires-clause-change : goal.change-given-requires-clause-change
 change-given-requires-clause-change c =
