@@ -5,6 +5,7 @@ use Rattle.posix_terms.specs.declared.limits.TheConstants.Limits as limit
 use Rattle.input_log.specs.Format.{text_of}
 use Rattle.input_log.specs.declared.log.Header.{Header}
 use Rattle.input_log.specs.declared.log.LogText.{LogText}
+pub use Rattle.lock_machine.specs.Threads.{all_true}
 use Rattle.lock_model.specs.Machine.{Setup}
 use Rattle.lock_model.specs.Schedule.{IsOver, plain_run}
 use Rattle.lock_model.specs.State as lock
@@ -26,10 +27,6 @@ use Rattle.call_machine.specs.declared.plain.Plain.{Plain}
 abbrev pub has_ended : Phase → Bool
 has_ended Ended = true
 has_ended phase = false
-
-abbrev pub all_true : List Bool → Bool
-all_true [] = true
-all_true (b ∷ bs) = b && all_true bs
 
 -- what a thread is stuck for that has the turn: an outcome that is not there, or room on its clock
 abbrev pub stuck_in : Phase → ℕ → Stop

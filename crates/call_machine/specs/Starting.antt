@@ -6,7 +6,6 @@ use Rattle.input_log.specs.declared.log.Header.{Header}
 use Rattle.thread_scripts.specs.Meaning.{start_of}
 use Rattle.thread_scripts.specs.declared.line.Line.{Line}
 use Rattle.call_machine.specs.History.{transcripts_of}
-use Rattle.call_machine.specs.Plain.{all_true}
 use Rattle.call_machine.specs.Logs.{Written}
 use Rattle.call_machine.specs.Playing.{Played}
 use Rattle.lock_machine.specs.Starting.{first_whole}
@@ -20,7 +19,8 @@ use Rattle.call_machine.specs.declared.players.Player.{Player}
 use Rattle.call_machine.specs.declared.plain.Plain.{Plain}
 use Rattle.lock_machine.specs.declared.thread.Phase.{Phase}
 use Rattle.lock_machine.specs.declared.thread.Phase.TheVariants as phase
-use Rattle.lock_machine.specs.Threads.{Thread}
+use Rattle.lock_machine.specs.Threads.{Thread, have_ended}
+pub use Rattle.lock_machine.specs.Threads.{is_ended}
 pub use Rattle.input_log.specs.Headers.{settings_of}
 
 -- a script before its first line
@@ -35,10 +35,6 @@ first_played header scripts outcomes =
       outcomes = outcomes;
       log = record { text = header_text header; records = 0 };
     }
-
-abbrev pub is_ended : Phase → Bool
-is_ended phase.Ended = true
-is_ended p = false
 
 -- what a thread is stuck for that has the turn
 abbrev pub stuck_for : Phase → ℕ → Stop
@@ -57,10 +53,9 @@ stop_told threads None = stop_for threads (turn_holder (clocks_of threads))
 -- what a run tells that has come to its end, or diverged at this thread
 abbrev pub told : Option ℕ → Whole → Written → Plain
 told diverged w log =
-    let ended = map (λ (t : Thread). is_ended t.phase) w.threads in
     record {
       transcripts = transcripts_of (length w.threads) w.rows;
       history = record { rows = w.rows; asked = map (λ (t : Thread). t.asked) w.threads };
-      log = log.text ++ closing (all_true ended) log.records;
+      log = log.text ++ closing (have_ended w.threads) log.records;
       stop = stop_told w.threads diverged;
     }

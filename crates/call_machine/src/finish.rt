@@ -1,8 +1,6 @@
-ghost use Rattle.std.specs.Prelude.{◌≡◌, IfOk, map};
+ghost use Rattle.std.specs.Prelude.{◌≡◌, IfOk};
 ghost use Rattle.call_machine.specs.History.{transcript_of, transcripts_of};
-ghost use Rattle.call_machine.specs.Plain.{all_true};
-ghost use Rattle.call_machine.specs.Starting.{is_ended, stop_told, stuck_for, told};
-ghost use Rattle.lock_machine.specs.Threads.{Thread};
+ghost use Rattle.call_machine.specs.Starting.{stop_told, stuck_for, told};
 ghost use Rattle.lock_machine.specs.Whole.{thread_at};
 
 use crate::driver::Driver;
@@ -19,7 +17,7 @@ impl Driver {
         ensures { IfOk result (λ plain. plain ≡ told diverged self.machine self.log) }
     {
         let stop = self.stop(diverged);
-        let ended = self.have_ended();
+        let ended = self.machine.have_ended();
         let threads = self.machine.len();
         let Driver { machine, log, .. } = self;
         let left = machine.finish();
@@ -53,17 +51,6 @@ impl Driver {
             0
         }
     }
-
-    fn have_ended(&self) -> bool
-        ensures { result ≡ all_true (map (λ (t : Thread). is_ended t.phase) self.now.machine.threads) }
-    {
-        for i in 0..self.machine.len() {
-            if !has_ended(self.machine.phase(i)) {
-                return false;
-            }
-        }
-        true
-    }
 }
 
 // What thread i is stuck for, which has the turn.
@@ -73,15 +60,6 @@ fn stuck_for(phase: &Phase, i: usize) -> Stop
     match phase {
         Phase::Outside(_) => Stop::EndOfLog(i),
         _ => Stop::ClockFull,
-    }
-}
-
-fn has_ended(phase: &Phase) -> bool
-    ensures { result ≡ is_ended phase.now }
-{
-    match phase {
-        Phase::Ended => true,
-        _ => false,
     }
 }
 

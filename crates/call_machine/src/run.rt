@@ -25,15 +25,16 @@ use thread_scripts::Script;
 /// machine. There is a list of outcomes from outside for each script, of which each call that goes outside takes the
 /// next.
 ///
-/// At each moment the lowest-numbered thread that can go on without the turn does so; when none can, the thread that holds the
-/// turn tries for the lock that its call wants. Two things hold a thread back: its list has no outcome left for what it asked,
-/// or its clock has no room. The others then run on until the turn is its own, and there the run stops, with `EndOfLog` in the
-/// first case and `ClockFull` in the second; it has no stop once all threads have ended. An outcome that does not answer what was
-/// asked stops it at once, with `Diverged`, where the thread that it is for would be the next to go on.
+/// At each moment the lowest-numbered thread that can go on without the turn does so; when none can, the thread that
+/// holds the turn tries for the lock that its call wants. Two things hold a thread back: its list has no outcome left for
+/// what it asked; or a number is at its limit, its clock or the count of its outcomes. The others then run on until the
+/// turn is its own, and there the run stops, with `EndOfLog` in the first case and `ClockFull` in the second; it has no
+/// stop once all threads have ended. An outcome that does not answer what was asked stops it at once, with `Diverged`,
+/// where the thread that it is for would be the next to go on.
 ///
-/// The history is legal, and its turns rise. The log is a header, a record of each outcome in the order in which they came, each
-/// before its call was answered, and, where all threads ended, the end. These bytes spell a log, and by thread its records are
-/// the outcomes of the rows (`covered`).
+/// The history is legal, and its turns rise. The log is a header, a record of each outcome in the order in which they
+/// came, each before its call was answered, and, where all threads ended, the end. These bytes spell a log, and by thread
+/// its records are the outcomes of the rows (`covered`).
 pub fn plain_run(
     alloc: Global,
     scripts: Vec<Script>,

@@ -5,12 +5,12 @@ pub enum Stop {
     Memory,
     /// The log's writer failed.
     Sink,
-    /// A thread's logical clock would have passed its limit.
+    /// A thread's logical clock would have passed its limit, or a thread had as many outcomes as one may have.
     ClockFull,
     /// What the threads noted is not what the history says.
     Strayed,
     /// This thread asked for an outcome that is not there.
     EndOfLog(usize),
-    /// An outcome of this thread, with this number, does not fit what was asked.
+    /// An outcome of this thread, with this number, does not answer what was asked.
     Diverged(usize, u32),
 }
