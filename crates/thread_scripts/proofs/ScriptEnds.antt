@@ -1,5 +1,5 @@
 -- Each script comes to its end.
-use Rattle.std.proofs.Common.{◌≡◌, ◌⊎◌, inl, inr, ℕ, zero, suc, ◌+◌, ◌-◌, ◌<◌, ◌≤◌, Bool, true, false, List, [], ◌∷◌, length, slice_get, Option, Some, None, cond, refl, sym, ap, ◌∙◌, subst, arith}
+use Rattle.std.proofs.Common.{◌≡◌, ◌⊎◌, inl, inr, ℕ, zero, suc, ◌+◌, ◌<◌, ◌≤◌, Bool, true, false, List, [], ◌∷◌, length, slice_get, Option, Some, None, cond, refl, sym, ap, subst, arith}
 use Rattle.std.proofs.lemmas.Option.{same_Some}
 use Rattle.std.specs.Ordering.{int_eq}
 use Rattle.std.specs.Prelude.{pos}
@@ -11,7 +11,7 @@ use Rattle.posix_terms.specs.declared.step.Step.{Step}
 use Rattle.posix_terms.specs.declared.step.Step.TheVariants as step
 use Rattle.thread_scripts.specs.declared.line.Line.{Line}
 use Rattle.thread_scripts.specs.declared.line.Line.TheVariants as line
-use Rattle.thread_scripts.specs.ScriptPrograms.{Reached, ScriptsEnd, at_start, next_at, reached_after, replies_behind, reply_to, scripted}
+use Rattle.thread_scripts.specs.ScriptPrograms.{Reached, ScriptsEnd, at_start, next_at, reached_after, replies_behind, reply_to}
 
 -- it may execute no line more, or stands behind its last
 abbrev IsOver : ScriptState → Type 0

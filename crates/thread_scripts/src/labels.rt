@@ -2,7 +2,7 @@ ghost use Rattle.std.specs.Prelude.{◌≡◌, ◌+◌, ◌^◌, ◌<◌, IfOk, 
 ghost use Rattle.std.specs.List.{list_all};
 ghost use Rattle.thread_scripts.specs.Labels.{is_name, is_name_byte, label_in, labels_from, place_after, place_of};
 
-use crate::words::words;
+use crate::words::SplitLine;
 use std::alloc::{AllocError, Global};
 
 /// A label and the place of its line.
@@ -52,19 +52,22 @@ pub(crate) fn place_after(place: usize, words: &Option<Vec<&[u8]>>) -> usize
 }
 
 /// The labels of these lines.
-pub(crate) fn labels<'a>(alloc: Global, texts: &[&'a [u8]]) -> Result<Vec<Label<'a>>, AllocError>
-    ensures { IfOk result (λ labels. map (λ l. (l.name.now, l.place)) labels.items ≡ labels_from 0 (map (λ t. t.now) texts.now)) }
+pub(crate) fn labels<'a>(
+    alloc: Global,
+    lines: &[SplitLine<'a>],
+) -> Result<Vec<Label<'a>>, AllocError>
+    ensures { IfOk result (λ labels. map (λ l. (l.name.now, l.place)) labels.items ≡ labels_from 0 (map (λ l. l.text.now) lines.now)) }
 {
     let mut labels = Vec::new(alloc);
     let mut place = 0;
-    for i in 0..texts.len() {
-        let words = words(alloc, texts[i])?;
-        if let Some(words) = &words {
+    for i in 0..lines.len() {
+        let words = &lines[i].words;
+        if let Some(words) = words {
             if let Some(name) = label_in(words) {
                 labels.push(Label { name, place })?;
             }
         }
-        place = place_after(place, &words);
+        place = place_after(place, words);
     }
     Ok(labels)
 }

@@ -21,7 +21,7 @@ fn is_comment(text: &[u8]) -> bool
 
 /// The words of a line, if it is ASCII text; a comment has none.
 #[tactic(auto, unfolding(crate::specs::Words::words_of))]
-pub(crate) fn words<'a>(alloc: Global, text: &'a [u8]) -> Result<Option<Vec<&'a [u8]>>, AllocError>
+fn words<'a>(alloc: Global, text: &'a [u8]) -> Result<Option<Vec<&'a [u8]>>, AllocError>
     ensures { IfOk result (λ words. option_map (λ v. map (λ w. w.now) v.items) words ≡ words_of text.now) }
 {
     if !is_ascii(text) {
@@ -31,6 +31,30 @@ pub(crate) fn words<'a>(alloc: Global, text: &'a [u8]) -> Result<Option<Vec<&'a 
         return Ok(Some(Vec::new(alloc)));
     }
     Ok(Some(pieces(alloc, text, b' ')?))
+}
+
+/// A line of a text, with its words.
+#[derive(Drop)]
+pub(crate) struct SplitLine<'a> {
+    pub text: &'a [u8],
+    pub words: Option<Vec<&'a [u8]>>,
+    ghost split: { option_map (λ v. map (λ w. w.now) v.items) words ≡ words_of text.now },
+}
+
+/// Lines with their words.
+pub(crate) fn split_lines<'a>(
+    alloc: Global,
+    texts: &[&'a [u8]],
+) -> Result<Vec<SplitLine<'a>>, AllocError>
+    ensures { IfOk result (λ lines. map (λ l. l.text.now) lines.items ≡ map (λ t. t.now) texts.now) }
+{
+    let mut lines = Vec::new(alloc);
+    for i in 0..texts.len() {
+        let text = texts[i];
+        let words = words(alloc, text)?;
+        lines.push(SplitLine { text, words })?;
+    }
+    Ok(lines)
 }
 
 /// The lines of a text.
