@@ -1,8 +1,4 @@
-//! Scripts: how they are read, and what they do.
+//! Scripts: the faults of texts that are none, and a script made in code.
 
-mod asserts;
-mod calls;
 mod faults;
 mod made;
-mod registers;
-mod runs;

@@ -1,9 +1,6 @@
-//! The words of calls, the log, and the doors to the outside.
+//! The doors to the outside, and the sinks of logs.
 
-mod calls;
 mod doors;
 mod gates;
 mod hosts;
 mod logs;
-mod outcomes;
-mod terms;

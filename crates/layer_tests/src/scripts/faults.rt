@@ -1,9 +1,8 @@
-use crate::scripts::asserts::assert_fault;
 use std::alloc::Global;
 use std::fmt::Display;
 use std::process::Abort;
 use std::test::Fail;
-use thread_scripts::{Memory, ScriptFault};
+use thread_scripts::{Memory, ScriptFault, parse};
 
 /// Texts with the number of their first bad line.
 const BAD_LINES: &[(&[u8], usize)] = &[
@@ -46,6 +45,50 @@ const BAD_LINES: &[(&[u8], usize)] = &[
     (b"read 0 99999999999999999999", 1),
     (b"read 0 1 1", 1),
     (b"close 0\nclose \xc8\nclose 0\n", 2),
+    // Registers, jumps and labels that are misused.
+    (b"close r16", 1),
+    (b"close r01", 1),
+    (b"close R1", 1),
+    (b"close r", 1),
+    (b"close b0", 1),
+    (b"write 0 b4", 1),
+    (b"write 0 b00", 1),
+    (b"work", 1),
+    (b"work -0", 1),
+    (b"work +1", 1),
+    (b"work r0", 1),
+    (b"work 1000001", 1),
+    (b"work 1 1", 1),
+    (b"end 0", 1),
+    (b"set r16 0", 1),
+    (b"set b0 0", 1),
+    (b"set r0", 1),
+    (b"set r0 x61", 1),
+    (b"set r0 b0", 1),
+    (b"set 0 0", 1),
+    (b"add r0", 1),
+    (b"add r0 9223372036854775808", 1),
+    (b"setb b4 x", 1),
+    (b"setb r0 x", 1),
+    (b"setb b0 r0", 1),
+    (b"setb b0", 1),
+    (b"label", 1),
+    (b"label A", 1),
+    (b"label a-b", 1),
+    (b"label abcdefghijklmno", 1),
+    (b"label a b\njump a", 1),
+    (b"jump", 1),
+    (b"jump a", 1),
+    (b"jump a b\nlabel a", 1),
+    (b"label a\n# label a\nlabel a", 3),
+    (b"label b\nlabel a\njump b\nlabel a\njump c", 4),
+    (b"jump a\nfly\nlabel a", 2),
+    (b"jump a\nlabel a x", 1),
+    (b"jump a\nlabel A", 1),
+    (b"jzero r0 b\nlabel a", 1),
+    (b"jzero r16 a\nlabel a", 1),
+    (b"label a\njzero a", 2),
+    (b"label a\njfail a a", 2),
 ];
 
 /// Lines with an operand too few, too many or of another form.
@@ -128,59 +171,20 @@ const BAD_CALLS: &[&str] = &[
     "tcp_shutdown 0",
 ];
 
-/// Texts that misuse registers, jumps or labels, with the number of their first bad line.
-const BAD_REGISTERS_AND_LABELS: &[(&[u8], usize)] = &[
-    (b"close r16", 1),
-    (b"close r01", 1),
-    (b"close R1", 1),
-    (b"close r", 1),
-    (b"close b0", 1),
-    (b"write 0 b4", 1),
-    (b"write 0 b00", 1),
-    (b"work", 1),
-    (b"work -0", 1),
-    (b"work +1", 1),
-    (b"work r0", 1),
-    (b"work 1000001", 1),
-    (b"work 1 1", 1),
-    (b"end 0", 1),
-    (b"set r16 0", 1),
-    (b"set b0 0", 1),
-    (b"set r0", 1),
-    (b"set r0 x61", 1),
-    (b"set r0 b0", 1),
-    (b"set 0 0", 1),
-    (b"add r0", 1),
-    (b"add r0 9223372036854775808", 1),
-    (b"setb b4 x", 1),
-    (b"setb r0 x", 1),
-    (b"setb b0 r0", 1),
-    (b"setb b0", 1),
-    (b"label", 1),
-    (b"label A", 1),
-    (b"label a-b", 1),
-    (b"label abcdefghijklmno", 1),
-    (b"label a b\njump a", 1),
-    (b"jump", 1),
-    (b"jump a", 1),
-    (b"jump a b\nlabel a", 1),
-    (b"label a\n# label a\nlabel a", 3),
-    (b"label b\nlabel a\njump b\nlabel a\njump c", 4),
-    (b"jump a\nfly\nlabel a", 2),
-    (b"jump a\nlabel a x", 1),
-    (b"jump a\nlabel A", 1),
-    (b"jzero r0 b\nlabel a", 1),
-    (b"jzero r16 a\nlabel a", 1),
-    (b"label a\njzero a", 2),
-    (b"label a\njfail a a", 2),
-];
+/// Asserts that the first bad line of a text is this one.
+fn assert_fault(rt: &impl Abort, alloc: Global, text: &[u8], line: usize) {
+    assert_eq!(rt;
+        parse(alloc, text).err(),
+        Some(ScriptFault::BadLine(line)),
+        "in {}",
+        text.escape_ascii()
+    );
+}
 
 #[test]
 fn tells_the_first_bad_line(rt: HostRuntime) {
-    for rows in &[BAD_LINES, BAD_REGISTERS_AND_LABELS] {
-        for (text, line) in rows.iter() {
-            assert_fault(&rt, rt.alloc(), text, *line);
-        }
+    for (text, line) in BAD_LINES.iter() {
+        assert_fault(&rt, rt.alloc(), text, *line);
     }
     for text in BAD_CALLS.iter() {
         assert_fault(&rt, rt.alloc(), text.as_bytes(), 1);

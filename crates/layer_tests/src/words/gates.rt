@@ -1,9 +1,8 @@
 ghost use Rattle.std.specs.Prelude.{◌≡◌, ◌<◌, IfOk};
 
-use crate::words::doors::{Came, given, is_so, plain};
-use crate::words::outcomes::success;
+use crate::words::doors::{Came, is_so, plain, success};
 use host_doors::{DoorStop, Outside, PairGate, Place, ScriptDoor, ScriptDoors};
-use posix_terms::{Errno, OutKind, Outcome, Outcomes};
+use posix_terms::{Errno, Given, OutKind, Outcome, Outcomes};
 use std::alloc::{AllocError, Global};
 use std::io;
 use std::sync::Arc;
@@ -23,13 +22,26 @@ const SECOND: Place = Place {
     number: 0,
 };
 
-/// So many openings, and then a read of these bytes.
-fn openings_and_a_read(alloc: Global, openings: u64, bytes: &[u8]) -> Result<Outcomes, AllocError> {
+/// Adds a success.
+fn add(
+    list: &mut Vec<Given>,
+    alloc: Global,
+    kind: OutKind,
+    value: u64,
+    bytes: &[u8],
+) -> Result<(), AllocError> {
+    let outcome = success(alloc, value, bytes)?;
+    list.push(Given { kind, outcome })?;
+    Ok(())
+}
+
+/// So many openings, and then a read of this byte.
+fn openings_and_a_read(alloc: Global, openings: u64, byte: &[u8]) -> Result<Outcomes, AllocError> {
     let mut list = Vec::new(alloc);
     for _ in 0..openings {
-        list.push(given(OutKind::Open, success(alloc, 0, b"")?))?;
+        add(&mut list, alloc, OutKind::Open, 0, b"")?;
     }
-    list.push(given(OutKind::Read, success(alloc, 1, bytes)?))?;
+    add(&mut list, alloc, OutKind::Read, 1, byte)?;
     Ok(Outcomes::from_vec(list))
 }
 
@@ -139,11 +151,6 @@ impl Clock for Hurried {
     }
 }
 
-const EARLIER: Place = Place {
-    thread: 0,
-    number: 1,
-};
-
 /// What comes of two reads of the first thread, whose other never comes, and how often it slept.
 fn alone(alloc: Global) -> Result<(Result<Outcome, DoorStop>, u64), Fail> {
     let sleeps = Arc::new(alloc, AtomicU64::new(0))?;
@@ -162,17 +169,5 @@ fn a_call_that_nobody_meets_times_out(rt: HostRuntime) -> Result<(), Fail> {
     let (came, sleeps) = alone(rt.alloc())?;
     assert!(rt; is_so(&came, &LATE));
     assert_eq!(rt; sleeps, 10_000);
-    Ok(())
-}
-
-/// What comes of a read that the gate does not hold.
-fn unheld(rt: HostRuntime) -> Result<Result<Outcome, DoorStop>, Fail> {
-    let (mut doors, _other) = pair(rt.alloc(), rt)?;
-    Ok(read(&mut doors, EARLIER))
-}
-
-#[test]
-fn a_gate_of_a_pair_holds_one_outcome(rt: HostRuntime) -> Result<(), Fail> {
-    assert!(rt; is_so(&unheld(rt)?, &Came::Stop(DoorStop::Diverged)));
     Ok(())
 }
