@@ -1,9 +1,8 @@
-//! Runs in which something goes wrong: what comes from outside fails, the log's sink fails, memory is refused, the log is
-//! cut or changed, and a machine is stopped after each event.
+//! Runs in which something goes wrong: what comes from outside fails, the log's sink fails, memory
+//! is refused. Logs that are cut or changed are in `examples/`.
 
 mod cuts;
 mod outside;
 mod refused_memory;
 pub(crate) mod runs;
-mod stops;
 pub(crate) mod ways;

@@ -1,9 +1,8 @@
-//! The tests of recorded runs, over outsides that are lists of outcomes; of replays by threads, of runs that were recorded and of logs that are
-//! written down here; of runs in which something goes wrong (`hostile`); of runs in turn, and of runs that are watched; and of `comparator`.
+//! The tests of recorded runs, over outsides that are lists of outcomes; of replays by threads, of
+//! runs that were recorded and of logs that are written down here; of runs in which something goes
+//! wrong (`hostile`); of runs in turn, and of runs that are watched.
 #![tactic(auto)]
 
-#[cfg(test)]
-mod comparisons;
 #[cfg(test)]
 mod full_clock;
 #[cfg(test)]
@@ -16,8 +15,6 @@ mod in_turn;
 mod outcomes;
 #[cfg(test)]
 mod record;
-#[cfg(test)]
-mod refused_memory;
 #[cfg(test)]
 mod replay;
 #[cfg(test)]

@@ -2,7 +2,6 @@ use crate::hostile::runs::{
     PATIENCE_ON_A_PIPE, PATIENCE_SEEN, READER_SEEN, READER_WAITS, Run, SHORT_HOST_WRITE, SHORT_LOG,
     SHORT_SEEN, Wanted,
 };
-use crate::hostile::stops::told_by_events;
 use crate::hostile::ways::{
     Told, memory_if, plain, recorded, replayed, replayed_by_threads, whole_if,
 };
@@ -179,15 +178,6 @@ fn started(alloc: Global) -> Result<Told, AllocError> {
 fn a_new_machine_is_whole_or_wants_memory(rt: HostRuntime) {
     let first = started(rt.alloc());
     assert!(rt; is_one_whole(first, started(rt.alloc())));
-}
-
-// `ask` and `again`: a machine whose event is refused is stopped, and what it leaves is a beginning.
-#[test]
-fn events_are_whole_or_want_memory(rt: HostRuntime) {
-    for (run, wanted) in RUNS {
-        let first = told_by_events(rt.alloc(), *run, *wanted);
-        assert!(rt; is_one_whole(first, told_by_events(rt.alloc(), *run, *wanted)));
-    }
 }
 
 // ## Runs and replays

@@ -83,28 +83,6 @@ pub(crate) const READER_SEEN: Wanted = Wanted {
     log: b"DIOL\0\x01\0\x02\0\0\x03\xe8\0\0\0\x64E\0\0\0\0",
 };
 
-pub(crate) const CLOSE_AND_REOPEN: Run = Run {
-    scripts: &[
-        b"open /a rw create\nwrite 0 x61\n",
-        b"work 6\nclose 0\nopen /a r\nread 0 1\n",
-    ],
-    came: &[],
-    patience: 1000,
-};
-
-pub(crate) const REOPEN_SEEN: Wanted = Wanted {
-    end: End::Whole,
-    rows: &[
-        &[(1, Seen::Number(0)), (5, Seen::Count(1))],
-        &[
-            (8, Seen::Done),
-            (12, Seen::Number(0)),
-            (16, Seen::Byte(b'a')),
-        ],
-    ],
-    log: b"DIOL\0\x01\0\x02\0\0\x03\xe8\0\0\0\x64E\0\0\0\0",
-};
-
 // ## What is made of them
 
 // What comes for each thread.

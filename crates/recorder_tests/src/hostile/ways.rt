@@ -31,11 +31,11 @@ pub(crate) fn memory_if(beginning: bool) -> Told {
     if beginning { Told::Memory } else { Told::Wrong }
 }
 
-// What a run tells that stopped so, whose threads saw this and which wrote this log. Where it was stopped for memory there may be no transcripts.
+// What a run tells that stopped so, whose threads saw this and which wrote this log. Where there was no memory each saw a
+// beginning.
 fn shows(wanted: Wanted, stop: Option<Stop>, transcripts: &Transcripts, log: &[u8]) -> Told {
     if stop == Some(Stop::Memory) {
-        let beginning = transcripts.threads().is_empty() || saw_beginning(transcripts, wanted.rows);
-        return memory_if(beginning && wanted.log.starts_with(log));
+        return memory_if(saw_beginning(transcripts, wanted.rows) && wanted.log.starts_with(log));
     }
     whole_if(end_of(stop) == wanted.end && saw(transcripts, wanted.rows) && log == wanted.log)
 }
@@ -151,19 +151,6 @@ pub(crate) fn replayed_by_threads<R: Threads + Wait + Sync>(
         Err(refused) if refused.actors.len() == run.scripts.len() => fault(wanted, &refused.fault),
         Err(_) => Told::Wrong,
     })
-}
-
-// Both replays of a log.
-pub(crate) fn is_replayed<R: Threads + Wait + Sync>(
-    rt: &R,
-    alloc: Global,
-    log: &[u8],
-    run: Run,
-    wanted: Wanted,
-) -> Result<bool, AllocError> {
-    let on_one = replayed(alloc, log, run, wanted)?;
-    let by_threads = replayed_by_threads(rt, alloc, log, run, wanted)?;
-    Ok(on_one == Told::Whole && by_threads == Told::Whole)
 }
 
 // Whether the plain run and the recorded one are all that is wanted.
