@@ -36,7 +36,7 @@ idle : {O : Type 0} (gives : Giving O) (s : ScriptState) (o : O) (w : Own) → I
 idle gives s o w e = record {
   plays = rw (e.2, e.0) (s, refl, inl refl);
   heard = rw e.0 tt;
-  leads = rw (e.2, e.1) (o, refl, inl refl);
+  leads = rw (e.0, e.1) (o, refl, refl);
   ends = λ yes. absurd (false≢true (sym e.2 ∙ yes));
 }
 

@@ -5,3 +5,4 @@ pub mod Seating
 pub mod Ending
 pub mod Alike
 pub mod Telling
+pub mod Seen

@@ -61,13 +61,13 @@ heard_worked [] n h e f = (ap is_some e ∙ sym f, tt)
 heard_worked (m ∷ notes) n h e f = (h.0, heard_worked notes n h.1 e f)
 
 -- with one more step that is a call
-pub ends_called : (notes : List Noted) (n : Noted) → AreHeard notes → is_call n.step ≡ true → EndsInCall (notes ++ n ∷ [])
-ends_called [] n h f = f
-ends_called (m ∷ []) n h f = (h.0, f)
-ends_called (m ∷ k ∷ notes) n h f = (h.0, ends_called (k ∷ notes) n h.1 f)
+pub ends_called : (notes : List Noted) (n : Noted) → AreHeard notes → is_call n.step ≡ true → n.reply ≡ None → EndsInCall (notes ++ n ∷ [])
+ends_called [] n h f e = (f, e)
+ends_called (m ∷ []) n h f e = (h.0, (f, e))
+ends_called (m ∷ k ∷ notes) n h f e = (h.0, ends_called (k ∷ notes) n h.1 f e)
 
 -- with the reply to that call
 pub heard_replied : (notes : List Noted) (reply : Reply) → EndsInCall notes → AreHeard (with_reply reply notes)
 heard_replied [] reply h = absurd h
-heard_replied (n ∷ []) reply h = (sym h, tt)
+heard_replied (n ∷ []) reply h = (sym h.0, tt)
 heard_replied (n ∷ m ∷ notes) reply h = (h.0, heard_replied (m ∷ notes) reply h.1)

@@ -8,12 +8,11 @@ use Rattle.posix_terms.specs.declared.transcript.HistoryRow.{HistoryRow}
 use Rattle.thread_scripts.specs.declared.actor.ScriptState.{ScriptState}
 use Rattle.posix_terms.specs.declared.step.Step.{Step}
 use Rattle.posix_terms.specs.declared.step.Step.TheVariants as step
-use Rattle.worker_notes.specs.Agrees.{Agree, AgreeFrom, AgreesWith, before, replies_in, replies_noted, steps_noted}
+use Rattle.worker_notes.specs.Agrees.{Agree, AgreeFrom, AgreesWith, before, brought_in, replies_in, replies_noted, steps_noted}
 use Rattle.worker_notes.specs.Leads.{Giving, LeadsTo}
-use Rattle.worker_notes.specs.Plays.{AreHeardSoFar, PlaysTo, noted}
+use Rattle.worker_notes.specs.Plays.{AreHeardSoFar, PlaysTo, noted, open_call}
 use Rattle.worker_notes.specs.declared.own.Noted.{Noted}
 use Rattle.worker_notes.specs.declared.own.Own.{Own}
-use Rattle.recorder.proofs.Leading.{leads_loose}
 use Rattle.recorder.proofs.Playing.{plays_loose}
 use Rattle.recorder.specs.Each.{ArePlayedFrom, AreLedFrom, AreTrue, Each}
 use Rattle.recorder.specs.Recorded.{AreEnded}
@@ -50,24 +49,22 @@ plays_at true ended s notes t e h = plays_loose (not ended) s notes t h
 plays_at false true s notes t e h = h
 plays_at false false s notes t e h = absurd (false≢true (e refl))
 
-leads_at : {O : Type 0} (gives : Giving O) (ahead ended : Bool) (o : O) (w : Own) (p : O) → (ahead ≡ false → ended ≡ true) → LeadsTo gives (not ended) o w.outcomes.items p → LeadsTo gives ahead o w.outcomes.items p
-leads_at gives true ended o w p e h = leads_loose gives (not ended) o w.outcomes.items p h
-leads_at gives false true o w p e h = h
-leads_at gives false false o w p e h = absurd (false≢true (e refl))
-
 played : (ahead : Bool) (i : ℕ) (rows : List HistoryRow) (asked : List Step) (w : Own) (s t : ScriptState) → AgreesWith i rows asked w → AreHeardSoFar w.steps.items → PlaysTo ahead s w.steps.items t → PlaysTo ahead s (noted asked (replies_in i rows)) t
 played ahead i rows asked w s t agrees heard h = rw (← agrees.steps, ← agrees.replies, ← noted_is w.steps.items heard) h
+
+led : {O : Type 0} (gives : Giving O) (i : ℕ) (rows : List HistoryRow) (asked : List Step) (w : Own) (o p : O) → AgreesWith i rows asked w → AreHeardSoFar w.steps.items → LeadsTo gives (open_call w.steps.items) o w.outcomes.items p → LeadsTo gives (open_call (noted asked (replies_in i rows))) o (brought_in i rows) p
+led gives i rows asked w o p agrees heard h = rw (← agrees.steps, ← agrees.replies, ← agrees.outcomes, ← noted_is w.steps.items heard) h
 
 -- of each thread in turn
 pub told_each : {A O : Type 0} (state : A → ScriptState) (gives : Giving O) (ahead : Bool) (i : ℕ) (rows : List HistoryRow) (asked : List (List Step)) (actors : List A) (os : List O) (ws : List Own) (bs : List A) (ps : List O)
     → (ahead ≡ false → AreEnded ws) → AgreeFrom i rows asked ws → Each (λ a o w b p. IsTrueTo O gives (state a) o w (state b) p) actors os ws bs ps
-    → ArePlayedFrom state ahead i rows asked actors bs × AreLedFrom gives ahead i rows os ps
+    → ArePlayedFrom state ahead i rows asked actors bs × AreLedFrom gives i rows asked os ps
 told_each state gives ahead i rows [] [] [] [] [] [] e agree h = (tt, tt)
 told_each state gives ahead i rows (x ∷ asked) (a ∷ actors) (o ∷ os) (w ∷ ws) (b ∷ bs) (p ∷ ps) e agree h =
     let rest = told_each state gives ahead (i + 1) rows asked actors os ws bs ps (λ f. (e f).1) agree.1 h.1 in
     let heads = h.0 in (
       (played ahead i rows x w (state a) (state b) agree.0 heads.heard (plays_at ahead w.ended (state a) w.steps.items (state b) (λ f. (e f).0) heads.plays), rest.0),
-      (rw agree.0.outcomes at (leads_at gives ahead w.ended o w p (λ f. (e f).0) heads.leads), rest.1),
+      (led gives i rows x w o p agree.0 heads.heard heads.leads, rest.1),
     )
 told_each state gives ahead i rows (x ∷ asked) actors os [] bs ps e agree h = absurd agree
 told_each state gives ahead i rows [] actors os (w ∷ ws) bs ps e agree h = absurd agree
@@ -94,7 +91,7 @@ played_or_strayed strayed state gives stopped rows asked actors os ws bs ps (inr
     inr (told_each state gives (is_some stopped) 0 rows asked actors os ws bs ps (λ f. e (not_stopped stopped f)) agree h).0
 
 pub led_or_strayed : {A O S : Type 0} (strayed : Type 0) (state : A → ScriptState) (gives : Giving O) (stopped : Option S) (rows : List HistoryRow) (asked : List (List Step)) (actors : List A) (os : List O) (ws : List Own) (bs : List A) (ps : List O)
-    → strayed ⊎ Agree rows asked ws → (stopped ≡ None → AreEnded ws) → AreTrue gives state actors os ws bs ps → strayed ⊎ AreLedFrom gives (is_some stopped) 0 rows os ps
+    → strayed ⊎ Agree rows asked ws → (stopped ≡ None → AreEnded ws) → AreTrue gives state actors os ws bs ps → strayed ⊎ AreLedFrom gives 0 rows asked os ps
 led_or_strayed strayed state gives stopped rows asked actors os ws bs ps (inl s) e h = inl s
 led_or_strayed strayed state gives stopped rows asked actors os ws bs ps (inr agree) e h =
     inr (told_each state gives (is_some stopped) 0 rows asked actors os ws bs ps (λ f. e (not_stopped stopped f)) agree h).1

@@ -6,7 +6,7 @@ use Rattle.thread_scripts.specs.declared.actor.ScriptState.{ScriptState}
 use Rattle.posix_terms.specs.declared.step.Step.{Step}
 use Rattle.worker_notes.specs.Agrees.{brought_in, replies_in}
 use Rattle.worker_notes.specs.Leads.{Giving, LeadsTo}
-use Rattle.worker_notes.specs.Plays.{PlaysTo, noted}
+use Rattle.worker_notes.specs.Plays.{PlaysTo, noted, open_call}
 use Rattle.worker_notes.specs.declared.own.Own.{Own}
 use Rattle.recorder.specs.Seats.{IsTrueTo}
 
@@ -36,9 +36,10 @@ ArePlayedFrom state ahead thread rows (asked ∷ others) (a ∷ actors) (b ∷ l
 ArePlayedFrom state ahead thread rows asked actors later = ⊥
 
 -- each outside, from this thread on, was led from where it stood to where it stands by the requests that the calls of the thread's rows ask,
--- in order and numbered from 0, each with its outcome. It may be ahead by one call more
-abbrev pub AreLedFrom : {O : Type 0} → Giving O → Bool → ℕ → List HistoryRow → List O → List O → Type 0
-AreLedFrom gives ahead thread rows [] [] = Unit {0}
-AreLedFrom gives ahead thread rows (o ∷ outsides) (p ∷ ends) =
-    LeadsTo gives ahead o (brought_in thread rows) p × AreLedFrom gives ahead (thread + 1) rows outsides ends
-AreLedFrom gives ahead thread rows outsides ends = ⊥
+-- in order and numbered from 0, each with its outcome. It may be ahead by one call more: that in which its thread's steps end, without a reply
+abbrev pub AreLedFrom : {O : Type 0} → Giving O → ℕ → List HistoryRow → List (List Step) → List O → List O → Type 0
+AreLedFrom gives thread rows [] [] [] = Unit {0}
+AreLedFrom gives thread rows (asked ∷ others) (o ∷ outsides) (p ∷ ends) =
+    LeadsTo gives (open_call (noted asked (replies_in thread rows))) o (brought_in thread rows) p
+    × AreLedFrom gives (thread + 1) rows others outsides ends
+AreLedFrom gives thread rows asked outsides ends = ⊥

@@ -3,3 +3,4 @@ pub mod Each
 pub mod Recorded
 pub mod Starting
 pub mod Order
+pub mod Leaving

@@ -1,45 +1,51 @@
-ghost use Rattle.std.specs.Prelude.{◌≡◌, ◌⊎◌, ◌↔◌, IsTrue, true, false, Some, None, is_some, is_ok, if◌then◌else◌};
-ghost use Rattle.logged_machine.specs.Finishing.{have_ended, is_ended};
+ghost use Rattle.std.specs.Prelude.{◌≡◌, ◌≤◌, ◌⊎◌, ◌↔◌, IsTrue, true, false, [], Some, None, is_some, vec_capacity, if◌then◌else◌};
+ghost use Rattle.logged_machine.specs.Finishing.{have_ended};
 ghost use Rattle.logged_machine.specs.Kept.{header_of};
 ghost use Rattle.logged_machine.specs.declared.stop.Stop.TheVariants as cause;
-ghost use Rattle.recorder.specs.Recorded.{AreAnswered, AreEnded, AreTold, IsRun, IsToldBy, Shows};
+ghost use Rattle.recorder.specs.Recorded.{AreAnswered, AreEnded, AreTold, IsRun, Shows};
 ghost use Rattle.worker_notes.specs.Agrees.{Agree};
 
 use crate::ended::Ended;
 use crate::history::History;
 use crate::threads::Gathered;
-use crate::transcripts::transcripts;
+use crate::transcripts::{Seen, seen_by};
 use input_log::{Header, LogSink};
-use lock_machine::Phase;
 use logged_machine::{Finished, Machine, Stop};
-use posix_terms::{HistoryRow, Transcripts};
-use std::alloc::{AllocError, Global};
+use posix_terms::{HistoryRow, Transcript};
+use std::alloc::Global;
 use worker_notes::{Own, agree};
 
 // What is told of a run whose workers have all come back.
 pub fn conclude<A: Drop, O: Drop, S: LogSink + Drop, D: Drop>(
     alloc: Global,
-    threads: usize,
     header: Header,
     machine: Machine<S, D>,
     gathered: Gathered<A, O>,
+    room: Vec<Transcript>,
 ) -> Ended<A, O, S>
+    requires none { room.items ≡ [] }
+    requires room { header.threads ≤ vec_capacity room }
     ensures actors { result.actors ≡ gathered.actors }
     ensures outsides { result.outsides ≡ gathered.outsides }
     ensures own { result.own ≡ gathered.own }
-    ensures run { IsRun D header result.history gathered.own.items (S.taken result.sink) (S.failures result.sink) result.stop }
+    ensures run { IsRun D header result.history gathered.own.items result.transcripts (S.taken result.sink) (S.failures result.sink) result.stop }
     ensures agrees { (result.stop ≡ Some cause.Strayed) ⊎ Agree result.history.rows result.history.asked gathered.own.items }
-    ensures transcripts { AreTold threads result.history.rows result.stop result.transcripts }
+    ensures transcripts { AreTold header.threads result.history.rows result.stop result.transcripts }
     ensures ended { result.stop ≡ None → AreEnded gathered.own.items }
     ensures answered { result.stop ≡ None → AreAnswered result.history.rows }
 {
     let mut machine = machine;
-    let told = transcripts(alloc, threads, machine.history());
-    let complete = is_complete(&told, &machine, gathered.own.as_slice());
+    let Seen { transcripts, whole } = seen_by(
+        alloc,
+        header.threads as usize,
+        machine.history(),
+        room,
+    );
+    let complete = is_complete(whole, &machine, gathered.own.as_slice());
     stop_unless(complete, &mut machine);
     let finished = finish(machine);
     let agrees = agrees(header, &finished, gathered.own.as_slice());
-    let stop = judged(agrees, finished.stop);
+    let stop = judged(agrees, whole, finished.stop);
     let Finished { history, sink, .. } = finished;
     let Gathered {
         actors,
@@ -47,7 +53,7 @@ pub fn conclude<A: Drop, O: Drop, S: LogSink + Drop, D: Drop>(
         own,
     } = gathered;
     Ended {
-        transcripts: told_or_none(alloc, told),
+        transcripts,
         own,
         actors,
         outsides,
@@ -57,22 +63,18 @@ pub fn conclude<A: Drop, O: Drop, S: LogSink + Drop, D: Drop>(
     }
 }
 
-// Whether the run came to its end, and there was memory for its transcripts.
-fn is_complete<S: LogSink, D: Drop>(
-    told: &Result<Transcripts, AllocError>,
-    machine: &Machine<S, D>,
-    own: &[Own],
-) -> bool
-    ensures told { result ≡ true → is_ok told.now ≡ true }
+// Whether the run came to its end, and what its threads saw is whole.
+fn is_complete<S: LogSink, D: Drop>(whole: bool, machine: &Machine<S, D>, own: &[Own]) -> bool
+    ensures whole { result ≡ true → whole ≡ true }
     ensures threads { result ≡ true → have_ended machine.now.whole.threads ≡ true }
     ensures rows { result ≡ true → AreAnswered machine.now.whole.rows }
     ensures own { result ≡ true → AreEnded own.now }
 {
-    told.is_ok() && has_ended(machine, own)
+    whole && has_ended(machine, own)
 }
 
-// Stops the machine of a run that did not come to its end, if it is not stopped already. It is, unless there was no memory for the
-// transcripts.
+// Stops the machine of a run that did not come to its end, if it is not stopped already. It is, unless there was no
+// memory for the transcripts.
 fn stop_unless<S: LogSink, D: Drop>(complete: bool, machine: &mut Machine<S, D>)
     ensures stopped { complete ≡ false → is_some machine.new.stop ≡ true }
     ensures rest { machine.new.whole ≡ machine.old.whole }
@@ -97,11 +99,16 @@ fn same_header(one: Header, other: Header) -> bool
         && (one.patience == other.patience && one.door_cost == other.door_cost)
 }
 
-// Why the run stopped; where the notes do not agree it is that the threads strayed.
-fn judged(agrees: bool, stop: Option<Stop>) -> Option<Stop>
-    ensures { result ≡ (if agrees then stop else Some cause.Strayed) }
+// Why the run stopped. Where the notes do not agree it is that the threads strayed; else, where what they saw is not
+// whole, that there was no memory.
+fn judged(agrees: bool, whole: bool, stop: Option<Stop>) -> Option<Stop>
+    ensures { result ≡ (if agrees then (if whole then stop else Some cause.Memory) else Some cause.Strayed) }
 {
-    if agrees { stop } else { Some(Stop::Strayed) }
+    match (agrees, whole) {
+        (true, true) => stop,
+        (true, false) => Some(Stop::Memory),
+        (false, _) => Some(Stop::Strayed),
+    }
 }
 
 // What the machine leaves, and what is true of it.
@@ -112,40 +119,13 @@ fn finish<S: LogSink, D: Drop>(machine: Machine<S, D>) -> Finished<S>
     machine.finish()
 }
 
-// The transcripts, or none where there was no memory for them.
-fn told_or_none(alloc: Global, transcripts: Result<Transcripts, AllocError>) -> Transcripts
-    ensures { IsToldBy transcripts result }
-{
-    match transcripts {
-        Ok(transcripts) => transcripts,
-        Err(_) => Transcripts::from_vec(Vec::new(alloc)),
-    }
-}
-
 // Whether all threads have ended, each by its actor's `End`, with no row that was not answered.
 fn has_ended<S: LogSink, D: Drop>(machine: &Machine<S, D>, own: &[Own]) -> bool
     ensures threads { result ≡ true → have_ended machine.now.whole.threads ≡ true }
     ensures rows { result ≡ true → AreAnswered machine.now.whole.rows }
     ensures own { result ≡ true → AreEnded own.now }
 {
-    have_ended(machine) && (are_answered(machine.history()) && are_ended(own))
-}
-
-fn have_ended<S: LogSink, D: Drop>(machine: &Machine<S, D>) -> bool
-    ensures { result ≡ have_ended machine.now.whole.threads }
-{
-    for i in 0..machine.len() {
-        if !is_ended(machine.phase(i)) {
-            return false;
-        }
-    }
-    true
-}
-
-fn is_ended(phase: &Phase) -> bool
-    ensures { result ≡ is_ended phase.now }
-{
-    matches!(phase, Phase::Ended)
+    machine.have_ended() && (are_answered(machine.history()) && are_ended(own))
 }
 
 fn are_answered(rows: &[HistoryRow]) -> bool

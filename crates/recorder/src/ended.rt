@@ -8,7 +8,8 @@ use worker_notes::Own;
 /// A recorded run that is over.
 #[derive(Drop)]
 pub struct Ended<A: Drop, O: Drop, S: LogSink + Drop> {
-    /// What each thread saw. There are none where there was no memory for them, and then the run was stopped.
+    /// What each thread saw: the replies of its rows. Where there was no memory for all of them each is a beginning,
+    /// and the stop is `Memory`, unless it is `Strayed`.
     pub transcripts: Transcripts,
     /// What the worker of each thread noted itself.
     pub own: Vec<Own>,

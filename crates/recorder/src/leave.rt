@@ -1,5 +1,6 @@
 ghost use Rattle.std.specs.Prelude.{◌≡◌, false, Some};
 ghost use Rattle.logged_machine.specs.Kept.{is_sink, is_strayed};
+ghost use Rattle.recorder.specs.Leaving.{is_of_outside};
 
 use logged_machine::{Refused, Stop};
 use std::alloc::{AllocError, AllocFailed};
@@ -33,6 +34,8 @@ impl Leave {
 }
 
 impl From<Refused> for Leave {
+    ghost from_gives = { λ _ leave. is_of_outside leave ≡ false };
+
     fn from(refused: Refused) -> Leave {
         match refused {
             Refused::Stopped(_) | Refused::Sink => Leave::Stopped,
@@ -45,18 +48,24 @@ impl From<Refused> for Leave {
 }
 
 impl From<AllocError> for Leave {
+    ghost from_gives = { λ _ leave. is_of_outside leave ≡ false };
+
     fn from(_error: AllocError) -> Leave {
         Leave::Memory
     }
 }
 
 impl<T: Drop> From<AllocFailed<T>> for Leave {
+    ghost from_gives = { λ _ leave. is_of_outside leave ≡ false };
+
     fn from(_failed: AllocFailed<T>) -> Leave {
         Leave::Memory
     }
 }
 
 impl From<thread_scripts::Memory> for Leave {
+    ghost from_gives = { λ _ leave. is_of_outside leave ≡ false };
+
     fn from(_memory: thread_scripts::Memory) -> Leave {
         Leave::Memory
     }

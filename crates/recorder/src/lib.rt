@@ -6,10 +6,10 @@
 //! took nothing yet; [`hosts`] makes outsides over the real host. It waits until all have ended or
 //! the run was stopped, and gives [`Ended`]: the transcripts, the history, the sink with the log,
 //! and the stop. By the contract the history is legal, its turns rise, and what the sink took
-//! covers it; unless the stop is `Strayed`, the workers' own notes say the same. Want of memory
-//! stops a run, and so do a sink that fails, a full clock and a thread that cannot be started.
-//! Where no run was started, [`NotStarted`] says why and hands all back. Nothing is promised of
-//! time.
+//! covers it; the transcripts are those of its rows, and beginnings of them where the stop is
+//! `Memory`; unless the stop is `Strayed`, the workers' own notes say the same. Out of memory stops
+//! a run, and so do a sink that fails, a full clock and a thread that cannot be started. Where no
+//! run was started, [`NotStarted`] says why and hands all back. Nothing is promised of time.
 //!
 //! [`record_as`] makes the same run in a [`Manner`]: calls may go outside one after the other, in
 //! the order of their turns, and a [`Watch`] may be shown the machine each time that no thread has

@@ -1,8 +1,9 @@
-ghost use Rattle.std.specs.Prelude.{◌≡◌, ◌+◌, ◌≤◌, ◌<◌, ◌⊎◌, None, IfOk, OnOk, vec_capacity, vec_len};
+ghost use Rattle.std.specs.Prelude.{◌≡◌, ◌+◌, ◌≤◌, ◌<◌, ◌⊎◌, None, Some, IfOk, OnOk, vec_capacity, vec_len};
 ghost use Rattle.host_doors.specs.Giving.{CanCount};
-ghost use Rattle.posix_terms.specs.declared.outcome.Outcome.{Outcome};
 ghost use Rattle.thread_scripts.specs.Meaning.{next_of};
-ghost use Rattle.worker_notes.specs.Plays.{last_reply};
+ghost use Rattle.worker_notes.specs.Leads.{IsAhead};
+ghost use Rattle.worker_notes.specs.Plays.{last_reply, open_call};
+ghost use Rattle.worker_notes.specs.Requests.{request_in};
 
 use crate::asked::copied;
 use crate::events::{Journey, ask, record};
@@ -11,9 +12,11 @@ use crate::outside::reach;
 use crate::shared::Shared;
 use host_doors::Outside;
 use input_log::LogSink;
+use posix_terms::Request;
+use std::alloc::AllocError;
 use std::sync::Wait;
 use thread_scripts::Actor;
-use worker_notes::{Brought, Noted, last_reply};
+use worker_notes::{Brought, Noted, Own, last_reply, open_call, request_for};
 
 // What a worker does for its next note: where the machine took the event there is a note of it.
 
@@ -34,37 +37,49 @@ pub fn ask_next<A: Actor, S: LogSink, D: Drop, R: Wait>(
     let step = actor.next(last_reply(notes.as_slice()))?;
     let copy = copied(&step)?;
     notes.reserve(1)?;
-    ask(rt, shared, i, step)?;
+    ask(rt, shared, i, step, notes)?;
     Ok(Noted {
         step: copy,
         reply: None,
     })
 }
 
-// Makes this journey of thread i, which gets the outcome of this number, while others make their events; and has
-// its outcome recorded.
+// Makes this journey of thread i, while others make their events: the request of the call in which its steps end, which
+// gets the outcome of this number; and has that recorded.
 pub fn bring<O: Outside, S: LogSink, R: Wait>(
     rt: &R,
     shared: &Shared<S, O::Door>,
     i: usize,
     outside: &mut O,
     number: u32,
+    own: &Own,
     journey: Journey<O::Door>,
 ) -> Result<Brought, Leave>
+    requires place { vec_len own.now.outcomes < vec_capacity own.now.outcomes }
     requires count { CanCount (O.given outside.old) (O.failures outside.old) }
-    ensures request { IfOk result (λ note. note.request ≡ journey.request) }
-    ensures gives { IfOk result (λ note. O.gives outside.old number journey.request note.outcome outside.new) }
+    ensures request { IfOk result (λ note. request_in (open_call own.now.steps.items) ≡ Some note.request) }
+    ensures gives { IfOk result (λ note. O.gives outside.old number note.request note.outcome outside.new) }
     ensures given { O.given outside.new ≤ O.given outside.old + 1 }
     ensures failures { O.failures outside.new ≤ O.failures outside.old + 1 }
-    ensures ahead { (outside.new ≡ outside.old) ⊎ (outcome : Outcome) × O.gives outside.old number journey.request outcome outside.new }
+    ensures ahead { IsAhead O.gives (open_call own.now.steps.items) number outside.old outside.new }
 {
-    let Journey {
-        request,
-        door,
-        waits,
-    } = journey;
+    let Journey { door, waits } = journey;
+    let Some(request) = asked(own.steps.as_slice())? else {
+        // A machine sends no thread outside but with its call. It stands behind the lock, so this is not known here.
+        return Err(Leave::Memory);
+    };
     let reached = reach(outside, i, number, &request, door, waits)?;
     let outcome = reached.outcome.try_clone()?;
-    record(rt, shared, i, number, reached)?;
+    record(rt, shared, i, number, reached, &own.outcomes)?;
     Ok(Brought { request, outcome })
+}
+
+// The request of the call in which the steps end.
+fn asked(steps: &[Noted]) -> Result<Option<Request>, AllocError>
+    ensures { IfOk result (λ request. request ≡ request_in (open_call steps.now)) }
+{
+    match open_call(steps) {
+        Some(call) => request_for(call),
+        None => Ok(None),
+    }
 }

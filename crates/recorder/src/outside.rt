@@ -1,5 +1,6 @@
-ghost use Rattle.std.specs.Prelude.{◌≡◌, ◌+◌, ◌≤◌, IfOk, OnErr};
+ghost use Rattle.std.specs.Prelude.{◌≡◌, ◌+◌, ◌≤◌, true, None, is_some, IfOk, OnErr};
 ghost use Rattle.host_doors.specs.Giving.{CanCount};
+ghost use Rattle.recorder.specs.Leaving.{brings_back};
 
 use crate::leave::Leave;
 use host_doors::{DoorStop, Opened, Outside};
@@ -28,6 +29,7 @@ pub fn reach<O: Outside>(
     ensures given { O.given outside.new ≤ O.given outside.old + 1 }
     ensures failures { O.failures outside.new ≤ O.failures outside.old + 1 }
     ensures same { OnErr result (outside.new ≡ outside.old) }
+    ensures back { IfOk result (λ r. is_some r.back ≡ brings_back request.now.kind (is_some door)) }
 {
     let reached = match door {
         None => open(outside, i, number, request)?,
@@ -48,12 +50,13 @@ fn open<O: Outside>(
     ensures given { O.given outside.new ≤ O.given outside.old + 1 }
     ensures failures { O.failures outside.new ≤ O.failures outside.old + 1 }
     ensures same { OnErr result (outside.new ≡ outside.old) }
+    ensures back { IfOk result (λ r. r.back ≡ None) }
 {
     let opened = match request.kind {
         OutKind::Open => outside.open(i, number as u64, request),
         OutKind::Listen => outside.listen(i, number as u64, request),
         OutKind::Connect => outside.connect(i, number as u64, request),
-        // The machine gives a door out with each other request, which is not proved: without one nothing can answer it.
+        // A machine gives a door out with each other request. It stands behind the lock, so this is not known here.
         _ => Err(DoorStop::Diverged),
     };
     match opened {
@@ -80,6 +83,7 @@ fn pass<O: Outside>(
     ensures given { O.given outside.new ≤ O.given outside.old + 1 }
     ensures failures { O.failures outside.new ≤ O.failures outside.old + 1 }
     ensures same { OnErr result (outside.new ≡ outside.old) }
+    ensures back { IfOk result (λ r. is_some r.back ≡ brings_back request.now.kind true) }
 {
     match request.kind {
         OutKind::Close => match outside.close(i, number as u64, request, door) {
@@ -109,6 +113,7 @@ fn accept<O: Outside>(
     ensures given { O.given outside.new ≤ O.given outside.old + 1 }
     ensures failures { O.failures outside.new ≤ O.failures outside.old + 1 }
     ensures same { OnErr result (outside.new ≡ outside.old) }
+    ensures back { IfOk result (λ r. is_some r.back ≡ true) }
 {
     let mut door = door;
     match outside.accept(i, number as u64, request, &mut door, waits) {
@@ -135,6 +140,7 @@ fn lend<O: Outside>(
     ensures given { O.given outside.new ≤ O.given outside.old + 1 }
     ensures failures { O.failures outside.new ≤ O.failures outside.old + 1 }
     ensures same { OnErr result (outside.new ≡ outside.old) }
+    ensures back { IfOk result (λ r. is_some r.back ≡ true) }
 {
     let mut door = door;
     let came = match request.kind {

@@ -28,22 +28,29 @@ use std::thread::Threads;
 use thread_scripts::{Actor, BoxedActor};
 use worker_notes::Own;
 
-/// Runs 1 to 8 actors, each in a thread of its own and with its own outside, against one table of descriptors, and records what comes from
-/// outside into a log. It waits until all have ended, or until the run was stopped. Calls to the outside are made while other threads go on.
+/// Runs 1 to 8 actors, each in a thread of its own and with its own outside, against one table of descriptors, and
+/// records what comes from outside into a log. It waits until all have ended, or until the run was stopped. Calls to the
+/// outside are made while other threads go on.
 ///
-/// The run is that of a machine: its history is legal, its turns rise, and what the sink took covers it (`run`). Where the sink failed at the
-/// log's header nobody is started, and the stop is `Sink`; it is `Sink` only where the sink failed (`fails`). The stop is the machine's
-/// own, and `Strayed` takes its place just where the machine had other threads or settings, or its history says of a thread something else
-/// than its worker noted: the steps that were asked, the replies, and what came from outside, with the requests of the rows' calls.
+/// The run is that of a machine: its history is legal, its turns rise, and what the sink took covers it (`run`). Where
+/// the sink failed at the log's header nobody is started, the stop is `Sink`, and actors and outsides are as they were
+/// (`unstarted`). The stop is `Sink` only where the sink failed (`fails`).
 ///
-/// Unless the stop is `Strayed`, the steps that each thread asked are those that its actor's script gives under the replies of its rows, and the
-/// actor stands behind them (`steps`); the requests of its rows' calls, with their outcomes, are calls that its outside gave, and this stands
-/// behind them (`calls`). Where the run was stopped, an actor may stand one step further, and an outside one call further. Whatever the
-/// stop is, the same is true of the notes (`told`). Where nothing stopped the run, all actors gave their end, all calls were
+/// What each thread saw is the replies of its rows (`transcripts`). The stop is the machine's own. `Memory` takes its
+/// place exactly where there was no memory for all that the threads saw: then each saw a beginning. `Strayed` takes the
+/// place of both exactly where the machine had other threads or settings, or its history says of a thread something else
+/// than its worker noted: the steps that were asked, the replies, and what came from outside, with the requests of the
+/// rows' calls.
+///
+/// Unless the stop is `Strayed`, the steps that each thread asked are those that its actor's script gives under the
+/// replies of its rows, and the actor stands after them (`steps`); the requests of its rows' calls, with their outcomes,
+/// are calls that its outside gave, and this stands after them (`calls`). Where the run was stopped, an actor may stand
+/// one step further, and an outside one call further: the one in which its thread's steps end. Whatever the stop is, the
+/// same is true of the notes (`told`). Where nothing stopped the run, all actors gave their end, all calls were
 /// answered, and the log has its end.
 ///
-/// A thread that cannot be started stops the run, as does every want of memory from then on; all others then leave at their next event.
-/// Nothing is promised of time, nor that an actor or an outside returns.
+/// A thread that cannot be started stops the run, as does every want of memory from then on; all others then leave at
+/// their next event. Nothing is promised of time, nor that an actor or an outside returns.
 pub fn run_recorded<O: Outside + Send + Drop, S: LogSink + Send + Drop, R: Threads + Wait + Sync>(
     rt: &R,
     alloc: Global,
@@ -56,15 +63,16 @@ pub fn run_recorded<O: Outside + Send + Drop, S: LogSink + Send + Drop, R: Threa
     requires sound { S.failures sink ≡ 0 }
     requires unused { All (IsUnused O.given O.failures) outsides.items }
     ensures started { OnOk result (refusal (vec_len actors) (vec_len outsides) settings ≡ None) }
-    ensures run { IfOk result (λ e. IsRecorded O.Door settings (vec_len actors) e.history e.own.items (S.taken e.sink) (S.failures e.sink) e.stop) }
+    ensures run { IfOk result (λ e. IsRecorded O.Door settings (vec_len actors) e.history e.own.items e.transcripts (S.taken e.sink) (S.failures e.sink) e.stop) }
     ensures agrees { IfOk result (λ e. (e.stop ≡ Some stop.Strayed) ⊎ Agree e.history.rows e.history.asked e.own.items) }
     ensures transcripts { IfOk result (λ e. AreTold (vec_len actors) e.history.rows e.stop e.transcripts) }
     ensures ended { IfOk result (λ e. e.stop ≡ None → AreEnded e.own.items) }
     ensures answered { IfOk result (λ e. e.stop ≡ None → AreAnswered e.history.rows) }
     ensures fails { IfOk result (λ e. e.stop ≡ Some stop.Sink → S.failures e.sink ≡ 1) }
     ensures steps { IfOk result (λ e. (e.stop ≡ Some stop.Strayed) ⊎ ArePlayedFrom ⟦<BoxedActor as Actor>⟧.state (is_some e.stop) 0 e.history.rows e.history.asked actors.items e.actors.items) }
-    ensures calls { IfOk result (λ e. (e.stop ≡ Some stop.Strayed) ⊎ AreLedFrom O.gives (is_some e.stop) 0 e.history.rows outsides.items e.outsides.items) }
+    ensures calls { IfOk result (λ e. (e.stop ≡ Some stop.Strayed) ⊎ AreLedFrom O.gives 0 e.history.rows e.history.asked outsides.items e.outsides.items) }
     ensures told { IfOk result (λ e. AreTrue O.gives ⟦<BoxedActor as Actor>⟧.state actors.items outsides.items e.own.items e.actors.items e.outsides.items) }
+    ensures unstarted { IfOk result (λ e. TakesPart [] (header_text (header_for settings (vec_len actors))) (S.taken e.sink) → (e.actors ≡ actors) × (e.outsides ≡ outsides)) }
     ensures back { IfErr result (λ n. (n.actors ≡ actors) × (n.outsides ≡ outsides)) }
     ensures fault { IfErr result (λ n. IsRefusal n.fault (vec_len actors) (vec_len outsides) settings) }
     ensures sink { IfErr result (λ n. IsBack S.taken S.failures n.fault (vec_len actors) settings sink n.sink) }
@@ -90,15 +98,16 @@ pub fn record_actors<
     requires sound { S.failures sink ≡ 0 }
     requires unused { All (IsUnused O.given O.failures) outsides.items }
     ensures started { OnOk result (refusal (vec_len actors) (vec_len outsides) settings ≡ None) }
-    ensures run { IfOk result (λ e. IsRecorded O.Door settings (vec_len actors) e.history e.own.items (S.taken e.sink) (S.failures e.sink) e.stop) }
+    ensures run { IfOk result (λ e. IsRecorded O.Door settings (vec_len actors) e.history e.own.items e.transcripts (S.taken e.sink) (S.failures e.sink) e.stop) }
     ensures agrees { IfOk result (λ e. (e.stop ≡ Some stop.Strayed) ⊎ Agree e.history.rows e.history.asked e.own.items) }
     ensures transcripts { IfOk result (λ e. AreTold (vec_len actors) e.history.rows e.stop e.transcripts) }
     ensures ended { IfOk result (λ e. e.stop ≡ None → AreEnded e.own.items) }
     ensures answered { IfOk result (λ e. e.stop ≡ None → AreAnswered e.history.rows) }
     ensures fails { IfOk result (λ e. e.stop ≡ Some stop.Sink → S.failures e.sink ≡ 1) }
     ensures steps { IfOk result (λ e. (e.stop ≡ Some stop.Strayed) ⊎ ArePlayedFrom A.state (is_some e.stop) 0 e.history.rows e.history.asked actors.items e.actors.items) }
-    ensures calls { IfOk result (λ e. (e.stop ≡ Some stop.Strayed) ⊎ AreLedFrom O.gives (is_some e.stop) 0 e.history.rows outsides.items e.outsides.items) }
+    ensures calls { IfOk result (λ e. (e.stop ≡ Some stop.Strayed) ⊎ AreLedFrom O.gives 0 e.history.rows e.history.asked outsides.items e.outsides.items) }
     ensures told { IfOk result (λ e. AreTrue O.gives A.state actors.items outsides.items e.own.items e.actors.items e.outsides.items) }
+    ensures unstarted { IfOk result (λ e. TakesPart [] (header_text (header_for settings (vec_len actors))) (S.taken e.sink) → (e.actors ≡ actors) × (e.outsides ≡ outsides)) }
     ensures back { IfErr result (λ n. (n.actors ≡ actors) × (n.outsides ≡ outsides)) }
     ensures fault { IfErr result (λ n. IsRefusal n.fault (vec_len actors) (vec_len outsides) settings) }
     ensures sink { IfErr result (λ n. IsBack S.taken S.failures n.fault (vec_len actors) settings sink n.sink) }
@@ -131,15 +140,16 @@ pub fn record_as<
     requires sound { S.failures sink ≡ 0 }
     requires unused { All (IsUnused O.given O.failures) outsides.items }
     ensures started { OnOk result (refusal (vec_len actors) (vec_len outsides) settings ≡ None) }
-    ensures run { IfOk result (λ e. IsRecorded O.Door settings (vec_len actors) e.history e.own.items (S.taken e.sink) (S.failures e.sink) e.stop) }
+    ensures run { IfOk result (λ e. IsRecorded O.Door settings (vec_len actors) e.history e.own.items e.transcripts (S.taken e.sink) (S.failures e.sink) e.stop) }
     ensures agrees { IfOk result (λ e. (e.stop ≡ Some stop.Strayed) ⊎ Agree e.history.rows e.history.asked e.own.items) }
     ensures transcripts { IfOk result (λ e. AreTold (vec_len actors) e.history.rows e.stop e.transcripts) }
     ensures ended { IfOk result (λ e. e.stop ≡ None → AreEnded e.own.items) }
     ensures answered { IfOk result (λ e. e.stop ≡ None → AreAnswered e.history.rows) }
     ensures fails { IfOk result (λ e. e.stop ≡ Some stop.Sink → S.failures e.sink ≡ 1) }
     ensures steps { IfOk result (λ e. (e.stop ≡ Some stop.Strayed) ⊎ ArePlayedFrom A.state (is_some e.stop) 0 e.history.rows e.history.asked actors.items e.actors.items) }
-    ensures calls { IfOk result (λ e. (e.stop ≡ Some stop.Strayed) ⊎ AreLedFrom O.gives (is_some e.stop) 0 e.history.rows outsides.items e.outsides.items) }
+    ensures calls { IfOk result (λ e. (e.stop ≡ Some stop.Strayed) ⊎ AreLedFrom O.gives 0 e.history.rows e.history.asked outsides.items e.outsides.items) }
     ensures told { IfOk result (λ e. AreTrue O.gives A.state actors.items outsides.items e.own.items e.actors.items e.outsides.items) }
+    ensures unstarted { IfOk result (λ e. TakesPart [] (header_text (header_for settings (vec_len actors))) (S.taken e.sink) → (e.actors ≡ actors) × (e.outsides ≡ outsides)) }
     ensures back { IfErr result (λ n. (n.actors ≡ actors) × (n.outsides ≡ outsides)) }
     ensures fault { IfErr result (λ n. IsRefusal n.fault (vec_len actors) (vec_len outsides) settings) }
     ensures sink { IfErr result (λ n. IsBack S.taken S.failures n.fault (vec_len actors) settings sink n.sink) }
@@ -167,12 +177,13 @@ fn run_crew<
     requires sound { S.failures sink ≡ 0 }
     requires unused { All (IsUnused O.given O.failures) crew.outsides.items }
     ensures started { OnOk result (refusal (vec_len crew.actors) (vec_len crew.outsides) settings ≡ None) }
-    ensures run { IfOk result (λ e. IsRecorded O.Door settings (vec_len crew.actors) e.history e.own.items (S.taken e.sink) (S.failures e.sink) e.stop) }
+    ensures run { IfOk result (λ e. IsRecorded O.Door settings (vec_len crew.actors) e.history e.own.items e.transcripts (S.taken e.sink) (S.failures e.sink) e.stop) }
     ensures agrees { IfOk result (λ e. (e.stop ≡ Some stop.Strayed) ⊎ Agree e.history.rows e.history.asked e.own.items) }
     ensures transcripts { IfOk result (λ e. AreTold (vec_len crew.actors) e.history.rows e.stop e.transcripts) }
     ensures ended { IfOk result (λ e. e.stop ≡ None → AreEnded e.own.items) }
     ensures answered { IfOk result (λ e. e.stop ≡ None → AreAnswered e.history.rows) }
     ensures told { IfOk result (λ e. AreTrue O.gives A.state crew.actors.items crew.outsides.items e.own.items e.actors.items e.outsides.items) }
+    ensures unstarted { IfOk result (λ e. TakesPart [] (header_text (header_for settings (vec_len crew.actors))) (S.taken e.sink) → (e.actors ≡ crew.actors) × (e.outsides ≡ crew.outsides)) }
     ensures back { IfErr result (λ n. (n.actors ≡ crew.actors) × (n.outsides ≡ crew.outsides)) }
     ensures fault { IfErr result (λ n. IsRefusal n.fault (vec_len crew.actors) (vec_len crew.outsides) settings) }
     ensures sink { IfErr result (λ n. IsBack S.taken S.failures n.fault (vec_len crew.actors) settings sink n.sink) }
@@ -211,12 +222,13 @@ fn start<
     requires own { vec_len crew.actors ≤ vec_capacity room.own }
     requires no_transcripts { room.transcripts.items ≡ [] }
     requires transcripts { vec_len crew.actors ≤ vec_capacity room.transcripts }
-    ensures run { IfOk result (λ e. IsRecorded O.Door settings (vec_len crew.actors) e.history e.own.items (S.taken e.sink) (S.failures e.sink) e.stop) }
+    ensures run { IfOk result (λ e. IsRecorded O.Door settings (vec_len crew.actors) e.history e.own.items e.transcripts (S.taken e.sink) (S.failures e.sink) e.stop) }
     ensures agrees { IfOk result (λ e. (e.stop ≡ Some stop.Strayed) ⊎ Agree e.history.rows e.history.asked e.own.items) }
     ensures transcripts { IfOk result (λ e. AreTold (vec_len crew.actors) e.history.rows e.stop e.transcripts) }
     ensures ended { IfOk result (λ e. e.stop ≡ None → AreEnded e.own.items) }
     ensures answered { IfOk result (λ e. e.stop ≡ None → AreAnswered e.history.rows) }
     ensures told { IfOk result (λ e. AreTrue O.gives A.state crew.actors.items crew.outsides.items e.own.items e.actors.items e.outsides.items) }
+    ensures unstarted { IfOk result (λ e. TakesPart [] (header_text (header_for settings (vec_len crew.actors))) (S.taken e.sink) → (e.actors ≡ crew.actors) × (e.outsides ≡ crew.outsides)) }
     ensures back { IfErr result (λ n. (n.actors ≡ crew.actors) × (n.outsides ≡ crew.outsides)) }
     ensures fault { IfErr result (λ n. IsRefusal n.fault (vec_len crew.actors) (vec_len crew.outsides) settings) }
     ensures sink { IfErr result (λ n. IsBack S.taken S.failures n.fault (vec_len crew.actors) settings sink n.sink) }
@@ -270,6 +282,8 @@ fn without_log<A: Actor + Drop, O: Outside + Drop, S: LogSink + Drop>(
     ensures agrees { Agree result.history.rows result.history.asked result.own.items }
     ensures transcripts { result.transcripts ≡ transcripts_of (vec_len crew.actors) [] }
     ensures told { AreTrue O.gives A.state crew.actors.items crew.outsides.items result.own.items result.actors.items result.outsides.items }
+    ensures actors { result.actors ≡ crew.actors }
+    ensures outsides { result.outsides ≡ crew.outsides }
 {
     let Room {
         own,
@@ -316,17 +330,23 @@ fn run_with<
 ) -> Ended<A, O, S>
     requires one_each { vec_len crew.outsides ≡ vec_len crew.actors }
     requires unused { All (IsUnused O.given O.failures) crew.outsides.items }
+    requires threads { header.threads ≡ vec_len crew.actors }
     requires no_own { room.own.items ≡ [] }
     requires own { vec_len crew.actors ≤ vec_capacity room.own }
-    ensures run { IsRun O.Door header result.history result.own.items (S.taken result.sink) (S.failures result.sink) result.stop }
+    requires no_transcripts { room.transcripts.items ≡ [] }
+    requires transcripts { vec_len crew.actors ≤ vec_capacity room.transcripts }
+    ensures run { IsRun O.Door header result.history result.own.items result.transcripts (S.taken result.sink) (S.failures result.sink) result.stop }
     ensures agrees { (result.stop ≡ Some stop.Strayed) ⊎ Agree result.history.rows result.history.asked result.own.items }
-    ensures transcripts { AreTold (vec_len crew.actors) result.history.rows result.stop result.transcripts }
+    ensures transcripts { AreTold header.threads result.history.rows result.stop result.transcripts }
     ensures ended { result.stop ≡ None → AreEnded result.own.items }
     ensures answered { result.stop ≡ None → AreAnswered result.history.rows }
     ensures told { AreTrue O.gives A.state crew.actors.items crew.outsides.items result.own.items result.actors.items result.outsides.items }
 {
-    let threads = crew.actors.len();
-    let Room { own, turns, .. } = room;
+    let Room {
+        own,
+        transcripts,
+        turns,
+    } = room;
     let Manner { in_turn, watch } = manner;
     let shared = Shared {
         machine: Mutex::new(machine),
@@ -336,5 +356,5 @@ fn run_with<
     };
     let gathered = run_all(rt, alloc, &shared, crew, own, watch);
     let Shared { machine, .. } = shared;
-    conclude(alloc, threads, header, machine.into_inner(), gathered)
+    conclude(alloc, header, machine.into_inner(), gathered, transcripts)
 }

@@ -187,7 +187,7 @@ impl<A: Actor, O: Outside> Seat<A, O> {
         self.own.outcomes.reserve(1)?;
         self.ahead = true;
         self.number = number + 1;
-        let note = bring(rt, shared, i, &mut self.outside, number, journey)?;
+        let note = bring(rt, shared, i, &mut self.outside, number, &self.own, journey)?;
         self.own.outcomes.push_reserved(note);
         self.ahead = false;
         Ok(())

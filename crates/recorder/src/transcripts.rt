@@ -1,30 +1,51 @@
-ghost use Rattle.std.specs.Prelude.{◌≡◌, IfOk};
+ghost use Rattle.std.specs.Prelude.{◌≡◌, ◌≤◌, ◌↔◌, ◌&&◌, [], IsTrue, OnOk, OnErr, is_ok, vec_capacity};
 ghost use Rattle.logged_machine.specs.History.{transcript_of};
-ghost use Rattle.recorder.specs.Recorded.{transcripts_of};
+ghost use Rattle.recorder.specs.Recorded.{AreBeginnings, IsCutShort, IsWhole, transcripts_of};
 
 use posix_terms::{Answer, HistoryRow, Row, Transcript, Transcripts};
 use std::alloc::{AllocError, Global};
 
-// What each of the first threads saw.
-pub fn transcripts(
-    alloc: Global,
-    threads: usize,
-    rows: &[HistoryRow],
-) -> Result<Transcripts, AllocError>
-    ensures { IfOk result (λ transcripts. transcripts ≡ transcripts_of threads rows.now) }
-{
-    let mut transcripts = Vec::new(alloc);
-    for thread in 0..threads {
-        transcripts.push(transcript(alloc, thread, rows)?)?;
-    }
-    Ok(Transcripts::from_vec(transcripts))
+// What the threads of a run saw, and whether that is all: where there is no memory it is a beginning.
+#[derive(Drop)]
+pub struct Seen {
+    pub transcripts: Transcripts,
+    pub whole: bool,
 }
 
-// What one thread saw.
-fn transcript(alloc: Global, thread: usize, rows: &[HistoryRow]) -> Result<Transcript, AllocError>
-    ensures { IfOk result (λ transcript. transcript ≡ transcript_of thread rows.now) }
+// What each of the first threads saw, as far as there is memory for it.
+pub fn seen_by(alloc: Global, threads: usize, rows: &[HistoryRow], room: Vec<Transcript>) -> Seen
+    requires none { room.items ≡ [] }
+    requires room { threads ≤ vec_capacity room }
+    ensures begin { AreBeginnings result.transcripts (transcripts_of threads rows.now) }
+    ensures whole { IsTrue result.whole ↔ IsWhole threads rows.now result.transcripts }
 {
-    let mut transcript = Transcript::new(alloc);
+    let mut transcripts = room;
+    let mut whole = true;
+    for thread in 0..threads {
+        let mut transcript = Transcript::new(alloc);
+        let filled = fill(&mut transcript, thread, rows);
+        whole = still(whole, &filled);
+        transcripts.push_reserved(transcript);
+    }
+    Seen {
+        transcripts: Transcripts::from_vec(transcripts),
+        whole,
+    }
+}
+
+// Whether all is whole, with what was filled in for one thread more.
+fn still(whole: bool, filled: &Result<(), AllocError>) -> bool
+    ensures { result ≡ (whole && is_ok filled.now) }
+{
+    whole && filled.is_ok()
+}
+
+// Fills in what one thread saw; where there is no memory, a beginning of it.
+fn fill(transcript: &mut Transcript, thread: usize, rows: &[HistoryRow]) -> Result<(), AllocError>
+    requires { transcript.old ≡ [] }
+    ensures ok { OnOk result (transcript.new ≡ transcript_of thread rows.now) }
+    ensures err { OnErr result (IsCutShort transcript.new (transcript_of thread rows.now)) }
+{
     for row in rows {
         if let (true, Some(Answer::Reply(reply))) = (row.turn.thread == thread, &row.answer) {
             transcript.push(Row {
@@ -34,5 +55,5 @@ fn transcript(alloc: Global, thread: usize, rows: &[HistoryRow]) -> Result<Trans
             })?;
         }
     }
-    Ok(transcript)
+    Ok(())
 }

@@ -1,6 +1,6 @@
-ghost use Rattle.std.specs.Prelude.{◌≡◌, All, IfOk};
+ghost use Rattle.std.specs.Prelude.{◌≡◌, ◌==◌, All, IfOk};
 
-use host_doors::{NoGate, ScriptDoors};
+use host_doors::{Gate, ScriptDoors};
 use posix_terms::{Bytes, Errno, Given, OutKind, Outcome, Outcomes};
 use std::alloc::{AllocError, Global};
 
@@ -56,16 +56,31 @@ pub(crate) fn outcomes(
     Ok(outcomes)
 }
 
-// Outsides that have these outcomes.
+// The gate of one thread's outside. A call for another thread does not pass: it gets ETIMEDOUT.
+#[derive(Clone, Copy)]
+pub(crate) struct OfThread {
+    thread: usize,
+}
+
+impl Gate for OfThread {
+    ghost may_answer = { λ gate thread _ answer _. answer ≡ (thread == gate.thread) };
+
+    fn enter(&mut self, thread: usize, _number: u64) -> bool {
+        thread == self.thread
+    }
+}
+
+// Outsides that have these outcomes, each for its own thread.
 pub(crate) fn doors(
     alloc: Global,
     outcomes: Vec<Outcomes>,
-) -> Result<Vec<ScriptDoors<NoGate>>, AllocError>
+) -> Result<Vec<ScriptDoors<OfThread>>, AllocError>
     ensures { IfOk result (λ doors. All (λ d. (d.counts.given ≡ 0) × (d.counts.failures ≡ 0)) doors.items) }
 {
     let mut doors = Vec::new(alloc);
     for list in outcomes {
-        doors.push(ScriptDoors::new(list, NoGate))?;
+        let thread = doors.len();
+        doors.push(ScriptDoors::new(list, OfThread { thread }))?;
     }
     Ok(doors)
 }

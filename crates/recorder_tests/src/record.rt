@@ -1,5 +1,5 @@
-use crate::outcomes::{Came, doors, outcomes};
-use host_doors::{NoGate, ScriptDoors};
+use crate::outcomes::{Came, OfThread, doors, outcomes};
+use host_doors::ScriptDoors;
 use input_log::MemorySink;
 use posix_terms::Settings;
 use recorder::{BoxedActor, Ended, NotStarted, run_recorded};
@@ -59,9 +59,9 @@ pub(crate) fn actors(alloc: Global, texts: &[&[u8]]) -> Result<Vec<BoxedActor>, 
     Ok(actors)
 }
 
-pub(crate) type Over = Ended<BoxedActor, ScriptDoors<NoGate>, MemorySink>;
+pub(crate) type Over = Ended<BoxedActor, ScriptDoors<OfThread>, MemorySink>;
 
-pub(crate) type NoRun = NotStarted<BoxedActor, ScriptDoors<NoGate>, MemorySink>;
+pub(crate) type NoRun = NotStarted<BoxedActor, ScriptDoors<OfThread>, MemorySink>;
 
 // Records a run with so many outsides, into a log that has so much room.
 pub(crate) fn record<R: Threads + Wait + Sync>(

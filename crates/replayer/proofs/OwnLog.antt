@@ -29,7 +29,8 @@ use Rattle.logical_clocks.specs.TurnOrder.{turn_holder}
 use Rattle.posix_terms.specs.declared.limits.TheConstants.Limits as limit
 use Rattle.lock_model.specs.Came.{under_came}
 use Rattle.replayer.specs.Outcomes.{first_unused, outcomes_by}
-use Rattle.replayer.specs.OwnLog.{AreBeginnings, OwnLogLaw, Retells}
+use Rattle.recorder.specs.Recorded.{AreBeginnings}
+use Rattle.replayer.specs.OwnLog.{OwnLogLaw, Retells}
 use Rattle.replayer.specs.Replay.{Replays, Tells, ended, inputs_of}
 use Rattle.replayer.specs.declared.fault.ReplayFault.{ReplayFault}
 use Rattle.replayer.specs.declared.replayed.Replayed.{Replayed}

@@ -13,14 +13,13 @@ use Rattle.logged_machine.specs.Starting.{header_for}
 use Rattle.logged_machine.specs.declared.stop.Stop.{Stop}
 use Rattle.logged_machine.specs.declared.stop.Stop.TheVariants as stop
 use Rattle.recorder.specs.Each.{AreLedFrom}
-use Rattle.recorder.specs.Recorded.{Fits, HasNoLog, IsJudged, IsRun}
+use Rattle.recorder.specs.Recorded.{AreBeginnings, Fits, HasNoLog, IsJudged, IsRun}
 use Rattle.thread_scripts.specs.Meaning.{start_of}
 use Rattle.thread_scripts.specs.declared.actor.ScriptState.{ScriptState}
 use Rattle.thread_scripts.specs.declared.line.Line.{Line}
 use Rattle.replayer.specs.Outcomes.{first_unused, settings_of}
-use Rattle.replayer.specs.OwnLog.{AreBeginnings}
 use Rattle.replayer.specs.Replay.{inputs_of}
-use Rattle.replayer.specs.Threads.{AgreesWithReplay, IsRetold, IsRunBy, RecordedRunsAreReplayed, RunsAgreeWithReplays, doors_by, gives_logged, seen_in, stop_told}
+use Rattle.replayer.specs.Threads.{AgreesWithReplay, IsRetold, IsRunBy, RecordedRunsAreReplayed, RunsAgreeWithReplays, cause_told, doors_by, gives_logged, seen_in, stop_told}
 use Rattle.replayer.proofs.Diverged.{plain_end}
 use Rattle.replayer.proofs.Fronts.{front_is_log}
 use Rattle.replayer.proofs.Known.{KnownOfThreads}
@@ -28,9 +27,10 @@ use Rattle.replayer.proofs.Retelling.{begun_by, nothing_begins, retold_by, seen_
 use Rattle.replayer.proofs.Supplied.{back_by_own, supplied_by_log, supplied_by_own, took_log}
 
 -- unless the threads strayed, the notes fit the machine
-judged_fits : {P : Type 0} (stopped told : Option Stop) → told ≢ Some stop.Strayed → IsJudged P stopped told → P
-judged_fits stopped told not (inl (fits, same)) = fits
-judged_fits stopped told not (inr (wrong, strayed)) = absurd (not strayed)
+judged_fits : {P Q : Type 0} (stopped told : Option Stop) → told ≢ Some stop.Strayed → IsJudged P Q stopped told → P
+judged_fits stopped told not (inl h) = h.0
+judged_fits stopped told not (inr (inl h)) = h.0
+judged_fits stopped told not (inr (inr h)) = absurd (not h.1)
 
 not_so : {P Q : Type 0} → (P → ⊥) → ◌⊎◌ P Q → Q
 not_so not (inl p) = absurd (not p)
@@ -43,7 +43,7 @@ as_many state actors scripts meant = sym (length-map actors state) ∙ (sym (ap 
 -- ## The law of recorded runs
 
 pub retold : KnownOfThreads → (D : Type 0) {A : Type 0} (state : A → ScriptState) → RecordedRunsAreReplayed D state
-retold known D state settings past own taken failures told actors later scripts result run not played meant replays =
+retold known D state settings past own seen taken failures told actors later scripts result run not played meant replays =
     let m = run.machine in
     let shows = run.shows in
     let faithful = shows.faithful in
@@ -63,7 +63,7 @@ retold known D state settings past own taken failures told actors later scripts 
 told_none : (o : Option Stop) (u : Option (ℕ × ℕ)) → stop_told o u ≡ None → (o ≡ None) × (u ≡ None)
 told_none None None e = (refl, refl)
 told_none None (Some (thread, number)) e = absurd (none-some _ (sym e))
-told_none (Some stopped) u e = absurd (none-some stopped (sym e))
+told_none (Some cause) u e = absurd (none-some (cause_told cause) (sym e))
 
 strayed_told : (o : Option Stop) (u : Option (ℕ × ℕ)) → o ≡ Some stop.Strayed → stop_told o u ≡ Some stop.Strayed
 strayed_told o u e = ap (λ p. stop_told p u) e
@@ -78,7 +78,7 @@ agree known {A} state text log actors e taken failures told scripts front thread
     threads_here = threads ∙ count
 
     by_machine : (stopped : Option Stop) → stopped ≢ Some stop.Strayed → told ≡ stop_told stopped (first_unused log.header.threads log.records e.history.rows) → IsRunBy state log actors e taken failures stopped
-        → IsRun ScriptDoor (header_for (settings_of log.header) (length actors)) e.history e.own taken failures stopped → AgreesWithReplay text log scripts e.history told
+        → IsRun ScriptDoor (header_for (settings_of log.header) (length actors)) e.history e.own e.transcripts taken failures stopped → AgreesWithReplay text log scripts e.history told
     by_machine stopped unstrayed told_is h run =
         let m = run.machine in
         let shows = run.shows in
@@ -86,7 +86,7 @@ agree known {A} state text log actors e taken failures told scripts front thread
         let kept = faithful.kept in
         let fits : Fits (header_for (settings_of log.header) (length actors)) m e.history e.own = judged_fits run.stopped stopped unstrayed run.judged in
         let here : length m.whole.threads ≡ length scripts = ap (λ (x : Header). x.threads) fits.0 ∙ count in
-        let led = subst (λ n. AreLedFrom gives_logged (is_some stopped) 0 e.history.rows (doors_by n log.records) e.doors) count (not_so unstrayed h.calls) in
+        let led = subst (λ n. AreLedFrom gives_logged 0 e.history.rows e.history.asked (doors_by n log.records) e.doors) count (not_so unstrayed h.calls) in
         let supplied = supplied_by_log known.records state (is_some stopped) ScriptDoor m kept faithful.covered log e.history actors e.actors e.doors scripts here (sym (ap settings_of fits.0)) shows.rows shows.asked meant (not_so unstrayed h.steps) led in
         let found = plain_end known (inputs_of log scripts) in
         let begins : (last : State) → EndsIn (setup_of (inputs_of log scripts)) (first_state (inputs_of log scripts)) last → AreBeginnings (transcripts_of (length scripts) e.history.rows) (seen_in last) =
@@ -118,7 +118,7 @@ agree known {A} state text log actors e taken failures told scripts front thread
     by_run : IsRunBy state log actors e taken failures by.stopped → told ≡ stop_told by.stopped (first_unused log.header.threads log.records e.history.rows) → AgreesWithReplay text log scripts e.history told
     by_run h told_is = by_log h.run
       where
-        by_log : ◌⊎◌ (IsRun ScriptDoor (header_for (settings_of log.header) (length actors)) e.history e.own taken failures by.stopped) (HasNoLog (header_for (settings_of log.header) (length actors)) e.history taken failures by.stopped)
+        by_log : ◌⊎◌ (IsRun ScriptDoor (header_for (settings_of log.header) (length actors)) e.history e.own e.transcripts taken failures by.stopped) (HasNoLog (header_for (settings_of log.header) (length actors)) e.history taken failures by.stopped)
             → AgreesWithReplay text log scripts e.history told
         by_log (inl run) = by_machine by.stopped (λ strayed. not (told_is ∙ strayed_told by.stopped (first_unused log.header.threads log.records e.history.rows) strayed)) told_is h run
         by_log (inr none) = by_none by.stopped told_is none

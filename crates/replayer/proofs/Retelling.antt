@@ -44,7 +44,7 @@ use Rattle.posix_terms.specs.declared.outcome.Outcome.TheVariants as outcome
 use Rattle.posix_terms.specs.declared.transcript.Row.{Row}
 use Rattle.thread_scripts.specs.declared.line.Line.{Line}
 use Rattle.replayer.specs.Outcomes.{first_unused}
-use Rattle.replayer.specs.OwnLog.{AreBeginnings}
+use Rattle.recorder.specs.Recorded.{AreBeginnings}
 use Rattle.replayer.specs.Replay.{Replays, Tells, ended, inputs_of}
 use Rattle.replayer.specs.Threads.{IsBeginningOf, IsRetold, came_to_its_end, seen_in}
 use Rattle.replayer.specs.declared.fault.ReplayFault.{ReplayFault}

@@ -30,12 +30,13 @@ use Rattle.posix_terms.specs.declared.outcome.OutKind.{OutKind}
 use Rattle.posix_terms.specs.declared.outcome.Outcome.{Outcome}
 use Rattle.posix_terms.specs.declared.request.Request.{Request}
 use Rattle.posix_terms.specs.declared.transcript.HistoryRow.{HistoryRow}
+use Rattle.posix_terms.specs.declared.step.Step.{Step}
 use Rattle.recorder.specs.Each.{AreLedFrom, ArePlayedFrom}
 use Rattle.thread_scripts.specs.Meaning.{start_of}
 use Rattle.thread_scripts.specs.declared.actor.ScriptState.{ScriptState}
 use Rattle.thread_scripts.specs.declared.line.Line.{Line}
 use Rattle.worker_notes.specs.Agrees.{before, brought, brought_by, brought_in, replies_in}
-use Rattle.worker_notes.specs.Leads.{Leads, LeadsTo}
+use Rattle.worker_notes.specs.Leads.{Leads}
 use Rattle.worker_notes.specs.Requests.{amount_asked, request_for, request_of_kind}
 use Rattle.worker_notes.specs.declared.own.Brought.{Brought}
 use Rattle.replayer.specs.Outcomes.{outcomes_by, settings_of}
@@ -154,18 +155,15 @@ leads_listed number o (c ∷ bs) p h (suc k) j b at is =
     let stays : (let q : LogDoors = h.0 in q.list) ≡ o.list = ap (λ (q : LogDoors). q.list) (let given = h.1 in given.counted) in
     subst (λ gs. IsListed gs j b.request b.outcome) stays later
 
-leads_somewhere : (ahead : Bool) (o : LogDoors) (bs : List Brought) (p : LogDoors) → LeadsTo gives_logged ahead o bs p → (q : LogDoors) × Leads gives_logged 0 o bs q
-leads_somewhere false o bs p h = (p, h)
-leads_somewhere true o bs p h = (h.0, h.1)
-
-led_at : (ahead : Bool) (from k j : ℕ) (rows : List HistoryRow) (doors ends : List LogDoors) (d : LogDoors) → j ≡ from + k → k < length doors → AreLedFrom gives_logged ahead from rows doors ends
+led_at : (from k j : ℕ) (rows : List HistoryRow) (asked : List (List Step)) (doors ends : List LogDoors) (d : LogDoors) → j ≡ from + k → k < length doors → AreLedFrom gives_logged from rows asked doors ends
     → (q : LogDoors) × Leads gives_logged 0 (get_or doors k d) (brought_in j rows) q
-led_at ahead from k j rows [] ends d at l h = absurd (omega (arith, l))
-led_at ahead from k j rows (o ∷ doors) [] d at l h = absurd h
-led_at ahead from zero j rows (o ∷ doors) (p ∷ ends) d at l h =
+led_at from k j rows asked [] ends d at l h = absurd (omega (arith, l))
+led_at from k j rows [] (o ∷ doors) ends d at l h = absurd h
+led_at from k j rows (x ∷ asked) (o ∷ doors) [] d at l h = absurd h
+led_at from zero j rows (x ∷ asked) (o ∷ doors) (p ∷ ends) d at l h =
     let number : from ≡ j = omega (arith, at) in
-    subst (λ (n : ℕ). (q : LogDoors) × Leads gives_logged 0 o (brought_in n rows) q) number (leads_somewhere ahead o (brought_in from rows) p h.0)
-led_at ahead from (suc k) j rows (o ∷ doors) (p ∷ ends) d at l h = led_at ahead (from + 1) k j rows doors ends d (omega (arith, at)) (omega (arith, l)) h.1
+    subst (λ (n : ℕ). (q : LogDoors) × Leads gives_logged 0 o (brought_in n rows) q) number (h.0.0, h.0.1)
+led_at from (suc k) j rows (x ∷ asked) (o ∷ doors) (p ∷ ends) d at l h = led_at (from + 1) k j rows asked doors ends d (omega (arith, at)) (omega (arith, l)) h.1
 
 doors_at : (n i : ℕ) (rs : List Record) → i < n → get_or (doors_by n rs) i (doors_of i rs) ≡ doors_of i rs
 doors_at n i rs l = made_at (λ k. doors_by k rs) (λ k. doors_of k rs) (doors_of i rs) refl (λ k. refl) n i l
@@ -225,12 +223,12 @@ all_come i (row ∷ rows) came k g outcomes kinds at = by_test (row.turn.thread 
     by_test false come = come
 
 -- so each is what the log has of its number
-came_listed : RecordLaws → (D : Type 0) (m : Shown D) (covered : IsCovered D m) (ahead : Bool) (past : Past) (rs : List Record) (n : ℕ) (ends : List LogDoors) (i k : ℕ) (g : Given)
-    → i < n → past.rows ≡ m.whole.rows → AreLedFrom gives_logged ahead 0 past.rows (doors_by n rs) ends → slice_get (records.outcomes_of i m.log.records) k ≡ Some g → slice_get (records.outcomes_of i rs) k ≡ Some g
-came_listed known D m covered ahead past rs n ends i k g l rows led at =
+came_listed : RecordLaws → (D : Type 0) (m : Shown D) (covered : IsCovered D m) (past : Past) (rs : List Record) (n : ℕ) (ends : List LogDoors) (i k : ℕ) (g : Given)
+    → i < n → past.rows ≡ m.whole.rows → AreLedFrom gives_logged 0 past.rows past.asked (doors_by n rs) ends → slice_get (records.outcomes_of i m.log.records) k ≡ Some g → slice_get (records.outcomes_of i rs) k ≡ Some g
+came_listed known D m covered past rs n ends i k g l rows led at =
     let brought_here = all_come i m.whole.rows (records.outcomes_of i m.log.records) k g (covered.outcomes i) (covered.kinds i) at in
     let b : Brought = brought_here.0 in
-    let leads = led_at ahead 0 i i past.rows (doors_by n rs) ends (doors_of i rs) (omega arith) (let long = doors_length n rs in omega (arith, long, l)) led in
+    let leads = led_at 0 i i past.rows past.asked (doors_by n rs) ends (doors_of i rs) (omega arith) (let long = doors_length n rs in omega (arith, long, l)) led in
     let there : Leads gives_logged 0 (doors_of i rs) (brought_in i m.whole.rows) leads.0 =
     subst (λ (o : LogDoors). Leads gives_logged 0 o (brought_in i m.whole.rows) leads.0) (doors_at n i rs l)
     (subst (λ xs. Leads gives_logged 0 (get_or (doors_by n rs) i (doors_of i rs)) (brought_in i xs) leads.0) rows leads.1) in
@@ -244,7 +242,7 @@ came_listed known D m covered ahead past rs n ends i k g l rows led at =
 pub supplied_by_log : RecordLaws → {A : Type 0} (state : A → ScriptState) (ahead : Bool) (D : Type 0) (m : Shown D) (kept : IsKept D m) (covered : IsCovered D m) (log : LogText) (past : Past) (actors later : List A) (ends : List LogDoors) (scripts : List (List Line))
     → length m.whole.threads ≡ length scripts → settings_of log.header ≡ settings_in m.whole
     → past.rows ≡ m.whole.rows → past.asked ≡ map (λ (t : Thread). t.asked) m.whole.threads → map start_of scripts ≡ map state actors → ArePlayedFrom state ahead 0 past.rows past.asked actors later
-    → AreLedFrom gives_logged ahead 0 past.rows (doors_by (length scripts) log.records) ends
+    → AreLedFrom gives_logged 0 past.rows past.asked (doors_by (length scripts) log.records) ends
     → IsSupplied D m (inputs_of log scripts)
 supplied_by_log known state ahead D m kept covered log past actors later ends scripts threads settings rows asked meant played led =
     record {
@@ -254,7 +252,7 @@ supplied_by_log known state ahead D m kept covered log past actors later ends sc
       outcomes = λ i k g at.
           ⊎_elim
           (λ (l : i < length scripts).
-          subst (λ gs. slice_get gs k ≡ Some g) (sym (outcomes_at (length scripts) i log.records l)) (came_listed known D m covered ahead past log.records (length scripts) ends i k g l rows led at))
+          subst (λ gs. slice_get gs k ≡ Some g) (sym (outcomes_at (length scripts) i log.records l)) (came_listed known D m covered past log.records (length scripts) ends i k g l rows led at))
           (λ (l : length scripts ≤ i). absurd (none-some g (subst (λ gs. slice_get gs k ≡ Some g) (nothing_past D m kept (length scripts) i threads l) at)))
           (cases_lt i (length scripts));
     }

@@ -1,22 +1,16 @@
 -- Believed: a contract of the headline stands on it.
 -- What a replay gives of the log that a plain run itself wrote.
-use Rattle.std.specs.Prelude.{◌≡◌, ℕ, List, [], length, slice_index_or, Option, Some, None, Result, Ok, Err}
+use Rattle.std.specs.Prelude.{◌≡◌, Option, Some, None, Result, Ok, Err}
 use Rattle.call_machine.specs.Plain.{IsPlainRun}
 use Rattle.call_machine.specs.Setup.{Inputs}
 use Rattle.logged_machine.specs.declared.stop.Stop.{Stop}
 use Rattle.logged_machine.specs.declared.stop.Stop.TheVariants as stop
 use Rattle.call_machine.specs.declared.plain.Plain.{Plain}
-use Rattle.lock_model.specs.History.{IsPrefixOf}
-use Rattle.posix_terms.specs.declared.transcript.Row.{Row}
+use Rattle.recorder.specs.Recorded.{AreBeginnings}
 use Rattle.replayer.specs.Replay.{Replays}
 use Rattle.replayer.specs.declared.fault.ReplayFault.{ReplayFault}
 use Rattle.replayer.specs.declared.fault.ReplayFault.TheVariants as replay_fault
 use Rattle.replayer.specs.declared.replayed.Replayed.{Replayed}
-
--- as many threads, and each saw a beginning of what it sees there
-pub record AreBeginnings (a b : List (List Row)) : Type 0 where
-  pub count : length a ≡ length b
-  pub each : (i : ℕ) → IsPrefixOf (slice_index_or a i []) (slice_index_or b i [])
 
 -- What a replay tells of the log that this run wrote, which stopped so: what the run's threads saw, its history where it came to its end, and its stop. Where the run diverged, the replay, which has no outcome for the thread that diverged, goes on as far as the others come, and tells what its first stuck thread lacks. Want of memory says nothing
 abbrev pub Retells : Plain → Option Stop → Result Replayed ReplayFault → Type 0

@@ -21,8 +21,8 @@ use Rattle.logged_machine.specs.declared.stop.Stop.{Stop}
 use Rattle.logged_machine.specs.declared.stop.Stop.TheVariants as stop
 use Rattle.posix_terms.specs.declared.transcript.Row.{Row}
 use Rattle.posix_terms.specs.declared.transcript.Settings.{Settings}
-use Rattle.recorder.specs.Each.{AreLedFrom, ArePlayedFrom}
-use Rattle.recorder.specs.Recorded.{AreAnswered, AreEnded, AreTold, IsRecorded, IsRun}
+use Rattle.recorder.specs.Each.{AreLedFrom, ArePlayedFrom, AreTrue}
+use Rattle.recorder.specs.Recorded.{AreAnswered, AreBeginnings, AreEnded, AreTold, IsRecorded, IsRun}
 use Rattle.thread_scripts.specs.Meaning.{start_of}
 use Rattle.thread_scripts.specs.declared.actor.ScriptState.{ScriptState}
 use Rattle.thread_scripts.specs.declared.line.Line.{Line}
@@ -30,7 +30,6 @@ use Rattle.worker_notes.specs.Agrees.{Agree}
 use Rattle.worker_notes.specs.Leads.{Giving}
 use Rattle.worker_notes.specs.declared.own.Own.{Own}
 use Rattle.replayer.specs.Outcomes.{first_unused, settings_of}
-use Rattle.replayer.specs.OwnLog.{AreBeginnings}
 use Rattle.replayer.specs.Replay.{Replays, inputs_of}
 use Rattle.replayer.specs.declared.fault.ReplayFault.{ReplayFault}
 use Rattle.replayer.specs.declared.fault.ReplayFault.TheVariants as replay_fault
@@ -51,9 +50,14 @@ doors_by (suc n) records = doors_by n records ++ doors_of n records ∷ []
 abbrev pub gives_logged : Giving LogDoors
 gives_logged old number request outcome new = GivesNext number request old new (Ok outcome)
 
+-- the sink is memory: where it had no room there was no memory
+abbrev pub cause_told : Stop → Stop
+cause_told stop.Sink = stop.Memory
+cause_told cause = cause
+
 -- where nothing stopped the run, a record that was not used is a divergence
 abbrev pub stop_told : Option Stop → Option (ℕ × ℕ) → Option Stop
-stop_told (Some stopped) unused = Some stopped
+stop_told (Some cause) unused = Some (cause_told cause)
 stop_told None (Some (thread, number)) = Some (stop.Diverged thread number)
 stop_told None None = None
 
@@ -67,14 +71,15 @@ pub record AtEnd (A : Type 0) : Type 0 where
 
 -- the run of these actors by this log stopped so: what a recorded run promises, where what comes from outside is what the log has
 pub record IsRunBy {A : Type 0} (state : A → ScriptState) (log : LogText) (actors : List A) (e : AtEnd A) (taken : List ℕ) (failures : ℕ) (stopped : Option Stop) : Type 0 where
-  pub run : IsRecorded ScriptDoor (settings_of log.header) (length actors) e.history e.own taken failures stopped
+  pub run : IsRecorded ScriptDoor (settings_of log.header) (length actors) e.history e.own e.transcripts taken failures stopped
   pub agrees : (stopped ≡ Some stop.Strayed) ⊎ Agree e.history.rows e.history.asked e.own
   pub transcripts : AreTold (length actors) e.history.rows stopped e.transcripts
   pub ended : stopped ≡ None → AreEnded e.own
   pub answered : stopped ≡ None → AreAnswered e.history.rows
   pub fails : stopped ≡ Some stop.Sink → failures ≡ 1
   pub steps : (stopped ≡ Some stop.Strayed) ⊎ ArePlayedFrom state (is_some stopped) 0 e.history.rows e.history.asked actors e.actors
-  pub calls : (stopped ≡ Some stop.Strayed) ⊎ AreLedFrom gives_logged (is_some stopped) 0 e.history.rows (doors_by (length actors) log.records) e.doors
+  pub calls : (stopped ≡ Some stop.Strayed) ⊎ AreLedFrom gives_logged 0 e.history.rows e.history.asked (doors_by (length actors) log.records) e.doors
+  pub told : AreTrue gives_logged state actors (doors_by (length actors) log.records) e.own e.actors e.doors
 
 -- and this is told of its stop
 pub record EndsBy {A : Type 0} (state : A → ScriptState) (log : LogText) (actors : List A) (e : AtEnd A) (taken : List ℕ) (failures : ℕ) (told : Option Stop) : Type 0 where
@@ -160,7 +165,7 @@ IsRetold seen past (Some stopped) result = BeginsReplay seen result
 -- a run of actors, whose log's header was taken and whose threads did not stray, and a replay of the bytes that its sink took
 abbrev pub RecordedRunsAreReplayed : (D : Type 0) {A : Type 0} (state : A → ScriptState) → Type 0
 RecordedRunsAreReplayed D {A} state =
-    (settings : Settings) (past : Past) (own : List Own) (taken : List ℕ) (failures : ℕ) (told : Option Stop) (actors later : List A) (scripts : List (List Line)) (result : Result Replayed ReplayFault)
-    → IsRun D (header_for settings (length actors)) past own taken failures told → told ≢ Some stop.Strayed
+    (settings : Settings) (past : Past) (own : List Own) (seen : List (List Row)) (taken : List ℕ) (failures : ℕ) (told : Option Stop) (actors later : List A) (scripts : List (List Line)) (result : Result Replayed ReplayFault)
+    → IsRun D (header_for settings (length actors)) past own seen taken failures told → told ≢ Some stop.Strayed
     → ArePlayedFrom state (is_some told) 0 past.rows past.asked actors later → map start_of scripts ≡ map state actors
     → Replays taken scripts result → IsRetold (transcripts_of (length actors) past.rows) past told result

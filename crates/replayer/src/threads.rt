@@ -1,6 +1,7 @@
-ghost use Rattle.std.specs.Prelude.{◌≡◌, IfOk, IfErr, [], None, vec_len};
+ghost use Rattle.std.specs.Prelude.{◌≡◌, ◌≢◌, ◌+◌, ◌≤◌, IfOk, IfErr, [], None, Some, length, vec_len};
 ghost use Rattle.input_log.specs.Fronts.{IsFront};
 ghost use Rattle.input_log.specs.Grammar.{IsLog};
+ghost use Rattle.logged_machine.specs.declared.stop.Stop.TheVariants as stop;
 ghost use Rattle.replayer.specs.Outcomes.{first_unused};
 ghost use Rattle.replayer.specs.Threads.{EndsBy, IsNoReplay, IsReplayedBy, doors_by, stop_told};
 ghost use Rattle.replayer.specs.declared.fault.ReplayFault.TheVariants as replay_fault;
@@ -29,14 +30,22 @@ pub struct NotReplayed<A: Drop> {
     pub actors: Vec<A>,
 }
 
-/// Runs actors again by a log, each in a thread of its own, where what comes from outside is what the log has: each call that goes
-/// outside takes the next record of its thread. Nothing is opened, and no thread waits for anything but its turn.
+/// Runs actors again by a log, each in a thread of its own, where what comes from outside is what the log has: each call
+/// that goes outside takes the next record of its thread. Nothing is opened, and no thread waits for anything but its
+/// turn.
 ///
-/// It is the run that `recorder::record_actors` makes over [`LogDoors`], under the settings of the log's header, and it writes a log of its
-/// own into a sink with room for all that the log has. Of a log that is torn behind its header the records before the tear count. What
-/// each thread sees is a beginning of what it sees in the [`crate::replay`] of the log; where nothing stopped the run, it is just that.
-/// Where all threads have ended and a record was not used, the stop is `Diverged`, at the least such thread and its first such record.
-/// Where the bytes are no log, or one of another number of threads, or where there is no memory, the actors are handed back.
+/// It is the run that `recorder::record_actors` makes over [`LogDoors`], under the settings of the log's header, and all
+/// that is promised of such a run is promised of this one. It writes a log of its own into a sink with room for all that
+/// the log has and an end, so it never stops for its sink (`sink`). Of a log that is torn after its header the records
+/// before the tear count.
+///
+/// Unless the stop is `Strayed`, what each thread sees is a beginning of what it sees in the [`crate::replay`] of the
+/// log; where nothing stopped the run, it is exactly that. Where `replay` ends at an outcome that does not answer what
+/// was asked, it may be more: a beginning of the plain run in which the thread of that outcome stays where it is and the
+/// others go on. How far a run comes that is stopped depends on which thread is the first to stop it. Where all threads
+/// have ended and a record was not used, the stop is `Diverged`, at the least such thread and its first such record.
+/// Where the bytes are not a log, or one of another number of threads, or where there is no memory, the actors are
+/// handed back.
 pub fn replay_threads<A: Actor + Send + Drop, R: Threads + Wait + Sync>(
     rt: &R,
     alloc: Global,
@@ -44,6 +53,7 @@ pub fn replay_threads<A: Actor + Send + Drop, R: Threads + Wait + Sync>(
     actors: Vec<A>,
 ) -> Result<Ended<A, LogDoors, MemorySink>, NotReplayed<A>>
     ensures replayed { IfOk result (λ e. IsReplayedBy A.state log.now actors.items (record { history = e.history; own = e.own.items; transcripts = e.transcripts; actors = e.actors.items; doors = e.outsides.items }) e.sink.bytes.items e.sink.failures e.stop) }
+    ensures sink { IfOk result (λ e. e.stop ≢ Some stop.Sink) }
     ensures back { IfErr result (λ n. n.actors ≡ actors) }
     ensures fault { IfErr result (λ n. IsNoReplay log.now (vec_len actors) n.fault) }
 {
@@ -69,10 +79,12 @@ fn supply_of(alloc: Global, log: &[u8], threads: usize) -> Result<Supplied, Repl
     ensures doors { IfOk result (λ s. s.doors.items ≡ doors_by threads s.log.records) }
     ensures taken { IfOk result (λ s. s.sink.bytes.items ≡ []) }
     ensures sound { IfOk result (λ s. s.sink.failures ≡ 0) }
+    // Room for all that the log has, and for an end.
+    ensures room { IfOk result (λ s. length log.now + 5 ≤ s.sink.room) }
     ensures fault { IfErr result (IsNoReplay log.now threads) }
 {
     // The run may write an end, which its log may lack.
-    let room = log.len().saturating_add(END_LENGTH);
+    let room = log.len() + END_LENGTH;
     let log = decode_front(alloc, log)?;
     if usize::from(log.header.threads) != threads {
         return Err(ReplayFault::Threads);
@@ -119,7 +131,7 @@ fn run_by<A: Actor + Send + Drop, R: Threads + Wait + Sync>(
     }
 }
 
-// The run with the stop that is told of it.
+// The run with the stop that is reported of it.
 fn told<A: Drop>(
     log: &LogText,
     ended: Ended<A, LogDoors, MemorySink>,
@@ -128,9 +140,12 @@ fn told<A: Drop>(
     ensures { result ≡ record ended { stop = stop_told ended.stop (first_unused log.now.header.threads log.now.records ended.history.rows) } }
 {
     let mut ended = ended;
-    if ended.stop.is_none() {
-        ended.stop = unused_stop(log, ended.history.rows());
-    }
+    ended.stop = match ended.stop {
+        None => unused_stop(log, ended.history.rows()),
+        // Its sink has room for all that the log has and an end, so this does not come.
+        Some(Stop::Sink) => Some(Stop::Memory),
+        Some(cause) => Some(cause),
+    };
     ended
 }
 

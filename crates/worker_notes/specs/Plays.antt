@@ -1,6 +1,7 @@
 -- Believed: a contract of the headline stands on it.
 -- The steps that an actor's meaning gives, under the replies that were noted.
 use Rattle.std.specs.Prelude.{◌≡◌, ◌⊎◌, Bool, true, false, List, [], ◌∷◌, Option, Some, None, is_some}
+use Rattle.posix_terms.specs.Calls.{Call}
 use Rattle.posix_terms.specs.declared.reply.Reply.{Reply}
 use Rattle.thread_scripts.specs.Meaning.{next_of}
 use Rattle.thread_scripts.specs.declared.actor.ScriptState.{ScriptState}
@@ -28,7 +29,7 @@ abbrev pub Plays : ScriptState → Option Reply → List Noted → ScriptState �
 Plays s last [] t = t ≡ s
 Plays s last (n ∷ notes) t = let next = next_of last s in (n.step ≡ next.0) × Plays next.1 n.reply notes t
 
--- an actor that stood at s stands behind these steps; or, where it may be ahead of its notes, one step further
+-- an actor that stood at s stands after these steps; or, where it may be ahead of its notes, one step further
 abbrev pub PlaysTo : Bool → ScriptState → List Noted → ScriptState → Type 0
 PlaysTo false s notes t = Plays s None notes t
 PlaysTo true s notes t = (u : ScriptState) × Plays s None notes u × ((t ≡ u) ⊎ (t ≡ (next_of (last_reply notes) u).1))
@@ -38,6 +39,19 @@ abbrev pub gave_end : List Noted → Type 0
 gave_end [] = ⊥
 gave_end (n ∷ []) = n.step ≡ step.End
 gave_end (n ∷ m ∷ notes) = gave_end (m ∷ notes)
+
+-- ## The call that a thread is in
+
+-- a step that is a call and has no reply yet
+abbrev pub call_in : Step → Option Reply → Option Call
+call_in (step.Call c) None = Some c
+call_in x reply = None
+
+-- the call in which the steps end, if the last of them is one that has no reply yet
+abbrev pub open_call : List Noted → Option Call
+open_call [] = None
+open_call (n ∷ []) = call_in n.step n.reply
+open_call (n ∷ m ∷ notes) = open_call (m ∷ notes)
 
 -- ## Where replies stand
 

@@ -29,6 +29,11 @@ request_of_kind c None = None
 abbrev pub request_for : Call → Option Request
 request_for c = request_of_kind c (kind_asked c)
 
+-- the request of the call that a thread is in
+abbrev pub request_in : Option Call → Option Request
+request_in (Some c) = request_for c
+request_in None = None
+
 -- whatever a call asks by its definition is that request
 abbrev pub AskByTheirCall : Type 0
 AskByTheirCall = (s : State) (c : Call) (carried : Carried) (r : Request) → asks s c carried ≡ Some r → request_for c ≡ Some r

@@ -3,10 +3,11 @@
 //!
 //! [`Own`] has the steps that the machine took, with their replies, and the outcomes that it
 //! recorded, with the requests. [`note_reply`] gives the last step its reply, and [`last_reply`] is
-//! what the actor is handed next. [`agree`] tells exactly whether the notes of all workers are what
-//! the rows and the steps that were asked say; [`is_request_of`] tells whether a request is the one
-//! with which a call goes outside. Notes are pushed into plain vectors, which takes memory; all
-//! functions here take none.
+//! what the actor is handed next; [`open_call`] is the call that has no reply yet. [`agree`]
+//! decides whether the notes of all workers are what the rows and the steps that were asked say;
+//! [`is_request_of`] decides whether a request is the one with which a call goes outside, and
+//! [`request_for`] makes it, which takes memory for a copy of the call. Notes are pushed into plain
+//! vectors, which takes memory too; all other functions here take none.
 //!
 //! ```rust
 //! use lock_machine::Left;
@@ -35,5 +36,5 @@ mod same;
 
 pub use agreement::agree;
 pub use laws::requests_are_of_calls;
-pub use own::{Brought, Noted, Own, last_reply, note_reply};
-pub use requests::is_request_of;
+pub use own::{Brought, Noted, Own, last_reply, note_reply, open_call};
+pub use requests::{is_request_of, request_for};

@@ -1,7 +1,7 @@
 ghost use Rattle.std.specs.Prelude.{◌≡◌, [], option_copied, false};
-ghost use Rattle.worker_notes.specs.Plays.{last_reply, with_reply};
+ghost use Rattle.worker_notes.specs.Plays.{call_in, last_reply, open_call, with_reply};
 
-use posix_terms::{Outcome, Reply, Request, Step};
+use posix_terms::{Call, Outcome, Reply, Request, Step};
 use std::alloc::Global;
 
 /// A step that the machine took, with its reply, if it was a call and one came.
@@ -49,6 +49,24 @@ pub fn last_reply(steps: &[Noted]) -> Option<&Reply>
     match steps.last() {
         Some(noted) => noted.reply.as_ref(),
         None => None,
+    }
+}
+
+/// The call in which the steps end, if the last of them is one that has no reply yet.
+pub fn open_call(steps: &[Noted]) -> Option<&Call>
+    ensures { option_copied result ≡ open_call steps.now }
+{
+    let last = steps.last()?;
+    call_in(last)
+}
+
+// The call of a step that has no reply yet.
+fn call_in(noted: &Noted) -> Option<&Call>
+    ensures { option_copied result ≡ call_in noted.now.step noted.now.reply }
+{
+    match (&noted.step, &noted.reply) {
+        (Step::Call(call), None) => Some(call),
+        _ => None,
     }
 }
 

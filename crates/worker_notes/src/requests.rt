@@ -1,9 +1,24 @@
-ghost use Rattle.std.specs.Prelude.{◌≡◌, ◌↔◌, IsTrue, Some};
+ghost use Rattle.std.specs.Prelude.{◌≡◌, ◌↔◌, IfOk, IsTrue, Some};
 ghost use Rattle.lock_machine.specs.Requests.{kind_asked};
 ghost use Rattle.worker_notes.specs.Requests.{amount_asked, counted, request_for};
 
 use crate::same::same_call;
 use posix_terms::{Call, OutKind, Request};
+use std::alloc::AllocError;
+
+/// The request with which a call goes outside, with a copy of the call; none of a call that never goes there.
+pub fn request_for(call: &Call) -> Result<Option<Request>, AllocError>
+    ensures { IfOk result (λ request. request ≡ request_for call.now) }
+{
+    let Some(kind) = kind_asked(call) else {
+        return Ok(None);
+    };
+    Ok(Some(Request {
+        kind,
+        asked: amount_asked(call),
+        call: call.try_clone()?,
+    }))
+}
 
 /// Whether this is the request with which a call goes outside.
 pub fn is_request_of(request: &Request, call: &Call) -> bool

@@ -15,4 +15,4 @@ returns-clause-calls g c =
     c.run_crew.ensures.agrees c.run_crew.ensures.ended c.run_crew.ensures.told
 
 pub returns-clause-fails : goal.returns-clause-fails
-returns-clause-fails g c = from_one c.run_crew.result (λ e run. sink_failed _ _ _ _ _ _ _ _ run) c.run_crew.ensures.run
+returns-clause-fails g c = from_one c.run_crew.result (λ e run. sink_failed _ _ _ _ _ _ _ _ _ run) c.run_crew.ensures.run

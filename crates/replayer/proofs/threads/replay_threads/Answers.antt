@@ -1,6 +1,8 @@
-use Rattle.std.proofs.Common.{rules, ◌≡◌, length}
+use Rattle.std.proofs.Common.{rules, ◌≡◌, ◌≢◌, Some, length}
 use Rattle.replayer.specs.Threads.{EndsBy, IsReplayedBy}
 use Rattle.std.proofs.lemmas.Result.{IfOk-weaker}
+use Rattle.logged_machine.specs.declared.stop.Stop.TheVariants as stop
+use Rattle.replayer.proofs.Running.{ends_for_other}
 use Rattle.replayer.proofs.threads.replay_threads.Goals as goal
 
 pub returns-in-Ok-clause-replayed : goal.returns-in-Ok-clause-replayed
@@ -21,4 +23,12 @@ returns-in-Ok-clause-replayed g c =
           c.runs_agree_with_replays.ensures c.args.log.now log actors (record { history = e.history; own = e.own.items; transcripts = e.transcripts; actors = e.actors.items; doors = e.outsides.items })
           e.sink.bytes.items e.sink.failures e.stop scripts c.in-Ok.ensures.front threads ends not meant;
     })
+    c.run_by.ensures.run
+
+pub returns-in-Ok-clause-sink : goal.returns-in-Ok-clause-sink
+returns-in-Ok-clause-sink g c =
+    IfOk-weaker c.run_by.result
+    (λ e. EndsBy g.A.Actor.state c.in-Ok.supplied.log c.args.actors.items (record { history = e.history; own = e.own.items; transcripts = e.transcripts; actors = e.actors.items; doors = e.outsides.items }) e.sink.bytes.items e.sink.failures e.stop)
+    (λ e. e.stop ≢ Some stop.Sink)
+    (λ e ends. ends_for_other g.A.Actor.state _ _ _ _ _ e.stop ends)
     c.run_by.ensures.run

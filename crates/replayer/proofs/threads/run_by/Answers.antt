@@ -18,6 +18,6 @@ returns-in-Ok-clause-run g c =
       stopped = e.stop;
       run = runs_by g.A.Actor.state c.args.supplied.log c.settings.result (vec_len c.args.actors) c.args.actors.items c.args.supplied.doors.items
           (record { history = e.history; own = e.own.items; transcripts = e.transcripts; actors = e.actors.items; doors = e.outsides.items }) e.sink.bytes.items e.sink.failures e.stop
-          count c.settings.ensures c.requires.doors h.run h.agrees h.transcripts h.ended h.answered h.fails h.steps h.calls;
+          count c.settings.ensures c.requires.doors h.run h.agrees h.transcripts h.ended h.answered h.fails h.steps h.calls h.told;
       told_is = refl;
     })
