@@ -1,10 +1,10 @@
-ghost use Rattle.std.specs.Prelude.{◌≡◌, IfOk, length};
+ghost use Rattle.std.specs.Prelude.{◌≡◌, IfOk, None, length};
 
-use commands::Source;
+use commands::{Source, SourceFault, TextReader, read_once};
 use std::alloc::{AllocError, Global};
 use std::fs::File;
 use std::io;
-use std::io::{Read, Write};
+use std::io::Write;
 
 /// A text, or a device that gives no text of its own.
 #[derive(Clone, Copy, Drop)]
@@ -18,10 +18,12 @@ pub enum Device {
     Endless,
 }
 
-impl Read for Device {
-    fn read(&mut self, buf: &mut [u8]) -> io::Result<usize> {
+impl TextReader for Device {
+    ghost remaining = { λ _. None };
+
+    fn next_bytes(&mut self, buf: &mut [u8]) -> Result<usize, SourceFault> {
         match self {
-            Device::Text(text) => text.read(buf),
+            Device::Text(text) => text.next_bytes(buf),
             Device::EmptyLines(left) => {
                 let count = buf.len().min(*left);
                 for byte in buf.iter_mut().take(count) {
@@ -30,7 +32,7 @@ impl Read for Device {
                 *left -= count;
                 Ok(count)
             }
-            Device::Broken => Err(io::Error::from(io::ErrorKind::Other)),
+            Device::Broken => Err(SourceFault),
             Device::Endless => {
                 for byte in buf.iter_mut() {
                     *byte = b'#';
@@ -59,12 +61,14 @@ pub enum Text<'a> {
     Device(Device),
 }
 
-impl Read for Text<'_> {
-    fn read(&mut self, buf: &mut [u8]) -> io::Result<usize> {
+impl TextReader for Text<'_> {
+    ghost remaining = { λ _. None };
+
+    fn next_bytes(&mut self, buf: &mut [u8]) -> Result<usize, SourceFault> {
         match self {
-            Text::Script(script) => script.read(buf),
-            Text::File(file) => file.read(buf),
-            Text::Device(device) => device.read(buf),
+            Text::Script(script) => script.next_bytes(buf),
+            Text::File(file) => read_once(file, buf),
+            Text::Device(device) => device.next_bytes(buf),
         }
     }
 }

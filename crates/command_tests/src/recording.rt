@@ -1,4 +1,5 @@
-ghost use Rattle.std.specs.Prelude.{◌≡◌, All, length};
+ghost use Rattle.std.specs.Prelude.{◌≡◌, ◌≢◌, All, length};
+ghost use Rattle.commands.specs.declared.record.NotCreated.TheVariants as not_created;
 ghost use Rattle.recorder.specs.Each.{IsUnused};
 
 use crate::devices::{Sources, Text, sources};
@@ -36,6 +37,8 @@ impl LogFile<'_> {
 }
 
 impl NewLog<FileSink> for LogFile<'_> {
+    ghost refuses = { λ _ reason. reason ≢ not_created.NotALog };
+
     fn create(self) -> Result<FileSink, NotCreated> {
         match fs::create(&self.host, self.path) {
             Ok(file) => {

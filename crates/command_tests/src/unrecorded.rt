@@ -1,3 +1,6 @@
+ghost use Rattle.std.specs.Prelude.{◌≡◌};
+ghost use Rattle.commands.specs.declared.record.NotCreated.TheVariants as not_created;
+
 use crate::devices::sources;
 use crate::recording::{LogFile, file_has, record_by_host, record_to};
 use commands::{DEFAULTS, LogTo, NewLog, NotCreated};
@@ -74,6 +77,8 @@ fn a_log_on_a_full_device(rt: HostRuntime) -> Result<(), Fail> {
 struct Kept;
 
 impl NewLog<FileSink> for Kept {
+    ghost refuses = { λ _ reason. reason ≡ not_created.NotALog };
+
     fn create(self) -> Result<FileSink, NotCreated> {
         Err(NotCreated::NotALog)
     }

@@ -4,7 +4,7 @@ use Rattle.std.proofs.Math.Seq.{drop-cons}
 use Rattle.std.proofs.lemmas.List.{map-append, take-append-drop}
 use Rattle.thread_scripts.specs.Faults.{Fault}
 use Rattle.thread_scripts.specs.declared.line.Line.{Line}
-use Rattle.command_texts.specs.Reading.{AreTexts, IsFirstUnread, IsText}
+use Rattle.command_texts.specs.Reading.{AreTexts, IsFirstUnread, IsText, IsUnreadable}
 
 -- more scripts behind these
 abbrev pub with_front : List (List Line) → Result (List (List Line)) (ℕ × Fault) → Result (List (List Line)) (ℕ × Fault)
@@ -39,13 +39,14 @@ split_where {S} before x all far inside is =
 
 -- the source of this turn could not be read
 pub unread_after : {S : Type 0} (view : S → List ℕ × Option (List ℕ)) (before : List S) (source : S) (after all : List S) (texts : List (List ℕ))
-    → all ≡ before ++ source ∷ after → AreTexts (map view before) texts → IsFirstUnread (map view all) (view source).0
-unread_after view before source after all texts is read =
+    → all ≡ before ++ source ∷ after → AreTexts (map view before) texts → IsUnreadable (view source).1 → IsFirstUnread (map view all) (view source).0
+unread_after view before source after all texts is read failed =
     record {
       before = map view before;
       known = (view source).1;
       after = map view after;
       places = ap (map view) is ∙ map-append view before (source ∷ after);
+      failed = failed;
       texts = texts;
       read = read;
     }

@@ -1,17 +1,21 @@
 -- Believed: a contract of a command stands on it.
 -- Which texts were read of sources, and which scripts they are.
-use Rattle.std.specs.Prelude.{◌≡◌, ◌≤◌, ◌+◌, ℕ, IfSome, List, [], ◌∷◌, ◌++◌, length, Option, Result, Ok, Err}
+use Rattle.std.specs.Prelude.{◌≡◌, ◌≤◌, ◌<◌, ◌+◌, ℕ, IfSome, List, [], ◌∷◌, ◌++◌, length, Option, Result, Ok, Err}
 use Rattle.thread_scripts.specs.Faults.{Fault}
 use Rattle.thread_scripts.specs.Grammar.{script_of}
 use Rattle.thread_scripts.specs.declared.line.Line.{Line}
 
--- the greatest size of a file that a command reads
-abbrev pub read_limit : ℕ
-read_limit = 16777216
+-- the greatest size of a file that a command reads, and so of a log that is recorded
+abbrev pub largest_file : ℕ
+largest_file = 16777216
 
--- This text was read, where the whole text is known. One that is known may still not be read, if the device fails
+-- This text was read of a source, whose whole text it is where that is known
 abbrev pub IsText : Option (List ℕ) → List ℕ → Type 0
-IsText known text = IfSome known (λ whole. text ≡ whole) × (length text ≤ read_limit)
+IsText known text = IfSome known (λ whole. text ≡ whole) × (length text ≤ largest_file)
+
+-- A source could not be read: a read of it failed, as none does where its text is known, or its text is too long
+abbrev pub IsUnreadable : Option (List ℕ) → Type 0
+IsUnreadable known = IfSome known (λ whole. largest_file < length whole)
 
 -- These texts were read, one from each source: its path, and its text where that is known
 abbrev pub AreTexts : List (List ℕ × Option (List ℕ)) → List (List ℕ) → Type 0
@@ -26,6 +30,7 @@ pub record IsFirstUnread (sources : List (List ℕ × Option (List ℕ))) (path 
   pub known : Option (List ℕ)
   pub after : List (List ℕ × Option (List ℕ))
   pub places : sources ≡ before ++ (path, known) ∷ after
+  pub failed : IsUnreadable known
   pub texts : List (List ℕ)
   pub read : AreTexts before texts
 

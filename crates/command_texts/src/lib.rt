@@ -44,5 +44,8 @@ pub use log_fault::{bad_magic, bad_record, bad_version, torn_line};
 pub use log_lines::{items_text, log_text};
 pub use printed::{Printed, cannot_read, cannot_write, fault, no_memory, print};
 pub use script_texts::{bad_line, fits, scripts, too_long};
-pub use source::{ReadFault, Source, Unread, read_all, read_text};
+pub use source::{
+    LARGEST_FILE, ReadFault, Source, SourceFault, TextReader, Unread, read_all, read_once,
+    read_text,
+};
 pub use transcripts::run_printed;

@@ -1,11 +1,59 @@
-ghost use Rattle.std.specs.Prelude.{◌≡◌, ◌≤◌, ◌<◌, length, map, IfErr, IfOk, IfSome};
-ghost use Rattle.command_texts.specs.Reading.{AreTexts, read_limit};
-ghost use Rattle.command_texts.specs.FirstFaults.{IsUnread};
+ghost use Rattle.std.specs.Prelude.{◌≡◌, ℕ, List, Option, Some, None, map, IfErr, IfOk, OnErr};
+ghost use Rattle.std.specs.Io.{ReadsAtMost};
+ghost use Rattle.std.specs.Io.KnownBytes.{ReadConsumes};
+ghost use Rattle.command_texts.specs.Reading.{AreTexts, IsText};
+ghost use Rattle.command_texts.specs.FirstFaults.{IsReadFault, IsUnread};
 ghost use Rattle.command_texts.specs.declared.source.Unread.TheVariants as unread;
 
 use posix_terms::Bytes;
 use std::alloc::{AllocFailed, Global};
 use std::io::{ErrorKind, Read};
+
+/// A read of a source failed.
+#[derive(Clone, Copy, Debug, PartialEq, Eq)]
+pub struct SourceFault;
+
+/// What a text is read from: its bytes in order, and then no more.
+pub trait TextReader {
+    /// The bytes that reads will give from here on, where they are known. Then no read fails.
+    ghost remaining: { Self → Option (List ℕ) };
+
+    /// Puts the next bytes at the front of the buffer, and answers how many; none at the end.
+    fn next_bytes(&mut self, buffer: &mut [u8]) -> Result<usize, SourceFault>
+        ensures bound { ReadsAtMost result buffer.new }
+        ensures bytes { ReadConsumes (remaining self.old) (remaining self.new) result buffer.new }
+        ensures failed { OnErr result (remaining self.old ≡ None) };
+}
+
+impl TextReader for &[u8] {
+    ghost remaining = { λ s. Some s.now };
+
+    fn next_bytes(&mut self, buffer: &mut [u8]) -> Result<usize, SourceFault> {
+        match self.read(buffer) {
+            Ok(count) => Ok(count),
+            Err(_) => Err(SourceFault),
+        }
+    }
+}
+
+// How often a read that was interrupted is tried.
+const TRIES: u32 = 1_000_000;
+
+/// One read of a reader of the standard library, for a [`TextReader`] that knows nothing of its
+/// bytes. A read that was interrupted is tried again.
+pub fn read_once<R: Read>(reader: &mut R, buffer: &mut [u8]) -> Result<usize, SourceFault>
+    ensures bound { ReadsAtMost result buffer.new }
+    ensures bytes { ReadConsumes (R.remaining reader.old) (R.remaining reader.new) result buffer.new }
+{
+    for _ in 0..TRIES {
+        match reader.read(buffer) {
+            Ok(count) => return Ok(count),
+            Err(error) if error.kind() == ErrorKind::Interrupted => {}
+            Err(_) => return Err(SourceFault),
+        }
+    }
+    Err(SourceFault)
+}
 
 /// A text to be read: the path that messages name, and where the text comes from.
 #[derive(Drop)]
@@ -18,7 +66,7 @@ pub struct Source<'a, R: Drop> {
 #[derive(Clone, Copy, Debug, PartialEq, Eq)]
 pub enum ReadFault {
     Memory,
-    // The device failed, or the text is too large.
+    // A read failed, or the text is too large.
     Failed,
 }
 
@@ -38,25 +86,37 @@ impl<T: Drop> From<AllocFailed<T>> for Unread<'_> {
     }
 }
 
-// The greatest size of a file that a command reads.
-const READ_LIMIT: u64 = 16_777_216;
+/// The greatest size of a file that a command reads, and so of a log that is recorded:
+/// `largest_file` of the definitions.
+pub const LARGEST_FILE: usize = 16_777_216;
 
-// All that a reader gives, up to the limit.
-pub fn read_text<R: Read + Drop>(alloc: Global, reader: R) -> Result<Bytes, ReadFault>
-    ensures text { IfOk result (λ text. IfSome (R.remaining reader) (λ known. text ≡ known)) }
-    ensures limit { IfOk result (λ text. length text ≤ read_limit) }
+// How many bytes are read at a time.
+const CHUNK: usize = 8_192;
+
+// All that a reader gives, up to the greatest size.
+pub fn read_text<R: TextReader + Drop>(alloc: Global, reader: R) -> Result<Bytes, ReadFault>
+    ensures text { IfOk result (IsText (R.remaining reader)) }
+    ensures failed { IfErr result (IsReadFault (R.remaining reader)) }
 {
+    let mut reader = reader;
     let mut text = Vec::new(alloc);
-    match reader.take(READ_LIMIT + 1).read_to_end(&mut text) {
-        Ok(_) if text.len() as u64 <= READ_LIMIT => Ok(Bytes::from_vec(text)),
-        Ok(_) => Err(ReadFault::Failed),
-        Err(error) if error.kind() == ErrorKind::OutOfMemory => Err(ReadFault::Memory),
-        Err(_) => Err(ReadFault::Failed),
+    let mut chunk = [0; CHUNK];
+    while text.len() <= LARGEST_FILE {
+        match reader.next_bytes(&mut chunk) {
+            Ok(0) => return Ok(Bytes::from_vec(text)),
+            Ok(count) => {
+                if text.extend_from_slice(&chunk[..count]).is_err() {
+                    return Err(ReadFault::Memory);
+                }
+            }
+            Err(SourceFault) => return Err(ReadFault::Failed),
+        }
     }
+    Err(ReadFault::Failed)
 }
 
 /// Reads the scripts in the order given, up to the first that cannot be read.
-pub fn read_all<'a, R: Read + Drop>(
+pub fn read_all<'a, R: TextReader + Drop>(
     alloc: Global,
     sources: Vec<Source<'a, R>>,
 ) -> Result<Vec<Bytes>, Unread<'a>>

@@ -10,6 +10,7 @@ use Rattle.call_machine.specs.Plain.{counts_fit}
 use Rattle.command_texts.specs.Reading.{AreRead, AreTexts, script_before, scripts_from}
 use Rattle.command_texts.specs.declared.printed.Printed.{Printed}
 use Rattle.commands.specs.Plains.{CountPrints, PlainPrints, ReadPrints}
+use Rattle.commands.specs.declared.record.NotCreated.{NotCreated}
 use Rattle.commands.specs.Records.{CountRecords, RecordPrints, Taken, TextsRecord}
 
 pub replicate_push : {A : Type 0} (n : ℕ) (x : A) → replicate n x ++ x ∷ [] ≡ replicate (suc n) x
@@ -65,7 +66,7 @@ pub read_prints : (settings : Settings) (turns : Bool) (sources : List (List ℕ
 read_prints settings turns sources outcome printed fits read prints =
     subst (λ b. CountPrints b settings turns sources printed) (sym fits) (outcome, read, prints)
 
-pub read_records : (D : Type 0) (settings : Settings) (turns : Bool) (path : List ℕ) (sources : List (List ℕ × Option (List ℕ))) (outcome : Result (List (List ℕ)) (List ℕ)) (log : Option Taken) (printed : Printed)
-    → Fits sources → AreRead sources outcome → TextsRecord D settings turns path outcome log printed → RecordPrints D settings turns path sources log printed
-read_records D settings turns path sources outcome log printed fits read prints =
-    subst (λ b. CountRecords D b settings turns path sources log printed) (sym fits) (outcome, read, prints)
+pub read_records : (D : Type 0) (Refuses : NotCreated → Type 0) (settings : Settings) (turns : Bool) (path : List ℕ) (sources : List (List ℕ × Option (List ℕ))) (outcome : Result (List (List ℕ)) (List ℕ)) (log : Option Taken) (printed : Printed)
+    → Fits sources → AreRead sources outcome → TextsRecord D Refuses settings turns path outcome log printed → RecordPrints D Refuses settings turns path sources log printed
+read_records D Refuses settings turns path sources outcome log printed fits read prints =
+    subst (λ b. CountRecords D Refuses b settings turns path sources log printed) (sym fits) (outcome, read, prints)

@@ -10,7 +10,7 @@ use Rattle.posix_terms.specs.declared.transcript.Row.{Row}
 use Rattle.thread_scripts.specs.Faults.{Fault}
 use Rattle.thread_scripts.specs.declared.line.Line.{Line}
 use Rattle.command_texts.specs.Printing.{cannot_read, needs_scripts}
-use Rattle.command_texts.specs.Reading.{AreRead, IsText, scripts_from}
+use Rattle.command_texts.specs.Reading.{AreRead, IsText, IsUnreadable, scripts_from}
 use Rattle.command_texts.specs.Transcripts.{◌+++◌}
 use Rattle.command_texts.specs.declared.printed.Printed.{Printed}
 use Rattle.commands.specs.Tells.{RunTells, ScriptsTell}
@@ -59,11 +59,11 @@ LogsCompare log other sources printed = (outcome : Result (List (List ℕ)) (Lis
 
 -- what is printed once the first log was read
 abbrev pub LogCompares : List ℕ → List ℕ × Option (List ℕ) → List (List ℕ × Option (List ℕ)) → Printed → Type 0
-LogCompares log other sources printed = (printed ≡ cannot_read other.0) ⊎ ((text : List ℕ) × IsText other.1 text × LogsCompare log text sources printed)
+LogCompares log other sources printed = (IsUnreadable other.1 × (printed ≡ cannot_read other.0)) ⊎ ((text : List ℕ) × IsText other.1 text × LogsCompare log text sources printed)
 
 abbrev pub CountCompares : Bool → List ℕ × Option (List ℕ) → List ℕ × Option (List ℕ) → List (List ℕ × Option (List ℕ)) → Printed → Type 0
 CountCompares false log other sources printed = printed ≡ needs_scripts
-CountCompares true log other sources printed = (printed ≡ cannot_read log.0) ⊎ ((text : List ℕ) × IsText log.1 text × LogCompares text other sources printed)
+CountCompares true log other sources printed = (IsUnreadable log.1 × (printed ≡ cannot_read log.0)) ⊎ ((text : List ℕ) × IsText log.1 text × LogCompares text other sources printed)
 
 -- What `detio compare` prints for two logs and the sources of these paths. The first of its faults counts: the number of scripts,
 -- a log that cannot be read, a script that cannot be read, one that is no script, what a replay of the first log cannot run, what one of the second cannot

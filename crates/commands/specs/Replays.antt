@@ -4,7 +4,7 @@ use Rattle.std.specs.Prelude.{◌≡◌, ℕ, ◌⊎◌, Bool, true, false, List
 use Rattle.call_machine.specs.Plain.{counts_fit}
 use Rattle.thread_scripts.specs.declared.line.Line.{Line}
 use Rattle.command_texts.specs.Printing.{cannot_read, needs_scripts, run_printed}
-use Rattle.command_texts.specs.Reading.{AreTexts, IsFirstUnread, IsText, scripts_from}
+use Rattle.command_texts.specs.Reading.{AreTexts, IsFirstUnread, IsText, IsUnreadable, scripts_from}
 use Rattle.command_texts.specs.declared.printed.Printed.{Printed}
 use Rattle.commands.specs.Tells.{ScriptsTell}
 use Rattle.commands.specs.declared.replay.ToReplay.{ToReplay}
@@ -24,7 +24,9 @@ LogIsRead log sources (reads.Fault printed) = (path : List ℕ) × IsFirstUnread
 
 abbrev pub CountIsRead : Bool → List ℕ × Option (List ℕ) → List (List ℕ × Option (List ℕ)) → ToReplay → Type 0
 CountIsRead false log sources read = read ≡ reads.Fault needs_scripts
-CountIsRead true log sources read = (read ≡ reads.Fault (cannot_read log.0)) ⊎ ((text : List ℕ) × IsText log.1 text × LogIsRead text sources read)
+CountIsRead true log sources read =
+    (IsUnreadable log.1 × (read ≡ reads.Fault (cannot_read log.0)))
+    ⊎ ((text : List ℕ) × IsText log.1 text × LogIsRead text sources read)
 
 -- what was read for a replay
 abbrev pub IsToReplay : List ℕ × Option (List ℕ) → List (List ℕ × Option (List ℕ)) → ToReplay → Type 0

@@ -6,19 +6,20 @@ ghost use Rattle.commands.specs.Compares.{ComparePrints, LogCompares, LogsCompar
 use crate::plain::needs_scripts;
 use crate::told::{Told, told_of};
 use command_texts::{
-    Printed, ReadFault, Source, Unread, cannot_read, fits, no_memory, print, read_all, read_text,
+    Printed, ReadFault, Source, TextReader, Unread, cannot_read, fits, no_memory, print, read_all,
+    read_text,
 };
 use comparator::{Verdict, compare};
 use posix_terms::{Bytes, Transcripts};
 use std::alloc::{AllocError, Global};
 use std::io;
-use std::io::{Read, Write};
+use std::io::Write;
 
 /// `detio compare`: replays two logs, each with the scripts, and prints `same` where their threads saw the same, or else
 /// `differs` with the first thread and the first of its rows that differ, counted from 0; or one line for the first fault; the
 /// answer is the exit status. A replay that stopped is compared as far as it came. Where there is no memory, a file cannot be
 /// read or the output cannot be written, that is the fault. An error is one of the writer `errors`.
-pub fn compare_over<R: Read + Drop, W: Write, E: Write>(
+pub fn compare_over<R: TextReader + Drop, W: Write, E: Write>(
     alloc: Global,
     log: Source<'_, R>,
     other: Source<'_, R>,
@@ -41,7 +42,7 @@ pub fn compare_over<R: Read + Drop, W: Write, E: Write>(
 }
 
 // What is to be printed.
-fn compare_printed<R: Read + Drop>(
+fn compare_printed<R: TextReader + Drop>(
     alloc: Global,
     log: Source<'_, R>,
     other: Source<'_, R>,
@@ -64,7 +65,7 @@ fn compare_printed<R: Read + Drop>(
 }
 
 // What is to be printed once the first log was read.
-fn log_compared<R: Read + Drop>(
+fn log_compared<R: TextReader + Drop>(
     alloc: Global,
     log: &Bytes,
     other: Source<'_, R>,
@@ -84,7 +85,7 @@ fn log_compared<R: Read + Drop>(
 }
 
 // What is to be printed once both logs were read.
-fn logs_compared<R: Read + Drop>(
+fn logs_compared<R: TextReader + Drop>(
     alloc: Global,
     log: &Bytes,
     other: &Bytes,

@@ -34,10 +34,12 @@ mod settings;
 mod show;
 mod told;
 
-pub use command_texts::{Source, cannot_write, no_memory};
+pub use command_texts::{
+    LARGEST_FILE, Source, SourceFault, TextReader, cannot_write, no_memory, read_once,
+};
 pub use compare::compare_over;
 pub use plain::plain_over;
-pub use record::{LogTo, NewLog, NotCreated, RecordOptions, Recorded, record_over};
+pub use record::{LogTo, NewLog, NotCreated, RecordOptions, Recorded, log_sink, record_over};
 pub use replay::{replay_over, replay_threads_over};
 pub use settings::{DEFAULTS, settings_of};
 pub use show::show_over;

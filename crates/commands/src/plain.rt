@@ -7,20 +7,20 @@ ghost use Rattle.commands.specs.Plains.{PlainPrints, RunPrints, ScriptsPrint, ba
 
 use call_machine::{PlainFault, plain_run};
 use command_texts::{
-    FirstFault, Printed, Source, Unread, bad_line, cannot_read, fault, fits, no_memory, print,
-    read_all, run_printed, scripts, too_long,
+    FirstFault, Printed, Source, TextReader, Unread, bad_line, cannot_read, fault, fits, no_memory,
+    print, read_all, run_printed, scripts, too_long,
 };
 use posix_terms::{Bytes, Outcomes, Settings};
 use std::alloc::{AllocError, Global};
 use std::io;
-use std::io::{Read, Write};
+use std::io::Write;
 use thread_scripts::Script;
 
 /// `detio plain`: runs the scripts on the plain schedule and prints their transcripts, with the clocks of
 /// the turns if that is asked, or one line for the first fault; the answer is the exit status. Where there
 /// is no memory, a script cannot be read or the output cannot be written, that is the fault. An error is
 /// one of the writer `errors`.
-pub fn plain_over<R: Read + Drop, W: Write, E: Write>(
+pub fn plain_over<R: TextReader + Drop, W: Write, E: Write>(
     alloc: Global,
     settings: Settings,
     turns: bool,
@@ -37,7 +37,7 @@ pub fn plain_over<R: Read + Drop, W: Write, E: Write>(
 }
 
 // What is to be printed.
-fn plain_printed<R: Read + Drop>(
+fn plain_printed<R: TextReader + Drop>(
     alloc: Global,
     settings: Settings,
     turns: bool,

@@ -6,13 +6,13 @@ ghost use Rattle.commands.specs.Tells.{RunTells, ThreadsTell};
 use crate::plain::needs_scripts;
 use crate::told::{Told, threads_told_of, told_of};
 use command_texts::{
-    Printed, ReadFault, Source, Unread, cannot_read, fits, no_memory, print, read_all, read_text,
-    run_printed,
+    Printed, ReadFault, Source, TextReader, Unread, cannot_read, fits, no_memory, print, read_all,
+    read_text, run_printed,
 };
 use posix_terms::Bytes;
 use std::alloc::{AllocError, Global};
 use std::io;
-use std::io::{Read, Write};
+use std::io::Write;
 use std::sync::Wait;
 use std::thread::Threads;
 
@@ -20,7 +20,7 @@ use std::thread::Threads;
 /// clocks of the turns if that is asked, and how that ended; or one line for the first fault; the answer is the exit
 /// status. Where there is no memory, a file cannot be read or the output cannot be written, that is the fault. An
 /// error is one of the writer `errors`.
-pub fn replay_over<R: Read + Drop, W: Write, E: Write>(
+pub fn replay_over<R: TextReader + Drop, W: Write, E: Write>(
     alloc: Global,
     turns: bool,
     log: Source<'_, R>,
@@ -39,7 +39,7 @@ pub fn replay_over<R: Read + Drop, W: Write, E: Write>(
 }
 
 /// `detio replay --threads`: the same, where each script runs in a thread of its own. It waits until all threads have come to their end.
-pub fn replay_threads_over<R: Read + Drop, W: Write, E: Write, T: Threads + Wait + Sync>(
+pub fn replay_threads_over<R: TextReader + Drop, W: Write, E: Write, T: Threads + Wait + Sync>(
     rt: &T,
     alloc: Global,
     turns: bool,
@@ -59,7 +59,7 @@ pub fn replay_threads_over<R: Read + Drop, W: Write, E: Write, T: Threads + Wait
 }
 
 // What is to be printed.
-fn replay_printed<R: Read + Drop>(
+fn replay_printed<R: TextReader + Drop>(
     alloc: Global,
     turns: bool,
     log: Source<'_, R>,
@@ -79,7 +79,7 @@ fn replay_printed<R: Read + Drop>(
 }
 
 // What is to be printed of a replay by threads.
-fn replay_threads_printed<R: Read + Drop, T: Threads + Wait + Sync>(
+fn replay_threads_printed<R: TextReader + Drop, T: Threads + Wait + Sync>(
     rt: &T,
     alloc: Global,
     turns: bool,
@@ -110,7 +110,7 @@ pub enum ToReplay {
 }
 
 // Reads the log and then the scripts.
-fn to_replay<R: Read + Drop>(
+fn to_replay<R: TextReader + Drop>(
     alloc: Global,
     log: Source<'_, R>,
     sources: Vec<Source<'_, R>>,
@@ -131,7 +131,7 @@ fn to_replay<R: Read + Drop>(
 }
 
 // Reads the scripts, once the log was read.
-fn log_read<R: Read + Drop>(
+fn log_read<R: TextReader + Drop>(
     alloc: Global,
     log: Bytes,
     sources: Vec<Source<'_, R>>,

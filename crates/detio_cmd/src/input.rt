@@ -1,8 +1,10 @@
-use commands::Source;
+ghost use Rattle.std.specs.Prelude.{None};
+
+use commands::{Source, SourceFault, TextReader, read_once};
 use std::alloc::AllocError;
+use std::fs;
 use std::fs::File;
-use std::io::{Read, Stdin};
-use std::{fs, io};
+use std::io::Stdin;
 
 // Where a text comes from. One that could not be opened fails when it is read, so that the faults of all
 // scripts are found in one order.
@@ -13,12 +15,14 @@ pub(crate) enum Input {
     Unreadable,
 }
 
-impl Read for Input {
-    fn read(&mut self, buf: &mut [u8]) -> io::Result<usize> {
+impl TextReader for Input {
+    ghost remaining = { λ _. None };
+
+    fn next_bytes(&mut self, buffer: &mut [u8]) -> Result<usize, SourceFault> {
         match self {
-            Input::Stdin(stdin) => stdin.read(buf),
-            Input::File(file) => file.read(buf),
-            Input::Unreadable => Err(io::Error::from(io::ErrorKind::NotFound)),
+            Input::Stdin(stdin) => read_once(stdin, buffer),
+            Input::File(file) => read_once(file, buffer),
+            Input::Unreadable => Err(SourceFault),
         }
     }
 }

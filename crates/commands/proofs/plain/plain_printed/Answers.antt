@@ -8,26 +8,26 @@ use Rattle.commands.proofs.plain.plain_printed.Goals as goal
 
 pub texts_printed-requires : goal.texts_printed-requires
 texts_printed-requires g c =
-    let sources : List (List ℕ × Option (List ℕ)) = map (λ s. (s.path.now, g.R.Read.remaining s.reader)) c.args.sources.items in
+    let sources : List (List ℕ × Option (List ℕ)) = map (λ s. (s.path.now, g.R.TextReader.remaining s.reader)) c.args.sources.items in
     let count : c.len.result ≡ length c.args.sources.items = omega (arith, c.len.ensures) in
-    let fits : Fits sources = view_fits (λ s. (s.path.now, g.R.Read.remaining s.reader)) c.args.sources.items c.len.result c.fits.result count c.fits.ensures (search rules) in
+    let fits : Fits sources = view_fits (λ s. (s.path.now, g.R.TextReader.remaining s.reader)) c.args.sources.items c.len.result c.fits.result count c.fits.ensures (search rules) in
     let texts : Fits c.in-Ok.texts.items = texts_fit sources c.in-Ok.texts.items c.in-Ok.ensures.texts fits in
     fits_as c.deref.result.now c.in-Ok.texts.items (ap length c.deref.ensures.value) texts
 
 pub returns-in-Ok : goal.returns-in-Ok
 returns-in-Ok g c =
-    let sources : List (List ℕ × Option (List ℕ)) = map (λ s. (s.path.now, g.R.Read.remaining s.reader)) c.args.sources.items in
+    let sources : List (List ℕ × Option (List ℕ)) = map (λ s. (s.path.now, g.R.TextReader.remaining s.reader)) c.args.sources.items in
     let count : c.len.result ≡ length c.args.sources.items = omega (arith, c.len.ensures) in
-    let fits : Fits sources = view_fits (λ s. (s.path.now, g.R.Read.remaining s.reader)) c.args.sources.items c.len.result c.fits.result count c.fits.ensures (search rules) in
+    let fits : Fits sources = view_fits (λ s. (s.path.now, g.R.TextReader.remaining s.reader)) c.args.sources.items c.len.result c.fits.result count c.fits.ensures (search rules) in
     let P : List (List ℕ) → Type 0 = λ texts. IfOk c.texts_printed.result (ReadPrints c.args.settings c.args.turns (Ok texts)) in
     IfOk-weaker c.texts_printed.result (ReadPrints c.args.settings c.args.turns (Ok c.in-Ok.texts.items)) (PlainPrints c.args.settings c.args.turns sources)
     (λ printed prints. read_prints c.args.settings c.args.turns sources (Ok c.in-Ok.texts.items) printed fits c.in-Ok.ensures.texts prints) (subst P c.deref.ensures.value c.texts_printed.ensures)
 
 pub returns-in-Err-Script : goal.returns-in-Err-Script
 returns-in-Err-Script g c =
-    let sources : List (List ℕ × Option (List ℕ)) = map (λ s. (s.path.now, g.R.Read.remaining s.reader)) c.args.sources.items in
+    let sources : List (List ℕ × Option (List ℕ)) = map (λ s. (s.path.now, g.R.TextReader.remaining s.reader)) c.args.sources.items in
     let count : c.len.result ≡ length c.args.sources.items = omega (arith, c.len.ensures) in
-    let fits : Fits sources = view_fits (λ s. (s.path.now, g.R.Read.remaining s.reader)) c.args.sources.items c.len.result c.fits.result count c.fits.ensures (search rules) in
-    let unread = subst (λ e. IsUnread (map (λ s. (s.path.now, g.R.Read.remaining s.reader)) c.args.sources.items) e) c.in-Err-Script.field-0-is c.in-Err-Script.ensures.unread in
+    let fits : Fits sources = view_fits (λ s. (s.path.now, g.R.TextReader.remaining s.reader)) c.args.sources.items c.len.result c.fits.result count c.fits.ensures (search rules) in
+    let unread = subst (λ e. IsUnread (map (λ s. (s.path.now, g.R.TextReader.remaining s.reader)) c.args.sources.items) e) c.in-Err-Script.field-0-is c.in-Err-Script.ensures.unread in
     IfOk-weaker c.cannot_read.result (ReadPrints c.args.settings c.args.turns (Err c.in-Err-Script.path.now)) (PlainPrints c.args.settings c.args.turns sources)
     (λ printed prints. read_prints c.args.settings c.args.turns sources (Err c.in-Err-Script.path.now) printed fits unread prints) (search rules)
