@@ -44,6 +44,8 @@ pub use fault::PlainFault;
 pub use history::History;
 pub use laws::{logs_of_plain_runs, plain_runs_agree};
 pub use lock_machine::Asked;
-pub use logged_machine::{Finished, Machine, NotRecorded, Refused, Stop};
+pub use logged_machine::{
+    Attempt, Finished, Left, Machine, NotRecorded, Outing, Phase, Refused, Stop,
+};
 pub use plain::Plain;
 pub use run::plain_run;
