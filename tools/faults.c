@@ -1,9 +1,11 @@
 // Preloaded by tools/sweep into the program: counts its allocations, reads and writes, notes each read and write in the
 // file that DETIO_FAULTS names, and has one of them fail, as DETIO_FAULT says: `a 7` refuses allocation 7, `e 3` has read or
-// write 3 fail with EIO, `s 3` has it move one byte. All are counted from 1.
+// write 3 fail with EIO, `s 3` has it move one byte. With `t 2` thread 2 cannot be started. All are counted from 1.
 #define _GNU_SOURCE
+#include <dlfcn.h>
 #include <errno.h>
 #include <fcntl.h>
+#include <pthread.h>
 #include <stdatomic.h>
 #include <stdio.h>
 #include <stdlib.h>
@@ -28,6 +30,7 @@ static struct noted {
 } *noted;
 static char fault;
 static unsigned long at;
+static atomic_ulong threads;
 
 extern void *__libc_malloc(size_t);
 extern void *__libc_realloc(void *, size_t);
@@ -68,6 +71,16 @@ void *realloc(void *old, size_t size)
     return __libc_realloc(old, size);
 }
 
+int pthread_create(pthread_t *thread, const pthread_attr_t *attributes, void *(*run)(void *), void *with)
+{
+    static int (*real)(pthread_t *, const pthread_attr_t *, void *(*)(void *), void *);
+    if (atomic_fetch_add(&threads, 1) + 1 == at && fault == 't')
+        return EAGAIN;
+    if (!real)
+        *(void **)&real = dlsym(RTLD_NEXT, "pthread_create");
+    return real(thread, attributes, run, with);
+}
+
 // Notes a read or write, and answers how many bytes it may move, or -1 where it is to fail.
 static long room_of(char what, int descriptor, size_t asked)
 {
@@ -84,7 +97,7 @@ static long room_of(char what, int descriptor, size_t asked)
         note->asked = asked;
         note->what = what;
     }
-    if (number != at || fault == 'a')
+    if (number != at || (fault != 'e' && fault != 's'))
         return (long)asked;
     return fault == 'e' ? -1 : asked ? 1 : 0;
 }
