@@ -1,7 +1,7 @@
 -- The run of actors by a log, as a recorded run.
 use Rattle.std.proofs.Common.{◌≡◌, ◌≢◌, false, ◌⊎◌, ℕ, ◌<◌, List, length, slice_index_or, Option, Some, None, is_some, refl, sym, ap, ◌∙◌, subst, arith}
 use Rattle.std.proofs.lemmas.Bool.{false≢true}
-use Rattle.host_doors.specs.declared.log_doors.LogDoors.{LogDoors}
+use Rattle.host_doors.specs.LogList.{LogList}
 use Rattle.host_doors.specs.declared.script.ScriptDoor.{ScriptDoor}
 use Rattle.input_log.specs.declared.log.LogText.{LogText}
 use Rattle.input_log.specs.declared.log.Record.{Record}
@@ -19,17 +19,17 @@ use Rattle.replayer.specs.Threads.{AtEnd, EndsBy, IsRunBy, cause_told, doors_by,
 use Rattle.replayer.proofs.ByThread.{made_at, made_length}
 
 -- nothing was given of what a log has for a thread
-abbrev IsNew : LogDoors → Type 0
+abbrev IsNew : LogList → Type 0
 IsNew o = (o.counts.given ≡ 0) × (o.counts.failures ≡ 0)
 
-pub doors_are_new : (doors : List LogDoors) (n : ℕ) (rs : List Record) → doors ≡ doors_by n rs → (k : ℕ) (d : LogDoors) → k < length doors → IsNew (slice_index_or doors k d)
+pub doors_are_new : (doors : List LogList) (n : ℕ) (rs : List Record) → doors ≡ doors_by n rs → (k : ℕ) (d : LogList) → k < length doors → IsNew (slice_index_or doors k d)
 doors_are_new doors n rs same k d l =
     let long : length doors ≡ n = ap length same ∙ made_length (λ i. doors_by i rs) (λ i. doors_of i rs) refl (λ i. refl) n in
     let there : slice_index_or doors k d ≡ doors_of k rs = ap (λ xs. slice_index_or xs k d) same ∙ made_at (λ i. doors_by i rs) (λ i. doors_of i rs) d refl (λ i. refl) n k (omega (arith, long, l)) in
     subst IsNew (sym there) (refl, refl)
 
 -- what a recorded run promises, of so many actors over the doors to this log
-pub runs_by : {A : Type 0} (state : A → ScriptState) (log : LogText) (settings : Settings) (n : ℕ) (actors : List A) (doors : List LogDoors) (e : AtEnd A) (taken : List ℕ) (failures : ℕ) (stopped : Option Stop)
+pub runs_by : {A : Type 0} (state : A → ScriptState) (log : LogText) (settings : Settings) (n : ℕ) (actors : List A) (doors : List LogList) (e : AtEnd A) (taken : List ℕ) (failures : ℕ) (stopped : Option Stop)
     → n ≡ length actors → settings ≡ settings_of log.header → doors ≡ doors_by n log.records
     → IsRecorded ScriptDoor settings n e.history e.own e.transcripts taken failures stopped → (stopped ≡ Some stop.Strayed) ⊎ Agree e.history.rows e.history.asked e.own → AreTold n e.history.rows stopped e.transcripts
     → (stopped ≡ None → AreEnded e.own) → (stopped ≡ None → AreAnswered e.history.rows) → (stopped ≡ Some stop.Sink → failures ≡ 1)

@@ -5,7 +5,7 @@ use Rattle.std.proofs.lemmas.List.{append-nil, append_assoc, get_or_past}
 use Rattle.std.proofs.lemmas.Option.{none-some, same_Some}
 use Rattle.call_machine.specs.History.{Past}
 use Rattle.host_doors.specs.OutcomeList.{IsListed}
-use Rattle.host_doors.specs.declared.log_doors.LogDoors.{LogDoors}
+use Rattle.host_doors.specs.LogList.{LogList}
 use Rattle.input_log.specs.Format.{end_text, header_text, records_text, text_of}
 use Rattle.input_log.specs.Fronts.{IsFront}
 use Rattle.input_log.specs.Outcomes as records
@@ -144,25 +144,25 @@ back_by_own D m kept log scripts threads same i k g at =
 -- ## By the log that it was made by
 
 -- each outcome that was given is that of its number
-leads_listed : (number : ℕ) (o : LogDoors) (bs : List Brought) (p : LogDoors) → Leads gives_logged number o bs p → (k j : ℕ) (b : Brought) → j ≡ number + k → slice_get bs k ≡ Some b → IsListed o.list j b.request b.outcome
+leads_listed : (number : ℕ) (o : LogList) (bs : List Brought) (p : LogList) → Leads gives_logged number o bs p → (k j : ℕ) (b : Brought) → j ≡ number + k → slice_get bs k ≡ Some b → IsListed o.list j b.request b.outcome
 leads_listed number o [] p h k j b at is = absurd (none-some b is)
 leads_listed number o (c ∷ bs) p h zero j b at is =
     let number_is : number ≡ j = omega (arith, at) in
     let same : c ≡ b = same_Some c b is in
     subst (λ (x : Brought). IsListed o.list j x.request x.outcome) same (subst (λ (n : ℕ). IsListed o.list n c.request c.outcome) number_is (let given = h.1 in given.chosen))
 leads_listed number o (c ∷ bs) p h (suc k) j b at is =
-    let later : IsListed (let q : LogDoors = h.0 in q.list) j b.request b.outcome = leads_listed (number + 1) h.0 bs p h.2 k j b (omega (arith, at)) is in
-    let stays : (let q : LogDoors = h.0 in q.list) ≡ o.list = ap (λ (q : LogDoors). q.list) (let given = h.1 in given.counted) in
+    let later : IsListed (let q : LogList = h.0 in q.list) j b.request b.outcome = leads_listed (number + 1) h.0 bs p h.2 k j b (omega (arith, at)) is in
+    let stays : (let q : LogList = h.0 in q.list) ≡ o.list = ap (λ (q : LogList). q.list) (let given = h.1 in given.counted) in
     subst (λ gs. IsListed gs j b.request b.outcome) stays later
 
-led_at : (from k j : ℕ) (rows : List HistoryRow) (asked : List (List Step)) (doors ends : List LogDoors) (d : LogDoors) → j ≡ from + k → k < length doors → AreLedFrom gives_logged from rows asked doors ends
-    → (q : LogDoors) × Leads gives_logged 0 (get_or doors k d) (brought_in j rows) q
+led_at : (from k j : ℕ) (rows : List HistoryRow) (asked : List (List Step)) (doors ends : List LogList) (d : LogList) → j ≡ from + k → k < length doors → AreLedFrom gives_logged from rows asked doors ends
+    → (q : LogList) × Leads gives_logged 0 (get_or doors k d) (brought_in j rows) q
 led_at from k j rows asked [] ends d at l h = absurd (omega (arith, l))
 led_at from k j rows [] (o ∷ doors) ends d at l h = absurd h
 led_at from k j rows (x ∷ asked) (o ∷ doors) [] d at l h = absurd h
 led_at from zero j rows (x ∷ asked) (o ∷ doors) (p ∷ ends) d at l h =
     let number : from ≡ j = omega (arith, at) in
-    subst (λ (n : ℕ). (q : LogDoors) × Leads gives_logged 0 o (brought_in n rows) q) number (h.0.0, h.0.1)
+    subst (λ (n : ℕ). (q : LogList) × Leads gives_logged 0 o (brought_in n rows) q) number (h.0.0, h.0.1)
 led_at from (suc k) j rows (x ∷ asked) (o ∷ doors) (p ∷ ends) d at l h = led_at (from + 1) k j rows asked doors ends d (omega (arith, at)) (omega (arith, l)) h.1
 
 doors_at : (n i : ℕ) (rs : List Record) → i < n → get_or (doors_by n rs) i (doors_of i rs) ≡ doors_of i rs
@@ -223,14 +223,14 @@ all_come i (row ∷ rows) came k g outcomes kinds at = by_test (row.turn.thread 
     by_test false come = come
 
 -- so each is what the log has of its number
-came_listed : RecordLaws → (D : Type 0) (m : Shown D) (covered : IsCovered D m) (past : Past) (rs : List Record) (n : ℕ) (ends : List LogDoors) (i k : ℕ) (g : Given)
+came_listed : RecordLaws → (D : Type 0) (m : Shown D) (covered : IsCovered D m) (past : Past) (rs : List Record) (n : ℕ) (ends : List LogList) (i k : ℕ) (g : Given)
     → i < n → past.rows ≡ m.whole.rows → AreLedFrom gives_logged 0 past.rows past.asked (doors_by n rs) ends → slice_get (records.outcomes_of i m.log.records) k ≡ Some g → slice_get (records.outcomes_of i rs) k ≡ Some g
 came_listed known D m covered past rs n ends i k g l rows led at =
     let brought_here = all_come i m.whole.rows (records.outcomes_of i m.log.records) k g (covered.outcomes i) (covered.kinds i) at in
     let b : Brought = brought_here.0 in
     let leads = led_at 0 i i past.rows past.asked (doors_by n rs) ends (doors_of i rs) (omega arith) (let long = doors_length n rs in omega (arith, long, l)) led in
     let there : Leads gives_logged 0 (doors_of i rs) (brought_in i m.whole.rows) leads.0 =
-    subst (λ (o : LogDoors). Leads gives_logged 0 o (brought_in i m.whole.rows) leads.0) (doors_at n i rs l)
+    subst (λ (o : LogList). Leads gives_logged 0 o (brought_in i m.whole.rows) leads.0) (doors_at n i rs l)
     (subst (λ xs. Leads gives_logged 0 (get_or (doors_by n rs) i (doors_of i rs)) (brought_in i xs) leads.0) rows leads.1) in
     let listed = leads_listed 0 (doors_of i rs) (brought_in i m.whole.rows) leads.0 there k k b (omega arith) brought_here.1 in
     let entry : Given = listed.entry in
@@ -239,7 +239,7 @@ came_listed known D m covered past rs n ends i k g l rows led at =
     let outcomes : entry.outcome ≡ g.outcome = listed.outcome ∙ brought_here.2 in
     listed.at ∙ ap Some (ap₂ (λ (x : OutKind) (o : Outcome). record { kind = x; outcome = o }) kinds outcomes)
 
-pub supplied_by_log : RecordLaws → {A : Type 0} (state : A → ScriptState) (ahead : Bool) (D : Type 0) (m : Shown D) (kept : IsKept D m) (covered : IsCovered D m) (log : LogText) (past : Past) (actors later : List A) (ends : List LogDoors) (scripts : List (List Line))
+pub supplied_by_log : RecordLaws → {A : Type 0} (state : A → ScriptState) (ahead : Bool) (D : Type 0) (m : Shown D) (kept : IsKept D m) (covered : IsCovered D m) (log : LogText) (past : Past) (actors later : List A) (ends : List LogList) (scripts : List (List Line))
     → length m.whole.threads ≡ length scripts → settings_of log.header ≡ settings_in m.whole
     → past.rows ≡ m.whole.rows → past.asked ≡ map (λ (t : Thread). t.asked) m.whole.threads → map start_of scripts ≡ map state actors → ArePlayedFrom state ahead 0 past.rows past.asked actors later
     → AreLedFrom gives_logged 0 past.rows past.asked (doors_by (length scripts) log.records) ends

@@ -5,8 +5,7 @@ use Rattle.call_machine.specs.History.{Past, transcripts_of}
 use Rattle.call_machine.specs.Plain.{IsPlainRun}
 use Rattle.call_machine.specs.Setup.{first_state, setup_of}
 use Rattle.call_machine.specs.declared.plain.Plain.{Plain}
-use Rattle.host_doors.specs.LogList.{GivesNext}
-use Rattle.host_doors.specs.declared.log_doors.LogDoors.{LogDoors}
+use Rattle.host_doors.specs.LogList.{GivesNext, LogList}
 use Rattle.host_doors.specs.declared.script.ScriptDoor.{ScriptDoor}
 use Rattle.input_log.specs.Fronts.{HasNoFront, IsFront}
 use Rattle.input_log.specs.Outcomes.{outcomes_of}
@@ -38,16 +37,16 @@ use Rattle.replayer.specs.declared.replayed.Replayed.{Replayed}
 -- ## The run
 
 -- what the log has for a thread, of which nothing was given
-abbrev pub doors_of : ℕ → List Record → LogDoors
+abbrev pub doors_of : ℕ → List Record → LogList
 doors_of thread records = record { list = outcomes_of thread records; counts = record { given = 0; failures = 0 } }
 
 -- that of the first threads, so many
-abbrev pub doors_by : ℕ → List Record → List LogDoors
+abbrev pub doors_by : ℕ → List Record → List LogList
 doors_by zero records = []
 doors_by (suc n) records = doors_by n records ++ doors_of n records ∷ []
 
 -- what the log has of a number, where it answers the request
-abbrev pub gives_logged : Giving LogDoors
+abbrev pub gives_logged : Giving LogList
 gives_logged old number request outcome new = GivesNext number request old new (Ok outcome)
 
 -- the sink is memory: where it had no room there was no memory
@@ -67,7 +66,7 @@ pub record AtEnd (A : Type 0) : Type 0 where
   pub own : List Own
   pub transcripts : List (List Row)
   pub actors : List A
-  pub doors : List LogDoors
+  pub doors : List LogList
 
 -- the run of these actors by this log stopped so: what a recorded run promises, where what comes from outside is what the log has
 pub record IsRunBy {A : Type 0} (state : A → ScriptState) (log : LogText) (actors : List A) (e : AtEnd A) (taken : List ℕ) (failures : ℕ) (stopped : Option Stop) : Type 0 where

@@ -52,7 +52,7 @@ pub fn replay_threads<A: Actor + Send + Drop, R: Threads + Wait + Sync>(
     log: &[u8],
     actors: Vec<A>,
 ) -> Result<Ended<A, LogDoors, MemorySink>, NotReplayed<A>>
-    ensures replayed { IfOk result (λ e. IsReplayedBy A.state log.now actors.items (record { history = e.history; own = e.own.items; transcripts = e.transcripts; actors = e.actors.items; doors = e.outsides.items }) e.sink.bytes.items e.sink.failures e.stop) }
+    ensures replayed { IfOk result (λ e. IsReplayedBy A.state log.now actors.items (record { history = e.history; own = e.own.items; transcripts = e.transcripts; actors = e.actors.items; doors = e.outsides.items }) e.sink.bytes e.sink.failures e.stop) }
     ensures sink { IfOk result (λ e. e.stop ≢ Some stop.Sink) }
     ensures back { IfErr result (λ n. n.actors ≡ actors) }
     ensures fault { IfErr result (λ n. IsNoReplay log.now (vec_len actors) n.fault) }
@@ -77,7 +77,7 @@ fn supply_of(alloc: Global, log: &[u8], threads: usize) -> Result<Supplied, Repl
     ensures front { IfOk result (λ s. IsFront log.now s.log) }
     ensures threads { IfOk result (λ s. s.log.header.threads ≡ threads) }
     ensures doors { IfOk result (λ s. s.doors.items ≡ doors_by threads s.log.records) }
-    ensures taken { IfOk result (λ s. s.sink.bytes.items ≡ []) }
+    ensures taken { IfOk result (λ s. s.sink.bytes ≡ []) }
     ensures sound { IfOk result (λ s. s.sink.failures ≡ 0) }
     // Room for all that the log has, and for an end.
     ensures room { IfOk result (λ s. length log.now + 5 ≤ s.sink.room) }
@@ -114,9 +114,9 @@ fn run_by<A: Actor + Send + Drop, R: Threads + Wait + Sync>(
 ) -> Result<Ended<A, LogDoors, MemorySink>, NotReplayed<A>>
     requires log { IsLog supplied.log }
     requires doors { supplied.doors.items ≡ doors_by (vec_len actors) supplied.log.records }
-    requires taken { supplied.sink.bytes.items ≡ [] }
+    requires taken { supplied.sink.bytes ≡ [] }
     requires sound { supplied.sink.failures ≡ 0 }
-    ensures run { IfOk result (λ e. EndsBy A.state supplied.log actors.items (record { history = e.history; own = e.own.items; transcripts = e.transcripts; actors = e.actors.items; doors = e.outsides.items }) e.sink.bytes.items e.sink.failures e.stop) }
+    ensures run { IfOk result (λ e. EndsBy A.state supplied.log actors.items (record { history = e.history; own = e.own.items; transcripts = e.transcripts; actors = e.actors.items; doors = e.outsides.items }) e.sink.bytes e.sink.failures e.stop) }
     ensures back { IfErr result (λ n. n.actors ≡ actors) }
     ensures memory { IfErr result (λ n. n.fault ≡ replay_fault.Memory) }
 {
