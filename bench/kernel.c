@@ -12,7 +12,7 @@
 #include <sys/stat.h>
 #include <unistd.h>
 
-enum { ROUNDS = 30, MOST_THREADS = 8, MOST_TRIPS = 10000 };
+enum { ROUNDS = 30, MOST_THREADS = 16, MOST_TRIPS = 10000 };
 
 enum { OPEN, READ, WRITE, LSEEK, PREAD, PWRITE, FSTAT, GETFL, DUP, LINK, MKDIR, PIPE, PAIR, KINDS };
 static const char *const words_of[KINDS] = {

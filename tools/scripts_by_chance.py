@@ -175,8 +175,8 @@ def numbered(lines):
 
 
 def scripts(draw):
-    """The scripts of a run, of 1 to 8 threads; some have doors, and some streams."""
-    threads, style = draw.choice([1, 2, 2, 3, 4, 8, draw.randrange(1, 9)]), draw.random()
+    """The scripts of a run, of 1 to 16 threads; some have doors, and some streams."""
+    threads, style = draw.choice([1, 2, 2, 3, 4, 8, 16, draw.randrange(1, 17)]), draw.random()
     if style < 0.2:
         return ["\n".join(numbered(own_lines(Chance(draw, own=True), tcp=draw.random() < 0.7))) + "\n" for _ in range(threads)]
     weights = IN_MEMORY if style < 0.55 else WITH_DOORS

@@ -63,7 +63,7 @@ plain_of input count last =
       stop = stop_of last (diverging (setup_of input) last);
     }
 
--- 1 to 8 scripts, with as many lists of outcomes
+-- 1 to 16 scripts, with as many lists of outcomes
 abbrev pub counts_fit : ℕ → ℕ → Bool
 counts_fit scripts outcomes = nat_le 1 scripts && nat_le scripts limit.THREADS && (outcomes == scripts)
 

@@ -1,7 +1,7 @@
 //! Runs calls of threads against one shared table of descriptors on the plain schedule, for replays
 //! and for `detio plain`.
 //!
-//! [`plain_run`] runs 1 to 8 scripts, each with a list of what comes for it from outside. A
+//! [`plain_run`] runs 1 to 16 scripts, each with a list of what comes for it from outside. A
 //! [`Plain`] has the transcripts, the history, the bytes of the log, and the [`Stop`] of a run that
 //! came to its end before all threads had ended: at the end of a list, at an outcome that does not
 //! answer, or at a full clock. By the contract its history is legal, its turns rise, and the log

@@ -21,7 +21,7 @@ use posix_terms::{Limits, Outcomes, Settings};
 use std::alloc::Global;
 use thread_scripts::Script;
 
-/// Runs 1 to 8 scripts together on the plain schedule: the same order of calls each time, whatever the
+/// Runs 1 to 16 scripts together on the plain schedule: the same order of calls each time, whatever the
 /// machine. There is a list of outcomes from outside for each script, of which each call that goes outside takes the
 /// next.
 ///

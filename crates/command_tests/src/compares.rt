@@ -31,7 +31,7 @@ const FAULTS: &[(Device, Device, &[Device], u8, &str)] = &[
         Device::Broken,
         &[],
         2,
-        "needs 1 to 8 scripts\n",
+        "needs 1 to 16 scripts\n",
     ),
     (
         Device::Broken,

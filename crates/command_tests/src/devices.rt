@@ -90,7 +90,9 @@ pub(crate) fn sources<'a>(alloc: Global, scripts: &[&'a str]) -> Result<Sources<
     Ok(sources)
 }
 
-const PATHS: &[&str] = &["0", "1", "2", "3", "4", "5", "6", "7", "8"];
+const PATHS: &[&str] = &[
+    "0", "1", "2", "3", "4", "5", "6", "7", "8", "9", "10", "11", "12", "13", "14", "15", "16",
+];
 
 /// These devices as the sources "0", "1" and so on.
 pub(crate) fn numbered(alloc: Global, devices: &[Device]) -> Result<Sources<'static>, AllocError> {

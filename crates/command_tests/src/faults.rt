@@ -20,7 +20,7 @@ const REFUSED: &[(&[Device], u8, &str)] = &[
         "patience and door cost are 1 to 1000000\n",
     ),
     (&[BAD_SCRIPT], 3, "script 0: bad line 1\n"),
-    (&[], 2, "needs 1 to 8 scripts\n"),
+    (&[], 2, "needs 1 to 16 scripts\n"),
 ];
 
 // Whether `plain` tells just this of scripts on these devices, and prints nothing.
@@ -65,8 +65,8 @@ fn faults_of_settings(rt: HostRuntime) -> Result<(), Fail> {
 
 const UNREADABLE: &[(&[Device], u8, &str)] = &[
     // The number of scripts is looked at before anything is read.
-    (&[], 2, "needs 1 to 8 scripts\n"),
-    (&[Device::Broken; 9], 2, "needs 1 to 8 scripts\n"),
+    (&[], 2, "needs 1 to 16 scripts\n"),
+    (&[Device::Broken; 17], 2, "needs 1 to 16 scripts\n"),
     // A script that cannot be read is told before the bad lines of others, and the first of two.
     (&[Device::Broken, GOOD_SCRIPT], 4, "cannot read 0\n"),
     (&[Device::Endless, BAD_SCRIPT], 4, "cannot read 0\n"),

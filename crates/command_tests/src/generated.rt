@@ -62,10 +62,10 @@ fn script(alloc: Global, seed: u64) -> io::Result<String> {
     Ok(text)
 }
 
-// Scripts for one to eight threads, by this seed.
+// Scripts for one to sixteen threads, by this seed.
 fn scripts(alloc: Global, seed: u64) -> io::Result<Vec<String>> {
     let mut scripts = Vec::new(alloc);
-    for thread in 0..1 + seed % 8 {
+    for thread in 0..1 + seed % 16 {
         scripts.push(script(alloc, next(seed).wrapping_add(thread))?)?;
     }
     Ok(scripts)

@@ -14,12 +14,12 @@ const BAD: Device = Device::Text(b"x\n");
 
 // The number of scripts is looked at first, then the log is read, then the scripts in their order.
 const UNREADABLE: &[(Device, &[Device], u8, &str)] = &[
-    (Device::Broken, &[], 2, "needs 1 to 8 scripts\n"),
+    (Device::Broken, &[], 2, "needs 1 to 16 scripts\n"),
     (
         Device::Broken,
-        &[Device::Broken; 9],
+        &[Device::Broken; 17],
         2,
-        "needs 1 to 8 scripts\n",
+        "needs 1 to 16 scripts\n",
     ),
     (Device::Broken, &[Device::Broken], 4, "cannot read a.log\n"),
     (Device::Endless, &[BAD], 4, "cannot read a.log\n"),

@@ -12,12 +12,8 @@ use std::test::Fail;
 
 // Scripts that are not run, and the line for their first fault.
 const REFUSED: &[(&[&str], u8, &str)] = &[
-    (&[], 2, "needs 1 to 8 scripts\n"),
-    (
-        &["", "", "", "", "", "", "", "", ""],
-        2,
-        "needs 1 to 8 scripts\n",
-    ),
+    (&[], 2, "needs 1 to 16 scripts\n"),
+    (&[""; 17], 2, "needs 1 to 16 scripts\n"),
     (&["close 0\n", "close\n"], 3, "script 1: bad line 1\n"),
 ];
 

@@ -3,6 +3,7 @@
 use Rattle.std.specs.Prelude.{◌≡◌, ◌⊎◌, ℕ, Bool, List, [], ◌++◌, Option, codes}
 use Rattle.std.specs.Fmt.{decimal}
 use Rattle.std.specs.Io.KnownBytes.{Appends}
+use Rattle.posix_terms.specs.declared.limits.TheConstants.Limits as limit
 use Rattle.posix_terms.specs.declared.transcript.Row.{Row}
 use Rattle.thread_scripts.specs.Faults.{Fault, bad_line, too_long}
 use Rattle.logged_machine.specs.declared.stop.Stop.{Stop}
@@ -14,7 +15,7 @@ abbrev pub fault_printed : ℕ → List ℕ → Printed
 fault_printed status line = record { status = status; output = []; errors = line }
 
 abbrev pub needs_scripts : Printed
-needs_scripts = fault_printed 2 (codes "needs 1 to 8 scripts\n")
+needs_scripts = fault_printed 2 (codes "needs 1 to " +++ decimal limit.THREADS +++ codes " scripts\n")
 
 abbrev pub no_memory : Printed
 no_memory = fault_printed 4 (codes "no memory\n")

@@ -10,7 +10,7 @@ use command_texts::{
     FirstFault, Printed, Source, TextReader, Unread, bad_line, cannot_read, fault, fits, no_memory,
     print, read_all, run_printed, scripts, too_long,
 };
-use posix_terms::{Bytes, Outcomes, Settings};
+use posix_terms::{Bytes, Limits, Outcomes, Settings};
 use std::alloc::{AllocError, Global};
 use std::io;
 use std::io::Write;
@@ -106,7 +106,9 @@ fn no_outcomes(alloc: Global, scripts: usize) -> Result<Vec<Outcomes>, AllocErro
 pub fn needs_scripts(alloc: Global) -> Result<Printed, AllocError>
     ensures { IfOk result (λ printed. printed ≡ needs_scripts) }
 {
-    fault(alloc, 2, "needs 1 to 8 scripts\n")
+    let threads = Limits::THREADS;
+    let line = format!(in alloc; "needs 1 to {threads} scripts\n")?;
+    fault(alloc, 2, line.as_str())
 }
 
 pub fn bad_settings(alloc: Global) -> Result<Printed, AllocError>

@@ -28,9 +28,9 @@ Exit statuses:
 
 It runs scripts, not programs. Each command's --help has its limits, its statuses and an example.";
 
-const PLAIN_ABOUT: &str = "Runs 1 to 8 scripts together and prints their transcripts";
+const PLAIN_ABOUT: &str = "Runs 1 to 16 scripts together and prints their transcripts";
 
-const PLAIN_LONG_ABOUT: &str = "Runs 1 to 8 scripts together and prints their transcripts.
+const PLAIN_LONG_ABOUT: &str = "Runs 1 to 16 scripts together and prints their transcripts.
 
 Each script is a thread, from 0 in the order given. All share one table of descriptors and the files,
 pipes and pairs of sockets in memory, and the thread whose logical clock is least has the turn; of two
@@ -85,7 +85,7 @@ to r1, and so does the number of names of fstat; data go to b0.
 A thread also ends once it has executed 10000 lines. Nothing is printed of that, and the status is 0: the
 last row of such a thread is not that of its script's last line.
 
-Limits: 8 scripts of 1000 lines; 32 descriptors, 48 objects (files, pipes, pairs and doors), 64 names; 65536
+Limits: 16 scripts of 1000 lines; 32 descriptors, 48 objects (files, pipes, pairs and doors), 64 names; 65536
 bytes in a file, 32768 in a pipe and in each direction of a pair; 32767 bytes in a call, 255 in a path.
 
 The last line is end. host_open, the tcp calls and the calls on what they open go outside the run, where
@@ -117,10 +117,10 @@ prints
   end";
 
 const RECORD_ABOUT: &str =
-    "Runs 1 to 8 scripts as threads, with host files and loopback TCP, and records what comes from them";
+    "Runs 1 to 16 scripts as threads, with host files and loopback TCP, and records what comes from them";
 
 const RECORD_LONG_ABOUT: &str =
-    "Runs 1 to 8 scripts as threads, with host files and loopback TCP, and records what comes from them.
+    "Runs 1 to 16 scripts as threads, with host files and loopback TCP, and records what comes from them.
 
 Each script is a thread of its own, from 0 in the order given. They share one table of descriptors, and take
 turns by their logical clocks, as under plain: so whatever the machine does, each turn comes at the same
@@ -490,5 +490,5 @@ fn scripts<'a>(alloc: Global) -> Arg<'a> {
         .value_name("SCRIPT")
         .action(ArgAction::Append)
         .num_args(0..)
-        .help("The scripts to run, 1 to 8")
+        .help("The scripts to run, 1 to 16")
 }

@@ -2,7 +2,7 @@
 //! of descriptors and take its locks at their turns, one event at a time, where each event is that
 //! of the definition in `lock_model`.
 //!
-//! A [`LockMachine`] is made for 1 to 8 threads, and is handed their steps and the outcomes from
+//! A [`LockMachine`] is made for 1 to 16 threads, and is handed their steps and the outcomes from
 //! outside. `phase` tells where a thread is between its events: `ask`, `end`, `attempt`,
 //! `begin_outside`, `record`, `answer` and `again`. An event that is not the thread's own now, or
 //! an attempt without the turn, is [`Refused`], and so is one for which the clock has no room.

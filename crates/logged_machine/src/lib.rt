@@ -1,7 +1,7 @@
 //! A machine of threads that share one table of descriptors, for whoever writes a driver: the lock
 //! machine with the writer of its log and the doors to the outside.
 //!
-//! A [`Machine`] is made for 1 to 8 threads, over a writer that has written their header and
+//! A [`Machine`] is made for 1 to 16 threads, over a writer that has written their header and
 //! nothing more; then any driver may make its events, in any order, by the `phase` of each thread.
 //! An outcome is in the log before it is the machine's, so no reply is given before its record was
 //! taken whole. Behind each event the machine is faithful: its `history` is legal, its turns rise,

@@ -83,7 +83,7 @@ impl<S: LogSink, D: Drop> Machine<S, D> {
         self.stop
     }
 
-    /// How many threads there are: 1 to 8.
+    /// How many threads there are: 1 to 16.
     pub fn len(&self) -> usize
         ensures count { result ≡ length self.now.whole.threads }
         ensures some { 1 ≤ result }

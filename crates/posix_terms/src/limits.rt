@@ -3,7 +3,7 @@ pub struct Limits;
 
 impl Limits {
     /// Threads that share one table: at least 1.
-    pub const THREADS: usize = 8;
+    pub const THREADS: usize = 16;
     /// Descriptors in the table, numbered from 0 (`OPEN_MAX`); as many open file descriptions.
     pub const DESCRIPTORS: usize = 32;
     /// Files, pipes, socket pairs and doors together.

@@ -1,7 +1,7 @@
 use crate::history::History;
 use input_log::LogSink;
 use logged_machine::Stop;
-use posix_terms::Transcripts;
+use posix_terms::{Limits, Transcripts};
 use thiserror::Error;
 use worker_notes::Own;
 
@@ -26,7 +26,7 @@ pub struct Ended<A: Drop, O: Drop, S: LogSink + Drop> {
 pub enum StartFault {
     #[error("needs an actor")]
     NoThreads,
-    #[error("needs at most 8 actors")]
+    #[error("needs at most {} actors", Limits::THREADS)]
     TooManyThreads,
     /// The patience or the door cost is not 1 to 1,000,000, or there is not one outside for each actor.
     #[error("patience and door cost must be 1 to 1,000,000, with an outside for each actor")]

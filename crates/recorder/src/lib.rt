@@ -2,7 +2,7 @@
 //! a thread of its own, all make their events at one machine under one lock, and calls to the
 //! outside are made while other threads go on.
 //!
-//! [`run_recorded`] takes 1 to 8 actors, an outside for each that gave nothing yet, and a sink that
+//! [`run_recorded`] takes 1 to 16 actors, an outside for each that gave nothing yet, and a sink that
 //! took nothing yet; [`hosts`] makes outsides over the real host. It waits until all have ended or
 //! the run was stopped, and gives [`Ended`]: the transcripts, the history, the sink with the log,
 //! and the stop. By the contract the history is legal, its turns rise, and what the sink took

@@ -28,7 +28,7 @@ use std::thread::Threads;
 use thread_scripts::{Actor, BoxedActor};
 use worker_notes::Own;
 
-/// Runs 1 to 8 actors, each in a thread of its own and with its own outside, against one table of descriptors, and
+/// Runs 1 to 16 actors, each in a thread of its own and with its own outside, against one table of descriptors, and
 /// records what comes from outside into a log. It waits until all have ended, or until the run was stopped. Calls to the
 /// outside are made while other threads go on.
 ///

@@ -52,7 +52,7 @@ struct Filled {
     has_rows: bool,
 }
 
-// A clock is full when a step is asked, at the first attempt of a call, and at a later one of a call that is blocked. The seven others leave,
+// A clock is full when a step is asked, at the first attempt of a call, and at a later one of a call that is blocked. The fifteen others leave,
 // which in the last two may be waiting for their turns.
 const FILLED: &[Filled] = &[
     Filled {
@@ -68,21 +68,21 @@ const FILLED: &[Filled] = &[
         has_rows: false,
     },
     Filled {
-        threads: 8,
+        threads: 16,
         length: 3,
         time: TOO_LONG,
         has_rows: false,
     },
     Filled {
-        threads: 8,
+        threads: 16,
         length: 3,
         time: TOO_LONG - 1,
         has_rows: false,
     },
     Filled {
-        threads: 8,
+        threads: 16,
         length: 3,
-        time: TOO_LONG - 20,
+        time: TOO_LONG - 200,
         has_rows: true,
     },
 ];

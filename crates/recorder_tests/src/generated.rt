@@ -94,15 +94,24 @@ fn next(seed: u64) -> u64 {
         .wrapping_add(1_442_695_040_888_963_407)
 }
 
+// How many pieces open nothing: the first ones. The table has room for the descriptors of eight threads, so the others
+// have these alone.
+const WITHOUT_DESCRIPTORS: usize = 3;
+
 // The piece at this place of this thread's script, by this seed.
 fn piece(seed: u64, thread: u64, place: u64) -> Option<&'static Part> {
     let number = next(next(next(seed).wrapping_add(thread)).wrapping_add(place));
-    PIECES.get((number >> 33) as usize % PIECES.len())
+    let pieces = if thread < 8 {
+        PIECES.len()
+    } else {
+        WITHOUT_DESCRIPTORS
+    };
+    PIECES.get((number >> 33) as usize % pieces)
 }
 
-// One to eight threads.
+// One to sixteen threads.
 fn threads(seed: u64) -> u64 {
-    1 + seed % 8
+    1 + seed % 16
 }
 
 // The script of this thread: the first makes the pipe, and the others begin behind that.
@@ -163,7 +172,7 @@ fn recorded<R: Threads + Wait + Sync>(
 ) -> Result<Option<Over>, AllocError> {
     let actors = actors(alloc, texts)?;
     let doors = doors(alloc, outcomes(alloc, seed)?)?;
-    let sink = MemorySink::new(alloc, 10_000)?;
+    let sink = MemorySink::new(alloc, 20_000)?;
     Ok(record_actors(rt, alloc, actors, doors, sink, SHORT_WAITS).ok())
 }
 

@@ -9,13 +9,20 @@ use std::sync::Wait;
 use std::test::Fail;
 use std::thread::Threads;
 
-// How long each of eight threads works between its opening and its write.
-const WORK: &[u64] = &[3040, 2912, 2848, 2688, 2608, 2528, 2384, 2304];
+// How long each of sixteen threads works between its opening and its write.
+const WORK: &[u64] = &[
+    4914, 4840, 4766, 4596, 4522, 4448, 4278, 4204, 4130, 3960, 3886, 3812, 3738, 3568, 3494, 3420,
+];
 
-// An opening takes 104, and the eight come one after the other, so that of thread k ends at the clock 105 + 104 k. With
-// the work, the turns of the writes are at 3145, 3121, 3161, 3105, 3129, 3153, 3113 and 3137: all of them while the
-// first is outside, which takes 100. The first thread writes an a, and the last an h.
-const IN_TURN: &[u8] = b"dgbehafc";
+// An opening takes 104, and the sixteen come one after the other, so that of thread k ends at the clock 105 + 104 k.
+// With the work, the turn of its write is at 5001 + 6 (5 k + 3 mod 16): all of them while the first is outside, which
+// takes 100. The first thread writes an a, and the last a p.
+const IN_TURN: &[u8] = b"jgdankhebolifcpm";
+
+// What each writes.
+const LETTERS: &[&str] = &[
+    "61", "62", "63", "64", "65", "66", "67", "68", "69", "6a", "6b", "6c", "6d", "6e", "6f", "70",
+];
 
 const SETTINGS: Settings = Settings {
     patience: 1000,
@@ -25,9 +32,9 @@ const SETTINGS: Settings = Settings {
 // Each opens the host file at this path and writes a byte at its end.
 fn writers(alloc: Global, path: &str) -> Result<Vec<BoxedActor>, Fail> {
     let mut actors: Vec<BoxedActor> = Vec::new(alloc);
-    for (digit, work) in (1..).zip(WORK) {
+    for (byte, work) in LETTERS.iter().zip(WORK) {
         let text = format!(in alloc;
-            "host_open {path} w append create\nset r2 r0\nwork {work}\nwrite r2 x6{digit}\nclose r2\n"
+            "host_open {path} w append create\nset r2 r0\nwork {work}\nwrite r2 x{byte}\nclose r2\n"
         )?;
         push_actor(&mut actors, alloc, script(alloc, text.as_bytes())?)?;
     }
@@ -58,7 +65,7 @@ fn is_in_turn<R: Threads + Wait + Sync>(
 }
 
 #[test]
-fn eight_write_to_one_host_file(rt: HostRuntime) -> Result<(), Fail> {
+fn sixteen_write_to_one_host_file(rt: HostRuntime) -> Result<(), Fail> {
     let id = process::id(rt.process());
     let path = format!(in rt.alloc(); "/tmp/detio_in_turn_{id}")?;
     let _ = remove_file(&rt, path.as_str());

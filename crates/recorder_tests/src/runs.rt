@@ -106,10 +106,12 @@ const ALONE: &[(&[u8], &[Came], u32)] = &[
     ),
 ];
 
-// Scripts for two threads, which need nothing from outside, and the run's patience.
+const OPENER: &[u8] = b"open /a rw create\n";
+
+// Scripts for threads together, which need nothing from outside, and the run's patience.
 const TOGETHER: &[(&[&[u8]], u32)] = &[
-    // two openers
-    (&[b"open /a rw create\n", b"open /a rw create\n"], 1000),
+    (&[OPENER; 2], 1000),
+    (&[OPENER; 16], 1000),
     // shared append
     (
         &[
@@ -227,7 +229,7 @@ fn run_of<'a>(scripts: &'a [&'a [u8]], patience: u32) -> Run<'a> {
 }
 
 #[test]
-fn two_threads(rt: HostRuntime) -> Result<(), Fail> {
+fn threads_together(rt: HostRuntime) -> Result<(), Fail> {
     for (scripts, patience) in TOGETHER {
         assert!(rt; are_as_plain(&rt, rt.alloc(), run_of(scripts, *patience), 20, 20)?);
     }
@@ -237,11 +239,11 @@ fn two_threads(rt: HostRuntime) -> Result<(), Fail> {
 const APPENDER: &[u8] =
     b"open /a rw create append\nset r2 10\nlabel more\nwrite 0 x61\nadd r2 -1\njzero r2 done\njump more\nlabel done\npread 0 99 0\nclose 0\n";
 
-const APPENDERS: &[&[u8]] = &[APPENDER; 8];
+const APPENDERS: &[&[u8]] = &[APPENDER; 16];
 
 // Each thread opens one file, appends ten bytes at descriptor 0, reads what is there and closes it, so that all contend.
 #[test]
-fn eight_that_contend(rt: HostRuntime) -> Result<(), Fail> {
-    assert!(rt; are_as_plain(&rt, rt.alloc(), run_of(APPENDERS, 1000), 1000, 0)?);
+fn sixteen_that_contend(rt: HostRuntime) -> Result<(), Fail> {
+    assert!(rt; are_as_plain(&rt, rt.alloc(), run_of(APPENDERS, 1000), 300, 0)?);
     Ok(())
 }

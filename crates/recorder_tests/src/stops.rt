@@ -147,15 +147,12 @@ fn the_log_has_no_more_room(rt: HostRuntime) -> Result<(), Fail> {
     Ok(())
 }
 
+const NOTHING: &[u8] = b"";
+
 // Scripts, outsides, so many, and a patience, with which no run is started, and why.
 const REFUSED: &[(&[&[u8]], usize, u32, StartFault)] = &[
     (&[], 1, 0, StartFault::NoThreads),
-    (
-        &[b"", b"", b"", b"", b"", b"", b"", b"", b""],
-        0,
-        0,
-        StartFault::TooManyThreads,
-    ),
+    (&[NOTHING; 17], 0, 0, StartFault::TooManyThreads),
     (&[b""], 1, 0, StartFault::Settings),
     (&[b""], 2, 1000, StartFault::Settings),
 ];

@@ -30,7 +30,7 @@ pub fn replay(alloc: Global, log: &[u8], scripts: Vec<Script>) -> Result<Replaye
     match plain_run(alloc, scripts, outcomes, log.header.settings()) {
         Ok(plain) => told(&log, plain),
         Err(PlainFault::Memory) => Err(ReplayFault::Memory),
-        // A log has 1 to 8 threads, and settings of a run.
+        // A log has 1 to 16 threads, and settings of a run.
         Err(PlainFault::Threads) => unreachable!(),
         Err(PlainFault::Settings) => unreachable!(),
     }

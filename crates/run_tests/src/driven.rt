@@ -1,6 +1,6 @@
 use call_machine::Machine;
 use input_log::{Header, LogWriter, MemorySink};
-use posix_terms::{Access, Bytes, Call, OpenFlags, Settings, Step};
+use posix_terms::{Access, Bytes, Call, Limits, OpenFlags, Settings, Step};
 use std::alloc::{AllocError, Global};
 
 // A machine that a test drives. A door is a number here.
@@ -28,7 +28,7 @@ pub(crate) fn machine(
     room: usize,
 ) -> Result<Driven, AllocError> {
     if threads < 1
-        || threads > 8
+        || threads > Limits::THREADS
         || settings.patience < 1
         || settings.patience > 1_000_000
         || settings.door_cost < 1
