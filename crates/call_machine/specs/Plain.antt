@@ -85,7 +85,7 @@ pub record IsPlainRun (input : Inputs) (plain : Plain) : Type 0 where
   pub ends : diverging (setup_of input) last ≡ None → IsOver (setup_of input) last
   pub shows : plain ≡ plain_of input count last
 
--- a run was made, or there is none: for the number of scripts or of lists, then for the settings, and only then for want of memory
+-- a run was made, or there is none: for the number of scripts or of lists, then for the settings, and only then since memory ran out
 abbrev pub Runs : Result Plain PlainFault → Inputs → Type 0
 Runs (Ok plain) input = IsPlainRun input plain
 Runs (Err plain_fault.Threads) input = are_threads input ≡ false

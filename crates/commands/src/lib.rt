@@ -3,7 +3,7 @@
 //!
 //! Each command is a function, as [`plain_over`]: it reads its [`Source`]s, writes what the command
 //! prints to two writers, and answers the exit status. Its contract says what is printed for which
-//! texts. Bad scripts, bad logs and want of memory are faults that it prints; it fails only with an
+//! texts. Bad scripts, bad logs and lack of memory are faults that it prints; it fails only with an
 //! error of the writer `errors`. [`record_over`] makes its log, a [`LogTo`], just before the run,
 //! and asks for one outside for each script, of which none gave anything yet. [`DEFAULTS`] are the
 //! settings where no option says otherwise.

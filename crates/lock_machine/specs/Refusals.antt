@@ -82,7 +82,7 @@ Comes right (Err refused.WrongPhase) old new made = (right ≡ false) × (new �
 Comes right (Err refused.ClockFull) old new made = (right ≡ true) × (new ≡ old) × made None
 Comes right (Err refused.Memory) old new made = (right ≡ true) × (new ≡ old)
 
--- what is so where an event is refused for want of memory
+-- what is so where an event is refused since memory ran out
 abbrev pub OnMemory : {A : Type 0} → Result A Refused → Type 0 → Type 0
 OnMemory (Ok a) P = Unit {0}
 OnMemory (Err refused.WrongPhase) P = Unit {0}

@@ -48,7 +48,7 @@ IsRunning (Ok done) o = o ≡ None
 IsRunning (Err (refused.Stopped cause)) o = o ≡ Some cause
 IsRunning (Err e) o = ⊥
 
--- an event is refused for a stop, then for the phase of its thread or its lack of the turn, then for a number, then for want of memory, and
+-- an event is refused for a stop, then for the phase of its thread or its lack of the turn, then for a number, then since memory ran out, and
 -- changes nothing then; else the run grows by it
 abbrev pub Comes : {D A : Type 0} → Bool → Coming → Event → Result A Refused → Shown D → Shown D → Type 0
 Comes right c e (Ok a) old new = (old.stop ≡ None) × (right ≡ true) × Grows c e old.whole new.whole

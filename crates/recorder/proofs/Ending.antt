@@ -17,7 +17,7 @@ use Rattle.posix_terms.specs.declared.transcript.Row.{Row}
 use Rattle.posix_terms.specs.declared.transcript.Settings.{Settings}
 use Rattle.worker_notes.specs.declared.own.Own.{Own}
 use Rattle.worker_notes.specs.Agrees.{Agree}
-use Rattle.recorder.specs.Recorded.{AreBeginnings, AreTold, Fits, IsJudged, IsOver, IsRecorded, IsRun, IsWhole, Past, Shows, transcripts_of}
+use Rattle.recorder.specs.Recorded.{AreBeginnings, AreTold, Fits, IsOver, IsRecorded, IsRun, IsWhole, IsWhy, Past, Shows, its_own, no_memory, strayed, transcripts_of}
 
 -- why a run stopped, for one whose notes agree or do not, and which saw all or not
 abbrev pub judged : Bool → Bool → Option Stop → Option Stop
@@ -52,11 +52,12 @@ ends_log true log (Some s) taken failures stopped h e f = absurd (none-some s (s
 ends_log true log None taken failures stopped (inl h) e f = h.1
 ends_log true log None taken failures stopped (inr h) e f = absurd (none-some stop.Sink (sym e ∙ h.0))
 
--- and what is told is why it stopped
-is_judged : (fits whole : Type 0) (agrees all : Bool) (stopped : Option Stop) → (IsTrue agrees ↔ fits) → (IsTrue all ↔ whole) → IsJudged fits whole stopped (judged agrees all stopped)
-is_judged fits whole false all stopped f w = inr (inr (λ yes. false≢true (f.1 yes), refl))
-is_judged fits whole true false stopped f w = inr (inl (f.0 refl, λ yes. false≢true (w.1 yes), refl))
-is_judged fits whole true true stopped f w = inl (f.0 refl, w.0 refl, refl)
+-- and what is told is why it stopped; where what was seen is not whole, the machine was stopped
+is_why : (fits whole : Type 0) (agrees all : Bool) (stopped : Option Stop) → (IsTrue agrees ↔ fits) → (IsTrue all ↔ whole)
+    → (all ≡ false → is_some stopped ≡ true) → IsWhy fits whole stopped (judged agrees all stopped)
+is_why fits whole false all stopped f w g = strayed (λ yes. false≢true (f.1 yes)) refl
+is_why fits whole true false stopped f w g = no_memory (f.0 refl) (λ yes. false≢true (w.1 yes)) (g refl) refl
+is_why fits whole true true stopped f w g = its_own (f.0 refl) (w.0 refl) refl
 
 over_told : {D : Type 0} (m : Shown D) (past : Past) (taken : List ℕ) (failures : ℕ) (stopped : Option Stop) (agrees all complete : Bool) → Shows D m past taken failures stopped → (complete ≡ false → is_some m.stop ≡ true) → (complete ≡ true → have_ended m.whole.threads ≡ true) → judged agrees all stopped ≡ None → IsOver D m taken
 over_told m past taken failures stopped false all complete h g k none = absurd (none-some stop.Strayed (sym none))
@@ -67,13 +68,24 @@ over_told m past taken failures stopped true true complete h g k none =
       end = ends_log (have_ended m.whole.threads) m.log m.stop taken failures stopped h.finishes none ended;
     }
 
-pub run_told : {D : Type 0} (header found : Header) (m : Shown D) (past : Past) (own : List Own) (seen : List (List Row)) (taken : List ℕ) (failures : ℕ) (stopped : Option Stop) (agrees all complete : Bool) → Shows D m past taken failures stopped → found ≡ header_of m.whole → (IsTrue agrees ↔ ((found ≡ header) × Agree past.rows past.asked own)) → (IsTrue all ↔ IsWhole header.threads past.rows seen) → (complete ≡ false → is_some m.stop ≡ true) → (complete ≡ true → have_ended m.whole.threads ≡ true) → IsRun D header past own seen taken failures (judged agrees all stopped)
-run_told header found m past own seen taken failures stopped agrees all complete h e f w g k = record {
+-- what lacks something is not complete
+lacks : (all complete : Bool) → (complete ≡ true → all ≡ true) → all ≡ false → complete ≡ false
+lacks all false h e = refl
+lacks all true h e = absurd (false≢true (sym e ∙ h refl))
+
+pub run_told : {D : Type 0} (header found : Header) (m : Shown D) (past : Past) (own : List Own) (seen : List (List Row))
+    (taken : List ℕ) (failures : ℕ) (stopped : Option Stop) (agrees all complete : Bool) → Shows D m past taken failures stopped
+    → found ≡ header_of m.whole → (IsTrue agrees ↔ ((found ≡ header) × Agree past.rows past.asked own))
+    → (IsTrue all ↔ IsWhole header.threads past.rows seen) → (complete ≡ true → all ≡ true)
+    → (complete ≡ false → is_some m.stop ≡ true) → (complete ≡ true → have_ended m.whole.threads ≡ true)
+    → IsRun D header past own seen taken failures (judged agrees all stopped)
+run_told header found m past own seen taken failures stopped agrees all complete h e f w v g k = record {
   machine = m;
   stopped = stopped;
   shows = h;
-  judged = is_judged (Fits header m past own) (IsWhole header.threads past.rows seen) agrees all stopped
-      (λ yes. (sym e ∙ (f.0 yes).0, (f.0 yes).1), λ fits. f.1 (e ∙ fits.0, fits.1)) w;
+  why = is_why (Fits header m past own) (IsWhole header.threads past.rows seen) agrees all stopped
+      (λ yes. (sym e ∙ (f.0 yes).0, (f.0 yes).1), λ fits. f.1 (e ∙ fits.0, fits.1)) w
+      (λ no. still_stopped (have_ended m.whole.threads) m.log m.stop taken failures stopped h.finishes (g (lacks all complete v no)));
   over = over_told m past taken failures stopped agrees all complete h g k;
 }
 
@@ -112,14 +124,14 @@ not_strayed e = false≢true (ap is_strayed e)
 not_memory : Some stop.Sink ≡ Some stop.Memory → ⊥
 not_memory e = false≢true (sym (ap is_sink e))
 
-told_sink : (P Q : Type 0) (failures : ℕ) (stopped told : Option Stop) → IsJudged P Q stopped told → StopsFor failures stopped → told ≡ Some stop.Sink → failures ≡ 1
-told_sink P Q failures stopped told (inl h) cause e = rw (sym h.2 ∙ e) at cause.sink
-told_sink P Q failures stopped told (inr (inl h)) cause e = absurd (not_memory (sym e ∙ h.2))
-told_sink P Q failures stopped told (inr (inr h)) cause e = absurd (not_strayed (sym e ∙ h.1))
+told_sink : (P Q : Type 0) (failures : ℕ) (stopped told : Option Stop) → IsWhy P Q stopped told → StopsFor failures stopped → told ≡ Some stop.Sink → failures ≡ 1
+told_sink P Q failures stopped told (its_own fits whole same) cause e = rw (sym same ∙ e) at cause.sink
+told_sink P Q failures stopped told (no_memory fits lacks some same) cause e = absurd (not_memory (sym e ∙ same))
+told_sink P Q failures stopped told (strayed not same) cause e = absurd (not_strayed (sym e ∙ same))
 
 -- it is told only where the sink failed
 pub sink_failed : (D : Type 0) (settings : Settings) (threads : ℕ) (past : Past) (own : List Own) (seen : List (List Row)) (taken : List ℕ) (failures : ℕ) (told : Option Stop) → IsRecorded D settings threads past own seen taken failures told → told ≡ Some stop.Sink → failures ≡ 1
-sink_failed D settings threads past own seen taken failures told (inl run) e = told_sink _ _ failures run.stopped told run.judged run.shows.cause e
+sink_failed D settings threads past own seen taken failures told (inl run) e = told_sink _ _ failures run.stopped told run.why run.shows.cause e
 sink_failed D settings threads past own seen taken failures told (inr none) e = none.failed
 
 -- ## The header of the log

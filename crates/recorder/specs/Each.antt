@@ -36,7 +36,8 @@ ArePlayedFrom state ahead thread rows (asked ∷ others) (a ∷ actors) (b ∷ l
 ArePlayedFrom state ahead thread rows asked actors later = ⊥
 
 -- each outside, from this thread on, was led from where it stood to where it stands by the requests that the calls of the thread's rows ask,
--- in order and numbered from 0, each with its outcome. It may be ahead by one call more: that in which its thread's steps end, without a reply
+-- in order and numbered from 0, each with its outcome. It may be ahead by one call more: that in which its thread's
+-- steps end, without a reply. So where they end in `End`, as they do wherever nothing stopped the run, it is not ahead
 abbrev pub AreLedFrom : {O : Type 0} → Giving O → ℕ → List HistoryRow → List (List Step) → List O → List O → Type 0
 AreLedFrom gives thread rows [] [] [] = Unit {0}
 AreLedFrom gives thread rows (asked ∷ others) (o ∷ outsides) (p ∷ ends) =

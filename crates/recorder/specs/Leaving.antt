@@ -1,6 +1,12 @@
 -- Internal: no contract of the headline or of a command stands on it.
 -- Why a worker leaves, and what it brings back from outside.
-use Rattle.std.specs.Prelude.{Bool, true, false, ◌&&◌, not}
+use Rattle.std.specs.Prelude.{◌≡◌, ℕ, Bool, true, false, Option, None}
+use Rattle.host_doors.specs.Opening.{HasDoor}
+use Rattle.host_doors.specs.declared.stop.DoorStop.{DoorStop}
+use Rattle.host_doors.specs.declared.stop.DoorStop.TheVariants as door_stop
+use Rattle.logged_machine.specs.declared.stop.Stop.{Stop}
+use Rattle.logged_machine.specs.declared.stop.Stop.TheVariants as stop
+use Rattle.posix_terms.specs.declared.outcome.Outcome.{Outcome}
 use Rattle.posix_terms.specs.declared.outcome.OutKind.{OutKind}
 use Rattle.posix_terms.specs.declared.outcome.OutKind.TheVariants as kind
 use Rattle.recorder.specs.declared.leave.Leave.{Leave}
@@ -11,6 +17,28 @@ abbrev pub is_of_outside : Leave → Bool
 is_of_outside (leave.EndOfLog thread) = true
 is_of_outside (leave.Diverged thread number) = true
 is_of_outside why = false
+
+-- why thread i leaves whose outside gave no outcome of this number
+abbrev pub left_for : ℕ → ℕ → DoorStop → Leave
+left_for i number door_stop.EndOfLog = leave.EndOfLog i
+left_for i number door_stop.Diverged = leave.Diverged i number
+left_for i number door_stop.Memory = leave.Memory
+
+-- what a machine is stopped for, if it is not stopped already
+abbrev pub cause_of : Leave → Stop
+cause_of leave.Stopped = stop.Memory
+cause_of leave.Memory = stop.Memory
+cause_of leave.ClockFull = stop.ClockFull
+cause_of (leave.EndOfLog thread) = stop.EndOfLog thread
+cause_of (leave.Diverged thread number) = stop.Diverged thread number
+
+-- a door comes with the success of an opening, and with nothing else
+abbrev pub BringsDoor : {D : Type 0} → OutKind → Outcome → Option D → Type 0
+BringsDoor kind.Open outcome door = HasDoor outcome door
+BringsDoor kind.Listen outcome door = HasDoor outcome door
+BringsDoor kind.Connect outcome door = HasDoor outcome door
+BringsDoor kind.Accept outcome door = HasDoor outcome door
+BringsDoor k outcome door = door ≡ None
 
 -- a request that is made with a door, if it is, brings it back, unless it closes it
 abbrev pub brings_back : OutKind → Bool → Bool

@@ -17,7 +17,7 @@ pub struct Ended<A: Drop, O: Drop, S: LogSink + Drop> {
     pub outsides: Vec<O>,
     pub history: History,
     pub sink: S,
-    /// Why it came to its end before all threads had ended, if it did.
+    /// Why the run is not whole: none where all threads ended, the log has its end, and all that they saw is here.
     pub stop: Option<Stop>,
 }
 

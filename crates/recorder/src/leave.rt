@@ -1,6 +1,6 @@
 ghost use Rattle.std.specs.Prelude.{◌≡◌, false, Some};
 ghost use Rattle.logged_machine.specs.Kept.{is_sink, is_strayed};
-ghost use Rattle.recorder.specs.Leaving.{is_of_outside};
+ghost use Rattle.recorder.specs.Leaving.{cause_of, is_of_outside};
 
 use logged_machine::{Refused, Stop};
 use std::alloc::{AllocError, AllocFailed};
@@ -21,6 +21,7 @@ pub enum Leave {
 impl Leave {
     // What a machine is stopped for, if it is not stopped already.
     pub fn cause(self) -> Stop
+        ensures cause { result ≡ cause_of self }
         ensures sink { is_sink (Some result) ≡ false }
         ensures strayed { is_strayed (Some result) ≡ false }
     {

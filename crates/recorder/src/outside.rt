@@ -1,6 +1,8 @@
-ghost use Rattle.std.specs.Prelude.{◌≡◌, ◌+◌, ◌≤◌, true, None, is_some, IfOk, OnErr};
+ghost use Rattle.std.specs.Prelude.{◌≡◌, ◌⊎◌, ◌+◌, ◌≤◌, true, None, is_some, IfErr, IfOk, OnErr};
 ghost use Rattle.host_doors.specs.Giving.{CanCount};
-ghost use Rattle.recorder.specs.Leaving.{brings_back};
+ghost use Rattle.host_doors.specs.Opening.{HasDoor};
+ghost use Rattle.recorder.specs.Leaving.{BringsDoor, brings_back, left_for};
+ghost use Rattle.recorder.specs.declared.leave.Leave.TheVariants as why;
 
 use crate::leave::Leave;
 use host_doors::{DoorStop, Opened, Outside};
@@ -29,6 +31,8 @@ pub fn reach<O: Outside>(
     ensures given { O.given outside.new ≤ O.given outside.old + 1 }
     ensures failures { O.failures outside.new ≤ O.failures outside.old + 1 }
     ensures same { OnErr result (outside.new ≡ outside.old) }
+    ensures why { IfErr result (λ leave. (leave ≡ why.EndOfLog i) ⊎ (leave ≡ why.Diverged i number) ⊎ (leave ≡ why.Memory)) }
+    ensures opened { IfOk result (λ r. BringsDoor request.now.kind r.outcome r.opened) }
     ensures back { IfOk result (λ r. is_some r.back ≡ brings_back request.now.kind (is_some door)) }
 {
     let reached = match door {
@@ -50,6 +54,8 @@ fn open<O: Outside>(
     ensures given { O.given outside.new ≤ O.given outside.old + 1 }
     ensures failures { O.failures outside.new ≤ O.failures outside.old + 1 }
     ensures same { OnErr result (outside.new ≡ outside.old) }
+    ensures why { IfErr result (λ leave. (leave ≡ why.EndOfLog i) ⊎ (leave ≡ why.Diverged i number) ⊎ (leave ≡ why.Memory)) }
+    ensures opened { IfOk result (λ r. BringsDoor request.now.kind r.outcome r.opened) }
     ensures back { IfOk result (λ r. r.back ≡ None) }
 {
     let opened = match request.kind {
@@ -83,6 +89,8 @@ fn pass<O: Outside>(
     ensures given { O.given outside.new ≤ O.given outside.old + 1 }
     ensures failures { O.failures outside.new ≤ O.failures outside.old + 1 }
     ensures same { OnErr result (outside.new ≡ outside.old) }
+    ensures why { IfErr result (λ leave. (leave ≡ why.EndOfLog i) ⊎ (leave ≡ why.Diverged i number) ⊎ (leave ≡ why.Memory)) }
+    ensures opened { IfOk result (λ r. BringsDoor request.now.kind r.outcome r.opened) }
     ensures back { IfOk result (λ r. is_some r.back ≡ brings_back request.now.kind true) }
 {
     match request.kind {
@@ -113,6 +121,8 @@ fn accept<O: Outside>(
     ensures given { O.given outside.new ≤ O.given outside.old + 1 }
     ensures failures { O.failures outside.new ≤ O.failures outside.old + 1 }
     ensures same { OnErr result (outside.new ≡ outside.old) }
+    ensures why { IfErr result (λ leave. (leave ≡ why.EndOfLog i) ⊎ (leave ≡ why.Diverged i number) ⊎ (leave ≡ why.Memory)) }
+    ensures opened { IfOk result (λ r. HasDoor r.outcome r.opened) }
     ensures back { IfOk result (λ r. is_some r.back ≡ true) }
 {
     let mut door = door;
@@ -140,6 +150,8 @@ fn lend<O: Outside>(
     ensures given { O.given outside.new ≤ O.given outside.old + 1 }
     ensures failures { O.failures outside.new ≤ O.failures outside.old + 1 }
     ensures same { OnErr result (outside.new ≡ outside.old) }
+    ensures why { IfErr result (λ leave. (leave ≡ why.EndOfLog i) ⊎ (leave ≡ why.Diverged i number) ⊎ (leave ≡ why.Memory)) }
+    ensures opened { IfOk result (λ r. BringsDoor request.now.kind r.outcome r.opened) }
     ensures back { IfOk result (λ r. is_some r.back ≡ true) }
 {
     let mut door = door;
@@ -162,7 +174,9 @@ fn lend<O: Outside>(
 }
 
 // Why thread i leaves whose outside gave no outcome of this number.
-fn left(i: usize, number: u32, why: DoorStop) -> Leave {
+fn left(i: usize, number: u32, why: DoorStop) -> Leave
+    ensures { result ≡ left_for i number why }
+{
     match why {
         DoorStop::EndOfLog => Leave::EndOfLog(i),
         DoorStop::Diverged => Leave::Diverged(i, number),

@@ -49,8 +49,8 @@ use worker_notes::Own;
 /// same is true of the notes (`told`). Where nothing stopped the run, all actors gave their end, all calls were
 /// answered, and the log has its end.
 ///
-/// A thread that cannot be started stops the run, as does every want of memory from then on; all others then leave at
-/// their next event. Nothing is promised of time, nor that an actor or an outside returns.
+/// A thread that cannot be started stops the run, and so it does whenever memory runs out from then on; all others then
+/// leave at their next event. Nothing is promised of time, nor that an actor or an outside returns.
 pub fn run_recorded<O: Outside + Send + Drop, S: LogSink + Send + Drop, R: Threads + Wait + Sync>(
     rt: &R,
     alloc: Global,

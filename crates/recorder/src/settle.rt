@@ -1,4 +1,4 @@
-ghost use Rattle.std.specs.Prelude.{◌<◌, length};
+ghost use Rattle.std.specs.Prelude.{◌≡◌, ◌<◌, is_some, length, true};
 
 use crate::leave::Leave;
 use input_log::LogSink;
@@ -27,7 +27,9 @@ pub fn settle<S: LogSink, D: Drop>(machine: &mut Machine<S, D>, turns: &[Condvar
 }
 
 // Stops the machine, and wakes all workers: each is to see it.
-pub fn stop<S: LogSink, D: Drop>(machine: &mut Machine<S, D>, turns: &[Condvar], leave: Leave) {
+pub fn stop<S: LogSink, D: Drop>(machine: &mut Machine<S, D>, turns: &[Condvar], leave: Leave)
+    ensures { is_some machine.new.stop ≡ true }
+{
     // Refused where it is stopped already: the first cause stands.
     let _first = machine.stop(leave.cause());
     for turn in turns {

@@ -26,6 +26,8 @@ mod short_write;
 #[cfg(test)]
 mod sockets;
 #[cfg(test)]
+mod stopped;
+#[cfg(test)]
 mod stops;
 #[cfg(test)]
 mod watched;

@@ -69,7 +69,7 @@ by_log : Known → (text : List ℕ) (scripts : List (List Line)) (log : LogText
 by_log known text scripts log result is h =
     subst (λ (l : LogText). IsToldBy l scripts result) (one_front known text h.log log h.front is) (record { plain = h.plain; run = h.run; tells = h.tells })
 
--- or want of memory
+-- or memory ran out
 pub told_or_memory : Known → (text : List ℕ) (scripts : List (List Line)) (log : LogText) (result : Result Replayed ReplayFault) (Q : Result Replayed ReplayFault → Type 0)
     → IsFront text log → log.header.threads ≡ length scripts → Q (Err replay_fault.Memory) → (IsToldBy log scripts result → Q result) → Replays text scripts result → Q result
 told_or_memory known text scripts log (Err replay_fault.Memory) Q is threads memory told h = memory

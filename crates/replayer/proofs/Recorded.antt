@@ -13,7 +13,7 @@ use Rattle.logged_machine.specs.Starting.{header_for}
 use Rattle.logged_machine.specs.declared.stop.Stop.{Stop}
 use Rattle.logged_machine.specs.declared.stop.Stop.TheVariants as stop
 use Rattle.recorder.specs.Each.{AreLedFrom}
-use Rattle.recorder.specs.Recorded.{AreBeginnings, Fits, HasNoLog, IsJudged, IsRun}
+use Rattle.recorder.specs.Recorded.{AreBeginnings, Fits, HasNoLog, IsRun, IsWhy, its_own, no_memory, strayed}
 use Rattle.thread_scripts.specs.Meaning.{start_of}
 use Rattle.thread_scripts.specs.declared.actor.ScriptState.{ScriptState}
 use Rattle.thread_scripts.specs.declared.line.Line.{Line}
@@ -27,10 +27,10 @@ use Rattle.replayer.proofs.Retelling.{begun_by, nothing_begins, retold_by, seen_
 use Rattle.replayer.proofs.Supplied.{back_by_own, supplied_by_log, supplied_by_own, took_log}
 
 -- unless the threads strayed, the notes fit the machine
-judged_fits : {P Q : Type 0} (stopped told : Option Stop) → told ≢ Some stop.Strayed → IsJudged P Q stopped told → P
-judged_fits stopped told not (inl h) = h.0
-judged_fits stopped told not (inr (inl h)) = h.0
-judged_fits stopped told not (inr (inr h)) = absurd (not h.1)
+unless_strayed : {P Q : Type 0} (stopped told : Option Stop) → told ≢ Some stop.Strayed → IsWhy P Q stopped told → P
+unless_strayed stopped told not (its_own fits whole same) = fits
+unless_strayed stopped told not (no_memory fits lacks some same) = fits
+unless_strayed stopped told not (strayed misfit same) = absurd (not same)
 
 not_so : {P Q : Type 0} → (P → ⊥) → ◌⊎◌ P Q → Q
 not_so not (inl p) = absurd (not p)
@@ -48,7 +48,7 @@ retold known D state settings past own seen taken failures told actors later scr
     let shows = run.shows in
     let faithful = shows.faithful in
     let kept = faithful.kept in
-    let fits : Fits (header_for settings (length actors)) m past own = judged_fits run.stopped told not run.judged in
+    let fits : Fits (header_for settings (length actors)) m past own = unless_strayed run.stopped told not run.why in
     let count : length actors ≡ length scripts = as_many state actors scripts meant in
     let threads : length m.whole.threads ≡ length scripts = ap (λ (h : Header). h.threads) fits.0 ∙ count in
     let log = took_log known D m kept taken failures run.stopped shows.finishes in
@@ -84,7 +84,7 @@ agree known {A} state text log actors e taken failures told scripts front thread
         let shows = run.shows in
         let faithful = shows.faithful in
         let kept = faithful.kept in
-        let fits : Fits (header_for (settings_of log.header) (length actors)) m e.history e.own = judged_fits run.stopped stopped unstrayed run.judged in
+        let fits : Fits (header_for (settings_of log.header) (length actors)) m e.history e.own = unless_strayed run.stopped stopped unstrayed run.why in
         let here : length m.whole.threads ≡ length scripts = ap (λ (x : Header). x.threads) fits.0 ∙ count in
         let led = subst (λ n. AreLedFrom gives_logged 0 e.history.rows e.history.asked (doors_by n log.records) e.doors) count (not_so unstrayed h.calls) in
         let supplied = supplied_by_log known.records state (is_some stopped) ScriptDoor m kept faithful.covered log e.history actors e.actors e.doors scripts here (sym (ap settings_of fits.0)) shows.rows shows.asked meant (not_so unstrayed h.steps) led in

@@ -21,7 +21,7 @@ abbrev pub IsOneMore : {O : Type 0} → Giving O → Call → ℕ → O → O �
 IsOneMore gives c number q p =
     (request : Request) × (outcome : Outcome) × (request_for c ≡ Some request) × gives q number request outcome p
 
--- no more was asked; or, where the thread is in a call, at most the request of that call
+-- it gave no more; or, where the thread is in a call, at most one outcome more: of the request of that call
 abbrev pub IsAhead : {O : Type 0} → Giving O → Option Call → ℕ → O → O → Type 0
 IsAhead gives None number q p = p ≡ q
 IsAhead gives (Some c) number q p = (p ≡ q) ⊎ IsOneMore gives c number q p

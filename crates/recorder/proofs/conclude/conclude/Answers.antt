@@ -7,6 +7,7 @@ returns-clause-run g c =
     (run_told c.args.header c.finish-finished.result.header c.stop_unless.new.machine _ _ _ _ _ c.finish-finished.result.stop c.agrees-agrees.result _ c.is_complete-complete.result
     c.finish-finished.ensures.shows c.finish-finished.ensures.header (rw c.as_slice-2.ensures.value at c.agrees-agrees.ensures)
     (rw (c.finish-finished.ensures.shows.rows, c.stop_unless.ensures.rest) (rw c.history.ensures.rows at c.seen_by-transcripts.ensures.whole))
+    c.is_complete-complete.ensures.whole
     c.stop_unless.ensures.stopped
     (λ yes. rw c.stop_unless.ensures.rest (c.is_complete-complete.ensures.threads yes)))
 
