@@ -13,7 +13,8 @@ use Rattle.sequential_object.specs.Duplicates as duplicates
 use Rattle.sequential_object.specs.Duplicates.{descriptor_number, dup2_result, dup_from_result, dup_result}
 use Rattle.sequential_object.specs.Effects.{Decision, Effect, Asking, Asks, Blocks, Completes, alone, asks_of, locking}
 use Rattle.sequential_object.specs.Locked.{keeps_table, locked_object}
-use Rattle.sequential_object.specs.Names.{PathMap, added, file_named, file_node, has_entries, link_result, mkdir_result, removed, removed_dir, removed_dir_at, rmdir_result, unlink_result, unnamed_object, with_paths}
+use Rattle.sequential_object.specs.Names as names
+use Rattle.sequential_object.specs.Names.{PathMap, added, file_named, file_node, has_entries, link_result, links_of, mkdir_result, moved, removed, removed_dir, removed_dir_at, rename_result, replacing, rmdir_result, unlink_result, with_paths}
 use Rattle.sequential_object.specs.Object.{State, Content, File, Pipe, Pair, DoorTo, Node, FileNode, Directory, content_of, is_door}
 use Rattle.sequential_object.specs.Paths.{components_of, node_at, resolved}
 use Rattle.sequential_object.specs.Refusals.{◌>>=◌, refuse_if, some_or}
@@ -41,38 +42,39 @@ use Rattle.posix_terms.specs.declared.reply.Reply.{Reply}
 use Rattle.posix_terms.specs.declared.reply.Reply.TheVariants as reply
 use Rattle.posix_terms.specs.declared.transcript.Settings.{Settings}
 use Rattle.directories.specs.Entries.{node_of}
+use Rattle.directories.specs.Lookup.{renaming}
 use Rattle.directories.specs.declared.entry.Node as entry
 use Rattle.directories.specs.declared.entry.Node.TheVariants as entries
 use Rattle.file_descriptions.specs.Descriptions.{AreSound}
 use Rattle.file_descriptions.specs.Laws.{ChangesKeepSound}
 use Rattle.file_descriptions.specs.declared.description.Description.{Description}
 use Rattle.descriptor_table.proofs.Binding.{bound_both}
-use Rattle.descriptor_table.proofs.ChangeLemmas.{birth_of_new, content_of_new, shows-flags, shows-name, shows-opened, shows-shared, shows-with_file, shows-without_gone}
+use Rattle.descriptor_table.proofs.ChangeLemmas.{birth_of_new, content_of_new, shows-flags, shows-moved, shows-name, shows-opened, shows-shared, shows-with_file, shows-without_gone}
 use Rattle.descriptor_table.proofs.ContentLemmas.{closed_content, content_made, truncated_content, freed_content, released_content, same_content, unused_content}
 use Rattle.descriptor_table.proofs.DecidedLemmas as decision
 use Rattle.descriptor_table.proofs.DecidedLemmas.{ActsOn, by_plan, none_told, outside_as, same_shown}
 use Rattle.descriptor_table.proofs.DoorLemmas.{accepted_door, host_door, listener_door, over_accept, over_connect, over_host_open, over_listen, stream_door}
 use Rattle.descriptor_table.proofs.FollowLemmas.{within, closed_as, long, over_failed, replaced_as, truncated_file, truncated_shown, waited_shown}
-use Rattle.descriptor_table.proofs.FreeLemmas.{apart_by, not_refused, number_is, resolved_leads}
+use Rattle.descriptor_table.proofs.FreeLemmas.{HaveNames, apart_by, not_refused, number_is, renaming_found, resolved_leads}
 use Rattle.descriptor_table.proofs.KnownLemmas.{Sure, sure-call}
 use Rattle.descriptor_table.proofs.OpenedLemmas.{both_opened, shows-door, shows-two}
 use Rattle.descriptor_table.proofs.OpeningLemmas.{asking_of, over_open, over_opens, over_two_ends, with_both}
 use Rattle.descriptor_table.proofs.OtherLemmas.{Fewer, concluded_others, fewer_closed, fewer_flags, fewer_freed, fewer_others, fewer_paths, fewer_released, fewer_same, fewer_shared, fewer_unused, others_both, others_door, others_new, others_there}
-use Rattle.descriptor_table.proofs.PathLemmas.{file_at_name, has_entries_shown, names_shown, node_shown, resolved_shown}
-use Rattle.descriptor_table.proofs.PlanLemmas.{answer_of, ends_shown, last_name, last_open, named_shown, outside_at, shows-without_name, some_shown}
+use Rattle.descriptor_table.proofs.PathLemmas.{births_alike, file_at_name, has_entries_shown, names_shown, node_shown, resolved_shown}
+use Rattle.descriptor_table.proofs.PlanLemmas.{answer_of, ends_shown, last_name, last_open, links_moved, links_without, named_shown, outside_at, renaming_shown, shows-without_name, some_shown}
 use Rattle.descriptor_table.proofs.ShownLemmas.{found_both, lowest_shown}
-use Rattle.descriptor_table.proofs.SoundLemmas.{description_got, key_inside, named_as, named_at, names_without, same_file, sound-named, sound-with_file}
+use Rattle.descriptor_table.proofs.SoundLemmas.{description_got, key_inside, named_as, named_at, same_file, sound-moved, sound-unnamed, sound-with_file}
 use Rattle.descriptor_table.proofs.TransferLemmas.{left-fstat, left-ftruncate, left-getfl, left-lseek, left-pread, left-pwrite, left-read, left-shutdown, left-write}
-use Rattle.descriptor_table.specs.Acts.{ActsAsStep, Holds, StaysAsStep, StandsAt, acted, held_after, replied, told_outside}
+use Rattle.descriptor_table.specs.Acts.{Acted, ActsAsStep, Holds, IsActed, StaysAsStep, StandsAt, acted, ended, held_after, replied, told_outside}
 use Rattle.descriptor_table.specs.Agreement as agreement
 use Rattle.descriptor_table.specs.Agreement.{AgreesOn, ChangesAsStep, PlansAsStep, TellsAsStep, numbers_told}
 use Rattle.descriptor_table.specs.Changes.{AreOpened, CanChange, Changed, IsFreeNumber, IsNextObject, OpensDoor, closed, door_given, door_of, given, is_refused, named, opened, path_of, shared, unnamed, with_file, with_object, without_gone}
 use Rattle.descriptor_table.specs.Laws.{RefersAlike}
 use Rattle.descriptor_table.specs.Laws.RefersAlike.{Open, Shut}
 use Rattle.descriptor_table.specs.Plans as plans
-use Rattle.descriptor_table.specs.Plans.{addable, answered, change_of, close_decided, decided_of, decides, door_flags, dup2_decided, dup_decided, dup_from_decided, ends_a_door, errand, leads_outside, link_decided, locks, mkdir_decided, new_descriptor, open_decided, opening, opens_door, pipe_decided, planned, release, replaces, rmdir_decided, setfl_decided, socketpair_decided, status_flags, tells, unlink_decided}
+use Rattle.descriptor_table.specs.Plans.{addable, answered, change_of, close_decided, decided_of, decides, door_flags, dup2_decided, dup_decided, dup_from_decided, ends_a_door, errand, leads_outside, link_decided, locks, loses_name, mkdir_decided, new_descriptor, open_decided, opening, opens_door, pipe_decided, planned, release, rename_decided, renames, replaces, rmdir_decided, setfl_decided, socketpair_decided, status_flags, tells, unlink_decided}
 use Rattle.descriptor_table.specs.Shows.{Shows, birth_at, is_of, shown, shown_node}
-use Rattle.descriptor_table.specs.Table.{TableState, IsSound, described, is_last_name, lowest_from}
+use Rattle.descriptor_table.specs.Table.{TableState, IsSound, described, is_last_name, is_used, lowest_from}
 use Rattle.descriptor_table.specs.declared.plan.Change.{Change}
 use Rattle.descriptor_table.specs.declared.plan.Change.TheVariants as change
 use Rattle.descriptor_table.specs.declared.plan.Decided.{Decided}
@@ -337,9 +339,58 @@ module _ (t : TableState) (s : State) (settings : Settings) (outcome made_with :
       by_path (Err e) leads = refused c e
       by_path (Ok components) leads = rw (node_shown t s components shows) (by_node components (leads components refl) (node_at t.paths components))
 
-  -- the state without a name
-  abbrev without_name : List (List ℕ) → State
-  without_name components = with_paths s (fin.remove s.paths components)
+  -- a call takes a name of a file, which ends with its last one
+  agree-lost : (c : Call) (x : Change) (paths left : PathMap) (node : ℕ) → keeps_table c ≡ false
+      → ((numbers : NewNumbers) (content : Content) (offset : ℕ)
+      → acted t node op.Release c outcome numbers content offset
+      ≡ replied reply.Done content offset)
+      → IsSound (record t { paths = paths })
+      → Shows (record t { paths = paths }) (with_paths s left)
+      → is_used t node ≡ true
+      → links_of t.paths node ≡ 1 + links_of paths node
+      → ((u : TableState) → Changed t c x made_with u
+      → u ≡ without_gone (record t { paths = paths }) node)
+      → given x made_with ≡ numbers_told c (answer.Reply reply.Done)
+      → Agrees c (decides (loses_name t node) x)
+      (Ok (names.unnamed (with_paths s left) (Some (birth_at t node))))
+  agree-lost c x paths left node free released kept shown used counted changed silent = record {
+    ties = last_name t s sound all shows c paths left node free kept shown used counted;
+    acts = by_last (is_last_name t node);
+    others =
+        fewer_others t _ s _
+        (fewer_unused s state (birth_at t node) (fewer_paths s left));
+    changes = λ u made is.
+        same_shown u (without_gone after node) _
+        (shows-without_gone after state node kept all shown used) (changed u is);
+    tells = λ made. silent;
+  }
+    where
+      after : TableState
+      after = record t { paths = paths }
+
+      state : State
+      state = with_paths s left
+
+      ending : Stepped
+      ending =
+          concluded settings s outcome carried
+          (Ok (Completes (posix.without_unused state (birth_at t node)) reply.Done))
+
+      by_last : (b : Bool)
+          → ActsOn t s settings outcome carried c
+          (if b then locks node op.Release else plan.Reply reply.Done) ending
+      by_last true = λ content o holds stands.
+          subst (λ (done : Acted).
+          IsActed t node op.Release done (ended settings s carried done.ending) ending)
+          (sym (released _ content o)) (record {
+            answer_is = refl;
+            carried_is = refl;
+            content_is =
+                unused_content state (birth_at t node) (birth_at t node) content
+                (same_content s (birth_at t node) content holds);
+            offset_is = tt;
+          })
+      by_last false = tt
 
   agree-unlink : (path : List ℕ) → Agree (call.Unlink path) (unlink_decided t path) (unlink_result s path)
   unfolding unlink_decided unlink_result file_named removed
@@ -348,50 +399,117 @@ module _ (t : TableState) (s : State) (settings : Settings) (outcome made_with :
       c : Call
       c = call.Unlink path
 
-      without_at : List (List ℕ) → ℕ → Result (PathMap × ℕ) Errno
-      without_at components object = Ok (fin.remove s.paths components, object)
-
       lost : PathMap × ℕ → Decision
-      lost without = record {
-        locks = unnamed_object (with_paths s without.0) without.1;
-        does = Ok (Completes (posix.without_unused (with_paths s without.0) without.1) reply.Done);
-      }
+      lost without = names.unnamed (with_paths s without.0) (Some without.1)
 
-      by_last : (components : List (List ℕ)) (node : ℕ) (b : Bool)
-          → ActsOn t s settings outcome carried c (if b then locks node op.Release else plan.Reply reply.Done) (concluded settings s outcome carried (Ok (Completes (posix.without_unused (without_name components) (birth_at t node)) reply.Done)))
-      by_last components node true = λ content o holds stands. record {
-        answer_is = refl;
-        carried_is = refl;
-        content_is = unused_content (without_name components) (birth_at t node) (birth_at t node) content (same_content s (birth_at t node) content holds);
-        offset_is = tt;
-      }
-      by_last components node false = tt
+      gone_without : List (List ℕ) → ℕ → TableState
+      gone_without components node =
+          without_gone (record t { paths = fin.remove t.paths components }) node
 
-      by_file : (components : List (List ℕ)) → components ≡ components_of path → (node : ℕ) → node_at t.paths components ≡ Some (FileNode node)
-          → Agrees c (decides (if is_last_name t node then locks node op.Release else plan.Reply reply.Done) (change.RemoveFile node)) (Ok (lost (fin.remove s.paths components, birth_at t node)))
-      by_file components same node at = record {
-        ties = last_name t s sound all shows path components node at;
-        acts = by_last components node (is_last_name t node);
-        others = fewer_others t _ s _ (fewer_unused s (without_name components) (birth_at t node) (fewer_paths s (fin.remove s.paths components)));
-        changes = λ u made is. same_shown u (without_gone (record t { paths = unnamed t c }) node) _
-            (subst (λ (cs : List (List ℕ)). Shows (without_gone (record t { paths = fin.remove t.paths cs }) node) (posix.without_unused (without_name components) (birth_at t node))) same
-            (shows-without_gone (record t { paths = fin.remove t.paths components }) (without_name components) node
-            (sound-named t (fin.remove t.paths components) sound (names_without t components sound)) all (shows-without_name t s components shows) (named_at t components node sound at))) is;
-        tells = λ made. refl;
-      }
+      removed_at : List (List ℕ) → ℕ → Result (PathMap × ℕ) Errno
+      removed_at components object = Ok (fin.remove s.paths components, object)
 
-      by_node : (components : List (List ℕ)) → components ≡ components_of path → (o : Option Node) → node_at t.paths components ≡ o
-          → Agree c (file_node o >>= (λ node. Ok (decides (if is_last_name t node then locks node op.Release else plan.Reply reply.Done) (change.RemoveFile node))))
-          ((file_node (option_map (shown_node t) o) >>= (λ object. without_at components object)) >>= (λ without. Ok (lost without)))
+      decides_lost : ℕ → Result Decided Errno
+      decides_lost node = Ok (decides (loses_name t node) (change.RemoveFile node))
+
+      by_file : (components : List (List ℕ)) → components ≡ components_of path → (node : ℕ)
+          → node_at t.paths components ≡ Some (FileNode node)
+          → Agrees c (decides (loses_name t node) (change.RemoveFile node))
+          (Ok (lost (fin.remove s.paths components, birth_at t node)))
+      by_file components same node at =
+          agree-lost c (change.RemoveFile node) (fin.remove t.paths components)
+          (fin.remove s.paths components) node refl (λ numbers content offset. refl)
+          (sound-unnamed t components sound) (shows-without_name t s components shows)
+          (named_at t components node sound at) (links_without t.paths components node at)
+          (λ u is. is ∙ ap (λ (cs : List (List ℕ)). gone_without cs node) (sym same)) refl
+
+      by_node : (components : List (List ℕ)) → components ≡ components_of path → (o : Option Node)
+          → node_at t.paths components ≡ o
+          → Agree c (file_node o >>= decides_lost)
+          ((file_node (option_map (shown_node t) o) >>= removed_at components)
+          >>= (λ without. Ok (lost without)))
       by_node components same None at = refused c ENOENT
       by_node components same (Some Directory) at = refused c EPERM
       by_node components same (Some (FileNode node)) at = λ sure. by_file components same node at
 
       by_path : (r : Result (List (List ℕ)) Errno) → ((components : List (List ℕ)) → r ≡ Ok components → components ≡ components_of path)
-          → Agree c ((r >>= (λ components. file_node (node_at t.paths components))) >>= (λ node. Ok (decides (if is_last_name t node then locks node op.Release else plan.Reply reply.Done) (change.RemoveFile node))))
-          ((r >>= (λ components. file_node (node_at s.paths components) >>= (λ object. without_at components object))) >>= (λ without. Ok (lost without)))
+          → Agree c
+          ((r >>= (λ components. file_node (node_at t.paths components))) >>= decides_lost)
+          ((r >>= (λ components. file_node (node_at s.paths components) >>= removed_at components))
+          >>= (λ without. Ok (lost without)))
       by_path (Err e) leads = refused c e
       by_path (Ok components) leads = rw (node_shown t s components shows) (by_node components (leads components refl) (node_at t.paths components) refl)
+
+  agree-rename : (old_path new_path : List ℕ)
+      → Agree (call.Rename old_path new_path) (rename_decided t old_path new_path)
+      (rename_result s old_path new_path)
+  unfolding rename_decided rename_result
+  agree-rename old_path new_path =
+      rw (renaming_shown t s sound all shows old_path new_path)
+      (by_found (renaming t.paths old_path new_path)
+      (λ files is. renaming_found t.paths old_path new_path files is))
+    where
+      c : Call
+      c = call.Rename old_path new_path
+
+      old : List (List ℕ)
+      old = components_of old_path
+
+      new : List (List ℕ)
+      new = components_of new_path
+
+      in_table : ℕ → PathMap
+      in_table node = moved t.paths old new node
+
+      in_state : ℕ → PathMap
+      in_state node = moved s.paths old new (birth_at t node)
+
+      lost : PathMap × Option ℕ → Decision
+      lost after = names.unnamed (with_paths s after.0) after.1
+
+      shown_after : (node : ℕ) → fin.get t.paths old ≡ Some (FileNode node)
+          → Shows (record t { paths = in_table node }) (with_paths s (in_state node))
+      shown_after node its = shows-moved t s old new node its shows
+
+      after_in_state : ℕ → Option ℕ → PathMap × Option ℕ
+      after_in_state node replaced =
+          replacing s.paths old new (birth_at t node) (option_map (birth_at t) replaced)
+
+      by_other : (node other : ℕ) → HaveNames t.paths old_path new_path (node, Some other)
+          → (b : Bool) → (other == node) ≡ b
+          → Agrees c
+          (if b then tells reply.Done change.Nothing
+          else decides (loses_name t other) (change.Rename node (Some other)))
+          (Ok (lost (if b then (s.paths, None) else (in_state node, Some (birth_at t other)))))
+      by_other node other have true same =
+          told c reply.Done change.Nothing s (fewer_same s) (λ u is. same_shown u t s shows is) refl
+      by_other node other have false apart =
+          let others = have.replaced other refl in
+          agree-lost c (change.Rename node (Some other)) (in_table node) (in_state node) other refl
+          (λ numbers content offset. refl) (sound-moved t old new node have.can.0 sound)
+          (shown_after node have.can.0) (sound.named_objects new other others)
+          (links_moved t.paths old new node other apart have.can.0 others) (λ u is. is) refl
+
+      by_files : (node : ℕ) (replaced : Option ℕ)
+          → HaveNames t.paths old_path new_path (node, replaced)
+          → Agrees c (renames t node replaced) (Ok (lost (after_in_state node replaced)))
+      by_files node None have =
+          told c reply.Done (change.Rename node None) (with_paths s (in_state node))
+          (fewer_paths s (in_state node))
+          (λ u is.
+          same_shown u (record t { paths = in_table node }) _ (shown_after node have.can.0) is) refl
+      by_files node (Some other) have =
+          rw (births_alike t other node sound
+          (sound.named_objects new other (have.replaced other refl))
+          (sound.named_objects old node have.can.0))
+          (by_other node other have (other == node) refl)
+
+      by_found : (r : Result (ℕ × Option ℕ) Errno)
+          → ((files : ℕ × Option ℕ) → r ≡ Ok files → HaveNames t.paths old_path new_path files)
+          → Agree c (r >>= (λ files. Ok (renames t files.0 files.1)))
+          ((r >>= (λ files. Ok (after_in_state files.0 files.1))) >>= (λ after. Ok (lost after)))
+      by_found (Err e) have = refused c e
+      by_found (Ok files) have = λ sure. by_files files.0 files.1 (have files refl)
 
   -- ## Opening a file
 
@@ -571,6 +689,7 @@ module _ (t : TableState) (s : State) (settings : Settings) (outcome made_with :
   agree (call.Setfl descriptor append nonblock) = agree-setfl descriptor append nonblock (found_at descriptor)
   agree (call.Link old_path new_path) = agree-link old_path new_path
   agree (call.Unlink path) = agree-unlink path
+  agree (call.Rename old_path new_path) = agree-rename old_path new_path
   agree (call.Mkdir path) = agree-mkdir path
   agree (call.Rmdir path) = agree-rmdir path
   agree call.Pipe = agree-pipe

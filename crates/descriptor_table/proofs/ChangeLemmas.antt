@@ -11,7 +11,7 @@ use Rattle.std.specs.Prelude.{pos, slice_index_or, slice_set}
 use Rattle.sequential_object.specs.Descriptors as posix
 use Rattle.sequential_object.specs.Descriptors.{is_key}
 use Rattle.sequential_object.specs.Duplicates as duplicates
-use Rattle.sequential_object.specs.Names.{links_of}
+use Rattle.sequential_object.specs.Names.{links_of, moved, with_paths}
 use Rattle.sequential_object.specs.Object as object
 use Rattle.sequential_object.specs.Object.{State, Content, File, Node, FileNode, Directory, path_cmp, content_of}
 use Rattle.file_descriptions.specs.Laws.{ChangesKeepSound}
@@ -26,6 +26,7 @@ use Rattle.descriptor_table.proofs.MapLemmas.{each_put, get-insert_other, get-in
 use Rattle.descriptor_table.proofs.EndLemmas.{HasEndsOf}
 use Rattle.descriptor_table.proofs.ObjectLemmas.{IsNew, IsOld, Taken, freed_slot, taken_slot}
 use Rattle.descriptor_table.proofs.PathLemmas.{birth_below, birth_is, closed_shown, first_of_any, linked_shown, one_object}
+use Rattle.descriptor_table.proofs.PlanLemmas.{shows-without_name}
 use Rattle.descriptor_table.proofs.ShownLemmas.{key_known, last_shown}
 use Rattle.descriptor_table.proofs.SoundLemmas.{not_described, not_named, known_at, sound-let_go, description_got, key_inside, same_file, with_other, with_same, without_other}
 use Rattle.descriptor_table.specs.Changes.{closed, opened, shared, with_file, with_object, without_gone}
@@ -437,9 +438,11 @@ shows-content t s birth content shows there alike =
 
 -- ## Names
 
-moved : (t : TableState) (b : Bool) (node : Node) (o : Option Node) → cond b (Some (shown_node t node)) (option_map (shown_node t) o) ≡ option_map (shown_node t) (cond b (Some node) o)
-moved t true node o = refl
-moved t false node o = refl
+shown_put : (t : TableState) (b : Bool) (node : Node) (o : Option Node)
+    → cond b (Some (shown_node t node)) (option_map (shown_node t) o)
+    ≡ option_map (shown_node t) (cond b (Some node) o)
+shown_put t true node o = refl
+shown_put t false node o = refl
 
 pub shows-name : (t : TableState) (s : State) (path : List (List ℕ)) (node : Node) → Shows t s → ((n : ℕ) → node ≡ FileNode n → is_of part.Only (content_of s (birth_at t n)) ≡ true) → Shows (record t { paths = fin.insert t.paths path node }) (record s { paths = fin.insert s.paths path (shown_node t node) })
 shows-name t s path node shows file =
@@ -447,7 +450,11 @@ shows-name t s path node shows file =
       descriptors = shows.descriptors;
       descriptions = shows.descriptions;
       described = shows.described;
-      paths = λ q. get-insert paths_total s.paths path (shown_node t node) q ∙ ap (cond (eq_by_cmp path_cmp q path) (Some (shown_node t node))) (shows.paths q) ∙ moved t (eq_by_cmp path_cmp q path) node (fin.get t.paths q) ∙ ap (option_map (shown_node t)) (sym (get-insert paths_total t.paths path node q));
+      paths = λ q.
+          get-insert paths_total s.paths path (shown_node t node) q
+          ∙ ap (cond (eq_by_cmp path_cmp q path) (Some (shown_node t node))) (shows.paths q)
+          ∙ shown_put t (eq_by_cmp path_cmp q path) node (fin.get t.paths q)
+          ∙ ap (option_map (shown_node t)) (sym (get-insert paths_total t.paths path node q));
       objects = shows.objects;
       numbered = shows.numbered;
       ends = shows.ends;
@@ -460,6 +467,21 @@ shows-name t s path node shows file =
         → is_of part.Only (content_of s (birth_at t n)) ≡ true
     file_of q n (inl same) = file n same
     file_of q n (inr old) = shows.files q n old
+
+-- a name of a file in the place of another one
+pub shows-moved : (t : TableState) (s : State) (old new : List (List ℕ)) (node : ℕ)
+    → fin.get t.paths old ≡ Some (FileNode node) → Shows t s
+    → Shows (record t { paths = moved t.paths old new node })
+    (with_paths s (moved s.paths old new (birth_at t node)))
+shows-moved t s old new node its shows =
+    shows-name (record t { paths = fin.remove t.paths old }) (with_paths s (fin.remove s.paths old))
+    new (FileNode node) (shows-without_name t s old shows)
+    (λ n same. is_file n (same_file node n same))
+  where
+    is_file : (n : ℕ) → node ≡ n → is_of part.Only (content_of s (birth_at t n)) ≡ true
+    is_file n same =
+        subst (λ (k : ℕ). is_of part.Only (content_of s (birth_at t k)) ≡ true) same
+        (shows.files old node its)
 
 -- ## A new description
 

@@ -8,16 +8,17 @@ use Rattle.std.specs.List.{list_any}
 use Rattle.std.specs.Ordering.{int_eq}
 use Rattle.std.specs.Prelude.{IfOk, ℤ, pos, negsuc, nat_le, nat_lt, slice_index_or}
 use Rattle.sequential_object.specs.Duplicates.{descriptor_number}
-use Rattle.sequential_object.specs.Names.{PathMap}
-use Rattle.sequential_object.specs.Object.{Node}
+use Rattle.sequential_object.specs.Names.{PathMap, renamed_node, replaced_node}
+use Rattle.sequential_object.specs.Object.{Node, FileNode}
 use Rattle.sequential_object.specs.Paths.{components_of, has_trailing_slash, is_dots, node_at, path_form, resolved, walked}
 use Rattle.sequential_object.specs.Refusals.{◌>>=◌, refuse_if, some_or}
 use Rattle.posix_terms.specs.declared.errno.Errno.{Errno}
 use Rattle.posix_terms.specs.declared.errno.Errno.TheVariants.{EBADF, EEXIST, EINVAL, EMFILE, ENAMETOOLONG, ENOENT, ENOSPC}
 use Rattle.posix_terms.specs.declared.limits.TheConstants.Limits as limit
+use Rattle.directories.specs.Lookup.{NamesFile, renaming}
 use Rattle.descriptor_table.proofs.Binding.{bound}
 use Rattle.descriptor_table.proofs.SoundLemmas.{bind_ok, ok_same}
-use Rattle.descriptor_table.specs.Changes.{IsFreeNumber, IsFreePath, IsNextObject}
+use Rattle.descriptor_table.specs.Changes.{CanMove, IsFreeNumber, IsFreePath, IsNextObject}
 use Rattle.descriptor_table.specs.Plans.{addable}
 use Rattle.descriptor_table.specs.Table.{TableState, free_object, lowest_free, lowest_from, two_numbers}
 
@@ -189,3 +190,62 @@ addable_free paths path u is =
     let none = bind_ok (refuse_if (is_some (node_at paths found.0)) EEXIST) (λ _. refuse_if (nat_le 64 (fin.len paths)) ENOSPC) u found.1.1 in
     free_path paths path found.0 found.1.0 (not_there (node_at paths found.0) (not_refused (is_some (node_at paths found.0)) EEXIST none.0 none.1.0))
     (not_refused (nat_le 64 (fin.len paths)) ENOSPC u none.1.1)
+
+-- ## Renaming
+
+renamed_is : (o : Option Node) (object : ℕ) → renamed_node o ≡ Ok object
+    → o ≡ Some (FileNode object)
+renamed_is o object is = grind (arith, is)
+
+replaced_is : (o : Option Node) (replaced : Option ℕ) (other : ℕ) → replaced_node o ≡ Ok replaced
+    → replaced ≡ Some other → o ≡ Some (FileNode other)
+replaced_is o replaced other is some = grind (arith, is, some)
+
+file_got : (paths : PathMap) (components : List (List ℕ)) (node : ℕ)
+    → node_at paths components ≡ Some (FileNode node)
+    → fin.get paths components ≡ Some (FileNode node)
+file_got paths [] node is = cc
+file_got paths (name ∷ names) node is = is
+
+-- the files that were found for a renaming have these names
+pub record HaveNames
+    (paths : PathMap) (old_path new_path : List ℕ) (files : ℕ × Option ℕ) : Type 0 where
+  pub can : CanMove paths old_path new_path files.0
+  pub replaced : (other : ℕ) → files.1 ≡ Some other → NamesFile paths new_path other
+
+abbrev Renames : PathMap → List ℕ → List ℕ → Result (ℕ × Option ℕ) Errno → Type 0
+Renames paths old_path new_path r = IfOk r (HaveNames paths old_path new_path)
+
+pub renaming_found : (paths : PathMap) (old_path new_path : List ℕ) (files : ℕ × Option ℕ)
+    → renaming paths old_path new_path ≡ Ok files → HaveNames paths old_path new_path files
+unfolding renaming
+renaming_found paths old_path new_path files is = subst (Renames paths old_path new_path) is found
+  where
+    named : (path : List ℕ) (components : List (List ℕ)) (node : ℕ)
+        → components ≡ components_of path → node_at paths components ≡ Some (FileNode node)
+        → NamesFile paths path node
+    named path components node own at =
+        ap (fin.get paths) (sym own) ∙ file_got paths components node at
+
+    link : {A : Type 0} (r : Result A Errno) (f : A → Result (ℕ × Option ℕ) Errno)
+        → ((x : A) → r ≡ Ok x → Renames paths old_path new_path (f x))
+        → Renames paths old_path new_path (r >>= f)
+    link r f each = bound (Renames paths old_path new_path) (λ e. tt) r f each
+
+    found : Renames paths old_path new_path (renaming paths old_path new_path)
+    found =
+        link (resolved paths old_path) _ (λ old at.
+        link (renamed_node (node_at paths old)) _ (λ node file.
+        link (resolved paths new_path) _ (λ new there.
+        link (replaced_node (node_at paths new)) _ (λ replaced others.
+        let leads = resolved_leads paths new_path new there in
+        record {
+          can = (
+            named old_path old node (resolved_leads paths old_path old at).0
+                (renamed_is (node_at paths old) node file),
+            leads.1,
+          );
+          replaced = λ other some.
+              named new_path new other leads.0
+              (replaced_is (node_at paths new) replaced other others some);
+        }))))

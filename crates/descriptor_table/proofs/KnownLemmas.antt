@@ -10,7 +10,8 @@ use Rattle.sequential_object.specs.Duplicates.{descriptor_number}
 use Rattle.posix_terms.specs.Ends.{is_end}
 use Rattle.sequential_object.specs.Names.{file_named, links_of, removed_dir}
 use Rattle.sequential_object.specs.Object.{Node, FileNode, Directory}
-use Rattle.sequential_object.specs.Paths.{node_at, resolved}
+use Rattle.sequential_object.specs.Paths.{components_of, node_at, resolved}
+use Rattle.directories.specs.Lookup.{renaming}
 use Rattle.sequential_object.specs.Refusals.{◌>>=◌, count_of, position_of, refuse_if, some_or}
 use Rattle.sequential_object.specs.Transfers.{size_of}
 use Rattle.posix_terms.specs.declared.call.Access.{Access}
@@ -32,9 +33,9 @@ use Rattle.file_descriptions.specs.Descriptions.{ContainsKey, description_at}
 use Rattle.file_descriptions.specs.declared.description.Description.{Description}
 use Rattle.descriptor_table.proofs.Binding.{bound}
 use Rattle.descriptor_table.proofs.SoundLemmas.{closed_other, known_of, named_at, sound-closed, used_of, used-named, some_inside}
-use Rattle.descriptor_table.proofs.FreeLemmas.{AreFree, addable_free, apart_by, free_number, free_path, lowest_below, next_object, not_refused, number_below, number_is, two_free, was_some}
+use Rattle.descriptor_table.proofs.FreeLemmas.{AreFree, HaveNames, addable_free, apart_by, free_number, free_path, lowest_below, next_object, not_refused, number_below, number_is, renaming_found, two_free, was_some}
 use Rattle.descriptor_table.specs.Changes.{CanChange, IsFreeNumber, Refers, closed}
-use Rattle.descriptor_table.specs.Plans.{IsKnownNumber, IsThere, LocksKnown, MovesKnown, act_or_ask, addable, answered, bytes_asked, change_of, close_decided, decided_of, dup2_decided, dup_decided, dup_from_decided, ends_a_door, errand, fstat_plan, ftruncate_plan, getfl_plan, host_open_decided, leads_outside, leaves, link_decided, lseek_plan, mkdir_decided, moves, new_pair, not_listener, of_file, of_listener, open_decided, open_new, open_node, open_there, opening, opens_door, or_none, planned, pread_plan, pwrite_plan, read_count, read_plan, release, replaces, reply_bytes, rmdir_decided, seekable, setfl_decided, shut_act, shutdown_plan, stat_by, stat_plan, tcp_accept_decided, tcp_connect_decided, tcp_listen_decided, tells, unlink_decided, write_plan}
+use Rattle.descriptor_table.specs.Plans.{IsKnownNumber, IsThere, LocksKnown, MovesKnown, act_or_ask, addable, answered, bytes_asked, change_of, close_decided, decided_of, decides, dup2_decided, dup_decided, dup_from_decided, ends_a_door, errand, fstat_plan, ftruncate_plan, getfl_plan, host_open_decided, leads_outside, leaves, link_decided, loses_name, lseek_plan, mkdir_decided, moves, new_pair, not_listener, of_file, of_listener, open_decided, open_new, open_node, open_there, opening, opens_door, or_none, planned, pread_plan, pwrite_plan, read_count, read_plan, release, rename_decided, renames, replaces, reply_bytes, rmdir_decided, seekable, setfl_decided, shut_act, shutdown_plan, stat_by, stat_plan, tcp_accept_decided, tcp_connect_decided, tcp_listen_decided, tells, unlink_decided, write_plan}
 use Rattle.descriptor_table.specs.Table.{TableState, IsSound, described, free_object, is_last_name, is_used, key_at, lowest_free, two_numbers}
 use Rattle.descriptor_table.specs.declared.plan.Change.TheVariants as change
 use Rattle.descriptor_table.specs.declared.plan.Decided.{Decided}
@@ -141,6 +142,14 @@ module _ (t : TableState) (sound : IsSound t) where
   known-stat d links None known = (known, tt)
   known-stat d links (Some (k, number)) known = none_within 0
 
+  known-lost : (node : ℕ) → is_used t node ≡ true → LocksKnown t 0 (loses_name t node)
+  known-lost node used = by_test (is_last_name t node)
+    where
+      by_test : (b : Bool)
+          → LocksKnown t 0 (if b then plan.Node node op.Release false else plan.Reply reply.Done)
+      by_test true = (used_known node used, tt)
+      by_test false = none_within 0
+
   -- a size that is taken is one that a file may have
   small_size : (size : ℤ) (n : ℕ) → size_of size ≡ Ok n → n ≤ limit.FILE_BYTES
   small_size size n is = grind (arith, nat_tests, is)
@@ -209,7 +218,8 @@ module _ (t : TableState) (sound : IsSound t) where
 
   pub sure-call : (c : Call) → Sure t c (decided_of t c)
   unfolding open_decided close_decided read_plan write_plan pread_plan pwrite_plan lseek_plan ftruncate_plan fstat_plan
-      dup_decided dup_from_decided dup2_decided getfl_plan setfl_decided link_decided unlink_decided mkdir_decided rmdir_decided
+      dup_decided dup_from_decided dup2_decided getfl_plan setfl_decided
+      link_decided unlink_decided rename_decided mkdir_decided rmdir_decided
       shutdown_plan host_open_decided tcp_listen_decided tcp_connect_decided tcp_accept_decided
   sure-call (call.Open path access flags) =
       each c (refuse_if (flags.truncate && not (can_write access)) EINVAL) _ (λ _ _.
@@ -336,12 +346,28 @@ module _ (t : TableState) (sound : IsSound t) where
       (none_within 0, (addable_free t.paths new_path u free, used-named t old_path node is sound))))
   sure-call (call.Unlink path) =
       each (call.Unlink path) (file_named t.paths path) _
-      (λ node is. (by_test node (used_known node (used-named t path node is sound)) (is_last_name t node), tt))
+      (λ node is. (known-lost node (used-named t path node is sound), tt))
+  sure-call (call.Rename old_path new_path) =
+      each c (renaming t.paths old_path new_path) _
+      (λ files is. by_files files.0 files.1 (renaming_found t.paths old_path new_path files is))
     where
-      by_test : (node : ℕ) → IsKnownNumber t node → (b : Bool)
-          → LocksKnown t 0 (if b then plan.Node node op.Release false else plan.Reply reply.Done)
-      by_test node known true = (known, tt)
-      by_test node known false = none_within 0
+      c : Call
+      c = call.Rename old_path new_path
+
+      by_files : (node : ℕ) (replaced : Option ℕ)
+          → HaveNames t.paths old_path new_path (node, replaced)
+          → Sure t c (Ok (renames t node replaced))
+      by_files node None have = (none_within 0, have.can)
+      by_files node (Some other) have = by_test (other == node)
+        where
+          by_test : (b : Bool)
+              → Sure t c
+              (Ok (if b then tells reply.Done change.Nothing
+              else decides (loses_name t other) (change.Rename node (Some other))))
+          by_test true = (none_within 0, tt)
+          by_test false =
+              let its = have.replaced other refl in
+              (known-lost other (sound.named_objects (components_of new_path) other its), have.can)
   sure-call (call.Mkdir path) =
       each (call.Mkdir path) (addable t.paths path) _ (λ u free. (none_within 0, (addable_free t.paths path u free, tt)))
   sure-call (call.Rmdir path) = each (call.Rmdir path) (removed_dir t.paths path) _ (λ _ _. (none_within 0, tt))

@@ -17,7 +17,7 @@ use Rattle.file_descriptions.specs.Descriptions.{DescriptionMap}
 use Rattle.descriptor_table.proofs.Closing.{over_closed, over_gone, over_holder}
 use Rattle.descriptor_table.proofs.ObjectLemmas.{IsNew, IsOld, Taken, freed_slot, taken_slot}
 use Rattle.descriptor_table.specs.Agreement.{IsBorn, NumbersStay}
-use Rattle.descriptor_table.specs.Changes.{AreOpened, CanChange, Changed, IsNextObject, IsOpened, OpensDoor, closed, door_of, let_go, named, shared, unnamed, with_file, with_object, with_paths, without_gone}
+use Rattle.descriptor_table.specs.Changes.{AreOpened, CanChange, Changed, IsNextObject, IsOpened, OpensDoor, closed, door_of, let_go, named, renamed, shared, unnamed, with_file, with_object, with_paths, without_gone, without_lost}
 use Rattle.descriptor_table.specs.Table.{TableState, IsSound, free_object}
 use Rattle.descriptor_table.specs.declared.plan.Change.{Change}
 use Rattle.descriptor_table.specs.declared.plan.Change.TheVariants as change
@@ -44,6 +44,11 @@ numbers_freed t u node stay made = record {
 
 numbers_gone : (t u : TableState) (node : ℕ) → NumbersStay t u → u.made_objects ≡ t.made_objects → NumbersStay t (without_gone u node)
 numbers_gone t u node stay made = over_gone (NumbersStay t) u node stay (λ gone. numbers_freed t u node stay made)
+
+numbers_lost : (t u : TableState) (lost : Option ℕ) → NumbersStay t u
+    → u.made_objects ≡ t.made_objects → NumbersStay t (without_lost u lost)
+numbers_lost t u None stay made = stay
+numbers_lost t u (Some node) stay made = numbers_gone t u node stay made
 
 numbers_let_go : (t : TableState) (n key : ℕ) → NumbersStay t (let_go t n key)
 numbers_let_go t n key =
@@ -132,6 +137,10 @@ numbers-stay t c (change.RemoveFile node) o after sound can is =
     let less : TableState = with_paths t (unnamed t c) in
     subst (NumbersStay t) (sym is) (numbers_gone t less node (numbers_same t less refl refl refl) refl)
 numbers-stay t c change.RemoveDirectory o after sound can is = subst (NumbersStay t) (sym is) (numbers_same t _ refl refl refl)
+numbers-stay t c (change.Rename node replaced) o after sound can is =
+    let moved : TableState = with_paths t (renamed t c node) in
+    subst (NumbersStay t) (sym is)
+    (numbers_lost t moved replaced (numbers_same t moved refl refl refl) refl)
 numbers-stay t c (change.OpenFile new) o after sound can is = opened_stay t t after new part.Only (numbers-unchanged t, refl) is
 numbers-stay t c (change.MakeFile new) o after sound can is =
     opened_stay t (with_file t (named t c (FileNode new.node)) new.node) after new part.Only (ready_file t (named t c (FileNode new.node)) new.node sound can.1) is

@@ -19,7 +19,7 @@ use Rattle.descriptor_table.proofs.Closing.{over_closed, over_gone, over_holder}
 use Rattle.descriptor_table.proofs.MapLemmas.{got_less, got_put, put_at}
 use Rattle.descriptor_table.proofs.SoundLemmas.{known_at, known_of}
 use Rattle.descriptor_table.specs.Agreement.{OffsetsStay}
-use Rattle.descriptor_table.specs.Changes.{AreOpened, CanChange, Changed, IsOpened, OpensDoor, closed, door_of, let_go, named, no_flags, opened, shared, unnamed, with_file, with_object, with_paths, without_gone}
+use Rattle.descriptor_table.specs.Changes.{AreOpened, CanChange, Changed, IsOpened, OpensDoor, closed, door_of, let_go, named, no_flags, opened, renamed, shared, unnamed, with_file, with_object, with_paths, without_gone, without_lost}
 use Rattle.descriptor_table.specs.Table.{TableState, IsSound}
 use Rattle.descriptor_table.specs.declared.plan.Change.{Change}
 use Rattle.descriptor_table.specs.declared.plan.Change.TheVariants as change
@@ -51,6 +51,11 @@ StoodTable t u = Stood t.descriptions u.descriptions
 
 stood_gone : (t u : TableState) (node : ℕ) → StoodTable t u → StoodTable t (without_gone u node)
 stood_gone t u node stood = over_gone (StoodTable t) u node stood (λ gone. stood)
+
+stood_lost : (t u : TableState) (lost : Option ℕ) → StoodTable t u
+    → StoodTable t (without_lost u lost)
+stood_lost t u None stood = stood
+stood_lost t u (Some node) stood = stood_gone t u node stood
 
 stood_let_go : (t : TableState) (n key : ℕ) → fin.get t.descriptions.by_key key ≡ Some (description_at t.descriptions key) → StoodTable t (let_go t n key)
 stood_let_go t n key got =
@@ -126,6 +131,10 @@ offsets-stay t c (change.RemoveFile node) o after sound can is =
     let less : TableState = with_paths t (unnamed t c) in
     offsets_of t after (without_gone less node) (stood_gone t less node (stood_same t.descriptions)) is
 offsets-stay t c change.RemoveDirectory o after sound can is = offsets_of t after (with_paths t (unnamed t c)) (stood_same t.descriptions) is
+offsets-stay t c (change.Rename node replaced) o after sound can is =
+    let moved : TableState = with_paths t (renamed t c node) in
+    offsets_of t after (without_lost moved replaced)
+    (stood_lost t moved replaced (stood_same t.descriptions)) is
 offsets-stay t c (change.OpenFile new) o after sound can is = opened_stay t t after new part.Only refl is
 offsets-stay t c (change.MakeFile new) o after sound can is = opened_stay t (with_file t (named t c (FileNode new.node)) new.node) after new part.Only refl is
 offsets-stay t c (change.MakePipe new) o after sound can is = pair_stay t after (part.Read, ReadOnly) (part.Write, WriteOnly) new is

@@ -1,7 +1,8 @@
 -- What a plan is decided by, beside what the sequential object looks up.
 use Rattle.std.proofs.Common.{◌≡◌, ℕ, ◌+◌, ◌==◌, ◌&&◌, ◌||◌, List, [], ◌∷◌, Option, Some, None, is_some, Result, Ok, Err, Bool, true, false, cond, not, if◌then◌else◌, refl, sym, ap, ◌∙◌, arith}
-use Rattle.std.proofs.lemmas.Bool.{eq-eqb}
+use Rattle.std.proofs.lemmas.Bool.{eq-eqb, false≢true}
 use Rattle.std.proofs.lemmas.Bool.Decides.{nat_tests}
+use Rattle.std.proofs.lemmas.Option.{same_Some}
 use Rattle.std.specs.FinMap as fin
 use Rattle.std.specs.FinMap.{get-remove}
 use Rattle.std.specs.Ordering.{eq_by_cmp}
@@ -12,12 +13,14 @@ use Rattle.sequential_object.specs.Descriptors as posix
 use Rattle.sequential_object.specs.Descriptors.{is_file}
 use Rattle.sequential_object.specs.Duplicates as duplicates
 use Rattle.sequential_object.specs.Effects.{Effect, Asks, Blocks, Completes}
-use Rattle.sequential_object.specs.Names.{file_named, file_node, unnamed_object, links_of, with_paths}
+use Rattle.sequential_object.specs.Locked.{keeps_table}
+use Rattle.sequential_object.specs.Names.{PathMap, file_named, file_node, unnamed_object, links_of, moved, renamed, replacing, with_paths}
 use Rattle.sequential_object.specs.Object.{State, Content, Node, FileNode}
-use Rattle.sequential_object.specs.Paths.{node_at, resolved}
+use Rattle.sequential_object.specs.Paths.{components_of, node_at, resolved}
+use Rattle.directories.specs.Lookup.{renaming}
 use Rattle.sequential_object.specs.Refusals.{◌>>=◌}
 use Rattle.sequential_object.specs.Transfers as transfers
-use Rattle.posix_terms.specs.declared.call.Call.TheVariants as call
+use Rattle.posix_terms.specs.Calls.{Call}
 use Rattle.posix_terms.specs.declared.errno.Errno.{Errno}
 use Rattle.posix_terms.specs.declared.object.End.{End}
 use Rattle.posix_terms.specs.declared.reply.Answer.{Answer}
@@ -29,13 +32,14 @@ use Rattle.descriptor_table.proofs.MapLemmas.{got_less, paths_total}
 use Rattle.descriptor_table.specs.Laws.{RefersAlike}
 use Rattle.descriptor_table.specs.Laws.RefersAlike.{Open, Shut}
 use Rattle.descriptor_table.proofs.ShownLemmas.{last_shown}
-use Rattle.descriptor_table.proofs.EntryLemmas.{counted-remove}
+use Rattle.descriptor_table.proofs.EntryLemmas.{counted-insert, counted-remove, left_there}
 use Rattle.descriptor_table.proofs.PathLemmas.{closed_shown, linked_shown, node_shown, paths_apart, resolved_shown}
-use Rattle.descriptor_table.proofs.SoundLemmas.{named_at, names_without, sound-named}
+use Rattle.descriptor_table.proofs.FreeLemmas.{resolved_leads}
+use Rattle.descriptor_table.proofs.SoundLemmas.{same_file}
 use Rattle.descriptor_table.specs.Agreement.{AgreesOn}
-use Rattle.descriptor_table.specs.Plans.{ends_a_door, leads_outside, locks, not_listener}
+use Rattle.descriptor_table.specs.Plans.{ends_a_door, leads_outside, locks, loses_name, not_listener}
 use Rattle.descriptor_table.specs.Shows.{Shows, birth_at, shown_node, is_of}
-use Rattle.descriptor_table.specs.Table.{TableState, IsSound, described, is_last_name, is_used, key_at}
+use Rattle.descriptor_table.specs.Table.{TableState, IsSound, described, is_used, key_at}
 use Rattle.descriptor_table.specs.declared.plan.Op.TheVariants as op
 use Rattle.descriptor_table.specs.declared.plan.Plan.TheVariants as plan
 
@@ -62,7 +66,11 @@ shows-without_name t s path shows =
       descriptors = shows.descriptors;
       descriptions = shows.descriptions;
       described = shows.described;
-      paths = λ q. get-remove paths_total s.paths path q ∙ ap (cond (eq_by_cmp path_cmp q path) None) (shows.paths q) ∙ moved (eq_by_cmp path_cmp q path) (fin.get t.paths q) ∙ ap (option_map (shown_node t)) (sym (get-remove paths_total t.paths path q));
+      paths = λ q.
+          get-remove paths_total s.paths path q
+          ∙ ap (cond (eq_by_cmp path_cmp q path) None) (shows.paths q)
+          ∙ left_shown (eq_by_cmp path_cmp q path) (fin.get t.paths q)
+          ∙ ap (option_map (shown_node t)) (sym (get-remove paths_total t.paths path q));
       objects = shows.objects;
       numbered = shows.numbered;
       ends = shows.ends;
@@ -71,8 +79,9 @@ shows-without_name t s path shows =
       next_object = shows.next_object;
     }
   where
-    moved : (b : Bool) (o : Option Node) → cond b None (option_map (shown_node t) o) ≡ option_map (shown_node t) (cond b None o)
-    moved b o = grind arith
+    left_shown : (b : Bool) (o : Option Node)
+        → cond b None (option_map (shown_node t) o) ≡ option_map (shown_node t) (cond b None o)
+    left_shown b o = grind arith
 
 module _ (t : TableState) (s : State) (sound : IsSound t) (all : AreSound t.descriptions) (shows : Shows t s) where
   -- whether a description ends with this descriptor
@@ -103,41 +112,89 @@ module _ (t : TableState) (s : State) (sound : IsSound t) (all : AreSound t.desc
       by_path (Ok components) = ap file_node (node_shown t s components shows) ∙ file_node_shown (node_at t.paths components)
       by_path (Err e) = refl
 
+  -- a renaming in the state is that of the files that the table finds
+  pub renaming_shown : (old_path new_path : List ℕ)
+      → renamed s.paths old_path new_path
+      ≡ (renaming t.paths old_path new_path >>= (λ files. Ok
+      (replacing s.paths (components_of old_path) (components_of new_path)
+      (birth_at t files.0) (option_map (birth_at t) files.1))))
+  unfolding renamed renaming
+  renaming_shown old_path new_path =
+      let old = resolved_shown t s old_path shows in
+      let new = resolved_shown t s new_path shows in
+      let old_leads = resolved_leads t.paths old_path in
+      let new_leads = resolved_leads t.paths new_path in
+      grind (arith, old, new, node_shown t s, old_leads, new_leads)
+
   -- ## The last name of a file
 
   less_one : (n k : ℕ) → n ≡ 1 + k → (n == 1) ≡ (k == 0)
   less_one n k e = grind (arith, nat_tests)
 
-  pub last_name : (path : List ℕ) (components : List (List ℕ)) (node : ℕ) → node_at t.paths components ≡ Some (FileNode node) → AgreesOn t (call.Unlink path) (if is_last_name t node then locks node op.Release else plan.Reply reply.Done) (unnamed_object (with_paths s (fin.remove s.paths components)) (birth_at t node)) None (answer.Reply reply.Done)
-  last_name path [] node at = cc
-  last_name path (name ∷ names) node at =
-      rw (closed_shown after state node kept all shown_after used, less_one (links_of t.paths node) (links_of after.paths node) counted, linked_shown after state node kept shown_after used)
+  -- the file is locked exactly when it ends with the name that it loses
+  pub last_name : (c : Call) (paths left : PathMap) (node : ℕ) → keeps_table c ≡ false
+      → IsSound (record t { paths = paths })
+      → Shows (record t { paths = paths }) (with_paths s left) → is_used t node ≡ true
+      → links_of t.paths node ≡ 1 + links_of paths node
+      → AgreesOn t c (loses_name t node) (unnamed_object (with_paths s left) (birth_at t node)) None
+      (answer.Reply reply.Done)
+  last_name c paths left node free kept shown_after used counted =
+      rw (
+        closed_shown after state node kept all shown_after used,
+        less_one (links_of t.paths node) (links_of paths node) counted,
+        linked_shown after state node kept shown_after used,
+      )
       (by_rest (posix.has_description state (birth_at t node)) (posix.has_path state (birth_at t node)))
     where
-      components : List (List ℕ)
-      components = name ∷ names
-
       after : TableState
-      after = record t { paths = fin.remove t.paths (name ∷ names) }
+      after = record t { paths = paths }
 
       state : State
-      state = with_paths s (fin.remove s.paths (name ∷ names))
+      state = with_paths s left
 
-      used : is_used t node ≡ true
-      used = named_at t (name ∷ names) node sound at
-
-      kept : IsSound after
-      kept = sound-named t (fin.remove t.paths (name ∷ names)) sound (names_without t (name ∷ names) sound)
-
-      shown_after : Shows after state
-      shown_after = shows-without_name t s (name ∷ names) shows
-
-      counted : links_of t.paths node ≡ 1 + links_of after.paths node
-      counted =
-          counted-remove paths_total paths_apart (λ (e : List (List ℕ) × Node). is_file e.1 node) t.paths (name ∷ names) (FileNode node) at
-          ∙ ap (λ (b : Bool). cond b 1 0 + links_of after.paths node) (eq-eqb node node refl)
-
-      by_rest : (a b : Bool) → AgreesOn t (call.Unlink path) (if not a && not b then locks node op.Release else plan.Reply reply.Done) (if a || b then None else Some (birth_at t node)) None (answer.Reply reply.Done)
+      by_rest : (a b : Bool)
+          → AgreesOn t c (if not a && not b then locks node op.Release else plan.Reply reply.Done)
+          (if a || b then None else Some (birth_at t node)) None (answer.Reply reply.Done)
       by_rest true b = (refl, (refl, refl))
       by_rest false true = (refl, (refl, refl))
-      by_rest false false = (refl, (refl, refl))
+      by_rest false false = (refl, (refl, sym free))
+
+-- ## How many names a file has
+
+links_less : (paths : PathMap) (components : List (List ℕ)) (node other : ℕ)
+    → fin.get paths components ≡ Some (FileNode node)
+    → links_of paths other ≡ cond (node == other) 1 0 + links_of (fin.remove paths components) other
+links_less paths components node other is =
+    counted-remove paths_total paths_apart (λ (e : List (List ℕ) × Node). is_file e.1 other)
+    paths components (FileNode node) is
+
+-- without a name the file has one less
+pub links_without : (paths : PathMap) (components : List (List ℕ)) (node : ℕ)
+    → node_at paths components ≡ Some (FileNode node)
+    → links_of paths node ≡ 1 + links_of (fin.remove paths components) node
+links_without paths [] node at = cc
+links_without paths (name ∷ names) node at =
+    links_less paths (name ∷ names) node node at
+    ∙ ap (λ (b : Bool). cond b 1 0 + links_of (fin.remove paths (name ∷ names)) node)
+    (eq-eqb node node refl)
+
+-- and so has the file whose name another one takes
+pub links_moved : (paths : PathMap) (old new : List (List ℕ)) (node other : ℕ)
+    → (other == node) ≡ false
+    → fin.get paths old ≡ Some (FileNode node) → fin.get paths new ≡ Some (FileNode other)
+    → links_of paths other ≡ 1 + links_of (moved paths old new node) other
+links_moved paths old new node other differs its others =
+    let apart : (node == other) ≡ false = grind (arith, nat_tests, differs) in
+    let left : PathMap = fin.remove paths old in
+    let not_old = λ (at : fin.get paths old ≡ Some (FileNode other)). false≢true
+    (sym apart ∙ eq-eqb node other (same_file node other (same_Some _ _ (sym its ∙ at)))) in
+    let there = left_there paths_total paths_apart paths old new (FileNode other) not_old others in
+    let none : ◌≡◌ {A = ℕ} (cond (node == other) 1 0) 0 = ap (λ (b : Bool). cond b 1 0) apart in
+    let one : ◌≡◌ {A = ℕ} (cond (other == other) 1 0) 1 =
+    ap (λ (b : Bool). cond b 1 0) (eq-eqb other other refl) in
+    let put =
+    counted-insert paths_total paths_apart (λ (e : List (List ℕ) × Node). is_file e.1 other)
+    left new (FileNode node) in
+    let first = links_less paths old node other its in
+    let second = links_less left new other other there in
+    omega (arith, first, second, put, none, one)

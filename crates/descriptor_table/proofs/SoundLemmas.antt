@@ -12,7 +12,7 @@ use Rattle.std.specs.Ordering.{nat_cmp}
 use Rattle.directories.specs.Lookup.{looked_up}
 use Rattle.std.specs.Prelude.{ℤ, pos, negsuc, slice_index_or, slice_set}
 use Rattle.sequential_object.specs.Descriptors.{is_file, is_key}
-use Rattle.sequential_object.specs.Names.{PathMap, file_named, file_node, links_of}
+use Rattle.sequential_object.specs.Names.{PathMap, file_named, file_node, links_of, moved}
 use Rattle.sequential_object.specs.Object.{Node, FileNode, Directory, path_cmp}
 use Rattle.sequential_object.specs.Paths.{node_at, resolved}
 use Rattle.sequential_object.specs.Refusals.{◌>>=◌}
@@ -352,6 +352,14 @@ sound-name t components node used sound = sound-named t (fin.insert t.paths comp
 -- and one less
 pub sound-unnamed : (t : TableState) (components : List (List ℕ)) → IsSound t → IsSound (record t { paths = fin.remove t.paths components })
 sound-unnamed t components sound = sound-named t (fin.remove t.paths components) sound (names_without t components sound)
+
+-- a name of a file in the place of another one
+pub sound-moved : (t : TableState) (old new : List (List ℕ)) (node : ℕ)
+    → fin.get t.paths old ≡ Some (FileNode node)
+    → IsSound t → IsSound (record t { paths = moved t.paths old new node })
+sound-moved t old new node its sound =
+    sound-name (record t { paths = fin.remove t.paths old }) new (FileNode node)
+    (sound.named_objects old node its) (sound-unnamed t old sound)
 
 -- the file of a name is there
 pub named_at : (t : TableState) (components : List (List ℕ)) (node : ℕ) → IsSound t → node_at t.paths components ≡ Some (FileNode node) → is_used t node ≡ true

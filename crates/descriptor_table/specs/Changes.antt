@@ -15,6 +15,7 @@ use Rattle.posix_terms.specs.declared.outcome.Outcome.TheVariants as outcome
 use Rattle.posix_terms.specs.declared.reply.Reply.{Reply}
 use Rattle.posix_terms.specs.declared.reply.Reply.TheVariants as reply
 use Rattle.directories.specs.Entries.{node_of}
+use Rattle.directories.specs.Lookup.{NamesFile, moved_name}
 use Rattle.file_descriptions.specs.Descriptions.{ContainsKey, description_at, is_last_held, new_description, with_flags, with_holder, with_new, without_holder}
 use Rattle.posix_terms.specs.declared.object.Door.{Door}
 use Rattle.posix_terms.specs.declared.object.Door.TheVariants as door
@@ -61,6 +62,7 @@ abbrev pub path_of : Call → List ℕ
 path_of (call.Open path access flags) = path
 path_of (call.Link old_path new_path) = new_path
 path_of (call.Unlink path) = path
+path_of (call.Rename old_path new_path) = new_path
 path_of (call.Mkdir path) = path
 path_of (call.Rmdir path) = path
 path_of c = []
@@ -70,6 +72,19 @@ named t c node = map.insert t.paths (components_of (path_of c)) node
 
 abbrev pub unnamed : TableState → Call → PathMap
 unnamed t c = map.remove t.paths (components_of (path_of c))
+
+-- the path whose name a call takes for another one
+abbrev pub old_path_of : Call → List ℕ
+old_path_of (call.Rename old_path new_path) = old_path
+old_path_of c = []
+
+abbrev pub renamed : TableState → Call → ℕ → PathMap
+renamed t c node = moved_name t.paths (old_path_of c) (path_of c) node
+
+-- a file lost a name, or none did
+abbrev pub without_lost : TableState → Option ℕ → TableState
+without_lost t None = t
+without_lost t (Some node) = without_gone t node
 
 -- ## New objects and descriptors
 
@@ -142,6 +157,8 @@ Changed t c (change.SetFlags key flags) o after = after ≡ record t { descripti
 Changed t c (change.AddName node) o after = after ≡ with_paths t (named t c (node_of node))
 Changed t c (change.RemoveFile node) o after = after ≡ without_gone (with_paths t (unnamed t c)) node
 Changed t c change.RemoveDirectory o after = after ≡ with_paths t (unnamed t c)
+Changed t c (change.Rename node replaced) o after =
+    after ≡ without_lost (with_paths t (renamed t c node)) replaced
 Changed t c (change.OpenFile new) o after = IsOpened t new part.Only after
 Changed t c (change.MakeFile new) o after = IsOpened (with_file t (named t c (FileNode new.node)) new.node) new part.Only after
 Changed t c (change.MakePipe new) o after = AreOpened t (part.Read, ReadOnly) (part.Write, WriteOnly) new after
@@ -188,6 +205,11 @@ IsNextObject t node = (node < limit.OBJECTS) × (slice_index_or t.objects node N
 abbrev pub IsFreePath : PathMap → List ℕ → Type 0
 IsFreePath paths path = (map.len paths < limit.NAMES) × (length path ≤ limit.PATH_BYTES) × (map.get paths (components_of path) ≡ None)
 
+-- the old path names this file, and the new one is not too long
+abbrev pub CanMove : PathMap → List ℕ → List ℕ → ℕ → Type 0
+CanMove paths old_path new_path node =
+    NamesFile paths old_path node × (length new_path ≤ limit.PATH_BYTES)
+
 -- a name of a file is one of a file that is there
 abbrev pub NamesUsed : TableState → Node → Type 0
 NamesUsed t (FileNode node) = is_used t node ≡ true
@@ -203,6 +225,7 @@ CanChange t c (change.SetFlags key flags) = ContainsKey t.descriptions key
 CanChange t c (change.AddName node) = IsFreePath t.paths (path_of c) × NamesUsed t (node_of node)
 CanChange t c (change.RemoveFile node) = Unit {0}
 CanChange t c change.RemoveDirectory = Unit {0}
+CanChange t c (change.Rename node replaced) = CanMove t.paths (old_path_of c) (path_of c) node
 CanChange t c (change.OpenFile new) = IsFreeNumber t new.number × (is_used t new.node ≡ true)
 CanChange t c (change.MakeFile new) = IsFreeNumber t new.number × IsNextObject t new.node × IsFreePath t.paths (path_of c)
 CanChange t c (change.MakePipe new) =

@@ -34,6 +34,7 @@ use Rattle.posix_terms.specs.declared.reply.ObjectKind.TheVariants as kind
 use Rattle.posix_terms.specs.declared.reply.Reply.{Reply}
 use Rattle.posix_terms.specs.declared.reply.Reply.TheVariants as reply
 use Rattle.file_descriptions.specs.Descriptions.{ContainsKey}
+use Rattle.directories.specs.Lookup.{renaming}
 use Rattle.directories.specs.declared.entry.Node.TheVariants as names
 use Rattle.file_descriptions.specs.declared.description.Description.{Description}
 use Rattle.file_descriptions.specs.declared.description.StatusFlags.{StatusFlags}
@@ -294,11 +295,26 @@ link_decided t old_path new_path = do
   _ ← addable t.paths new_path
   Ok (tells reply.Done (change.AddName (names.File node)))
 
--- the file is locked where it ends with this name
+-- a call that takes a name of a file locks it where it ends with this name
+abbrev pub loses_name : TableState → ℕ → Plan
+loses_name t node = if is_last_name t node then locks node op.Release else plan.Reply reply.Done
+
 unfoldable pub unlink_decided : TableState → List ℕ → Result Decided Errno
 unlink_decided t path = do
   node ← file_named t.paths path
-  Ok (decides (if is_last_name t node then locks node op.Release else plan.Reply reply.Done) (change.RemoveFile node))
+  Ok (decides (loses_name t node) (change.RemoveFile node))
+
+-- `rename` of a file to a name that nothing or a file has; two names of one file both stay
+abbrev pub renames : TableState → ℕ → Option ℕ → Decided
+renames t node None = tells reply.Done (change.Rename node None)
+renames t node (Some other) =
+    if other == node then tells reply.Done change.Nothing
+    else decides (loses_name t other) (change.Rename node (Some other))
+
+unfoldable pub rename_decided : TableState → List ℕ → List ℕ → Result Decided Errno
+rename_decided t old_path new_path = do
+  files ← renaming t.paths old_path new_path
+  Ok (renames t files.0 files.1)
 
 unfoldable pub mkdir_decided : TableState → List ℕ → Result Decided Errno
 mkdir_decided t path = do
@@ -392,6 +408,7 @@ decided_of t (call.Getfl descriptor) = leaves (getfl_plan t descriptor)
 decided_of t (call.Setfl descriptor append nonblock) = setfl_decided t descriptor append nonblock
 decided_of t (call.Link old_path new_path) = link_decided t old_path new_path
 decided_of t (call.Unlink path) = unlink_decided t path
+decided_of t (call.Rename old_path new_path) = rename_decided t old_path new_path
 decided_of t (call.Mkdir path) = mkdir_decided t path
 decided_of t (call.Rmdir path) = rmdir_decided t path
 decided_of t call.Pipe = pipe_decided t

@@ -1,6 +1,6 @@
 ghost use Rattle.std.specs.Prelude.{◌≡◌, ◌<◌, ◌^◌, pos, IsTrue, true, false, option_copied};
 ghost use Rattle.descriptor_table.specs.Agreement.{ChangesAsStep, NumbersStay, OffsetsStay, TellsAsStep};
-ghost use Rattle.descriptor_table.specs.Changes.{AreOpened, CanChange, Changed, Changes, IsAtPort, IsFreeNumber, IsNextObject, IsOpened, IsPortOf, OpensDoor, Refers, closed, door_given, door_of, given, is_refused, numbers_given, path_of};
+ghost use Rattle.descriptor_table.specs.Changes.{AreOpened, CanChange, Changed, Changes, IsAtPort, IsFreeNumber, IsNextObject, IsOpened, IsPortOf, OpensDoor, Refers, closed, door_given, door_of, given, is_refused, numbers_given, old_path_of, path_of};
 ghost use Rattle.descriptor_table.specs.Plans.{change_of, planned};
 ghost use Rattle.descriptor_table.specs.Table.{is_used};
 ghost use Rattle.descriptor_table.specs.declared.plan.NewNumbers.TheVariants as numbers;
@@ -94,6 +94,12 @@ impl Table {
                 self.free_if_gone(node);
             }
             Change::RemoveDirectory => self.remove_name(path_of(call)),
+            Change::Rename { node, replaced } => {
+                self.move_name(old_path_of(call), path_of(call), node);
+                if let Some(replaced) = replaced {
+                    self.free_if_gone(replaced);
+                }
+            }
             Change::OpenFile(new) => return self.open(new, End::Only),
             Change::MakeFile(new) => {
                 self.make_file(path_of(call), new.node);
@@ -190,8 +196,19 @@ fn path_of(call: &Call) -> &[u8]
         Call::Open { path, .. }
         | Call::Link { new_path: path, .. }
         | Call::Unlink { path }
+        | Call::Rename { new_path: path, .. }
         | Call::Mkdir { path }
         | Call::Rmdir { path } => path.as_slice(),
+        _ => &[],
+    }
+}
+
+// The path whose name a call takes for another one.
+fn old_path_of(call: &Call) -> &[u8]
+    ensures { result.now ≡ old_path_of call.now }
+{
+    match call {
+        Call::Rename { old_path, .. } => old_path.as_slice(),
         _ => &[],
     }
 }

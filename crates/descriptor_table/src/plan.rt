@@ -133,6 +133,12 @@ pub enum Change {
     RemoveFile(usize),
     /// The path of the call names its directory no more.
     RemoveDirectory,
+    /// The new path of the call names the file `node` in the place of the old one, and the file
+    /// `replaced`, if there is one, no more.
+    Rename {
+        node: usize,
+        replaced: Option<usize>,
+    },
     /// A file that is there is opened.
     OpenFile(NewDescriptor),
     /// A file is made, which the path of the call names, and opened.

@@ -4,7 +4,7 @@ ghost use Rattle.descriptor_table.specs.Agreement.{PlansAsStep};
 ghost use Rattle.descriptor_table.specs.Table.{is_used};
 ghost use Rattle.sequential_object.specs.Names.{file_named};
 ghost use Rattle.descriptor_table.specs.Changes.{CanChange};
-ghost use Rattle.descriptor_table.specs.Plans.{LocksKnown, addable, answered, opening, open_decided, close_decided, read_count, read_plan, write_plan, pread_plan, pwrite_plan, lseek_plan, ftruncate_plan, fstat_plan, dup_decided, dup_from_decided, dup2_decided, status_number, getfl_plan, setfl_decided, shutdown_plan, stat_by, new_pair, pipe_decided, socketpair_decided, act_or_ask, decided_of, decides, errand, host_open_decided, leads_outside, leaves, not_listener, of_listener, opens_door, replaces, seekable, shut_act, tcp_accept_decided, tcp_connect_decided, tcp_listen_decided, tells, link_decided, unlink_decided, mkdir_decided, rmdir_decided, planned, locks, seen, release, open_there, open_new, new_descriptor};
+ghost use Rattle.descriptor_table.specs.Plans.{LocksKnown, addable, answered, opening, open_decided, close_decided, read_count, read_plan, write_plan, pread_plan, pwrite_plan, lseek_plan, ftruncate_plan, fstat_plan, dup_decided, dup_from_decided, dup2_decided, status_number, getfl_plan, setfl_decided, shutdown_plan, stat_by, new_pair, pipe_decided, socketpair_decided, act_or_ask, decided_of, decides, errand, host_open_decided, leads_outside, leaves, not_listener, of_listener, opens_door, replaces, seekable, shut_act, tcp_accept_decided, tcp_connect_decided, tcp_listen_decided, tells, link_decided, loses_name, unlink_decided, rename_decided, mkdir_decided, rmdir_decided, planned, locks, seen, release, open_there, open_new, new_descriptor};
 ghost use Rattle.directories.specs.Entries.{node_of};
 ghost use Rattle.std.specs.Prelude.{not};
 ghost use Rattle.posix_terms.specs.Ends.{is_end};
@@ -86,6 +86,10 @@ impl Table {
                 new_path.as_slice(),
             ),
             Call::Unlink { path } => self.decide_unlink(path.as_slice()),
+            Call::Rename { old_path, new_path } => self.decide_rename(
+                old_path.as_slice(),
+                new_path.as_slice(),
+            ),
             Call::Mkdir { path } => self.decide_mkdir(path.as_slice()),
             Call::Rmdir { path } => self.decide_rmdir(path.as_slice()),
             Call::Pipe => self.decide_pipe(),
@@ -378,15 +382,37 @@ impl Table {
         ensures { result ≡ unlink_decided self.now path.now }
     {
         let node = self.file_named(path)?;
-        let plan = if self.is_closed(node) && self.names().links(node) == 1 {
+        Ok(Decided {
+            plan: self.loses_name(node),
+            change: Change::RemoveFile(node),
+        })
+    }
+
+    #[tactic(auto, unfolding(crate::specs::Plans::rename_decided))]
+    fn decide_rename(&self, old_path: &[u8], new_path: &[u8]) -> Result<Decided, Errno>
+        ensures { result ≡ rename_decided self.now old_path.now new_path.now }
+    {
+        let (node, replaced) = self.names().check_rename(old_path, new_path)?;
+        let change = Change::Rename { node, replaced };
+        match replaced {
+            None => Ok(tells(Reply::Done, change)),
+            Some(other) if other == node => Ok(tells(Reply::Done, Change::Nothing)),
+            Some(other) => Ok(Decided {
+                plan: self.loses_name(other),
+                change,
+            }),
+        }
+    }
+
+    // A call that takes a name of a file locks it where it ends with this name.
+    fn loses_name(&self, node: usize) -> Plan
+        ensures { result ≡ loses_name self.now node }
+    {
+        if self.is_closed(node) && self.names().links(node) == 1 {
             locks(node, Op::Release)
         } else {
             Plan::Reply(Reply::Done)
-        };
-        Ok(Decided {
-            plan,
-            change: Change::RemoveFile(node),
-        })
+        }
     }
 
     #[tactic(auto, unfolding(crate::specs::Plans::mkdir_decided))]

@@ -1,11 +1,12 @@
 ghost use Rattle.std.specs.Prelude.{◌≡◌, ◌<◌, ◌≤◌, [], pos, ◌^◌, option_map, slice_index_or, slice_set, true, IfOk, IfErr, IfSome, Some, None, Ok, Err, if◌then◌else◌};
 ghost use Rattle.std.specs.FinMap as fin;
 ghost use Rattle.directories.specs.Entries.{node_of};
+ghost use Rattle.directories.specs.Lookup.{moved_name};
 ghost use Rattle.sequential_object.specs.Paths.{components_of};
 ghost use Rattle.file_descriptions.specs.Descriptions.{AreSound, ContainsKey, description_at, is_last_held, with_flags, with_offset, ends_of};
 ghost use Rattle.descriptor_table.specs.Shows.{Shows};
 ghost use Rattle.sequential_object.specs.Object.{State, FileNode, empty_state};
-ghost use Rattle.descriptor_table.specs.Changes.{IsFreeNumber, IsFreePath, IsNextObject, NamesUsed, Refers, let_go, opened, shared, with_file, with_object, with_paths, without_gone};
+ghost use Rattle.descriptor_table.specs.Changes.{CanMove, IsFreeNumber, IsFreePath, IsNextObject, NamesUsed, Refers, let_go, opened, shared, with_file, with_object, with_paths, without_gone};
 ghost use Rattle.descriptor_table.specs.Table.{IsSound, empty_table, key_at, described, lowest_free, free_object, is_closed, is_gone, is_used, two_numbers};
 
 use crate::slots::lowest_from;
@@ -305,6 +306,15 @@ impl Table {
         ensures { self.new ≡ with_paths self.old (fin.insert self.old.paths (components_of path.now) (node_of node)) }
     {
         self.names.insert(path, node);
+    }
+
+    // A name of a file in the place of another one.
+    #[tactic(auto, using(crate::proofs::SoundLemmas::sound))]
+    pub(crate) fn move_name(&mut self, from: &[u8], to: &[u8], node: usize)
+        requires { CanMove self.old.paths from.now to.now node }
+        ensures { self.new ≡ with_paths self.old (moved_name self.old.paths from.now to.now node) }
+    {
+        self.names.move_name(from, to, node);
     }
 
     // A name less.

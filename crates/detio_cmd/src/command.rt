@@ -56,6 +56,7 @@ A script is ASCII text, one of these a line. Lines that are empty or start with 
   setfl NUM [append] [nonblock] sets both flags, each as it is named or not
   link PATH PATH                a file and its new name
   unlink PATH
+  rename PATH PATH              a file's name and its new one
   mkdir PATH
   rmdir PATH
   pipe                          its reply: the end to read from and the end to write to

@@ -1,21 +1,24 @@
 -- The map of the names by the entries, and the walk along a path.
-use Rattle.std.proofs.Common.{◌≡◌, ℕ, zero, suc, ◌+◌, ◌<◌, ◌≤◌, List, [], ◌∷◌, ◌++◌, length, map, get_or, take, drop, Option, Some, None, Bool, true, false, cond, ◌||◌, count_by, remove, Result, Ok, Err, nat_eq, refl, sym, ap, ◌∙◌, add-one, length-drop, arith}
+use Rattle.std.proofs.Common.{◌≡◌, ℕ, zero, suc, ◌+◌, ◌-◌, ◌<◌, ◌≤◌, List, [], ◌∷◌, ◌++◌, length, map, get_or, take, drop, Option, Some, None, is_some, Bool, true, false, cond, ◌||◌, count_by, remove, Result, Ok, Err, nat_eq, refl, sym, ap, ◌∙◌, add-one, length-drop, arith}
 use Rattle.std.proofs.lemmas.List.{length-map}
 use Rattle.std.proofs.lemmas.List.Sums.{sum_by-cons, count_by-le-length}
 use Rattle.std.specs.List.{list_any}
+use Rattle.std.specs.Option.{option_eq}
 use Rattle.sequential_object.specs.Descriptors.{is_file}
 use Rattle.std.specs.Cmp.{IsTotalOrder, eq_by_cmp_equiv, nat_cmp_total}
 use Rattle.std.specs.Cmp.Lexicographic.{pointwise, lists_total, lists_ties, texts_ties}
 use Rattle.std.specs.FinMap as fin
-use Rattle.std.specs.FinMap.{IsAntisymmetric, nat_cmp-IsAntisymmetric, slice_cmp-IsAntisymmetric, get-from_entries, from_entries_push}
+use Rattle.std.specs.FinMap.{IsAntisymmetric, nat_cmp-IsAntisymmetric, slice_cmp-IsAntisymmetric, get-from_entries, from_entries_push, get-insert, get-remove, len-remove, same_map}
 use Rattle.std.specs.Ordering.{eq_by_cmp}
 use Rattle.sequential_object.specs.Object.{Node, FileNode, Directory, path_cmp}
-use Rattle.sequential_object.specs.Paths.{components_of, node_at, passed, walked}
+use Rattle.sequential_object.specs.Paths.{components_of, node_at, passed, path_form, resolved, walked}
 use Rattle.sequential_object.specs.Refusals.{◌>>=◌}
 use Rattle.posix_terms.specs.declared.errno.Errno.{Errno}
 use Rattle.posix_terms.specs.declared.errno.Errno.TheVariants.{ENOENT, ENOTDIR}
+use Rattle.posix_terms.specs.declared.limits.TheConstants.Limits as limit
 use Rattle.directories.specs.Entries.{AreDistinct, IsAt, entry_of, entry_at, names_of, node_of, no_entry}
-use Rattle.sequential_object.specs.Names.{PathMap, has_entries, is_inside, links_of}
+use Rattle.sequential_object.specs.Names.{PathMap, has_entries, is_inside, links_of, moved, renamed, replacing}
+use Rattle.directories.specs.Lookup.{renaming}
 use Rattle.directories.specs.declared.entry.Entry.{Entry}
 use Rattle.directories.proofs.EntryLemmas.{AreDistinct-push, AreDistinct-remove, from_entries-remove, len-from_entries, remove_none, tied, count_by-entries, list_any-entries}
 
@@ -230,6 +233,78 @@ leads_past directory [] zero h = refl
 leads_past directory [] (suc i) h = refl
 leads_past directory (x ∷ xs) zero h = absurd (omega arith)
 leads_past directory (x ∷ xs) (suc i) h = leads_past directory xs i (omega arith)
+
+-- ## A name in the place of another one
+
+pub missing-removed : (paths : PathMap) (path : List (List ℕ))
+    → fin.get (fin.remove paths path) path ≡ None
+missing-removed paths path =
+    get-remove path_total paths path path ∙ rw ((eq_by_cmp_equiv path_total).refl path) refl
+
+-- one name less leaves room for one, and so do two
+pub room-removed : (paths : PathMap) (old new : List (List ℕ)) (node : Node)
+    → fin.len paths ≤ limit.NAMES → fin.get paths old ≡ Some node
+    → fin.len (fin.remove (fin.remove paths old) new) < limit.NAMES
+room-removed paths old new node few there =
+    by_test (fin.contains_key left new) (len-remove path_total left new)
+  where
+    left : PathMap
+    left = fin.remove paths old
+
+    some : fin.contains_key paths old ≡ true
+    some = ap (λ (o : Option Node). is_some o) there
+
+    less : fin.len left ≡ fin.len paths - 1
+    less =
+        len-remove path_total paths old
+        ∙ ap (λ (b : Bool). cond b (fin.len paths - 1) (fin.len paths)) some
+
+    by_test : (b : Bool)
+        → fin.len (fin.remove left new) ≡ cond b (fin.len left - 1) (fin.len left)
+        → fin.len (fin.remove left new) < limit.NAMES
+    by_test true is = omega (arith, is, less, few)
+    by_test false is = omega (arith, is, less, few)
+
+-- what is put where a name was taken away stands in its place
+pub insert-removed : (paths : PathMap) (path : List (List ℕ)) (node : Node)
+    → fin.insert (fin.remove paths path) path node ≡ fin.insert paths path node
+insert-removed paths path node =
+    same_map path_total path_antisymmetric _ _ (λ q.
+    get-insert path_total (fin.remove paths path) path node q
+    ∙ ap (cond (eq_by_cmp path_cmp q path) (Some node)) (get-remove path_total paths path q)
+    ∙ covered (eq_by_cmp path_cmp q path) (fin.get paths q)
+    ∙ sym (get-insert path_total paths path node q))
+  where
+    covered : (b : Bool) (o : Option Node)
+        → cond b (Some node) (cond b None o) ≡ cond b (Some node) o
+    covered true o = refl
+    covered false o = refl
+
+-- the components of a path that leads on are its own
+resolved_is : (paths : PathMap) (path : List ℕ) (components : List (List ℕ))
+    → resolved paths path ≡ Ok components → components ≡ components_of path
+unfolding path_form
+resolved_is paths path components is = grind (arith, is)
+
+-- a renaming is that of the files that were found
+pub renamed-files : (paths : PathMap) (old_path new_path : List ℕ)
+    → renamed paths old_path new_path
+    ≡ (renaming paths old_path new_path >>= (λ files. Ok
+    (replacing paths (components_of old_path) (components_of new_path) files.0 files.1)))
+unfolding renaming renamed
+renamed-files paths old_path new_path =
+    grind (arith, resolved_is paths old_path, resolved_is paths new_path)
+
+-- another file, or none, loses the new name
+pub replacing-moved : (paths : PathMap) (old new : List (List ℕ)) (object : ℕ) (replaced : Option ℕ)
+    → option_eq nat_eq replaced (Some object) ≡ false
+    → replacing paths old new object replaced ≡ (moved paths old new object, replaced)
+replacing-moved paths old new object None apart = refl
+replacing-moved paths old new object (Some other) apart = rw apart refl
+
+pub ruleset renames = (renamed-files, replacing-moved)
+
+pub ruleset moving = (missing-removed, room-removed, insert-removed)
 
 pub ruleset counting = (links_of-names_of, links_in-le, links_here, links_next, links_past)
 

@@ -2,8 +2,9 @@
 //! the root.
 //!
 //! [`Names`] map whole paths to [`Node`]s: a file, by the number of its object, or a directory.
-//! `add`, `remove`, `make_dir` and `remove_dir` change them, `resolve` looks a path up, and `links`
-//! counts the names of a file. A caller that has looked changes them by `insert` and `remove_name`. A refusal is an error of POSIX, as `ENOENT` or `ENOTDIR`, or
+//! `add`, `remove`, `rename`, `make_dir` and `remove_dir` change them, `resolve` looks a path up,
+//! and `links` counts the names of a file. A caller that has looked changes them by `insert`,
+//! `remove_name` and `move_name`. A refusal is an error of POSIX, as `ENOENT` or `ENOTDIR`, or
 //! `ENOSPC` where there are as many names as there may be; then nothing changes. No call takes
 //! memory. Contracts see the finite map from whole paths to what they name.
 //!
@@ -18,8 +19,9 @@
 //! assert!(rt; names.resolve(b"/d/x/y") == Err(Errno::ENOTDIR));
 //! assert!(rt; names.remove_dir(b"/d") == Err(Errno::ENOTEMPTY));
 //! assert!(rt; names.links(7) == 1);
-//! assert!(rt; names.remove(b"/d/x") == Ok(7));
+//! assert!(rt; names.rename(b"/d/x", b"/y") == Ok(None));
 //! assert!(rt; names.resolve(b"/d/x") == Ok(None));
+//! assert!(rt; names.remove(b"/y") == Ok(7));
 //! ```
 #![tactic(auto)]
 

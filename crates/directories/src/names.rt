@@ -1,9 +1,9 @@
-ghost use Rattle.std.specs.Prelude.{◌≡◌, ◌<◌, ◌≤◌, [], length, map, nat_le, take, IsSome, IfSome, IfNone, IfOk, IfErr, OnOk, Ok, Err, Some, None, option_map};
+ghost use Rattle.std.specs.Prelude.{◌≡◌, ◌<◌, ◌≤◌, [], length, map, nat_le, take, IsSome, IfSome, IfNone, IfOk, IfErr, OnOk, OnErr, Ok, Err, Some, None, option_map};
 ghost use Rattle.std.specs.FinMap as fin;
 ghost use Rattle.sequential_object.specs.Object.{path_cmp, FileNode, Directory as a_directory};
 ghost use Rattle.sequential_object.specs.Paths.{components_of, node_at, resolved, walked};
-ghost use Rattle.sequential_object.specs.Names.{added, removed, removed_dir, removed_dir_at, has_entries, is_inside, links_of};
-ghost use Rattle.directories.specs.Lookup.{looked_up};
+ghost use Rattle.sequential_object.specs.Names.{added, removed, renamed, removed_dir, removed_dir_at, has_entries, is_inside, links_of};
+ghost use Rattle.directories.specs.Lookup.{NamesFile, looked_up, moved_name, renaming};
 ghost use Rattle.directories.specs.Entries.{node_of, entry_of, IsAt};
 
 use crate::entry::{Entry, Node};
@@ -93,6 +93,49 @@ impl Names {
         }
     }
 
+    /// Gives a file a new name in the place of the old one, and returns the file that loses its
+    /// name to it, if one does. Two names of one file both stay, also where they are the same.
+    /// Refused as `check_rename` says; then nothing changes. It is not refused where there are as
+    /// many names as there may be.
+    #[tactic(auto, using(crate::proofs::NameLemmas::renames))]
+    pub fn rename(&mut self, from: &[u8], to: &[u8]) -> Result<Option<usize>, Errno>
+        ensures ok { IfOk result (λ lost. renamed self.old from.now to.now ≡ Ok (self.new, lost)) }
+        ensures err { IfErr result (λ error. renamed self.old from.now to.now ≡ Err error) }
+        ensures unchanged { OnErr result (self.new ≡ self.old) }
+    {
+        let (object, replaced) = self.check_rename(from, to)?;
+        if replaced == Some(object) {
+            return Ok(None);
+        }
+        self.move_name(from, to, object);
+        Ok(replaced)
+    }
+
+    /// The file to rename, and the file that has the new name, if one has it. Refused, in this
+    /// order, where the old path is refused as in `resolve`, names nothing (`ENOENT`) or names a
+    /// directory (`EINVAL`), and where the new path is refused as in `resolve` or names a directory
+    /// (`EISDIR`). The root is a directory.
+    #[tactic(auto, unfolding(crate::specs::Lookup::renaming))]
+    pub fn check_rename(&self, from: &[u8], to: &[u8]) -> Result<(usize, Option<usize>), Errno>
+        ensures ok { IfOk result (λ files. renaming self.now from.now to.now ≡ Ok files) }
+        ensures old { IfOk result (λ files. NamesFile self.now from.now files.0) }
+        ensures fits { OnOk result (length to.now ≤ Limits.PATH_BYTES) }
+        ensures err { IfErr result (λ error. renaming self.now from.now to.now ≡ Err error) }
+    {
+        let count = self.components(from)?;
+        let object = match self.named(from, count) {
+            None => return Err(Errno::ENOENT),
+            Some(Node::Directory) => return Err(Errno::EINVAL),
+            Some(Node::File(object)) => object,
+        };
+        let count = self.components(to)?;
+        match self.named(to, count) {
+            None => Ok((object, None)),
+            Some(Node::Directory) => Err(Errno::EISDIR),
+            Some(Node::File(replaced)) => Ok((object, Some(replaced))),
+        }
+    }
+
     /// Takes a directory away. Refused as `check_remove_dir` says; then nothing changes.
     pub fn remove_dir(&mut self, path: &[u8]) -> Result<(), Errno>
         ensures ok { OnOk result (removed_dir self.old path.now ≡ Ok self.new) }
@@ -137,6 +180,19 @@ impl Names {
         ensures { self.new ≡ fin.remove self.old (components_of path.now) }
     {
         self.remove_entry(path, component_count(path));
+    }
+
+    /// Gives a file a new name in the place of the old one, which is there. What the new path
+    /// names, and whether its prefix is there, is the caller's to know: `rename` looks first.
+    #[tactic(auto, using(crate::proofs::NameLemmas::moving))]
+    pub fn move_name(&mut self, from: &[u8], to: &[u8], object: usize)
+        requires old { NamesFile self.old from.now object }
+        requires fits { length to.now ≤ Limits.PATH_BYTES }
+        ensures { self.new ≡ moved_name self.old from.now to.now object }
+    {
+        self.remove_entry(from, component_count(from));
+        self.remove_entry(to, component_count(to));
+        self.insert(to, Node::File(object));
     }
 
     /// Whether there are as many names as there may be.
@@ -233,7 +289,8 @@ impl Names {
     #[tactic(auto, using(crate::proofs::NameLemmas::entries))]
     fn remove_entry(&mut self, path: &[u8], count: usize)
         requires { count ≡ length (components_of path.now) }
-        ensures { self.new ≡ fin.remove self.old (components_of path.now) }
+        ensures removed { self.new ≡ fin.remove self.old (components_of path.now) }
+        ensures few { fin.len self.old ≤ Limits.NAMES }
     {
         match position(self.entries.as_slice(), path, count) {
             Some(at) => {

@@ -15,7 +15,7 @@ use Rattle.sequential_object.specs.Descriptors.{open_result, close_result, descr
 use Rattle.sequential_object.specs.Doors.{host_open_result, tcp_accept_result, tcp_connect_result, tcp_listen_result}
 use Rattle.sequential_object.specs.Duplicates.{dup_result, dup_from_result, dup2_result, descriptor_number, ends_a_door, replaced}
 use Rattle.sequential_object.specs.Effects.{Decision, Completes, asks_of, alone, does_of}
-use Rattle.sequential_object.specs.Names.{link_result, unlink_result, mkdir_result, rmdir_result}
+use Rattle.sequential_object.specs.Names.{link_result, unlink_result, rename_result, mkdir_result, rmdir_result}
 use Rattle.sequential_object.specs.Object.{State}
 use Rattle.sequential_object.specs.Status.{fstat_result, getfl_result, setfl_result}
 use Rattle.sequential_object.specs.Sockets.{pipe_result, socketpair_result, shutdown_result}
@@ -124,6 +124,11 @@ suits-unlink : (s : State) (carried : Carried) (path : List ℕ) → Suits (call
 unfolding unlink_result
 suits-unlink s carried path = grind (arith, nat_tests)
 
+suits-rename : (s : State) (carried : Carried) (old_path new_path : List ℕ)
+    → Suits (call.Rename old_path new_path) (asks s (call.Rename old_path new_path) carried)
+unfolding rename_result
+suits-rename s carried old_path new_path = grind (arith, nat_tests)
+
 suits-mkdir : (s : State) (carried : Carried) (path : List ℕ) → Suits (call.Mkdir path) (asks s (call.Mkdir path) carried)
 unfolding mkdir_result
 suits-mkdir s carried path = grind (arith, nat_tests)
@@ -178,6 +183,7 @@ suits s (call.Getfl descriptor) carried = suits-getfl s carried descriptor
 suits s (call.Setfl descriptor append nonblock) carried = suits-setfl s carried descriptor append nonblock
 suits s (call.Link old_path new_path) carried = suits-link s carried old_path new_path
 suits s (call.Unlink path) carried = suits-unlink s carried path
+suits s (call.Rename old_path new_path) carried = suits-rename s carried old_path new_path
 suits s (call.Mkdir path) carried = suits-mkdir s carried path
 suits s (call.Rmdir path) carried = suits-rmdir s carried path
 suits s call.Pipe carried = suits-pipe s carried

@@ -247,6 +247,7 @@ granted_apart settings w c carried r n k e d kinds num one asked taken number fr
     by_call (call.Setfl descriptor append nonblock) a t f m = asks_none w.object (call.Setfl descriptor append nonblock) carried r kinds a refl
     by_call (call.Link old_path new_path) a t f m = asks_none w.object (call.Link old_path new_path) carried r kinds a refl
     by_call (call.Unlink path) a t f m = asks_none w.object (call.Unlink path) carried r kinds a refl
+    by_call (call.Rename old_path new_path) a t f m = asks_none w.object (call.Rename old_path new_path) carried r kinds a refl
     by_call (call.Mkdir path) a t f m = asks_none w.object (call.Mkdir path) carried r kinds a refl
     by_call (call.Rmdir path) a t f m = asks_none w.object (call.Rmdir path) carried r kinds a refl
     by_call call.Pipe a t f m = asks_none w.object call.Pipe carried r kinds a refl

@@ -15,7 +15,7 @@ use Rattle.sequential_object.specs.Descriptors.{close_result, described, ends_do
 use Rattle.sequential_object.specs.Doors.{NewDoor, host_open_result, host_path, listener_in, opens, port_of, tcp_accept_result, tcp_connect_result, tcp_listen_result}
 use Rattle.sequential_object.specs.Duplicates.{closed, descriptor_number, dup_from_result, ends_a_door, dup_result, dup2_result, shared}
 use Rattle.sequential_object.specs.Effects.{Decision, Asks, Blocks, Completes, Effect, asks_of, does_of}
-use Rattle.sequential_object.specs.Names.{added, file_named, link_result, mkdir_result, removed, removed_dir, rmdir_result, unlink_result, with_paths}
+use Rattle.sequential_object.specs.Names.{PathMap, added, file_named, link_result, mkdir_result, removed, removed_dir, rename_result, renamed, rmdir_result, unlink_result, unnamed, with_paths}
 use Rattle.sequential_object.specs.Object.{Content, Description, Directory, DoorTo, File, FileNode, Node, Pair, Pipe, State, content_of, is_door, with_content, with_object}
 use Rattle.sequential_object.specs.Paths.{node_at, resolved}
 use Rattle.sequential_object.specs.Refusals.{◌>>=◌, count_of, position_of, refuse_if, some_or}
@@ -388,6 +388,14 @@ by_unlink : (s : State) (path : List ℕ) → AddsBy s (does_of (unlink_result s
 unfolding unlink_result
 by_unlink s path = decides s (removed s.paths path) _ (λ without _. record { it = adds_unused s (with_paths s without.0) without.1 (adds_same s (with_paths s without.0) refl refl) })
 
+by_rename : (s : State) (old_path new_path : List ℕ) → AddsBy s (does_of (rename_result s old_path new_path))
+unfolding rename_result
+by_rename s old_path new_path = decides s (renamed s.paths old_path new_path) _ (λ after _. by_lost after.0 after.1)
+  where
+    by_lost : (paths : PathMap) (lost : Option ℕ) → AddsBy s (does_of (Ok (unnamed (with_paths s paths) lost)))
+    by_lost paths None = record { it = adds_same s (with_paths s paths) refl refl }
+    by_lost paths (Some object) = record { it = adds_unused s (with_paths s paths) object (adds_same s (with_paths s paths) refl refl) }
+
 by_mkdir : (s : State) (path : List ℕ) → AddsBy s (does_of (mkdir_result s path))
 unfolding mkdir_result
 by_mkdir s path = decides s (added s.paths path Directory) _ (λ paths _. record { it = adds_same s (with_paths s paths) refl refl })
@@ -455,6 +463,7 @@ by_call s (call.Getfl descriptor) carried h = by_getfl s descriptor
 by_call s (call.Setfl descriptor append nonblock) carried h = by_setfl s descriptor append nonblock
 by_call s (call.Link old_path new_path) carried h = by_link s old_path new_path
 by_call s (call.Unlink path) carried h = by_unlink s path
+by_call s (call.Rename old_path new_path) carried h = by_rename s old_path new_path
 by_call s (call.Mkdir path) carried h = by_mkdir s path
 by_call s (call.Rmdir path) carried h = by_rmdir s path
 by_call s call.Pipe carried h = by_pipe s h

@@ -195,6 +195,7 @@ takes_locked s (call.Getfl descriptor) carried frees = refl
 takes_locked s (call.Setfl descriptor append nonblock) carried frees = refl
 takes_locked s (call.Link old_path new_path) carried frees = refl
 takes_locked s (call.Unlink path) carried frees = refl
+takes_locked s (call.Rename old_path new_path) carried frees = refl
 takes_locked s (call.Mkdir path) carried frees = refl
 takes_locked s (call.Rmdir path) carried frees = refl
 takes_locked s call.Pipe carried frees = refl

@@ -54,7 +54,7 @@ use Rattle.object_store.specs.Store.{IsChange, IsDecided, EndsTurn, IsPlanned, M
 use Rattle.object_store.proofs.Doing.{EndsAlways, end_replies, bodies_same, bodies_set, ends_reply, made_ends, moved_ends, released_ends, rested_ends, stays_ends}
 use Rattle.object_store.proofs.Doing.Moves.{ByRead, ByWrite, BySeek}
 use Rattle.object_store.proofs.Shapes.{HasAct, planned_fits}
-use Rattle.object_store.proofs.Shapes.HasAct.{Accepts, Closes, ClosesOut, Connects, Cuts, Listens, MakesPair, MakesPipe, Opens, OpensOut, Preads, Pwrites, Reads, ReadsOut, Replaces, SeeksFrom, SeeksOut, Shuts, ShutsOut, Stats, Unnames, WritesOut, WritesTo}
+use Rattle.object_store.proofs.Shapes.HasAct.{Accepts, Closes, ClosesOut, Connects, Cuts, Listens, MakesPair, MakesPipe, Opens, OpensOut, Preads, Pwrites, Reads, ReadsOut, Renames, Replaces, SeeksFrom, SeeksOut, Shuts, ShutsOut, Stats, Unnames, WritesOut, WritesTo}
 use Rattle.object_store.proofs.Stepping.{Rewrites}
 
 -- a number has its body where all of them have one
@@ -103,6 +103,7 @@ unchanged t _ _ (Opens path access flags cut) of = absurd of
 unchanged t _ _ (Closes descriptor) of = absurd of
 unchanged t _ _ (Replaces descriptor target) of = absurd of
 unchanged t _ _ (Unnames path) of = absurd of
+unchanged t _ _ (Renames old_path new_path) of = absurd of
 unchanged t _ _ MakesPipe of = absurd of
 unchanged t _ _ MakesPair of = absurd of
 unchanged t _ _ (Reads descriptor count from n) of = still_left t (call.Read descriptor count) (read_plan t descriptor count)
@@ -310,6 +311,7 @@ released_done : (t : TableState) (node : ℕ) (c : Call) (given : NewNumbers) (c
 released_done t node _ given content (Closes descriptor) = (refl, refl)
 released_done t node _ given content (Replaces descriptor target) = (refl, refl)
 released_done t node _ given content (Unnames path) = (refl, refl)
+released_done t node _ given content (Renames old_path new_path) = (refl, refl)
 
 pub release_makes : (law : TableFollows) (h : Stored) (c : Call) (node : ℕ) (u : TableState) → IsPlanned h c node op.Release → TableMade h c None u → RepliesAlways h c (release_reply c) (record h { table = u })
 release_makes law h c node u planned made = released_ends law h c node u (release_reply c) planned made (λ given content. released_done h.table node c given content (act_of h c node op.Release planned))

@@ -7,7 +7,8 @@ use Rattle.std.specs.Prelude.{ℤ, nat_le, nat_lt, if◌then◌else◌}
 use Rattle.posix_terms.specs.Calls.{can_read, can_write}
 use Rattle.sequential_object.specs.Doors.{host_path, port_of}
 use Rattle.sequential_object.specs.Duplicates.{descriptor_number}
-use Rattle.sequential_object.specs.Names.{file_named, links_of, removed_dir}
+use Rattle.sequential_object.specs.Names.{file_named, links_of, removed_dir, renamed_node, replaced_node}
+use Rattle.directories.specs.Lookup.{renaming}
 use Rattle.posix_terms.specs.Ends.{is_end}
 use Rattle.sequential_object.specs.Object.{State, Content, Node, FileNode, Directory, content_of}
 use Rattle.sequential_object.specs.Paths.{node_at, resolved}
@@ -35,7 +36,7 @@ use Rattle.posix_terms.specs.declared.reply.ObjectKind.TheVariants as kind
 use Rattle.posix_terms.specs.declared.reply.Reply.{Reply}
 use Rattle.posix_terms.specs.declared.reply.Reply.TheVariants as reply
 use Rattle.file_descriptions.specs.declared.description.Description.{Description}
-use Rattle.descriptor_table.specs.Plans.{act_or_ask, addable, answered, close_decided, decided_of, decides, dup2_decided, dup_decided, dup_from_decided, ends_a_door, errand, fstat_plan, ftruncate_plan, getfl_plan, host_open_decided, leads_outside, leaves, link_decided, locks, lseek_plan, mkdir_decided, new_pair, not_listener, of_file, of_listener, open_decided, open_node, open_there, opening, opens_door, planned, pread_plan, pwrite_plan, read_plan, release, replaces, rmdir_decided, seekable, seen, setfl_decided, shut_act, shutdown_plan, stat_by, stat_plan, tcp_accept_decided, tcp_connect_decided, tcp_listen_decided, tells, unlink_decided, write_plan}
+use Rattle.descriptor_table.specs.Plans.{act_or_ask, addable, answered, close_decided, decided_of, decides, dup2_decided, dup_decided, dup_from_decided, ends_a_door, errand, fstat_plan, ftruncate_plan, getfl_plan, host_open_decided, leads_outside, leaves, link_decided, locks, lseek_plan, mkdir_decided, new_pair, not_listener, of_file, of_listener, open_decided, open_node, open_there, opening, opens_door, planned, loses_name, pread_plan, pwrite_plan, read_plan, release, rename_decided, renames, replaces, rmdir_decided, seekable, seen, setfl_decided, shut_act, shutdown_plan, stat_by, stat_plan, tcp_accept_decided, tcp_connect_decided, tcp_listen_decided, tells, unlink_decided, write_plan}
 use Rattle.descriptor_table.specs.Shows.{Shows, birth_at, is_of}
 use Rattle.descriptor_table.specs.Table.{IsSound, TableState, described, free_object, is_last_name, is_used, lowest_free}
 use Rattle.descriptor_table.specs.Laws.{RefersAlike, TableFollows}
@@ -61,6 +62,7 @@ pub data HasAct : Call → Op → Type 0 where
   Closes : (descriptor : ℤ) → HasAct (call.Close descriptor) op.Release
   Replaces : (descriptor target : ℤ) → HasAct (call.Dup2 descriptor target) op.Release
   Unnames : (path : List ℕ) → HasAct (call.Unlink path) op.Release
+  Renames : (old_path new_path : List ℕ) → HasAct (call.Rename old_path new_path) op.Release
   Reads : (descriptor count : ℤ) (from : Opened) (n : ℕ) → HasAct (call.Read descriptor count) (op.Read from n)
   WritesTo : (descriptor : ℤ) (bytes : List ℕ) (to : Opened) → HasAct (call.Write descriptor bytes) (op.Write to)
   Preads : (descriptor count position : ℤ) (n start : ℕ) → HasAct (call.Pread descriptor count position) (op.Pread n start)
@@ -114,6 +116,29 @@ finds law t s sound shows =
 named_at : (t : TableState) (components : List (List ℕ)) (node : ℕ) → IsSound t → node_at t.paths components ≡ Some (FileNode node) → is_used t node ≡ true
 named_at t [] node sound is = cc
 named_at t (name ∷ names) node sound is = sound.named_objects (name ∷ names) node is
+
+-- a chain of refusals that gave something
+through : {A B : Type 0} (r : Result A Errno) (f : A → Result B Errno) (b : B) (P : Type 0) → r >>= f ≡ Ok b
+    → ((a : A) → f a ≡ Ok b → P) → P
+through (Ok a) f b P is gives = gives a is
+through (Err e) f b P is gives = cc
+
+-- the file that loses its name to another one is there
+replaced_used : (t : TableState) (old_path new_path : List ℕ) (files : ℕ × Option ℕ) (other : ℕ) → IsSound t
+    → renaming t.paths old_path new_path ≡ Ok files → files.1 ≡ Some other → is_used t other ≡ true
+unfolding renaming
+replaced_used t old_path new_path files other sound is lost =
+    through (resolved t.paths old_path) _ files _ is (λ old first.
+    through (renamed_node (node_at t.paths old)) _ files _ first (λ object second.
+    through (resolved t.paths new_path) _ files _ second (λ new third. by_node new object (node_at t.paths new) refl third)))
+  where
+    by_node : (new : List (List ℕ)) (object : ℕ) (o : Option Node) → node_at t.paths new ≡ o
+        → (replaced_node o >>= (λ replaced. Ok (object, replaced))) ≡ Ok files → is_used t other ≡ true
+    by_node new object None at gave = cc
+    by_node new object (Some Directory) at gave = cc
+    by_node new object (Some (FileNode replaced)) at gave =
+        let same : replaced ≡ other = cc in
+        named_at t new other sound (at ∙ ap (λ (node : ℕ). Some (FileNode node)) same)
 
 was_some : (o : Option ℕ) (e : Errno) (n : ℕ) → some_or o e ≡ Ok n → o ≡ Some n
 was_some None e n is = cc
@@ -293,7 +318,7 @@ module _ (t : TableState) where
       by_outside false is = refl
 
   plan_fits : (c : Call) → IfOk (decided_of t c) (Fits t c)
-  unfolding open_decided close_decided read_plan write_plan pread_plan pwrite_plan lseek_plan ftruncate_plan fstat_plan dup_decided dup_from_decided dup2_decided getfl_plan setfl_decided link_decided unlink_decided mkdir_decided rmdir_decided shutdown_plan host_open_decided tcp_listen_decided tcp_connect_decided tcp_accept_decided
+  unfolding open_decided close_decided read_plan write_plan pread_plan pwrite_plan lseek_plan ftruncate_plan fstat_plan dup_decided dup_from_decided dup2_decided getfl_plan setfl_decided link_decided unlink_decided rename_decided mkdir_decided rmdir_decided shutdown_plan host_open_decided tcp_listen_decided tcp_connect_decided tcp_accept_decided
   plan_fits (call.Open path access flags) =
       beside t _ (refuse_if (flags.truncate && not (can_write access)) EINVAL) _ (λ a x. beside t _ (resolved t.paths path) _ (λ components y. node_fits path access flags (node_at t.paths components) (λ n is all. named_at t components n all.sound is) (λ n is. named_suits components flags.truncate n is)))
   plan_fits (call.Close descriptor) =
@@ -364,6 +389,25 @@ module _ (t : TableState) where
       by_last : (node : ℕ) → file_named t.paths path ≡ Ok node → (b : Bool) → FitsPlan t (call.Unlink path) (if b then plan.Node node op.Release false else plan.Reply reply.Done)
       by_last node is true = (Unnames path, λ all new. absurd (false≢true (sym new ∙ all.named path node is)), λ all used s shows. refl)
       by_last node is false = tt
+  plan_fits (call.Rename old_path new_path) =
+      beside t _ (renaming t.paths old_path new_path) _ (λ files is. by_replaced files files.1 is refl)
+    where
+      by_last : (other : ℕ) (f : Finds t → is_used t other ≡ true) (b : Bool)
+          → FitsPlan t (call.Rename old_path new_path) (if b then plan.Node other op.Release false else plan.Reply reply.Done)
+      by_last other used true = (Renames old_path new_path, λ all new. absurd (false≢true (sym new ∙ used all)), λ all used s shows. refl)
+      by_last other used false = tt
+
+      by_same : (node other : ℕ) (f : Finds t → is_used t other ≡ true) (b : Bool)
+          → Fits t (call.Rename old_path new_path)
+          (if b then tells reply.Done change.Nothing else decides (loses_name t other) (change.Rename node (Some other)))
+      by_same node other used true = tt
+      by_same node other used false = by_last other used (is_last_name t other)
+
+      by_replaced : (files : ℕ × Option ℕ) (o : Option ℕ) → renaming t.paths old_path new_path ≡ Ok files → files.1 ≡ o
+          → Fits t (call.Rename old_path new_path) (renames t files.0 o)
+      by_replaced files None is none = tt
+      by_replaced files (Some other) is some =
+          by_same files.0 other (λ all. replaced_used t old_path new_path files other all.sound is some) (other == files.0)
   plan_fits (call.Mkdir path) = beside t _ (addable t.paths path) _ (λ a x. tt)
   plan_fits (call.Rmdir path) = beside t _ (removed_dir t.paths path) _ (λ a x. tt)
   plan_fits call.Pipe = makes_fits call.Pipe op.Pipe MakesPipe tt (λ content. refl) (λ new. change.MakePipe new)

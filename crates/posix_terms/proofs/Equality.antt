@@ -69,6 +69,7 @@ call_is (call.Getfl d) (call.Getfl e) h = search rules
 call_is (call.Setfl d n p) (call.Setfl e m q) h = search rules
 call_is (call.Link d n) (call.Link e m) h = search rules
 call_is (call.Unlink d) (call.Unlink e) h = search rules
+call_is (call.Rename d n) (call.Rename e m) h = search rules
 call_is (call.Mkdir d) (call.Mkdir e) h = search rules
 call_is (call.Rmdir d) (call.Rmdir e) h = search rules
 call_is call.Pipe call.Pipe h = refl

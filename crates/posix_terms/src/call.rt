@@ -130,6 +130,11 @@ pub enum Call<Number = i64, Text = Bytes> {
     Unlink {
         path: Bytes,
     },
+    /// `rename` of a file; directories keep their names.
+    Rename {
+        old_path: Bytes,
+        new_path: Bytes,
+    },
     Mkdir {
         path: Bytes,
     },
@@ -183,6 +188,7 @@ pub enum CallKind {
     Setfl,
     Link,
     Unlink,
+    Rename,
     Mkdir,
     Rmdir,
     Pipe,
@@ -216,6 +222,7 @@ impl<Number, Text> Call<Number, Text> {
             Call::Setfl { .. } => CallKind::Setfl,
             Call::Link { .. } => CallKind::Link,
             Call::Unlink { .. } => CallKind::Unlink,
+            Call::Rename { .. } => CallKind::Rename,
             Call::Mkdir { .. } => CallKind::Mkdir,
             Call::Rmdir { .. } => CallKind::Rmdir,
             Call::Pipe => CallKind::Pipe,
@@ -240,7 +247,7 @@ impl Call {
 
 impl CallKind {
     /// All calls.
-    pub const ALL: [CallKind; 25] = [
+    pub const ALL: [CallKind; 26] = [
         CallKind::Open,
         CallKind::Close,
         CallKind::Read,
@@ -257,6 +264,7 @@ impl CallKind {
         CallKind::Setfl,
         CallKind::Link,
         CallKind::Unlink,
+        CallKind::Rename,
         CallKind::Mkdir,
         CallKind::Rmdir,
         CallKind::Pipe,
@@ -289,6 +297,7 @@ impl CallKind {
             CallKind::Setfl => "setfl",
             CallKind::Link => "link",
             CallKind::Unlink => "unlink",
+            CallKind::Rename => "rename",
             CallKind::Mkdir => "mkdir",
             CallKind::Rmdir => "rmdir",
             CallKind::Pipe => "pipe",

@@ -46,6 +46,7 @@ const LINES: &[&str] = &[
     "setfl F",
     "link P P",
     "unlink P",
+    "rename P P",
     "mkdir P",
     "rmdir P",
     "pipe",

@@ -31,13 +31,18 @@ is_tie Greater e = cc
 -- ## What is there after a change
 
 module _ {K X : Type 0} {R : K → K → Ordering} (o : IsTotalOrder R) where
-  -- an insertion at a new key keeps all that is there
-  pub insert_keeps : (m : FinMap R X) (k : K) (v : X) (q : K) (x : X) → fin.get m k ≡ None → fin.get m q ≡ Some x → fin.get (fin.insert m k v) q ≡ Some x
-  insert_keeps m k v q x new there = by_tie (eq_by_cmp R q k) refl
+  -- an insertion keeps what was not at its key
+  pub insert_keeps : (m : FinMap R X) (k : K) (v : X) (q : K) (x : X) → (fin.get m k ≡ Some x → ⊥)
+      → fin.get m q ≡ Some x → fin.get (fin.insert m k v) q ≡ Some x
+  insert_keeps m k v q x apart there = by_tie (eq_by_cmp R q k) refl
     where
       by_tie : (b : Bool) → eq_by_cmp R q k ≡ b → fin.get (fin.insert m k v) q ≡ Some x
-      by_tie true t = absurd (none-some x (sym new ∙ get_tied o m q k (is_tie (R q k) t) ∙ there))
+      by_tie true t = absurd (apart (get_tied o m q k (is_tie (R q k) t) ∙ there))
       by_tie false t = get-insert o m k v q ∙ ap (λ (b : Bool). cond b (Some v) (fin.get m q)) t ∙ there
+
+  -- what was inserted is there
+  pub insert_has : (m : FinMap R X) (k : K) (v : X) → fin.get (fin.insert m k v) k ≡ Some v
+  insert_has m k v = get-insert o m k v k ∙ ap (λ (b : Bool). cond b (Some v) (fin.get m k)) ((eq_by_cmp_equiv o).refl k)
 
   -- a removal keeps what was not at its key
   pub remove_keeps : (m : FinMap R X) (k q : K) (x : X) → (fin.get m k ≡ Some x → ⊥) → fin.get m q ≡ Some x → fin.get (fin.remove m k) q ≡ Some x

@@ -7,7 +7,7 @@ use Rattle.sequential_object.specs.Doors.{host_open_result, tcp_accept_result, t
 use Rattle.sequential_object.specs.Duplicates.{dup_result, dup_from_result, dup2_result}
 use Rattle.sequential_object.specs.Effects.{Blocks, Asks, Completes, Effect, does_of}
 use Rattle.sequential_object.specs.Locked.{keeps_table, locked_object, locks_door}
-use Rattle.sequential_object.specs.Names.{link_result, unlink_result, mkdir_result, rmdir_result}
+use Rattle.sequential_object.specs.Names.{link_result, unlink_result, rename_result, mkdir_result, rmdir_result}
 use Rattle.sequential_object.specs.Object.{State}
 use Rattle.sequential_object.specs.Status.{fstat_result, getfl_result, setfl_result}
 use Rattle.sequential_object.specs.Sockets.{pipe_result, socketpair_result, shutdown_result}
@@ -94,6 +94,10 @@ locks-unlink : (s : State) (carried : Carried) (path : List ℕ) → Locks s (ca
 unfolding locked_object unlink_result
 locks-unlink s carried path = grind arith
 
+locks-rename : (s : State) (carried : Carried) (old_path new_path : List ℕ) → Locks s (call.Rename old_path new_path) carried
+unfolding locked_object rename_result
+locks-rename s carried old_path new_path = grind arith
+
 locks-mkdir : (s : State) (carried : Carried) (path : List ℕ) → Locks s (call.Mkdir path) carried
 unfolding locked_object mkdir_result
 locks-mkdir s carried path = grind arith
@@ -147,6 +151,7 @@ locks s (call.Getfl descriptor) carried = locks-getfl s carried descriptor
 locks s (call.Setfl descriptor append nonblock) carried = locks-setfl s carried descriptor append nonblock
 locks s (call.Link old_path new_path) carried = locks-link s carried old_path new_path
 locks s (call.Unlink path) carried = locks-unlink s carried path
+locks s (call.Rename old_path new_path) carried = locks-rename s carried old_path new_path
 locks s (call.Mkdir path) carried = locks-mkdir s carried path
 locks s (call.Rmdir path) carried = locks-rmdir s carried path
 locks s call.Pipe carried = locks-pipe s carried
@@ -200,6 +205,7 @@ keeps_outside s (call.Getfl descriptor) carried keeps = absurd (false≢true kee
 keeps_outside s (call.Setfl descriptor append nonblock) carried keeps = absurd (false≢true keeps)
 keeps_outside s (call.Link old_path new_path) carried keeps = absurd (false≢true keeps)
 keeps_outside s (call.Unlink path) carried keeps = absurd (false≢true keeps)
+keeps_outside s (call.Rename old_path new_path) carried keeps = absurd (false≢true keeps)
 keeps_outside s (call.Mkdir path) carried keeps = absurd (false≢true keeps)
 keeps_outside s (call.Rmdir path) carried keeps = absurd (false≢true keeps)
 keeps_outside s call.Pipe carried keeps = absurd (false≢true keeps)
@@ -281,6 +287,10 @@ steady-unlink : (s : State) (path : List ℕ) → IfOk (does_of (unlink_result s
 unfolding unlink_result
 steady-unlink s path = grind arith
 
+steady-rename : (s : State) (old_path new_path : List ℕ) → IfOk (does_of (rename_result s old_path new_path)) (IsSteady s)
+unfolding rename_result
+steady-rename s old_path new_path = grind arith
+
 steady-mkdir : (s : State) (path : List ℕ) → IfOk (does_of (mkdir_result s path)) (IsSteady s)
 unfolding mkdir_result
 steady-mkdir s path = grind arith
@@ -318,6 +328,7 @@ steady s (call.Getfl descriptor) carried frees = steady-getfl s descriptor
 steady s (call.Setfl descriptor append nonblock) carried frees = steady-setfl s descriptor append nonblock
 steady s (call.Link old_path new_path) carried frees = steady-link s old_path new_path
 steady s (call.Unlink path) carried frees = steady-unlink s path
+steady s (call.Rename old_path new_path) carried frees = steady-rename s old_path new_path
 steady s (call.Mkdir path) carried frees = steady-mkdir s path
 steady s (call.Rmdir path) carried frees = steady-rmdir s path
 steady s call.Pipe carried frees = steady-pipe s

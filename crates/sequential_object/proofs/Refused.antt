@@ -6,7 +6,7 @@ use Rattle.sequential_object.specs.Descriptors.{open_result, close_result}
 use Rattle.sequential_object.specs.Duplicates.{dup_result, dup_from_result, dup2_result}
 use Rattle.sequential_object.specs.Doors.{host_open_result, tcp_accept_result, tcp_connect_result, tcp_listen_result}
 use Rattle.sequential_object.specs.Effects.{Blocks, Asks, Completes, Effect, does_of}
-use Rattle.sequential_object.specs.Names.{link_result, unlink_result, mkdir_result, rmdir_result}
+use Rattle.sequential_object.specs.Names.{link_result, unlink_result, rename_result, mkdir_result, rmdir_result}
 use Rattle.sequential_object.specs.Object.{State}
 use Rattle.sequential_object.specs.Status.{fstat_result, getfl_result, setfl_result}
 use Rattle.sequential_object.specs.Sockets.{pipe_result, socketpair_result, shutdown_result}
@@ -107,6 +107,10 @@ granted-unlink : (s : State) (path : List ℕ) → IfOk (does_of (unlink_result 
 unfolding unlink_result
 granted-unlink s path = grind arith
 
+granted-rename : (s : State) (old_path new_path : List ℕ) → IfOk (does_of (rename_result s old_path new_path)) (IsGranted s)
+unfolding rename_result
+granted-rename s old_path new_path = grind arith
+
 granted-mkdir : (s : State) (path : List ℕ) → IfOk (does_of (mkdir_result s path)) (IsGranted s)
 unfolding mkdir_result
 granted-mkdir s path = grind arith
@@ -167,6 +171,7 @@ granted s (call.Getfl descriptor) carried alone = granted-getfl s descriptor
 granted s (call.Setfl descriptor append nonblock) carried alone = granted-setfl s descriptor append nonblock
 granted s (call.Link old_path new_path) carried alone = granted-link s old_path new_path
 granted s (call.Unlink path) carried alone = granted-unlink s path
+granted s (call.Rename old_path new_path) carried alone = granted-rename s old_path new_path
 granted s (call.Mkdir path) carried alone = granted-mkdir s path
 granted s (call.Rmdir path) carried alone = granted-rmdir s path
 granted s call.Pipe carried alone = granted-pipe s

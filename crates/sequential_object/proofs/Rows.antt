@@ -1,11 +1,11 @@
 -- The states between the calls of the examples.
-use Rattle.std.proofs.Common.{◌≡◌, ℕ, ◌+◌, pos, Bool, List, [], ◌∷◌, None, true, false, codes, refl, ap, ◌∙◌, if◌then◌else◌, nat_lt}
+use Rattle.std.proofs.Common.{◌≡◌, ℕ, ◌+◌, pos, Bool, List, [], ◌∷◌, length, None, true, false, codes, refl, ap, ◌∙◌, if◌then◌else◌, nat_lt}
 use Rattle.std.specs.FinMap as map
 use Rattle.sequential_object.specs.Descriptors.{open_result, close_result, lowest_from}
 use Rattle.sequential_object.specs.Duplicates.{dup_result, dup_from_result, dup2_result}
-use Rattle.sequential_object.specs.Examples.{gap_reads_zero, dup2_from_nothing, shared_offset, unlinked_but_open, directory_refusals, positioned_write_and_truncate, shared_flags, pipe_and_its_ends, half_closed_pair, AnswersAfter, closed_last, unlinked_last, replaced_last, linked_still, shared_still, closed_pipe, half_closed_pipe}
-use Rattle.sequential_object.specs.Names.{added, file_named, removed, removed_dir, link_result, mkdir_result, rmdir_result, unlink_result}
-use Rattle.sequential_object.specs.Object.{State, Description, File, Pipe, Pair, FileNode, Directory, empty_state}
+use Rattle.sequential_object.specs.Examples.{gap_reads_zero, dup2_from_nothing, shared_offset, unlinked_but_open, directory_refusals, renamed_files, positioned_write_and_truncate, shared_flags, pipe_and_its_ends, half_closed_pair, AnswersAfter, closed_last, unlinked_last, replaced_last, renamed_last, linked_still, shared_still, closed_pipe, half_closed_pipe}
+use Rattle.sequential_object.specs.Names.{added, file_named, removed, removed_dir, renamed, link_result, mkdir_result, rename_result, rmdir_result, unlink_result}
+use Rattle.sequential_object.specs.Object.{State, Description, File, Pipe, Pair, Node, FileNode, Directory, empty_state}
 use Rattle.sequential_object.specs.Paths.{path_form}
 use Rattle.sequential_object.specs.Sockets.{pipe_result, shutdown_result, socketpair_result}
 use Rattle.sequential_object.specs.Streams.{Half, PairState, new_half, new_pair}
@@ -112,6 +112,58 @@ directories_states = directories_1 ∷ directories_1 ∷ directories_1 ∷ direc
 pub directories : (settings : Settings) → Runs settings empty_state directory_refusals directories_states
 unfolding mkdir_result added path_form open_result lowest_from rmdir_result removed_dir unlink_result removed link_result file_named fstat_result
 directories settings = (simp listed, (simp listed, (simp listed, (simp listed, (simp listed, (simp listed, (simp listed, (refl, (simp listed, (simp listed, (simp listed, (simp listed, (refl, (refl, tt))))))))))))))
+
+-- a description of this file at this offset
+abbrev opened : ℕ → ℕ → Description
+opened object offset = description object access.ReadWrite offset false false
+
+-- the first file is open, and this was written to it
+abbrev renamed_1 : List ℕ → State
+renamed_1 bytes =
+    holding ((0, 0) ∷ []) ((0, opened 0 (length bytes)) ∷ []) ((0, File bytes) ∷ [])
+    ((codes "a" ∷ [], FileNode 0) ∷ []) 1 1
+
+-- both files are open, and this was written to the second
+abbrev renamed_2 : List ℕ → List (List (List ℕ) × Node) → State
+renamed_2 bytes paths =
+    holding ((0, 0) ∷ (1, 1) ∷ []) ((0, opened 0 2) ∷ (1, opened 1 (length bytes)) ∷ [])
+    ((0, File (codes "aa")) ∷ (1, File bytes) ∷ []) paths 2 2
+
+-- the first file is open once more, at this offset
+abbrev renamed_3 : ℕ → List (List (List ℕ) × Node) → State
+renamed_3 offset paths =
+    holding ((0, 0) ∷ (1, 1) ∷ (2, 2) ∷ [])
+    ((0, opened 0 2) ∷ (1, opened 1 1) ∷ (2, description 0 access.ReadOnly offset false false) ∷ [])
+    ((0, File (codes "aa")) ∷ (1, File (codes "b")) ∷ []) paths 3 2
+
+abbrev named_a_b : List (List (List ℕ) × Node)
+named_a_b = (codes "a" ∷ [], FileNode 0) ∷ (codes "b" ∷ [], FileNode 1) ∷ []
+
+abbrev named_b : List (List (List ℕ) × Node)
+named_b = (codes "b" ∷ [], FileNode 0) ∷ []
+
+abbrev named_b_c : List (List (List ℕ) × Node) → List (List (List ℕ) × Node)
+named_b_c more = (codes "b" ∷ [], FileNode 0) ∷ (codes "c" ∷ [], FileNode 0) ∷ more
+
+abbrev renamed_4 : State
+renamed_4 = renamed_2 (codes "b") named_b
+
+abbrev renamed_5 : State
+renamed_5 = renamed_3 2 (named_b_c [])
+
+abbrev renamed_6 : State
+renamed_6 = renamed_3 2 (named_b_c ((codes "d" ∷ [], Directory) ∷ []))
+
+abbrev pub renamed_states : List State
+renamed_states =
+    renamed_1 [] ∷ renamed_1 (codes "aa") ∷ renamed_2 [] named_a_b ∷ renamed_2 (codes "b") named_a_b
+    ∷ renamed_4 ∷ renamed_4 ∷ renamed_4 ∷ renamed_4 ∷ renamed_3 0 named_b ∷ renamed_3 2 named_b
+    ∷ renamed_5 ∷ renamed_5 ∷ renamed_5 ∷ renamed_6 ∷ renamed_6 ∷ renamed_6 ∷ renamed_6 ∷ []
+
+pub renamed_rows : (settings : Settings) → Runs settings empty_state renamed_files renamed_states
+unfolding open_result lowest_from path_form write_result rename_result renamed fstat_result pread_result read_result link_result file_named added mkdir_result
+renamed_rows settings =
+    (simp listed, (simp listed, (simp listed, (simp listed, (simp listed, (simp listed, (simp listed, (simp listed, (simp listed, (simp listed, (simp listed, (simp listed, (simp listed, (simp listed, (simp listed, (simp listed, (simp listed, tt)))))))))))))))))
 
 abbrev positioned_1 : State
 positioned_1 = holding ((0, 0) ∷ []) ((0, description 0 access.WriteOnly 0 true false) ∷ []) ((0, File []) ∷ []) ((codes "a" ∷ [], FileNode 0) ∷ []) 1 1
@@ -234,6 +286,29 @@ replacing settings = (simp listed, (simp listed, (simp listed, (simp listed, tt)
 
 pub replacing-leaves : map.len (final empty_state replacing_states).objects ≡ 1
 replacing-leaves = simp listed
+
+abbrev renaming_1 : State
+renaming_1 = holding [] [] ((0, File []) ∷ []) ((codes "a" ∷ [], FileNode 0) ∷ []) 1 1
+
+abbrev renaming_2 : State
+renaming_2 =
+    holding ((0, 1) ∷ []) ((1, opened 1 0) ∷ []) ((0, File []) ∷ (1, File []) ∷ []) named_a_b 2 2
+
+abbrev renaming_3 : State
+renaming_3 = holding [] [] ((0, File []) ∷ (1, File []) ∷ []) named_a_b 2 2
+
+abbrev renaming_4 : State
+renaming_4 = holding [] [] ((0, File []) ∷ []) named_b 2 2
+
+abbrev pub renaming_states : List State
+renaming_states = renamed_1 [] ∷ renaming_1 ∷ renaming_2 ∷ renaming_3 ∷ renaming_4 ∷ []
+
+pub renaming : (settings : Settings) → Runs settings empty_state renamed_last renaming_states
+unfolding open_result lowest_from path_form close_result rename_result renamed
+renaming settings = (simp listed, (simp listed, (simp listed, (simp listed, (simp listed, tt)))))
+
+pub renaming-leaves : map.len (final empty_state renaming_states).objects ≡ 1
+renaming-leaves = simp listed
 
 abbrev linking_1 : State
 linking_1 = holding ((0, 0) ∷ []) ((0, description 0 access.ReadWrite 0 false false) ∷ []) ((0, File []) ∷ []) ((codes "a" ∷ [], FileNode 0) ∷ []) 1 1

@@ -242,28 +242,33 @@ object_tidy s c h =
       whole = object_whole s c h.whole;
     }
 
--- paths by which each file keeps its names
+-- paths by which each file that has a name keeps one
 abbrev pub KeepsFiles : PathMap → PathMap → Type 0
-KeepsFiles old new = (path : List (List ℕ)) (object : ℕ) → fin.get old path ≡ Some (FileNode object) → fin.get new path ≡ Some (FileNode object)
+KeepsFiles old new = (object : ℕ) → Named old object → Named new object
 
-used_by : (s : State) (paths : PathMap) (object : ℕ) (c : Content) → ((path : List (List ℕ)) → fin.get s.paths path ≡ Some (FileNode object) → fin.get paths path ≡ Some (FileNode object)) → Used s object c → Used (with_paths s paths) object c
+-- and each but one, which may lose it
+abbrev pub KeepsOthers : ℕ → PathMap → PathMap → Type 0
+KeepsOthers object old new = (other : ℕ) → (other ≡ object → ⊥) → Named old other → Named new other
+
+used_by : (s : State) (paths : PathMap) (object : ℕ) (c : Content) → (Named s.paths object → Named paths object)
+    → Used s object c → Used (with_paths s paths) object c
 used_by s paths object c kept (inl d) = inl d
-used_by s paths object c kept (inr n) = inr (n.0, record { path = n.1.path; refers = kept n.1.path n.1.refers })
+used_by s paths object c kept (inr n) = inr (n.0, kept n.1)
 
 pub paths_tidy : (s : State) (paths : PathMap) → KeepsFiles s.paths paths → NamesKnown s.paths paths → IsTidy s → IsTidy (with_paths s paths)
 paths_tidy s paths kept known h =
     record {
       opens = h.opens;
-      uses = λ object c at. used_by s paths object c (λ path is. kept path object is) (h.uses object c at);
+      uses = λ object c at. used_by s paths object c (kept object) (h.uses object c at);
       whole = paths_whole s paths known h.whole;
     }
 
--- paths by which each other file keeps its names
-pub unnamed_tidy : (s : State) (paths : PathMap) (object : ℕ) → ((path : List (List ℕ)) (other : ℕ) → (other ≡ object → ⊥) → fin.get s.paths path ≡ Some (FileNode other) → fin.get paths path ≡ Some (FileNode other)) → NamesKnown s.paths paths → IsTidy s → IsTidyBut object (with_paths s paths)
+pub unnamed_tidy : (s : State) (paths : PathMap) (object : ℕ) → KeepsOthers object s.paths paths → NamesKnown s.paths paths
+    → IsTidy s → IsTidyBut object (with_paths s paths)
 unnamed_tidy s paths object kept known h =
     record {
       opens = h.opens;
-      uses = λ other c apart at. used_by s paths other c (λ path is. kept path other apart is) (h.uses other c at);
+      uses = λ other c apart at. used_by s paths other c (kept other apart) (h.uses other c at);
       whole = paths_whole s paths known h.whole;
     }
 
@@ -272,7 +277,12 @@ file_tidy s components new h =
     record {
       opens = h.opens;
       uses = λ other c apart at.
-          used_by s (fin.insert s.paths components (FileNode s.next_object)) other c (λ path is. insert_keeps paths_total s.paths components (FileNode s.next_object) path (FileNode other) new is)
+          used_by s (fin.insert s.paths components (FileNode s.next_object)) other c (λ n. record {
+            path = n.path;
+            refers =
+                insert_keeps paths_total s.paths components (FileNode s.next_object) n.path (FileNode other)
+                (λ at. none-some (FileNode other) (sym new ∙ at)) n.refers;
+          })
           (h.uses other c (sym (insert_other s.objects s.next_object (File []) other apart) ∙ at));
       whole = file_whole s components h.whole;
     }

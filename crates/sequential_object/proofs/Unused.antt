@@ -1,6 +1,6 @@
 -- Each call keeps a state in which nothing is unused.
 use Rattle.std.proofs.Common.{◌≡◌, ◌⊎◌, ℕ, zero, suc, ◌+◌, ◌-◌, ◌<◌, ◌≤◌, ◌==◌, ℤ, pos, negsuc, List, [], ◌∷◌, length, Option, Some, None, is_some, Result, Ok, Err, Bool, true, false, not, ◌&&◌, ◌||◌, nat_lt, nat_le, if◌then◌else◌, inl, inr, refl, sym, ap, ◌∙◌, subst, arith}
-use Rattle.std.proofs.lemmas.Bool.{true≢false}
+use Rattle.std.proofs.lemmas.Bool.{cases_eq, true≢false}
 use Rattle.std.proofs.lemmas.Bool.Decides.{nat_tests}
 use Rattle.std.proofs.lemmas.Option.{none-some, same_Some}
 use Rattle.std.specs.FinMap as fin
@@ -15,7 +15,7 @@ use Rattle.sequential_object.specs.Doors.{NewDoor, host_open_result, host_path, 
 use Rattle.sequential_object.specs.Duplicates.{closed, descriptor_number, dup_from_result, ends_a_door, dup_result, dup2_result, shared}
 use Rattle.sequential_object.specs.Effects.{Asks, Blocks, Completes, Decision, Effect, asks_of, does_of}
 use Rattle.sequential_object.specs.Files.{resized, written}
-use Rattle.sequential_object.specs.Names.{PathMap, added, file_named, file_node, has_entries, link_result, mkdir_result, removed, removed_dir, removed_dir_at, rmdir_result, unlink_result, with_paths}
+use Rattle.sequential_object.specs.Names.{PathMap, added, file_named, file_node, has_entries, link_result, mkdir_result, moved, removed, removed_dir, removed_dir_at, rename_result, renamed, renamed_node, replaced_node, replacing, rmdir_result, unlink_result, unnamed, with_paths}
 use Rattle.sequential_object.specs.Object.{Content, Description, Directory, DoorTo, File, FileNode, Node, Pair, Pipe, State, content_of, with_content, with_object}
 use Rattle.sequential_object.specs.Paths.{node_at, resolved}
 use Rattle.sequential_object.specs.Refusals.{◌>>=◌, count_of, position_of, refuse_if, some_or}
@@ -40,9 +40,9 @@ use Rattle.posix_terms.specs.declared.outcome.Outcome.{Outcome}
 use Rattle.posix_terms.specs.declared.outcome.Outcome.TheVariants as out
 use Rattle.posix_terms.specs.declared.reply.Reply.TheVariants as reply
 use Rattle.posix_terms.specs.declared.transcript.Settings.{Settings}
-use Rattle.sequential_object.proofs.Maps.{insert_keeps, insert_other, insert_same, inserted_is, left_is, paths_total, remove_keeps, remove_other, remove_same}
+use Rattle.sequential_object.proofs.Maps.{insert_has, insert_keeps, insert_other, insert_same, inserted_is, left_is, paths_total, remove_keeps, remove_other, remove_same}
 use Rattle.sequential_object.proofs.Refused.{waited_alone}
-use Rattle.sequential_object.proofs.Tidy.{IsFree, IsTidy, KeepsFiles, Named, Used, but_one, content_tidy, cut_there, cut_tidy, file_tidy, freed_tidy, nothing_unused, object_tidy, opened_tidy, own_tidy, paths_tidy, released_tidy, shared_tidy, tidy_of, unnamed_tidy, unused_tidy}
+use Rattle.sequential_object.proofs.Tidy.{IsFree, IsTidy, KeepsFiles, KeepsOthers, Named, Used, but_one, content_tidy, cut_there, cut_tidy, file_tidy, freed_tidy, nothing_unused, object_tidy, opened_tidy, own_tidy, paths_tidy, released_tidy, shared_tidy, tidy_of, unnamed_tidy, unused_tidy}
 use Rattle.sequential_object.proofs.Whole.{NamesKnown, StaysFile, same_kind}
 
 -- ## Effects
@@ -199,7 +199,10 @@ added_keeps paths path node new h =
     let two = gave (refuse_if (is_some (node_at paths components)) EEXIST) _ new one.1.1 in
     let three = gave (refuse_if (nat_le limit.NAMES (fin.len paths)) ENOSPC) _ new two.1.1 in
     let free = no_node paths components (is_none (node_at paths components) (not_refused (is_some (node_at paths components)) EEXIST two.0 two.1.0)) in
-    subst (KeepsFiles paths) (same_ok (fin.insert paths components node) new three.1.1) (λ q object is. insert_keeps paths_total paths components node q (FileNode object) free is)
+    subst (KeepsFiles paths) (same_ok (fin.insert paths components node) new three.1.1) (λ object n. record {
+      path = n.path;
+      refers = insert_keeps paths_total paths components node n.path (FileNode object) (λ at. none-some (FileNode object) (sym free ∙ at)) n.refers;
+    })
 
 same_file : (a b : ℕ) → Some (FileNode a) ≡ Some (FileNode b) → a ≡ b
 same_file a b h = cc
@@ -222,19 +225,17 @@ added_known paths path node new known h =
     by_name q object (inl is) = known object is
     by_name q object (inr at) = (q, at)
 
--- a file that loses a name; each other one keeps its names
-abbrev KeepsOthers : PathMap → PathMap × ℕ → Type 0
-KeepsOthers paths without = (path : List (List ℕ)) (other : ℕ) → (other ≡ without.1 → ⊥) → fin.get paths path ≡ Some (FileNode other) → fin.get without.0 path ≡ Some (FileNode other)
-
-removed_keeps : (paths : PathMap) (path : List ℕ) (without : PathMap × ℕ) → removed paths path ≡ Ok without → KeepsOthers paths without
+removed_keeps : (paths : PathMap) (path : List ℕ) (without : PathMap × ℕ) → removed paths path ≡ Ok without → KeepsOthers without.1 paths without.0
 unfolding removed
 removed_keeps paths path without h =
     let one = gave (resolved paths path) _ without h in
     let components = one.0 in
     let two = gave (file_node (node_at paths components)) _ without one.1.1 in
     let its = file_there paths components two.0 (file_node_is (node_at paths components) two.0 two.1.0) in
-    subst (KeepsOthers paths) (same_ok (fin.remove paths components, two.0) without two.1.1) (λ q other apart is.
-    remove_keeps paths_total paths components q (FileNode other) (λ at. apart (same_file other two.0 (sym at ∙ its))) is)
+    subst (λ (w : PathMap × ℕ). KeepsOthers w.1 paths w.0) (same_ok (fin.remove paths components, two.0) without two.1.1) (λ other apart n. record {
+      path = n.path;
+      refers = remove_keeps paths_total paths components n.path (FileNode other) (λ at. apart (same_file other two.0 (sym at ∙ its))) n.refers;
+    })
 
 removed_known : (paths : PathMap) (path : List ℕ) (without : PathMap × ℕ) → removed paths path ≡ Ok without → NamesKnown paths without.0
 unfolding removed
@@ -244,6 +245,70 @@ removed_known paths path without h =
     let two = gave (file_node (node_at paths components)) _ without one.1.1 in
     subst (λ (w : PathMap × ℕ). NamesKnown paths w.0) (same_ok (fin.remove paths components, two.0) without two.1.1)
     (λ q object is. (q, left_is paths_total paths components q (FileNode object) is))
+
+-- a renaming by which each file keeps a name, but the one that lost it
+record Renames (paths : PathMap) (after : PathMap × Option ℕ) : Type 0 where
+  keeps : (other : ℕ) → (after.1 ≡ Some other → ⊥) → Named paths other → Named after.0 other
+  known : NamesKnown paths after.0
+
+moved_renames : (paths : PathMap) (old new : List (List ℕ)) (object : ℕ) (lost : Option ℕ) → fin.get paths old ≡ Some (FileNode object)
+    → ((other : ℕ) → (lost ≡ Some other → ⊥) → fin.get paths new ≡ Some (FileNode other) → ⊥) → Renames paths (moved paths old new object, lost)
+moved_renames paths old new object lost its apart =
+    record {
+      keeps = λ other stays n. elim (cases_eq other object) [
+        | inl own ↦ record { path = new; refers = insert_has paths_total left new (FileNode object) ∙ ap (λ (k : ℕ). Some (FileNode k)) (sym own) }
+        | inr not_own ↦ record {
+          path = n.path;
+          refers =
+              insert_keeps paths_total left new (FileNode object) n.path (FileNode other) (λ at. apart other stays (left_is paths_total paths old new (FileNode other) at))
+              (remove_keeps paths_total paths old n.path (FileNode other) (λ at. not_own (same_file other object (sym at ∙ its))) n.refers);
+        }
+      ];
+      known = λ q other is. by_name q other (inserted_is paths_total left new (FileNode object) q (FileNode other) is);
+    }
+  where
+    left : PathMap
+    left = fin.remove paths old
+
+    by_name : (q : List (List ℕ)) (other : ℕ) → (FileNode object ≡ FileNode other) ⊎ (fin.get left q ≡ Some (FileNode other))
+        → (before : List (List ℕ)) × (fin.get paths before ≡ Some (FileNode other))
+    by_name q other (inl own) = (old, its ∙ ap Some own)
+    by_name q other (inr at) = (q, left_is paths_total paths old q (FileNode other) at)
+
+replacing_renames : (paths : PathMap) (old new : List (List ℕ)) (object : ℕ) (replaced : Option ℕ) → fin.get paths old ≡ Some (FileNode object)
+    → replaced_node (node_at paths new) ≡ Ok replaced → Renames paths (replacing paths old new object replaced)
+replacing_renames paths old new object replaced its is = by_node (node_at paths new) replaced refl is
+  where
+    by_same : (other : ℕ) (same : Bool) → fin.get paths new ≡ Some (FileNode other)
+        → Renames paths (if same then (paths, None) else (moved paths old new object, Some other))
+    by_same other true at = record { keeps = λ _ _ n. n; known = λ q o there. (q, there) }
+    by_same other false at =
+        moved_renames paths old new object (Some other) its (λ o stays there. stays (ap Some (same_file other o (sym at ∙ there))))
+
+    by_node : (o : Option Node) (r : Option ℕ) → node_at paths new ≡ o → replaced_node o ≡ Ok r → Renames paths (replacing paths old new object r)
+    by_node None r at h =
+        subst (λ (r : Option ℕ). Renames paths (replacing paths old new object r)) (same_ok None r h)
+        (moved_renames paths old new object None its (λ o stays there. none-some (FileNode o) (sym (no_node paths new at) ∙ there)))
+    by_node (Some Directory) r at h = absurd (true≢false (sym (ap is_ok h)))
+    by_node (Some (FileNode other)) r at h =
+        subst (λ (r : Option ℕ). Renames paths (replacing paths old new object r)) (same_ok (Some other) r h)
+        (by_same other (other == object) (file_there paths new other at))
+
+renamed_node_is : (o : Option Node) (object : ℕ) → renamed_node o ≡ Ok object → o ≡ Some (FileNode object)
+renamed_node_is None object h = absurd (true≢false (sym (ap is_ok h)))
+renamed_node_is (Some Directory) object h = absurd (true≢false (sym (ap is_ok h)))
+renamed_node_is (Some (FileNode other)) object h = ap (λ (n : ℕ). Some (FileNode n)) (same_ok other object h)
+
+renames : (paths : PathMap) (old_path new_path : List ℕ) (after : PathMap × Option ℕ) → renamed paths old_path new_path ≡ Ok after → Renames paths after
+unfolding renamed
+renames paths old_path new_path after h =
+    let one = gave (resolved paths old_path) _ after h in
+    let two = gave (renamed_node (node_at paths one.0)) _ after one.1.1 in
+    let three = gave (resolved paths new_path) _ after two.1.1 in
+    let four = gave (replaced_node (node_at paths three.0)) _ after three.1.1 in
+    let its = file_there paths one.0 two.0 (renamed_node_is (node_at paths one.0) two.0 two.1.0) in
+    subst (Renames paths) (same_ok (replacing paths one.0 three.0 two.0 four.0) after four.1.1)
+    (replacing_renames paths one.0 three.0 two.0 four.0 its four.1.0)
 
 -- without the name of a directory, each file has the names that it had
 abbrev SameFiles : PathMap → PathMap → Type 0
@@ -258,7 +323,10 @@ removed_dir_same paths (name ∷ names) (Some Directory) new is h =
     let one = gave (refuse_if (length components == 0) EBUSY) _ new h in
     let two = gave (refuse_if (has_entries paths components) ENOTEMPTY) _ new one.1.1 in
     subst (SameFiles paths) (same_ok (fin.remove paths components) new two.1.1) (
-      (λ q object at. remove_keeps paths_total paths components q (FileNode object) (λ other. no_file object (sym is ∙ other)) at),
+      (λ object n. record {
+        path = n.path;
+        refers = remove_keeps paths_total paths components n.path (FileNode object) (λ other. no_file object (sym is ∙ other)) n.refers;
+      }),
       (λ q object at. (q, left_is paths_total paths components q (FileNode object) at)),
     )
   where
@@ -540,6 +608,15 @@ by_unlink : (s : State) (path : List ℕ) → IsTidy s → TidyBy (does_of (unli
 unfolding unlink_result
 by_unlink s path h = decides (removed s.paths path) _ (λ without is. record { it = unused_tidy (with_paths s without.0) without.1 (unnamed_tidy s without.0 without.1 (removed_keeps s.paths path without is) (removed_known s.paths path without is) h) })
 
+by_rename : (s : State) (old_path new_path : List ℕ) → IsTidy s → TidyBy (does_of (rename_result s old_path new_path))
+unfolding rename_result
+by_rename s old_path new_path h = decides (renamed s.paths old_path new_path) _ (λ after is. by_lost after.0 after.1 (renames s.paths old_path new_path after is))
+  where
+    by_lost : (paths : PathMap) (lost : Option ℕ) → Renames s.paths (paths, lost) → TidyBy (does_of (Ok (unnamed (with_paths s paths) lost)))
+    by_lost paths None r = record { it = paths_tidy s paths (λ other n. r.keeps other (λ is. none-some other is) n) r.known h }
+    by_lost paths (Some object) r =
+        record { it = unused_tidy (with_paths s paths) object (unnamed_tidy s paths object (λ other apart n. r.keeps other (λ is. apart (sym (same_Some object other is))) n) r.known h) }
+
 by_mkdir : (s : State) (path : List ℕ) → IsTidy s → TidyBy (does_of (mkdir_result s path))
 unfolding mkdir_result
 by_mkdir s path h = decides (added s.paths path Directory) _ (λ paths is. record { it = paths_tidy s paths (added_keeps s.paths path Directory paths is) (added_known s.paths path Directory paths (λ object e. cc) is) h })
@@ -621,6 +698,7 @@ by_call s (call.Getfl descriptor) carried h = by_getfl s descriptor h
 by_call s (call.Setfl descriptor append nonblock) carried h = by_setfl s descriptor append nonblock h
 by_call s (call.Link old_path new_path) carried h = by_link s old_path new_path h
 by_call s (call.Unlink path) carried h = by_unlink s path h
+by_call s (call.Rename old_path new_path) carried h = by_rename s old_path new_path h
 by_call s (call.Mkdir path) carried h = by_mkdir s path h
 by_call s (call.Rmdir path) carried h = by_rmdir s path h
 by_call s call.Pipe carried h = by_pipe s h

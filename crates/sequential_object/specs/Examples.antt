@@ -110,6 +110,28 @@ directory_refusals =
     ∷ (call.Open [] access.ReadOnly plainly, reply.Fail ENOENT)
     ∷ []
 
+-- a file takes the name of another, which stays while it is open; two names of one file both stay
+abbrev pub renamed_files : List (Call × Reply)
+renamed_files =
+    (call.Open (codes "/a") access.ReadWrite creating, reply.Number (pos 0))
+    ∷ (call.Write (pos 0) (codes "aa"), reply.Count 2)
+    ∷ (call.Open (codes "/b") access.ReadWrite creating, reply.Number (pos 1))
+    ∷ (call.Write (pos 1) (codes "b"), reply.Count 1)
+    ∷ (call.Rename (codes "/a") (codes "/b"), reply.Done)
+    ∷ (call.Fstat (pos 1), reply.Stat kind.File 1 0)
+    ∷ (call.Pread (pos 1) (pos 1) (pos 0), reply.Data (codes "b"))
+    ∷ (call.Open (codes "/a") access.ReadOnly plainly, reply.Fail ENOENT)
+    ∷ (call.Open (codes "/b") access.ReadOnly plainly, reply.Number (pos 2))
+    ∷ (call.Read (pos 2) (pos 9), reply.Data (codes "aa"))
+    ∷ (call.Link (codes "/b") (codes "/c"), reply.Done)
+    ∷ (call.Rename (codes "/b") (codes "/c"), reply.Done)
+    ∷ (call.Fstat (pos 0), reply.Stat kind.File 2 2)
+    ∷ (call.Mkdir (codes "/d"), reply.Done)
+    ∷ (call.Rename (codes "/d") (codes "/e"), reply.Fail EINVAL)
+    ∷ (call.Rename (codes "/c") (codes "/d"), reply.Fail EISDIR)
+    ∷ (call.Rename (codes "/x") (codes "/c"), reply.Fail ENOENT)
+    ∷ []
+
 -- `pwrite` goes to its position with O_APPEND too
 abbrev pub positioned_write_and_truncate : List (Call × Reply)
 positioned_write_and_truncate =
@@ -216,6 +238,16 @@ replaced_last =
     ∷ (call.Unlink (codes "/a"), reply.Done)
     ∷ (call.Open (codes "/b") access.ReadWrite creating, reply.Number (pos 1))
     ∷ (call.Dup2 (pos 1) (pos 0), reply.Number (pos 0))
+    ∷ []
+
+-- a file is closed, and then another takes its name
+abbrev pub renamed_last : List (Call × Reply)
+renamed_last =
+    (call.Open (codes "/a") access.ReadWrite creating, reply.Number (pos 0))
+    ∷ (call.Close (pos 0), reply.Done)
+    ∷ (call.Open (codes "/b") access.ReadWrite creating, reply.Number (pos 0))
+    ∷ (call.Close (pos 0), reply.Done)
+    ∷ (call.Rename (codes "/a") (codes "/b"), reply.Done)
     ∷ []
 
 -- a file has two names, and one of them is unlinked

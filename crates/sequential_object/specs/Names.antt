@@ -1,6 +1,6 @@
 -- Believed: a contract of the headline stands on it.
 -- What paths name, and the calls that change it.
--- POSIX.1-2017, System Interfaces: `link`, `unlink`, `mkdir`, `rmdir`.
+-- POSIX.1-2017, System Interfaces: `link`, `unlink`, `rename`, `mkdir`, `rmdir`.
 use Rattle.std.specs.Prelude.{ℕ, List, length, take, Bool, ◌&&◌, ◌||◌, ◌==◌, nat_lt, nat_le, nat_eq, Result, Ok, Err, Option, Some, None, is_some, if◌then◌else◌, count_by}
 use Rattle.std.specs.Cmp.Lexicographic.{pointwise}
 use Rattle.std.specs.FinMap as map
@@ -12,7 +12,7 @@ use Rattle.sequential_object.specs.Object.{State, Node, FileNode, Directory, pat
 use Rattle.sequential_object.specs.Paths.{node_at, resolved}
 use Rattle.sequential_object.specs.Refusals.{◌>>=◌, refuse_if}
 use Rattle.posix_terms.specs.declared.errno.Errno.{Errno}
-use Rattle.posix_terms.specs.declared.errno.Errno.TheVariants.{ENOENT, EEXIST, ENOTDIR, ENOTEMPTY, EPERM, ENOSPC, EBUSY}
+use Rattle.posix_terms.specs.declared.errno.Errno.TheVariants.{ENOENT, EEXIST, ENOTDIR, EISDIR, EINVAL, ENOTEMPTY, EPERM, ENOSPC, EBUSY}
 use Rattle.posix_terms.specs.declared.limits.TheConstants.Limits as limit
 use Rattle.posix_terms.specs.declared.reply.Reply.TheVariants as reply
 
@@ -51,6 +51,36 @@ removed paths path = do
   object ← file_node (node_at paths components)
   Ok (map.remove paths components, object)
 
+-- the file to rename; a directory keeps its name
+abbrev pub renamed_node : Option Node → Result ℕ Errno
+renamed_node None = Err ENOENT
+renamed_node (Some Directory) = Err EINVAL
+renamed_node (Some (FileNode object)) = Ok object
+
+-- the file that has the new name, if one has it; a directory keeps that too
+abbrev pub replaced_node : Option Node → Result (Option ℕ) Errno
+replaced_node None = Ok None
+replaced_node (Some Directory) = Err EISDIR
+replaced_node (Some (FileNode object)) = Ok (Some object)
+
+-- a file with its new name in the place of the old one
+abbrev pub moved : PathMap → List (List ℕ) → List (List ℕ) → ℕ → PathMap
+moved paths old new object = map.insert (map.remove paths old) new (FileNode object)
+
+-- that, and the file that loses its name to it; two names of one file both stay
+abbrev pub replacing : PathMap → List (List ℕ) → List (List ℕ) → ℕ → Option ℕ → PathMap × Option ℕ
+replacing paths old new object None = (moved paths old new object, None)
+replacing paths old new object (Some other) = if other == object then (paths, None) else (moved paths old new object, Some other)
+
+-- with the new name of a file, and the file that lost it
+unfoldable pub renamed : PathMap → List ℕ → List ℕ → Result (PathMap × Option ℕ) Errno
+renamed paths old_path new_path = do
+  old ← resolved paths old_path
+  object ← renamed_node (node_at paths old)
+  new ← resolved paths new_path
+  replaced ← replaced_node (node_at paths new)
+  Ok (replacing paths old new object replaced)
+
 -- a path that leads on from a directory
 abbrev pub is_inside : List (List ℕ) → List (List ℕ) → Bool
 is_inside directory path = nat_lt (length directory) (length path) && pointwise (pointwise nat_eq) directory (take (length directory) path)
@@ -87,15 +117,22 @@ link_result s old_path new_path = do
 abbrev pub unnamed_object : State → ℕ → Option ℕ
 unnamed_object s object = if has_description s object || has_path s object then None else Some object
 
--- `unlink`: the file ends with its last name, if no description refers to it
+-- the call took a name of this file, or of none: the file ends with its last name, if no description refers to it
+abbrev pub unnamed : State → Option ℕ → Decision
+unnamed s None = alone s reply.Done
+unnamed s (Some object) = record { locks = unnamed_object s object; does = Ok (Completes (without_unused s object) reply.Done) }
+
+-- `unlink`
 unfoldable pub unlink_result : State → List ℕ → Result Decision Errno
 unlink_result s path = do
   without ← removed s.paths path
-  let unnamed = with_paths s without.0 in
-      Ok (record {
-        locks = unnamed_object unnamed without.1;
-        does = Ok (Completes (without_unused unnamed without.1) reply.Done);
-      })
+  Ok (unnamed (with_paths s without.0) (Some without.1))
+
+-- `rename` of a file
+unfoldable pub rename_result : State → List ℕ → List ℕ → Result Decision Errno
+rename_result s old_path new_path = do
+  after ← renamed s.paths old_path new_path
+  Ok (unnamed (with_paths s after.0) after.1)
 
 -- `mkdir`
 unfoldable pub mkdir_result : State → List ℕ → Result Decision Errno

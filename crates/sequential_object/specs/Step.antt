@@ -5,7 +5,7 @@ use Rattle.sequential_object.specs.Descriptors.{open_result, close_result}
 use Rattle.sequential_object.specs.Duplicates.{dup_result, dup_from_result, dup2_result}
 use Rattle.sequential_object.specs.Doors.{host_open_result, tcp_accept_result, tcp_connect_result, tcp_listen_result}
 use Rattle.sequential_object.specs.Effects.{Decision, Effect, Asking, Asks, Blocks, Completes, does_of}
-use Rattle.sequential_object.specs.Names.{link_result, unlink_result, mkdir_result, rmdir_result}
+use Rattle.sequential_object.specs.Names.{link_result, unlink_result, rename_result, mkdir_result, rmdir_result}
 use Rattle.sequential_object.specs.Object.{State}
 use Rattle.sequential_object.specs.Sockets.{pipe_result, socketpair_result, shutdown_result}
 use Rattle.sequential_object.specs.Status.{fstat_result, getfl_result, setfl_result}
@@ -45,6 +45,7 @@ decided s (call.Getfl descriptor) carried = getfl_result s descriptor
 decided s (call.Setfl descriptor append nonblock) carried = setfl_result s descriptor append nonblock
 decided s (call.Link old_path new_path) carried = link_result s old_path new_path
 decided s (call.Unlink path) carried = unlink_result s path
+decided s (call.Rename old_path new_path) carried = rename_result s old_path new_path
 decided s (call.Mkdir path) carried = mkdir_result s path
 decided s (call.Rmdir path) carried = rmdir_result s path
 decided s call.Pipe carried = pipe_result s

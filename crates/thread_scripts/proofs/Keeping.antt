@@ -178,6 +178,7 @@ calls_keep kind.Getfl operands = mapped anything call_keeps call.Getfl (λ o _. 
 calls_keep kind.Setfl operands = then_reads anything call_keeps (number_and_flags operands) (λ o. status_flags o.1 >>= λ f. Some (call.Setfl o.0 f.append f.nonblock)) (any (number_and_flags operands)) (λ o _. of_any call_keeps (λ f. call.Setfl o.0 f.append f.nonblock) (λ f. refl) (status_flags o.1))
 calls_keep kind.Link operands = mapped are_paths call_keeps (λ o. call.Link o.0 o.1) (λ o e. e) (two_paths operands) (two_paths_read operands)
 calls_keep kind.Unlink operands = mapped is_path call_keeps call.Unlink (λ o e. e) (one_path operands) (one_path_reads operands)
+calls_keep kind.Rename operands = mapped are_paths call_keeps (λ o. call.Rename o.0 o.1) (λ o e. e) (two_paths operands) (two_paths_read operands)
 calls_keep kind.Mkdir operands = mapped is_path call_keeps call.Mkdir (λ o e. e) (one_path operands) (one_path_reads operands)
 calls_keep kind.Rmdir operands = mapped is_path call_keeps call.Rmdir (λ o e. e) (one_path operands) (one_path_reads operands)
 calls_keep kind.Pipe [] = refl

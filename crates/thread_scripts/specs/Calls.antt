@@ -41,7 +41,7 @@ data_operand word = register_or_bytes (byte_register_of word) (bytes_of word)
 -- all calls
 abbrev pub kinds : List CallKind
 kinds =
-    kind.Open ∷ kind.Close ∷ kind.Read ∷ kind.Write ∷ kind.Pread ∷ kind.Pwrite ∷ kind.Lseek ∷ kind.Ftruncate ∷ kind.Fstat ∷ kind.Dup ∷ kind.DupFrom ∷ kind.Dup2 ∷ kind.Getfl ∷ kind.Setfl ∷ kind.Link ∷ kind.Unlink ∷ kind.Mkdir ∷ kind.Rmdir ∷ kind.Pipe ∷ kind.Socketpair ∷ kind.Shutdown ∷ kind.HostOpen ∷ kind.TcpListen ∷ kind.TcpConnect ∷ kind.TcpAccept ∷ []
+    kind.Open ∷ kind.Close ∷ kind.Read ∷ kind.Write ∷ kind.Pread ∷ kind.Pwrite ∷ kind.Lseek ∷ kind.Ftruncate ∷ kind.Fstat ∷ kind.Dup ∷ kind.DupFrom ∷ kind.Dup2 ∷ kind.Getfl ∷ kind.Setfl ∷ kind.Link ∷ kind.Unlink ∷ kind.Rename ∷ kind.Mkdir ∷ kind.Rmdir ∷ kind.Pipe ∷ kind.Socketpair ∷ kind.Shutdown ∷ kind.HostOpen ∷ kind.TcpListen ∷ kind.TcpConnect ∷ kind.TcpAccept ∷ []
 
 -- the first call of these that a word names
 abbrev pub kind_among : List CallKind → List ℕ → Option CallKind
@@ -169,6 +169,7 @@ call_line kind.Setfl operands = do
   Some (call.Setfl o.0 f.append f.nonblock)
 call_line kind.Link operands = option_map (λ o. call.Link o.0 o.1) (two_paths operands)
 call_line kind.Unlink operands = option_map call.Unlink (one_path operands)
+call_line kind.Rename operands = option_map (λ o. call.Rename o.0 o.1) (two_paths operands)
 call_line kind.Mkdir operands = option_map call.Mkdir (one_path operands)
 call_line kind.Rmdir operands = option_map call.Rmdir (one_path operands)
 call_line kind.Pipe operands = without_operands call.Pipe operands

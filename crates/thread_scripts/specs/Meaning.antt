@@ -80,6 +80,7 @@ call_of s (call.Getfl descriptor) = call.Getfl (number_value s descriptor)
 call_of s (call.Setfl descriptor append nonblock) = call.Setfl (number_value s descriptor) append nonblock
 call_of s (call.Link old_path new_path) = call.Link old_path new_path
 call_of s (call.Unlink path) = call.Unlink path
+call_of s (call.Rename old_path new_path) = call.Rename old_path new_path
 call_of s (call.Mkdir path) = call.Mkdir path
 call_of s (call.Rmdir path) = call.Rmdir path
 call_of s call.Pipe = call.Pipe

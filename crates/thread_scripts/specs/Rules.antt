@@ -43,6 +43,7 @@ call_keeps (call.Write descriptor bytes) = is_short bytes
 call_keeps (call.Pwrite descriptor bytes position) = is_short bytes
 call_keeps (call.Link old_path new_path) = is_path old_path && is_path new_path
 call_keeps (call.Unlink path) = is_path path
+call_keeps (call.Rename old_path new_path) = is_path old_path && is_path new_path
 call_keeps (call.Mkdir path) = is_path path
 call_keeps (call.Rmdir path) = is_path path
 call_keeps (call.HostOpen path access flags) = is_path path && not (flags.exclusive || flags.nonblock)

@@ -302,6 +302,10 @@ pub(crate) fn read_call(
             let path = one_path(alloc, operands)?;
             Call::Unlink { path }
         }
+        CallKind::Rename => {
+            let (old_path, new_path) = two_paths(alloc, operands)?;
+            Call::Rename { old_path, new_path }
+        }
         CallKind::Mkdir => {
             let path = one_path(alloc, operands)?;
             Call::Mkdir { path }

@@ -48,7 +48,9 @@ fn call_keeps(line: &CallLine) -> bool
 {
     match line {
         Call::Write { bytes, .. } | Call::Pwrite { bytes, .. } => is_short(bytes),
-        Call::Link { old_path, new_path } => is_path(old_path) && is_path(new_path),
+        Call::Link { old_path, new_path } | Call::Rename { old_path, new_path } => {
+            is_path(old_path) && is_path(new_path)
+        }
         Call::Open { path, .. }
         | Call::Unlink { path }
         | Call::Mkdir { path }

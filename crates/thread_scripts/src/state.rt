@@ -156,6 +156,10 @@ impl ScriptState {
             Call::Unlink { path } => Call::Unlink {
                 path: path.try_clone()?,
             },
+            Call::Rename { old_path, new_path } => Call::Rename {
+                old_path: old_path.try_clone()?,
+                new_path: new_path.try_clone()?,
+            },
             Call::Mkdir { path } => Call::Mkdir {
                 path: path.try_clone()?,
             },

@@ -8,16 +8,16 @@ use Rattle.sequential_object.specs.Names.{PathMap}
 use Rattle.directories.proofs.NameLemmas.{names_of-remove, names_of-remove_none}
 use Rattle.directories.proofs.names.Names.remove_entry.Goals as goal
 
-pub returns-in-Some : goal.returns-in-Some
-returns-in-Some c =
+pub returns-in-Some-clause-removed : goal.returns-in-Some-clause-removed
+returns-in-Some-clause-removed c =
     let path = components_of c.args.path.now in
     let items = c.self.inside.entries.items in
     let all : take c.args.count path ≡ path = rw c.requires (take_all (length path) path (omega arith)) in
     let at : IsAt items c.in-Some.at path = rw (c.as_slice.ensures.value, all) at c.in-Some.ensures.found in
     ap names_of c.remove.ensures.items ∙ names_of-remove items c.in-Some.at path c.self.invariant at ∙ ap (λ (m : PathMap). fin.remove m path) c.self.view_is
 
-pub returns-in-None : goal.returns-in-None
-returns-in-None c =
+pub returns-in-None-clause-removed : goal.returns-in-None-clause-removed
+returns-in-None-clause-removed c =
     let path = components_of c.args.path.now in
     let items = c.self.inside.entries.items in
     let all : take c.args.count path ≡ path = rw c.requires (take_all (length path) path (omega arith)) in
