@@ -79,6 +79,7 @@ class Chance:
             "setfl": lambda: f"setfl {number}{self.flags('append', 'nonblock')}",
             "link": lambda: f"link {self.path()} {self.path()}",
             "unlink": lambda: f"unlink {self.path()}",
+            "rename": lambda: f"rename {self.path()} {self.path()}",
             "mkdir": lambda: f"mkdir {self.one('/d', '/d/e', self.path())}",
             "rmdir": lambda: f"rmdir {self.one('/d', '/d/e', self.path())}",
             "pipe": lambda: "pipe",
@@ -91,8 +92,8 @@ class Chance:
 
 
 IN_MEMORY = {"open": 10, "close": 6, "read": 14, "write": 14, "pread": 4, "pwrite": 4, "lseek": 5, "ftruncate": 3, "fstat": 3, "dup": 3,
-             "dup_from": 2, "dup2": 3, "getfl": 2, "setfl": 3, "link": 3, "unlink": 4, "mkdir": 4, "rmdir": 3, "pipe": 3, "socketpair": 3,
-             "shutdown": 2}
+             "dup_from": 2, "dup2": 3, "getfl": 2, "setfl": 3, "link": 3, "unlink": 4, "rename": 4, "mkdir": 4, "rmdir": 3, "pipe": 3,
+             "socketpair": 3, "shutdown": 2}
 WITH_DOORS = {**IN_MEMORY, "host_open": 10, "tcp_listen": 1, "tcp_connect": 1, "tcp_accept": 1}
 
 
