@@ -21,7 +21,7 @@ use Rattle.sequential_object.specs.Refusals.{◌>>=◌, refuse_if, some_or}
 use Rattle.sequential_object.specs.Sockets as sockets
 use Rattle.sequential_object.specs.Sockets.{NewEnd, pipe_result, socketpair_result}
 use Rattle.sequential_object.specs.Status.{setfl_result, with_flags}
-use Rattle.sequential_object.specs.Step.{Carried, FailChangesNothing, Stepped, asks, nothing_carried, closes_door, concluded, decided, effect_of, outside, request_of, step}
+use Rattle.sequential_object.specs.Step.{Carried, FailChangesNothing, Stepped, asks, closes_door, concluded, decided, effect_of, outside, request_of, step, held_up, nothing_moved}
 use Rattle.sequential_object.specs.Streams.{new_pair}
 use Rattle.posix_terms.specs.Calls.{Call}
 use Rattle.posix_terms.specs.declared.call.Access.{Access}
@@ -644,7 +644,7 @@ module _ (t : TableState) (s : State) (settings : Settings) (outcome made_with :
           same_shown u t _ (over_failed (λ (x : Stepped). Shows t x.after) settings s carried (asking_of s o n) e (waited_shown t settings s carried shows) shows) is
       opened_so n node free next None u is = same_shown u t s shows is
 
-      by_patience : (b : Bool) → numbers.None ≡ numbers_told c (let x : Stepped = if b then record { after = s; answer = answer.Again; carried = record { turns = carried.turns + 1 } } else record { after = s; answer = answer.Reply (reply.Fail EINTR); carried = nothing_carried } in x.answer)
+      by_patience : (b : Bool) → numbers.None ≡ numbers_told c (let x : Stepped = held_up b s nothing_moved carried in x.answer)
       by_patience true = none
       by_patience false = none_told c EINTR
 
@@ -716,8 +716,8 @@ module _ (t : TableState) (s : State) (settings : Settings) (outcome made_with :
 -- what has to wait, or goes outside, is not answered by the table
 concluded_agrees : (t : TableState) (settings : Settings) (s : State) (c : Call) (outcome : Option Outcome) (carried : Carried) (p : Plan) (object : Option ℕ) (does : Result Effect Errno) → AgreesOn t c p object (request_of c does) (answer_of does) → AgreesOn t c p object (request_of c does) (concluded settings s outcome carried does).answer
 concluded_agrees t settings s c outcome carried p object (Ok (Completes after r)) agrees = agrees
-concluded_agrees t settings s c outcome carried (plan.Reply r) object (Ok Blocks) agrees = let never : answer.Again ≡ answer.Reply r = agrees.1.1 in cc
-concluded_agrees t settings s c outcome carried (plan.Node node act keep_table) object (Ok Blocks) agrees = agrees
+concluded_agrees t settings s c outcome carried (plan.Reply r) object (Ok (Blocks after moved)) agrees = let never : answer.Again ≡ answer.Reply r = agrees.1.1 in cc
+concluded_agrees t settings s c outcome carried (plan.Node node act keep_table) object (Ok (Blocks after moved)) agrees = agrees
 concluded_agrees t settings s c outcome carried (plan.Reply r) object (Ok (Asks asking)) agrees = let never : answer.Again ≡ answer.Reply r = agrees.1.1 in cc
 concluded_agrees t settings s c outcome carried (plan.Node node act keep_table) object (Ok (Asks asking)) agrees = agrees
 concluded_agrees t settings s c outcome carried p object (Err e) agrees = agrees

@@ -2,7 +2,7 @@
 use Rattle.std.proofs.Common.{arith, ◌≡◌, Option, Result, Ok, Err, refl, sym, subst, ℕ, ◌&&◌, List, Some, None, Bool, true, false, if◌then◌else◌, ap}
 use Rattle.sequential_object.specs.Effects.{Asking, Decision, alone, does_of, locks_of}
 use Rattle.sequential_object.specs.Object.{State, Content, content_of}
-use Rattle.sequential_object.specs.Step.{Carried, Stepped, concluded, request_of, failed, is_again, outside, step, waited}
+use Rattle.sequential_object.specs.Step.{Carried, Stepped, concluded, request_of, failed, is_again, outside, step, waited, nothing_moved}
 use Rattle.posix_terms.specs.Calls.{Call}
 use Rattle.posix_terms.specs.declared.errno.Errno.{Errno}
 use Rattle.posix_terms.specs.declared.outcome.Outcome.{Outcome}
@@ -51,13 +51,13 @@ module _ (t : TableState) (s : State) (settings : Settings) (carried : Carried) 
   -- what waits leaves all as it was
   pub waited_as : (node : ℕ) (act : Op) (content : Content) (offset : ℕ) → content_of s (birth_at t node) ≡ content
       → StandsAt t s act offset
-      → IsActed t node act (record { ending = None; content = content; offset = offset }) (ended settings s carried None) (waited settings s carried)
+      → IsActed t node act (record { ending = None; content = content; offset = offset }) (ended settings s carried None) (waited settings s nothing_moved carried)
   waited_as node act content offset is stands = record {
     answer_is = refl;
     carried_is = refl;
     content_is =
-        subst (λ (a : State). Holds a (birth_at t node) content) (sym (waited_after settings s carried)) (same_content s (birth_at t node) content is);
-    offset_is = subst (λ (a : State). StandsAt t a act offset) (sym (waited_after settings s carried)) stands;
+        subst (λ (a : State). Holds a (birth_at t node) content) (sym (waited_after settings s nothing_moved carried)) (same_content s (birth_at t node) content is);
+    offset_is = subst (λ (a : State). StandsAt t a act offset) (sym (waited_after settings s nothing_moved carried)) stands;
   }
 
   -- what goes outside
@@ -78,7 +78,7 @@ module _ (t : TableState) (s : State) (settings : Settings) (carried : Carried) 
       by_waiting : (b : Bool) → let ending = if b then None else Some (reply.Fail e) in
           IsActed t node (op.Ask (record { kind = a.kind; asked = a.asked; waits = a.waits; door = door }))
           (record { ending = ending; content = content; offset = offset }) (ended settings s carried ending)
-          (if b then waited settings s carried else failed a.otherwise e)
+          (if b then waited settings s nothing_moved carried else failed a.otherwise e)
       by_waiting true = waited_as node _ content offset is tt
       by_waiting false = record { answer_is = refl; carried_is = refl; content_is = holds; offset_is = tt }
   outside_as c node a door content offset is holds told held None =

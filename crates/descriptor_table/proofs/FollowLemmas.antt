@@ -5,7 +5,7 @@ use Rattle.std.proofs.lemmas.Bool.Decides.{nat_tests}
 use Rattle.std.proofs.lemmas.Option.{same_Some}
 use Rattle.std.specs.FinMap as fin
 use Rattle.std.specs.Option.{option_map}
-use Rattle.std.specs.Prelude.{ℤ, pos, negsuc, nat_lt, slice_index_or}
+use Rattle.std.specs.Prelude.{ℤ, ◌+◌, pos, negsuc, nat_lt, slice_index_or}
 use Rattle.sequential_object.specs.Descriptors as posix
 use Rattle.sequential_object.specs.Duplicates as duplicates
 use Rattle.sequential_object.specs.Effects.{Asking}
@@ -13,7 +13,7 @@ use Rattle.std.specs.FinMap.{FinMap}
 use Rattle.std.specs.Ordering.{nat_cmp}
 use Rattle.sequential_object.specs.Object.{State, Content, File, content_of}
 use Rattle.sequential_object.specs.Object as object
-use Rattle.sequential_object.specs.Step.{Carried, failed, is_again, waited, Stepped, outside}
+use Rattle.sequential_object.specs.Step.{Carried, Moved, held_up, failed, is_again, waited, Stepped, outside, nothing_moved}
 use Rattle.posix_terms.specs.declared.errno.Errno.{Errno}
 use Rattle.posix_terms.specs.declared.object.End.TheVariants as part
 use Rattle.posix_terms.specs.declared.outcome.Outcome.TheVariants as came
@@ -32,17 +32,22 @@ use Rattle.descriptor_table.specs.Changes.{closed, let_go, shared}
 use Rattle.descriptor_table.specs.Shows.{Shows, birth_at, birth_of, is_of, shown}
 use Rattle.descriptor_table.specs.Table.{TableState, IsSound, is_used, key_at}
 
--- a call that has to wait leaves the state as it was
-pub waited_after : (settings : Settings) (s : State) (carried : Carried) → (waited settings s carried).after ≡ s
-waited_after settings s carried = grind arith
+-- a call that waits, or gives up, leaves what its turn left
+pub waited_after : (settings : Settings) (after : State) (moved : Moved) (carried : Carried)
+    → (waited settings after moved carried).after ≡ after
+waited_after settings after moved carried = by_patience (nat_lt (carried.turns + 1) settings.patience)
+  where
+    by_patience : (b : Bool) → (held_up b after moved carried).after ≡ after
+    by_patience true = refl
+    by_patience false = refl
 
 pub waited_shown : (t : TableState) (settings : Settings) (s : State) (carried : Carried) → Shows t s
-    → Shows t (waited settings s carried).after
-waited_shown t settings s carried shows = subst (Shows t) (sym (waited_after settings s carried)) shows
+    → Shows t (waited settings s nothing_moved carried).after
+waited_shown t settings s carried shows = subst (Shows t) (sym (waited_after settings s nothing_moved carried)) shows
 
 -- what is refused outside has to wait, or is told
 pub over_failed : (P : Stepped → Type 0) (settings : Settings) (s : State) (carried : Carried) (a : Asking) (e : Errno)
-    → P (waited settings s carried) → P (failed a.otherwise e) → P (outside settings s a (Some (came.Fail e)) carried)
+    → P (waited settings s nothing_moved carried) → P (failed a.otherwise e) → P (outside settings s a (Some (came.Fail e)) carried)
 over_failed P settings s carried a e later told = cond_both (a.waits && is_again e) _ _ P (λ again. later) (λ never. told)
 
 pub within : (n : ℕ) → n < 32 → nat_lt n 32 ≡ true

@@ -16,7 +16,7 @@ use Rattle.sequential_object.specs.Object.{State, Content, File, DoorTo, Node, w
 use Rattle.sequential_object.specs.Object as object
 use Rattle.sequential_object.specs.Status.{with_flags}
 use Rattle.sequential_object.specs.Sockets.{NewEnd}
-use Rattle.sequential_object.specs.Step.{Carried, concluded, waited, Stepped}
+use Rattle.sequential_object.specs.Step.{Carried, concluded, waited, Stepped, nothing_moved}
 use Rattle.posix_terms.specs.declared.call.Access.{Access}
 use Rattle.posix_terms.specs.declared.call.OpenFlags.{OpenFlags}
 use Rattle.posix_terms.specs.declared.errno.Errno.{Errno}
@@ -96,7 +96,7 @@ fewer_paths s paths = record { contents = λ birth content at. at; offsets = λ 
 -- what a call leaves alone, beside its plan
 abbrev pub Others : TableState → State → Plan → Result Effect Errno → Type 0
 Others t s p (Ok (Completes after r)) = OthersStay t p s after
-Others t s p (Ok Blocks) = Unit {0}
+Others t s p (Ok (Blocks after moved)) = OthersStay t p s after
 Others t s p (Ok (Asks asking)) = ((value : ℕ) (bytes : List ℕ) → OthersStay t p s (asking.succeeds value bytes).0) × OthersStay t p s asking.otherwise
 Others t s p (Err e) = Unit {0}
 
@@ -205,12 +205,13 @@ module _ (t : TableState) (s : State) where
     others_nothing (plan.Node node (op.Ask errand) true),
   )
 
-pub waited_others : (t : TableState) (s : State) (settings : Settings) (carried : Carried) (p : Plan) → OthersStay t p s (waited settings s carried).after
-waited_others t s settings carried p = subst (OthersStay t p s) (sym (waited_after settings s carried)) (fewer_others t p s s (fewer_same s))
+pub waited_others : (t : TableState) (s : State) (settings : Settings) (carried : Carried) (p : Plan) → OthersStay t p s (waited settings s nothing_moved carried).after
+waited_others t s settings carried p = subst (OthersStay t p s) (sym (waited_after settings s nothing_moved carried)) (fewer_others t p s s (fewer_same s))
 
 pub concluded_others : (t : TableState) (s : State) (settings : Settings) (outcome : Option Outcome) (carried : Carried) (p : Plan) (does : Result Effect Errno) → Others t s p does → OthersStay t p s (concluded settings s outcome carried does).after
 concluded_others t s settings outcome carried p (Ok (Completes after r)) others = others
-concluded_others t s settings outcome carried p (Ok Blocks) others = waited_others t s settings carried p
+concluded_others t s settings outcome carried p (Ok (Blocks after moved)) others =
+    subst (OthersStay t p s) (sym (waited_after settings after moved carried)) others
 concluded_others t s settings (Some (outcomes.Ok value bytes)) carried p (Ok (Asks asking)) others = others.0 value bytes
 concluded_others t s settings (Some (outcomes.Fail e)) carried p (Ok (Asks asking)) others =
     over_failed (λ (x : Stepped). OthersStay t p s x.after) settings s carried asking e (waited_others t s settings carried p) others.1

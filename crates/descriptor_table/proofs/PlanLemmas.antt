@@ -46,7 +46,7 @@ use Rattle.descriptor_table.specs.declared.plan.Plan.TheVariants as plan
 -- the answer, if it is one that the table can give
 abbrev pub answer_of : Result Effect Errno → Answer
 answer_of (Ok (Completes after r)) = answer.Reply r
-answer_of (Ok Blocks) = answer.Again
+answer_of (Ok (Blocks after moved)) = answer.Again
 answer_of (Ok (Asks asking)) = answer.Again
 answer_of (Err e) = answer.Reply (reply.Fail e)
 

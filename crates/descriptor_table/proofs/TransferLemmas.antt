@@ -7,7 +7,7 @@ use Rattle.std.specs.Prelude.{ℤ, ◌+ℤ◌, pos, nat_lt}
 use Rattle.posix_terms.specs.Calls.{Call, can_read, can_write}
 use Rattle.posix_terms.specs.Ends.{is_end, peer_of, side_of}
 use Rattle.sequential_object.specs.Descriptors as posix
-use Rattle.sequential_object.specs.Effects.{Asking, Decision, Effect, Blocks, Completes, alone, asks_of, locking}
+use Rattle.sequential_object.specs.Effects.{Asking, Decision, Effect, Blocks, Completes, alone, asks_of, locking, nothing_moved}
 use Rattle.sequential_object.specs.Files.{bytes_at, resized, written}
 use Rattle.sequential_object.specs.Locked.{keeps_table}
 use Rattle.sequential_object.specs.Names.{links_of}
@@ -137,12 +137,12 @@ module _ (t : TableState) (s : State) (settings : Settings) (outcome made_with :
   stops : {c : Call} {node : ℕ} {act : Op} {content : Content} {offset : ℕ} (b : Bool) → None ≡ agreement.request_of c act
       → content_of s (birth_at t node) ≡ content → StandsAt t s act offset
       → Under c node act (record { ending = if b then Some (reply.Fail EAGAIN) else None; content = content; offset = offset })
-      (if b then Err EAGAIN else Ok Blocks)
+      (if b then Err EAGAIN else Ok (Blocks s nothing_moved))
   stops true inside is stands = refuses inside is stands
   stops {c} {node} {act} {content} {offset} false inside is stands = record {
     asks = inside;
     acts = waited_as t s settings carried node act content offset is stands;
-    others = tt;
+    others = fewer_others t (locks node act) s s (fewer_same s);
     shown = waited_shown t settings s carried shows;
   }
 
@@ -352,7 +352,7 @@ module _ (t : TableState) (s : State) (settings : Settings) (outcome made_with :
       rw (← offset_is_at key d offset got there o stands) (by_length file is (length bytes == 0))))
       (λ waiting is. over_zero (reply.Count 0) (length bytes == 0) refl (under offset stands is (λ a. refl) refl (λ o stands.
       rw (open_at key d offset got there part.Read (ap (is_of part.Read) is))
-      (by_writing o (λ left. Pipe left) (Pipe waiting) (pipe_write waiting bytes (is_open t d.node part.Read)) is
+      (by_writing o (λ left. Pipe left) (Pipe waiting) (pipe_write waiting bytes true (is_open t d.node part.Read)) is
       (λ left. alike_pipe (held d) left waiting is) stands))))
       (λ p is. over_zero (reply.Count 0) (length bytes == 0) refl (under offset stands is (λ a. refl) refl (λ o stands.
       rw (open_at key d offset got there peer (ap (is_of peer) is))

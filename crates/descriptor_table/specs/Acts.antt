@@ -1,13 +1,15 @@
 -- Believed: a contract of the headline stands on it.
 -- What an act does with the object that is locked for it.
-use Rattle.std.specs.Prelude.{◌≡◌, ◌≢◌, ◌⊎◌, ◌≤◌, ℕ, ◌+◌, Bool, not, pos, ◌+ℤ◌, ◌&&◌, List, [], length, ◌==◌, Option, Some, None, Result, Ok, Err, if◌then◌else◌}
+use Rattle.std.specs.Prelude.{◌≡◌, ◌≢◌, ◌⊎◌, ◌≤◌, ◌==◌, ℕ, ◌+◌, pos, ◌+ℤ◌, List, [], length}
+use Rattle.std.specs.Prelude.{Bool, true, not, ◌&&◌, Option, Some, None, Result, Ok, Err, if◌then◌else◌}
 use Rattle.std.specs.Option.{option_map}
 use Rattle.std.specs.FinMap as map
 use Rattle.sequential_object.specs.Files.{bytes_at, resized, written}
 use Rattle.sequential_object.specs.Object as posix
 use Rattle.posix_terms.specs.Ends.{is_first, side_of, peer_of}
 use Rattle.sequential_object.specs.Object.{State, Content, File, Pipe, Pair, DoorTo, content_of}
-use Rattle.sequential_object.specs.Step.{Carried, Stepped, is_again, nothing_carried, step, waited}
+use Rattle.sequential_object.specs.Step.{Carried, Stepped, is_again, nothing_carried, nothing_moved}
+use Rattle.sequential_object.specs.Step.{step, waited}
 use Rattle.sequential_object.specs.Streams.{Reading, Reads, Ends, NothingYet, Writing, Writes, Breaks, NoRoom, new_pair, pair_read, pair_write, pipe_write, shut, stream_read, with_waiting}
 use Rattle.sequential_object.specs.Transfers.{base_of, offset_of}
 use Rattle.posix_terms.specs.Calls.{Call}
@@ -134,7 +136,9 @@ abbrev pub write_acted : TableState → ℕ → Opened → List ℕ → Content 
 write_acted t node to bytes (File file) offset =
     let start = if to.flags.append then length file else offset in
     if length bytes == 0 then replied (reply.Count 0) (File file) offset else wrote (written file start bytes) file offset (λ count. start + count)
-write_acted t node to bytes (Pipe waiting) offset = has_written to Pipe (Pipe waiting) offset (length bytes) (pipe_write waiting bytes (is_open t node part.Read))
+write_acted t node to bytes (Pipe waiting) offset =
+    let writing = pipe_write waiting bytes true (is_open t node part.Read) in
+    has_written to Pipe (Pipe waiting) offset (length bytes) writing
 write_acted t node to bytes (Pair p) offset =
     let side = side_of to.«end» in
     has_written to (λ left. Pair (with_waiting p (peer_of side) left)) (Pair p) offset (length bytes) (pair_write p side bytes (is_open t node (part.Socket (peer_of side))))
@@ -177,7 +181,8 @@ Holds s birth content = (other : Content) → map.get s.objects birth ≡ Some o
 -- the answer of a turn that ends so, and what is carried on from it
 abbrev pub ended : Settings → State → Carried → Option Reply → Answer × Carried
 ended settings s carried (Some r) = (answer.Reply r, nothing_carried)
-ended settings s carried None = let stepped = waited settings s carried in (stepped.answer, stepped.carried)
+ended settings s carried None =
+    let stepped = waited settings s nothing_moved carried in (stepped.answer, stepped.carried)
 
 -- the step answers as the act ends, and leaves the content and the offset that the act leaves
 pub record IsActed (t : TableState) (node : ℕ) (act : Op) (done : Acted) (answered : Answer × Carried) (stepped : Stepped) : Type 0 where

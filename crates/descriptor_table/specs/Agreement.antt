@@ -16,7 +16,6 @@ use Rattle.posix_terms.specs.declared.request.Request.{Request}
 use Rattle.posix_terms.specs.declared.transcript.Settings.{Settings}
 use Rattle.descriptor_table.specs.Shows.{Shows, birth_at}
 use Rattle.descriptor_table.specs.Table.{TableState, free_object}
-use Rattle.descriptor_table.specs.declared.plan.Change.{Change}
 use Rattle.descriptor_table.specs.declared.plan.NewNumbers.{NewNumbers}
 use Rattle.descriptor_table.specs.declared.plan.NewNumbers.TheVariants as numbers
 use Rattle.descriptor_table.specs.declared.plan.Op.{Op}

@@ -151,6 +151,15 @@ impl Descriptions {
         self.description(key).flags
     }
 
+    /// The birth of the description: the number that no two descriptions ever made share, while
+    /// keys are used again.
+    pub fn birth(&self, key: usize) -> u128
+        requires { ContainsKey self.now key }
+        ensures { result ≡ (description_at self.now key).birth }
+    {
+        self.description(key).birth
+    }
+
     /// The offset of the description.
     pub fn offset(&self, key: usize) -> u64
         requires { ContainsKey self.now key }

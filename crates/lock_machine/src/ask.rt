@@ -61,7 +61,7 @@ impl Thread {
         self.room.change(room);
         self.phase = Phase::WantsTable {
             call,
-            carried: Carried { turns: 0 },
+            carried: Carried::NOTHING,
         };
         Ok(true)
     }

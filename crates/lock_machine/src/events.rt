@@ -59,7 +59,7 @@ pub fn answer(
     row.answer = Some(answer_copied(ends, &mut thread.room));
     lock.free(i, clock);
     let behind = phase_behind(ends);
-    let ends = mem::replace(ends, TurnEnd::Blocked(Carried { turns: 0 }));
+    let ends = mem::replace(ends, TurnEnd::Blocked(Carried::NOTHING));
     thread.phase = behind;
     Some(told_as(ends))
 }

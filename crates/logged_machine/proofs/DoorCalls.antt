@@ -23,14 +23,14 @@ use Rattle.posix_terms.specs.Calls.{can_write}
 use Rattle.sequential_object.specs.Refusals.{◌>>=◌, count_of, refuse_if, some_or}
 use Rattle.sequential_object.specs.Sockets.{shuttable, shutdown_result}
 use Rattle.sequential_object.specs.Transfers.{lseek_result, moving, not_listener, read_content, read_result, readable, seekable, writable, write_content, write_result}
-use Rattle.sequential_object.specs.Step.{Carried, Stepped, asks, concluded, is_again, nothing_carried, request_of, step}
+use Rattle.sequential_object.specs.Step.{Carried, Stepped, asks, concluded, held_up, is_again, nothing_carried, nothing_moved, request_of, step}
 use Rattle.posix_terms.specs.declared.call.Access.TheVariants.{ReadWrite}
 use Rattle.posix_terms.specs.declared.call.ShutdownHow.{ShutdownHow}
 use Rattle.posix_terms.specs.declared.call.Whence.{Whence}
 use Rattle.posix_terms.specs.Calls.{Call}
 use Rattle.posix_terms.specs.declared.call.Call.TheVariants as call
 use Rattle.posix_terms.specs.declared.errno.Errno.{Errno}
-use Rattle.posix_terms.specs.declared.errno.Errno.TheVariants.{EINTR, EINVAL, EMFILE, ENFILE}
+use Rattle.posix_terms.specs.declared.errno.Errno.TheVariants.{EINVAL, EMFILE, ENFILE}
 use Rattle.posix_terms.specs.declared.limits.TheConstants.Limits as limit
 use Rattle.posix_terms.specs.declared.object.Door.{Door}
 use Rattle.posix_terms.specs.declared.object.Door.TheVariants as door
@@ -333,7 +333,7 @@ opened_by settings s carried x o = chain_opened settings s carried x (some_or (l
           waits = o.waits;
         }
 
-    by_wait : (b c : Bool) (e : Errno) → (let stepped : Stepped = if b then (if c then record { after = s; answer = answer.Again; carried = record { turns = carried.turns + 1 } } else record { after = s; answer = answer.Reply (reply.Fail EINTR); carried = nothing_carried }) else record { after = s; answer = answer.Reply (reply.Fail e); carried = nothing_carried } in stepped.after ≡ s)
+    by_wait : (b c : Bool) (e : Errno) → (let stepped : Stepped = if b then held_up c s nothing_moved carried else record { after = s; answer = answer.Reply (reply.Fail e); carried = nothing_carried } in stepped.after ≡ s)
     by_wait true true e = refl
     by_wait true false e = refl
     by_wait false c e = refl

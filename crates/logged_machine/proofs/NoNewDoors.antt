@@ -21,9 +21,9 @@ use Rattle.sequential_object.specs.Paths.{node_at, resolved}
 use Rattle.sequential_object.specs.Refusals.{◌>>=◌, count_of, position_of, refuse_if, some_or}
 use Rattle.sequential_object.specs.Sockets.{NewEnd, pipe_result, shut_content, shuttable, shutdown_result, socketpair_result, two_ends, two_numbers}
 use Rattle.sequential_object.specs.Status.{fstat_result, getfl_result, setfl_result, stat_content}
-use Rattle.sequential_object.specs.Step.{Carried, Stepped, concluded, effect_of, nothing_carried, step}
+use Rattle.sequential_object.specs.Step.{Carried, concluded, effect_of, step, held_up}
 use Rattle.sequential_object.specs.Streams.{Breaks, Ends, NoRoom, NothingYet, Reading, Reads, Writes, Writing, new_pair}
-use Rattle.sequential_object.specs.Transfers.{base_of, file_in, ftruncate_result, lseek_result, not_listener, offset_of, pread_result, pwrite_result, read_content, read_done, read_result, readable, seek_content, size_of, start_of, writable, write_content, write_done, write_result, seekable, write_file}
+use Rattle.sequential_object.specs.Transfers.{base_of, file_in, ftruncate_result, lseek_result, not_listener, offset_of, pread_result, pwrite_result, read_content, read_done, read_result, readable, seek_content, size_of, start_of, writable, write_content, write_done, write_result, seekable}
 use Rattle.posix_terms.specs.declared.call.Access.{Access}
 use Rattle.posix_terms.specs.Calls.{Call}
 use Rattle.posix_terms.specs.declared.call.Call.TheVariants as call
@@ -31,14 +31,12 @@ use Rattle.posix_terms.specs.declared.call.OpenFlags.{OpenFlags}
 use Rattle.posix_terms.specs.declared.call.ShutdownHow.{ShutdownHow}
 use Rattle.posix_terms.specs.declared.call.Whence.{Whence}
 use Rattle.posix_terms.specs.declared.errno.Errno.{Errno}
-use Rattle.posix_terms.specs.declared.errno.Errno.TheVariants.{EBADF, EBUSY, EEXIST, EINTR, EINVAL, EMFILE, ENFILE, ENOENT, ENOSPC, ESPIPE}
+use Rattle.posix_terms.specs.declared.errno.Errno.TheVariants.{EBADF, EBUSY, EEXIST, EINVAL, EMFILE, ENFILE, ENOENT, ENOSPC, ESPIPE}
 use Rattle.posix_terms.specs.declared.limits.TheConstants.Limits as limit
 use Rattle.posix_terms.specs.declared.object.Door.{Door}
-use Rattle.posix_terms.specs.declared.object.Door.TheVariants as door
 use Rattle.posix_terms.specs.declared.object.End.{End}
 use Rattle.posix_terms.specs.declared.object.End.TheVariants as part
 use Rattle.posix_terms.specs.declared.outcome.OutKind.TheVariants as kind
-use Rattle.posix_terms.specs.declared.reply.Answer.TheVariants as answer
 use Rattle.posix_terms.specs.declared.reply.Reply.TheVariants as reply
 use Rattle.posix_terms.specs.declared.transcript.Settings.{Settings}
 
@@ -177,7 +175,7 @@ adds_released s base key d h =
 
 abbrev AddsNoneIn : State → Result Effect Errno → Type 0
 AddsNoneIn s (Ok (Completes after r)) = AddsNone s after
-AddsNoneIn s (Ok Blocks) = Unit {0}
+AddsNoneIn s (Ok (Blocks after moved)) = AddsNone s after
 AddsNoneIn s (Ok (Asks a)) = AddsNone s a.otherwise
 AddsNoneIn s (Err e) = Unit {0}
 
@@ -282,7 +280,7 @@ by_close s descriptor =
 by_reading : (s : State) (d : Description) (content : List ℕ → Content) (reading : Reading) → ((left : List ℕ) → is_door (content left) ≡ false) → AddsBy s (read_done s d content reading)
 by_reading s d content (Reads bytes left) plain = record { it = adds_content s s d.object (content left) (plain left) (adds_none s) }
 by_reading s d content Ends plain = record { it = adds_none s }
-by_reading s d content NothingYet plain = either s d.nonblock _ _ (record { it = tt }) (record { it = tt })
+by_reading s d content NothingYet plain = either s d.nonblock _ _ (record { it = tt }) (record { it = adds_none s })
 
 by_read_content : (s : State) (key : ℕ) (d : Description) (n : ℕ) (c : Content) → fin.get s.descriptions key ≡ Some d → AddsBy s (does_of (Ok (read_content s key d n c)))
 by_read_content s key d n (File file) there = record { it = adds_own s key d _ there refl }
@@ -297,7 +295,7 @@ by_read s descriptor count = decides s (readable s descriptor) _ (λ found is. d
 by_writing : (s : State) (d : Description) (n : ℕ) (content : List ℕ → Content) (writing : Writing) → ((left : List ℕ) → is_door (content left) ≡ false) → AddsBy s (write_done s d n content writing)
 by_writing s d n content (Writes left) plain = record { it = adds_content s s d.object (content left) (plain left) (adds_none s) }
 by_writing s d n content Breaks plain = record { it = tt }
-by_writing s d n content NoRoom plain = either s d.nonblock _ _ (record { it = tt }) (record { it = tt })
+by_writing s d n content NoRoom plain = either s d.nonblock _ _ (record { it = tt }) (record { it = adds_none s })
 
 by_write_content : (s : State) (key : ℕ) (d : Description) (bytes : List ℕ) (c : Content) → fin.get s.descriptions key ≡ Some d → AddsBy s (does_of (Ok (write_content s key d bytes c)))
 by_write_content s key d bytes (File file) there = either s (length bytes == 0) _ _ (record { it = adds_none s }) (chain s (written file (start_of d file) bytes) _ (λ w _. record { it = adds_content s _ d.object (File w.0) refl (adds_own s key d _ there refl) }))
@@ -478,11 +476,11 @@ by_call s (call.TcpAccept descriptor) carried h = by_accept s descriptor
 
 by_step : (settings : Settings) (s : State) (carried : Carried) (r : Result Effect Errno) → AddsBy s r → AddsNone s (concluded settings s None carried r).after
 by_step settings s carried (Ok (Completes after x)) h = h.it
-by_step settings s carried (Ok Blocks) h = by_wait (nat_lt (carried.turns + 1) settings.patience)
+by_step settings s carried (Ok (Blocks after moved)) h = by_wait (nat_lt (carried.turns + 1) settings.patience)
   where
-    by_wait : (b : Bool) → AddsNone s (let stepped : Stepped = if b then record { after = s; answer = answer.Again; carried = record { turns = carried.turns + 1 } } else record { after = s; answer = answer.Reply (reply.Fail EINTR); carried = nothing_carried } in stepped.after)
-    by_wait true = adds_none s
-    by_wait false = adds_none s
+    by_wait : (b : Bool) → AddsNone s (held_up b after moved carried).after
+    by_wait true = h.it
+    by_wait false = h.it
 by_step settings s carried (Ok (Asks a)) h = h.it
 by_step settings s carried (Err e) h = adds_none s
 

@@ -9,10 +9,9 @@ use Rattle.sequential_object.specs.Locked.{locked_object}
 use Rattle.sequential_object.specs.Object as posix
 use Rattle.sequential_object.specs.Effects.{Effect, Asks, Blocks, Completes}
 use Rattle.sequential_object.specs.Object.{State, Content, DoorTo, File, Pair, Pipe, content_of}
-use Rattle.sequential_object.specs.Step.{Carried, Stepped, asks, concluded, effect_of, failed, is_again, nothing_carried, step, waited}
+use Rattle.sequential_object.specs.Step.{Carried, Moved, Stepped, asks, concluded, effect_of, failed, is_again, nothing_carried, step, waited, held_up, nothing_moved}
 use Rattle.posix_terms.specs.Calls.{Call}
 use Rattle.posix_terms.specs.declared.errno.Errno.{Errno}
-use Rattle.posix_terms.specs.declared.errno.Errno.TheVariants.{EINTR}
 use Rattle.posix_terms.specs.declared.object.Door.{Door}
 use Rattle.posix_terms.specs.declared.object.End.{End}
 use Rattle.posix_terms.specs.declared.object.End.TheVariants as part
@@ -21,7 +20,6 @@ use Rattle.posix_terms.specs.declared.outcome.Outcome.TheVariants as result
 use Rattle.posix_terms.specs.declared.reply.Answer.{Answer}
 use Rattle.posix_terms.specs.declared.reply.Answer.TheVariants as answer
 use Rattle.posix_terms.specs.declared.reply.Reply.{Reply}
-use Rattle.posix_terms.specs.declared.reply.Reply.TheVariants as reply
 use Rattle.posix_terms.specs.declared.transcript.Settings.{Settings}
 use Rattle.file_descriptions.specs.Descriptions.{ContainsKey, description_at, with_offset}
 use Rattle.descriptor_table.specs.Acts.{Acted, ActsAsStep, IsActed, IsStill, StandsAt, acted, ended, offset_at}
@@ -241,22 +239,23 @@ turn_ends h w node act settings carried done _ e now same =
     ap₂ (λ (a : Answer) (b : Carried). (a, b)) now.answer_is now.carried_is ∙ ap (ended settings w.object carried) (sym same)
 
 -- a reply carries nothing on
-waited_carries : (settings : Settings) (s : State) (carried : Carried) (r : Reply) → (waited settings s carried).answer ≡ answer.Reply r → (waited settings s carried).carried ≡ nothing_carried
-waited_carries settings s carried r is = by_test (nat_lt (carried.turns + 1) settings.patience) is
+waited_carries : (settings : Settings) (after : State) (moved : Moved) (carried : Carried) (r : Reply)
+    → (waited settings after moved carried).answer ≡ answer.Reply r → (waited settings after moved carried).carried ≡ nothing_carried
+waited_carries settings after moved carried r is = by_test (nat_lt (carried.turns + 1) settings.patience) is
   where
-    by_test : (b : Bool) → (let x : Stepped = if b then record { after = s; answer = answer.Again; carried = record { turns = carried.turns + 1 } } else record { after = s; answer = answer.Reply (reply.Fail EINTR); carried = nothing_carried } in x.answer) ≡ answer.Reply r
-        → (let x : Stepped = if b then record { after = s; answer = answer.Again; carried = record { turns = carried.turns + 1 } } else record { after = s; answer = answer.Reply (reply.Fail EINTR); carried = nothing_carried } in x.carried) ≡ nothing_carried
+    by_test : (b : Bool) → (held_up b after moved carried).answer ≡ answer.Reply r
+        → (held_up b after moved carried).carried ≡ nothing_carried
     by_test true is = cc
     by_test false is = refl
 
 carries_nothing : (settings : Settings) (s : State) (outcome : Option Outcome) (carried : Carried) (does : Result Effect Errno) (r : Reply) → (concluded settings s outcome carried does).answer ≡ answer.Reply r → (concluded settings s outcome carried does).carried ≡ nothing_carried
 carries_nothing settings s outcome carried (Ok (Completes after x)) r is = refl
-carries_nothing settings s outcome carried (Ok Blocks) r is = waited_carries settings s carried r is
+carries_nothing settings s outcome carried (Ok (Blocks after moved)) r is = waited_carries settings after moved carried r is
 carries_nothing settings s (Some (result.Ok value bytes)) carried (Ok (Asks a)) r is = refl
 carries_nothing settings s (Some (result.Fail e)) carried (Ok (Asks a)) r is = by_test (a.waits && is_again e) is
   where
-    by_test : (b : Bool) → (if b then waited settings s carried else failed a.otherwise e).answer ≡ answer.Reply r → (if b then waited settings s carried else failed a.otherwise e).carried ≡ nothing_carried
-    by_test true is = waited_carries settings s carried r is
+    by_test : (b : Bool) → (if b then waited settings s nothing_moved carried else failed a.otherwise e).answer ≡ answer.Reply r → (if b then waited settings s nothing_moved carried else failed a.otherwise e).carried ≡ nothing_carried
+    by_test true is = waited_carries settings s nothing_moved carried r is
     by_test false is = refl
 carries_nothing settings s None carried (Ok (Asks a)) r is = refl
 carries_nothing settings s outcome carried (Err e) r is = refl

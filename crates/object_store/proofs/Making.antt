@@ -203,6 +203,34 @@ shutdown_makes law h new c node side how r planned inside answers leaves =
 
 -- ## Writing
 
+-- a write makes no description and no object
+abbrev pub MakesNone : Stored → Stored → Type 0
+MakesNone old new =
+    (new.table.descriptions.made ≡ old.table.descriptions.made) × (new.table.made_objects ≡ old.table.made_objects)
+
+same_makes_none : (old new same : Stored) → new ≡ same → MakesNone old same → MakesNone old new
+same_makes_none old new same is none = subst (MakesNone old) (sym is) none
+
+pub write_makes_none : (which : End) (old new : Stored) (node : ℕ) (to : Opened) (bytes : List ℕ) (e : Option Reply)
+    → HasWritten which old node to bytes e new → MakesNone old new
+write_makes_none part.Only old new node to bytes e h = by_length (length bytes == 0) h.0 h.2
+  where
+    start : ℕ
+    start = start_at old to node
+
+    by_result : (w : Result (List ℕ × ℕ) Errno) (r : Reply)
+        → Writes w old (λ count. moved old to.key (start + count)) node r new → MakesNone old new
+    by_result (Ok (left, count)) r h = same_makes_none old new _ h.1 (refl, refl)
+    by_result (Err x) r h = same_makes_none old new old h.1 (refl, refl)
+
+    by_length : (b : Bool) (r : Reply) → WritesFile b old node to bytes r new → MakesNone old new
+    by_length true r h = same_makes_none old new old h.1 (refl, refl)
+    by_length false r h = by_result (written (body_at old node) start bytes) r h
+write_makes_none part.Read old new node to bytes e h = same_makes_none old new _ h.1 (refl, refl)
+write_makes_none part.Write old new node to bytes e h = same_makes_none old new _ h.1 (refl, refl)
+write_makes_none (part.Socket side) old new node to bytes e h = same_makes_none old new _ h.1 (refl, refl)
+write_makes_none (part.Door door) old new node to bytes e h = same_makes_none old new old h.1 (refl, refl)
+
 written_offset : (to : Opened) (holds : List ℕ → Content) (content : Content) (offset count : ℕ) (w : Writing) → (let done : Acted = has_written to holds content offset count w in done.offset) ≡ offset
 written_offset to holds content offset count (stream.Writes left) = refl
 written_offset to holds content offset count stream.Breaks = refl
@@ -210,8 +238,8 @@ written_offset to holds content offset count stream.NoRoom = refl
 
 stream_written_offset : (t : TableState) (node : ℕ) (to : Opened) (bytes : List ℕ) (which : End) (k : Kept) (offset : ℕ) → is_end which part.Only ≡ false → (let done : Acted = write_acted t node to bytes (held_by which k) offset in done.offset) ≡ offset
 stream_written_offset t node to bytes part.Only k offset its = absurd (true≢false its)
-stream_written_offset t node to bytes part.Read k offset its = written_offset to Pipe (Pipe k.pipe) offset (length bytes) (pipe_write k.pipe bytes (is_open t node part.Read))
-stream_written_offset t node to bytes part.Write k offset its = written_offset to Pipe (Pipe k.pipe) offset (length bytes) (pipe_write k.pipe bytes (is_open t node part.Read))
+stream_written_offset t node to bytes part.Read k offset its = written_offset to Pipe (Pipe k.pipe) offset (length bytes) (pipe_write k.pipe bytes true (is_open t node part.Read))
+stream_written_offset t node to bytes part.Write k offset its = written_offset to Pipe (Pipe k.pipe) offset (length bytes) (pipe_write k.pipe bytes true (is_open t node part.Read))
 stream_written_offset t node to bytes (part.Socket side) k offset its =
     let own = side_of to.«end» in written_offset to (λ left. Pair (with_waiting k.pair (peer_of own) left)) (Pair k.pair) offset (length bytes) (pair_write k.pair own bytes (is_open t node (part.Socket (peer_of own))))
 stream_written_offset t node to bytes (part.Door door) k offset its = refl

@@ -10,7 +10,7 @@ use Rattle.sequential_object.specs.Object.{State, Content, File, content_of}
 use Rattle.posix_terms.specs.Outcomes.{bytes_fit, fits, value_fits}
 use Rattle.sequential_object.specs.Effects.{Effect, Asks, Blocks, Completes}
 use Rattle.sequential_object.specs.Step as posix
-use Rattle.sequential_object.specs.Step.{AgainChangesNothing, Carried, FailChangesNothing, Stepped, closes_door, concluded, effect_of, failed, is_again, nothing_carried, step, waited}
+use Rattle.sequential_object.specs.Step.{AgainChangesNothing, Carried, FailChangesNothing, Stepped, closes_door, concluded, effect_of, failed, is_again, nothing_carried, step, waited, held_up, nothing_moved}
 use Rattle.posix_terms.specs.Calls.{Call}
 use Rattle.posix_terms.specs.declared.errno.Errno.{Errno}
 use Rattle.posix_terms.specs.declared.errno.Errno.TheVariants.{EAGAIN, EINTR}
@@ -137,15 +137,15 @@ asked_stands law h w c node errand keep o u settings carried content st is made 
 -- ## Waiting
 
 -- a call that waits does not fail with EAGAIN
-waited_apart : (settings : Settings) (s : State) (carried : Carried) → (let x : Stepped = waited settings s carried in x.answer) ≡ answer.Reply (reply.Fail EAGAIN) → ⊥
+waited_apart : (settings : Settings) (s : State) (carried : Carried) → (let x : Stepped = waited settings s nothing_moved carried in x.answer) ≡ answer.Reply (reply.Fail EAGAIN) → ⊥
 waited_apart settings s carried same = by_test (nat_lt (carried.turns + 1) settings.patience) same
   where
-    by_test : (b : Bool) → (let x : Stepped = if b then record { after = s; answer = answer.Again; carried = record { turns = carried.turns + 1 } } else record { after = s; answer = answer.Reply (reply.Fail EINTR); carried = nothing_carried } in x.answer) ≡ answer.Reply (reply.Fail EAGAIN) → ⊥
+    by_test : (b : Bool) → (let x : Stepped = held_up b s nothing_moved carried in x.answer) ≡ answer.Reply (reply.Fail EAGAIN) → ⊥
     by_test true same = cc
     by_test false same = cc
 
 -- so the answer to EAGAIN tells which of both it is
-told_waits : (settings : Settings) (s after : State) (carried : Carried) (a b : Bool) → (let x : Stepped = if a && true then waited settings s carried else failed after EAGAIN in x.answer) ≡ (ended settings s carried (if b && true then None else Some (reply.Fail EAGAIN))).0 → b ≡ a
+told_waits : (settings : Settings) (s after : State) (carried : Carried) (a b : Bool) → (let x : Stepped = if a && true then waited settings s nothing_moved carried else failed after EAGAIN in x.answer) ≡ (ended settings s carried (if b && true then None else Some (reply.Fail EAGAIN))).0 → b ≡ a
 told_waits settings s after carried true true same = refl
 told_waits settings s after carried true false same = absurd (waited_apart settings s carried same)
 told_waits settings s after carried false true same = absurd (waited_apart settings s carried (sym same))
@@ -155,7 +155,7 @@ told_waits settings s after carried false false same = refl
 effect_waits : (settings : Settings) (s : State) (c : Call) (carried : Carried) (r : Request) (b : Bool) (e : Result Effect Errno) → posix.request_of c e ≡ Some r
     → (let x : Stepped = concluded settings s (Some (outcome.Fail EAGAIN)) carried e in x.answer) ≡ (ended settings s carried (if b && true then None else Some (reply.Fail EAGAIN))).0 → b ≡ waits_by e
 effect_waits settings s c carried r b (Ok (Asks a)) asked same = told_waits settings s a.otherwise carried a.waits b same
-effect_waits settings s c carried r b (Ok Blocks) asked same = absurd (none-some r asked)
+effect_waits settings s c carried r b (Ok (Blocks after moved)) asked same = absurd (none-some r asked)
 effect_waits settings s c carried r b (Ok (Completes after reply)) asked same = absurd (none-some r asked)
 effect_waits settings s c carried r b (Err e) asked same = absurd (none-some r asked)
 
@@ -272,7 +272,7 @@ door_kept out.Close value content kept opens = absurd (false≢true opens)
 failing : (settings : Settings) (s : State) (carried : Carried) (e : Errno) (b : Bool) → let a : Answer = (ended settings s carried (if b then None else Some (reply.Fail e))).0 in (a ≡ answer.Again) ⊎ ((x : Errno) × (a ≡ answer.Reply (reply.Fail x)))
 failing settings s carried e true = by_test (nat_lt (carried.turns + 1) settings.patience)
   where
-    by_test : (b : Bool) → let x : Stepped = if b then record { after = s; answer = answer.Again; carried = record { turns = carried.turns + 1 } } else record { after = s; answer = answer.Reply (reply.Fail EINTR); carried = nothing_carried } in (x.answer ≡ answer.Again) ⊎ ((y : Errno) × (x.answer ≡ answer.Reply (reply.Fail y)))
+    by_test : (b : Bool) → let x : Stepped = held_up b s nothing_moved carried in (x.answer ≡ answer.Again) ⊎ ((y : Errno) × (x.answer ≡ answer.Reply (reply.Fail y)))
     by_test true = inl refl
     by_test false = inr (EINTR, refl)
 failing settings s carried e false = inr (e, refl)

@@ -3,7 +3,7 @@
 use Rattle.std.specs.Prelude.{◌≡◌, ℕ, Bool, Some, if◌then◌else◌, Option, None}
 use Rattle.posix_terms.specs.declared.reply.Reply.{Reply}
 use Rattle.sequential_object.specs.Object.{State}
-use Rattle.sequential_object.specs.Step.{Carried, waited}
+use Rattle.sequential_object.specs.Step.{Carried, waited, nothing_moved}
 use Rattle.posix_terms.specs.declared.errno.Errno.TheVariants.{EAGAIN}
 use Rattle.posix_terms.specs.declared.outcome.Outcome.{Outcome}
 use Rattle.posix_terms.specs.declared.reply.Answer as posix
@@ -33,7 +33,9 @@ stopped_ending nonblock = if nonblock then Some (Fail EAGAIN) else None
 
 -- the end of a turn of a call that cannot go on, and carries this
 abbrev pub Waits : ℕ → Carried → TurnEnd → Type 0
-Waits patience carried e = (settings : Settings) (s : State) → settings.patience ≡ patience → answer_in (waited settings s carried) ≡ e
+Waits patience carried e =
+    (settings : Settings) (s : State) → settings.patience ≡ patience
+    → answer_in (waited settings s nothing_moved carried) ≡ e
 
 -- an answer with what is carried on, as one of the lock machine
 abbrev pub as_answer : posix.Answer × Carried → TurnEnd

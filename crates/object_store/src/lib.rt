@@ -17,7 +17,7 @@
 //!
 //! let mut store = Store::new(alloc)?;
 //! let mut room = Vec::new(alloc);
-//! let first = Carried { turns: 0 };
+//! let first = Carried::NOTHING;
 //! if let AtTable::Locks(pipe) = store.settle_or_lock(&Call::Pipe, first) {
 //!     let start = store.make(&Call::Pipe, pipe, 3, first, &mut room);
 //!     assert!(rt; matches!(start, TurnStart::Ended(TurnEnd::Reply(Reply::Pair(0, 1)))));
@@ -28,7 +28,7 @@
 //!     assert!(rt; locking.object == 0);
 //!     // Nothing waits in the pipe: of its patience of 3 turns, one is used.
 //!     let start = store.make(&read, locking, 3, first, &mut room);
-//!     assert!(rt; matches!(start, TurnStart::Ended(TurnEnd::Blocked(Carried { turns: 1 }))));
+//!     assert!(rt; matches!(start, TurnStart::Ended(TurnEnd::Blocked(Carried { turns: 1, .. }))));
 //! }
 //! ```
 #![tactic(auto)]

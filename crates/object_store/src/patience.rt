@@ -8,7 +8,7 @@ ghost use Rattle.descriptor_table.specs.declared.plan.NewNumbers.TheVariants as 
 ghost use Rattle.object_store.specs.Patience.{EndsOutside, Waits, act_bytes, stopped_ending, turn_bytes};
 
 use descriptor_table::{Change, Errand, Op};
-use posix_terms::{Bytes, Carried, Errno, OutKind, Outcome, Reply};
+use posix_terms::{Bytes, Carried, Errno, Moved, OutKind, Outcome, Reply};
 use sequential_object::TurnEnd;
 use std::mem::replace;
 
@@ -60,6 +60,7 @@ pub(crate) fn blocked(patience: u32, carried: Carried) -> TurnEnd
     if u64::from(carried.turns) + 1 < u64::from(patience) {
         TurnEnd::Blocked(Carried {
             turns: carried.turns + 1,
+            moved: Moved::NOTHING,
         })
     } else {
         TurnEnd::Reply(Reply::Fail(Errno::EINTR))

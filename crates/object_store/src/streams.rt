@@ -85,7 +85,7 @@ impl Store {
         ensures few { act_bytes result ≡ 0 }
     {
         let readers = self.is_open(node, End::Read);
-        let answer = self.bodies[node].pipe.put(bytes, readers);
+        let answer = self.bodies[node].pipe.put(bytes, readers, true);
         write_ending(answer, to.flags.nonblock)
     }
 

@@ -1,5 +1,5 @@
 ghost use Rattle.std.specs.Prelude.{◌≡◌, [], ◌++◌, length, take, drop, IfOk};
-ghost use Rattle.sequential_object.specs.Streams.{stream_read, stream_write};
+ghost use Rattle.sequential_object.specs.Streams.{bytes_put, stream_put, stream_read};
 ghost use Rattle.pipes.specs.Pipe.{left_by_read, left_by_write, read_answer, write_answer};
 
 use circular_buffer::HeapCircularBuffer;
@@ -69,16 +69,21 @@ impl<const MOST: usize> StreamBody<MOST> {
         PipeAnswer::Data(self.bytes.read_into(into))
     }
 
-    /// Writes all of the bytes behind those that wait, where they fit. Where nobody reads any more the stream
-    /// is broken, and where they do not fit it blocks; then nothing changes.
-    pub fn put(&mut self, bytes: &[u8], readers: bool) -> PipeAnswer
-        ensures answer { result ≡ write_answer (length bytes.now) (stream_write MOST self.old bytes.now readers) }
-        ensures left { self.new ≡ left_by_write self.old (stream_write MOST self.old bytes.now readers) }
+    /// Writes behind the bytes that wait: all of the bytes where the write is `whole`, and else the
+    /// first of them, as many as fit; the count says how many went. Where nobody reads any more the
+    /// stream is broken. Where a whole write does not fit, or another finds no room at all, it
+    /// blocks. Then nothing changes.
+    pub fn put(&mut self, bytes: &[u8], readers: bool, whole: bool) -> PipeAnswer
+        ensures answer { result ≡ write_answer (length (bytes_put MOST self.old bytes.now whole))
+            (stream_put MOST self.old bytes.now whole readers) }
+        ensures left { self.new ≡ left_by_write self.old
+            (stream_put MOST self.old bytes.now whole readers) }
     {
         if !readers {
             return PipeAnswer::Broken;
         }
-        if bytes.len() > MOST - self.bytes.len() {
+        let least = if whole { bytes.len() } else { 1 };
+        if least > MOST - self.bytes.len() {
             return PipeAnswer::Block;
         }
         PipeAnswer::Count(self.bytes.fill_from_slice(bytes))

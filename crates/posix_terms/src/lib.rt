@@ -3,7 +3,8 @@
 //!
 //! A [`Call`] has its arguments as the thread gave them, a [`Step`] is a call, work or the end, a
 //! [`Reply`] is what comes back, and an [`Outcome`] is what came from outside; `Outcome::fits` tells
-//! whether it answers what was asked. [`Carried`] is what a blocked call hands on to its next turn.
+//! whether it answers what was asked. [`Carried`] is what a blocked call hands on to its next turn,
+//! and [`Moved`] what of its bytes went before.
 //! A [`Transcript`] is what one thread saw, a [`HistoryRow`] one granted turn of a run, and
 //! [`Limits`] has the limits of the profile. Contracts see plain values: of [`Bytes`] the list of
 //! bytes, of a transcript the list of its rows. Copies and `Transcript::push` take memory, and fail
@@ -44,7 +45,7 @@ mod transcript;
 
 pub use bytes::Bytes;
 pub use call::{Access, Call, CallKind, OpenFlags, ShutdownHow, Whence};
-pub use carried::Carried;
+pub use carried::{Carried, Moved};
 pub use errno::{Errno, codes_lead_back, errno_name};
 pub use laws::equal_ones_are_the_same;
 pub use limits::Limits;

@@ -1,8 +1,7 @@
 -- The states between the calls of the examples that go outside.
-use Rattle.std.proofs.Common.{◌≡◌, ℕ, pos, Bool, List, [], ◌∷◌, map, Option, true, false, codes, refl, ap, ap₂, ◌∙◌, rules}
-use Rattle.std.specs.FinMap as fin
+use Rattle.std.proofs.Common.{◌≡◌, ℕ, Bool, List, [], ◌∷◌, map, true, false, codes, refl, ap, ap₂, ◌∙◌, rules}
 use Rattle.std.specs.Prelude.{is_some}
-use Rattle.std.specs.Str.{IsAscii, is_utf8}
+use Rattle.std.specs.Str.{is_utf8}
 use Rattle.std.proofs.lemmas.Str.{IsUtf8-from_ascii, is_utf8-from_IsUtf8}
 use Rattle.sequential_object.specs.Descriptors.{open_result, close_result, lowest_from}
 use Rattle.sequential_object.specs.DoorExamples.{CallTurn, TurnsAnswer, Visit, appended_host_file, asked_from, turns_from, impatient_door, missing_host_file, no_bytes_of_a_door, over_loopback, patient_door, shared_door, short_host_write, asked_in_turn, visits_from, would_block}
@@ -12,7 +11,7 @@ use Rattle.sequential_object.specs.Object.{State, Description, DoorTo, File, Fil
 use Rattle.sequential_object.specs.Paths.{path_form}
 use Rattle.sequential_object.specs.Sockets.{shutdown_result}
 use Rattle.sequential_object.specs.Status.{fstat_result, getfl_result, setfl_result}
-use Rattle.sequential_object.specs.Step.{Carried, Stepped, asks, nothing_carried, step}
+use Rattle.sequential_object.specs.Step.{Carried, Stepped, asks, nothing_carried, nothing_moved, step}
 use Rattle.sequential_object.specs.Transfers.{lseek_result, read_result, write_result}
 use Rattle.posix_terms.specs.declared.call.Access.TheVariants as access
 use Rattle.posix_terms.specs.declared.object.Door.{Door}
@@ -197,7 +196,7 @@ asked_turns_of settings s carried (t ∷ turns) (next ∷ states) leads =
     ∙ ap (λ (bs : List Bool). is_some t.outcome ∷ bs) (asked_turns_of settings next.0 next.1 turns states leads.2)
 
 abbrev patient_states : List (State × Carried)
-patient_states = (stream_1, nothing_carried) ∷ (stream_1, record { turns = 1 }) ∷ (stream_1, nothing_carried) ∷ (stream_1, record { turns = 1 }) ∷ []
+patient_states = (stream_1, nothing_carried) ∷ (stream_1, record { turns = 1; moved = nothing_moved }) ∷ (stream_1, nothing_carried) ∷ (stream_1, record { turns = 1; moved = nothing_moved }) ∷ []
 
 patient_leads : (settings : Settings) → settings.patience ≡ 2 → LeadsOn settings empty_state nothing_carried patient_door patient_states
 unfolding tcp_connect_result lowest_from read_result

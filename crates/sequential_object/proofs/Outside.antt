@@ -1,7 +1,7 @@
 -- What calls that go outside lock and leave.
-use Rattle.std.proofs.Common.{◌≡◌, ◌&&◌, ℕ, ℤ, List, Bool, true, false, Option, Some, None, Result, Ok, Err, arith, refl, sym, ap, ◌∙◌}
+use Rattle.std.proofs.Common.{◌≡◌, ◌&&◌, ℕ, ℤ, List, Bool, true, false, Option, Some, None, Result, Ok, Err, arith, refl, sym, ◌∙◌}
 use Rattle.std.proofs.lemmas.Bool.{false≢true}
-use Rattle.std.specs.Prelude.{IfOk, ◌+◌, if◌then◌else◌, is_some, nat_lt}
+use Rattle.std.specs.Prelude.{IfOk, if◌then◌else◌, is_some}
 use Rattle.sequential_object.specs.Descriptors.{open_result, close_result}
 use Rattle.sequential_object.specs.Doors.{host_open_result, tcp_accept_result, tcp_connect_result, tcp_listen_result}
 use Rattle.sequential_object.specs.Duplicates.{dup_result, dup_from_result, dup2_result}
@@ -11,7 +11,7 @@ use Rattle.sequential_object.specs.Names.{link_result, unlink_result, rename_res
 use Rattle.sequential_object.specs.Object.{State}
 use Rattle.sequential_object.specs.Status.{fstat_result, getfl_result, setfl_result}
 use Rattle.sequential_object.specs.Sockets.{pipe_result, socketpair_result, shutdown_result}
-use Rattle.sequential_object.specs.Step.{step, asks, Carried, Stepped, effect_of, concluded, failed, is_again, waited}
+use Rattle.sequential_object.specs.Step.{step, asks, Carried, effect_of, concluded, failed, is_again, nothing_moved, waited}
 use Rattle.sequential_object.specs.Transfers.{read_result, write_result, pread_result, pwrite_result, lseek_result, ftruncate_result}
 use Rattle.posix_terms.specs.declared.call.Access.{Access}
 use Rattle.posix_terms.specs.Calls.{Call}
@@ -220,7 +220,7 @@ keeps_outside s (call.TcpAccept descriptor) carried keeps = keeps-tcp_accept s c
 
 abbrev pub IsSteady : State → Effect → Type 0
 IsSteady s (Completes after r) = Unit {0}
-IsSteady s Blocks = Unit {0}
+IsSteady s (Blocks after moved) = Unit {0}
 IsSteady s (Asks a) = ((value : ℕ) (bytes : List ℕ) → (a.succeeds value bytes).0 ≡ a.otherwise) × (a.waits ≡ true → a.otherwise ≡ s)
 
 steady-open : (s : State) (path : List ℕ) (access : Access) (flags : OpenFlags) → IfOk (does_of (open_result s path access flags)) (IsSteady s)
@@ -341,11 +341,11 @@ steady s (call.TcpAccept descriptor) carried frees = cc
 
 after_same : (settings : Settings) (s : State) (o : Option Outcome) (carried : Carried) (r : Result Effect Errno) → IfOk r (IsSteady s) → (concluded settings s o carried r).after ≡ (concluded settings s None carried r).after
 after_same settings s o carried (Ok (Completes after x)) steady = refl
-after_same settings s o carried (Ok Blocks) steady = refl
+after_same settings s o carried (Ok (Blocks after moved)) steady = refl
 after_same settings s (Some (out.Ok value bytes)) carried (Ok (Asks a)) steady = steady.0 value bytes
 after_same settings s (Some (out.Fail e)) carried (Ok (Asks a)) steady = by_tests a.waits (is_again e) refl
   where
-    by_tests : (b c : Bool) → a.waits ≡ b → (if b && c then waited settings s carried else failed a.otherwise e).after ≡ a.otherwise
+    by_tests : (b c : Bool) → a.waits ≡ b → (if b && c then waited settings s nothing_moved carried else failed a.otherwise e).after ≡ a.otherwise
     by_tests true true is = waited_alone settings s carried ∙ sym (steady.1 is)
     by_tests true false is = refl
     by_tests false c is = refl

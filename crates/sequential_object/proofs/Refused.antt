@@ -1,5 +1,5 @@
 -- A call that is not refused does not answer a failure.
-use Rattle.std.proofs.Common.{◌≡◌, ◌&&◌, ℕ, ℤ, List, Bool, true, false, Option, Some, None, Result, Ok, Err, arith, refl, sym}
+use Rattle.std.proofs.Common.{◌≡◌, ◌∙◌, ◌&&◌, ℕ, ℤ, List, Bool, true, false, Option, Some, None, Result, Ok, Err, arith, refl, sym}
 use Rattle.std.proofs.lemmas.Bool.{false≢true}
 use Rattle.std.specs.Prelude.{IfOk, ◌+◌, if◌then◌else◌, is_some, nat_lt}
 use Rattle.sequential_object.specs.Descriptors.{open_result, close_result}
@@ -10,7 +10,7 @@ use Rattle.sequential_object.specs.Names.{link_result, unlink_result, rename_res
 use Rattle.sequential_object.specs.Object.{State}
 use Rattle.sequential_object.specs.Status.{fstat_result, getfl_result, setfl_result}
 use Rattle.sequential_object.specs.Sockets.{pipe_result, socketpair_result, shutdown_result}
-use Rattle.sequential_object.specs.Step.{step, Carried, Stepped, closes_door, effect_of, concluded, failed, is_again, nothing_carried, request_of, waited}
+use Rattle.sequential_object.specs.Step.{step, Carried, closes_door, effect_of, concluded, failed, held_up, is_again, nothing_moved, request_of, waited, Moved}
 use Rattle.sequential_object.specs.Transfers.{read_result, write_result, pread_result, pwrite_result, lseek_result, ftruncate_result}
 use Rattle.posix_terms.specs.declared.call.Access.{Access}
 use Rattle.posix_terms.specs.Calls.{Call}
@@ -19,7 +19,6 @@ use Rattle.posix_terms.specs.declared.call.OpenFlags.{OpenFlags}
 use Rattle.posix_terms.specs.declared.call.ShutdownHow.{ShutdownHow}
 use Rattle.posix_terms.specs.declared.call.Whence.{Whence}
 use Rattle.posix_terms.specs.declared.errno.Errno.{Errno}
-use Rattle.posix_terms.specs.declared.errno.Errno.TheVariants.{EINTR}
 use Rattle.posix_terms.specs.declared.outcome.Outcome.{Outcome}
 use Rattle.posix_terms.specs.declared.outcome.Outcome.TheVariants as out
 use Rattle.posix_terms.specs.declared.reply.Answer.TheVariants as answer
@@ -31,10 +30,14 @@ abbrev pub is_failure : Reply → Bool
 is_failure (reply.Fail e) = true
 is_failure _ = false
 
+-- a call that waits leaves the state as it is, and has moved nothing
+abbrev pub WaitsInPlace : State → State → Moved → Type 0
+WaitsInPlace s after moved = (after ≡ s) × (moved ≡ nothing_moved)
+
 -- a call that was granted answers no failure of its own, and what it asks outside leaves the state where that fails
 abbrev pub IsGranted : State → Effect → Type 0
 IsGranted s (Completes after r) = is_failure r ≡ false
-IsGranted s Blocks = Unit {0}
+IsGranted s (Blocks after moved) = WaitsInPlace s after moved
 IsGranted s (Asks a) = ((value : ℕ) (bytes : List ℕ) → is_failure (a.succeeds value bytes).1 ≡ false) × (a.otherwise ≡ s)
 
 granted-open : (s : State) (path : List ℕ) (access : Access) (flags : OpenFlags) → IfOk (does_of (open_result s path access flags)) (IsGranted s)
@@ -42,12 +45,12 @@ unfolding open_result
 granted-open s path access flags = grind arith
 
 -- what closes a door leaves the state without it
-abbrev pub IsClosed : Effect → Type 0
-IsClosed (Completes after r) = is_failure r ≡ false
-IsClosed Blocks = Unit {0}
-IsClosed (Asks a) = Unit {0}
+abbrev pub IsClosed : State → Effect → Type 0
+IsClosed s (Completes after r) = is_failure r ≡ false
+IsClosed s (Blocks after moved) = WaitsInPlace s after moved
+IsClosed s (Asks a) = Unit {0}
 
-granted-close : (s : State) (descriptor : ℤ) → IfOk (does_of (close_result s descriptor)) IsClosed
+granted-close : (s : State) (descriptor : ℤ) → IfOk (does_of (close_result s descriptor)) (IsClosed s)
 unfolding close_result
 granted-close s descriptor = grind arith
 
@@ -152,9 +155,9 @@ granted : (s : State) (c : Call) (carried : Carried) → closes_door s c carried
 granted s (call.Open path access flags) carried alone = granted-open s path access flags
 granted s (call.Close descriptor) carried alone = by_effect (does_of (close_result s descriptor)) (granted-close s descriptor) alone
   where
-    by_effect : (r : Result Effect Errno) → IfOk r IsClosed → is_some (request_of (call.Close descriptor) r) ≡ false → IfOk r (IsGranted s)
+    by_effect : (r : Result Effect Errno) → IfOk r (IsClosed s) → is_some (request_of (call.Close descriptor) r) ≡ false → IfOk r (IsGranted s)
     by_effect (Ok (Completes after x)) closed alone = closed
-    by_effect (Ok Blocks) closed alone = tt
+    by_effect (Ok (Blocks after moved)) closed alone = closed
     by_effect (Ok (Asks a)) closed alone = absurd (false≢true (sym alone))
     by_effect (Err e) closed alone = tt
 granted s (call.Read descriptor count) carried alone = granted-read s descriptor count
@@ -182,42 +185,75 @@ granted s (call.TcpListen port) carried alone = granted-listen s port
 granted s (call.TcpConnect port) carried alone = granted-connect s port
 granted s (call.TcpAccept descriptor) carried alone = granted-accept s descriptor
 
--- a turn that is blocked changes nothing
-pub waited_alone : (settings : Settings) (s : State) (carried : Carried) → (waited settings s carried).after ≡ s
-waited_alone settings s carried = by_test (nat_lt (carried.turns + 1) settings.patience)
+-- where any call waits, it waits in place
+abbrev IsInPlace : State → Effect → Type 0
+IsInPlace s (Blocks after moved) = WaitsInPlace s after moved
+IsInPlace s effect = Unit {0}
+
+in_place : (s : State) (c : Call) (carried : Carried) → IfOk (effect_of s c carried) (IsInPlace s)
+in_place s c carried = by_door (closes_door s c carried) refl
   where
-    by_test : (b : Bool) → (let stepped : Stepped = if b then record { after = s; answer = answer.Again; carried = record { turns = carried.turns + 1 } } else record { after = s; answer = answer.Reply (reply.Fail EINTR); carried = nothing_carried } in stepped.after) ≡ s
+    of_granted : (r : Result Effect Errno) → IfOk r (IsGranted s) → IfOk r (IsInPlace s)
+    of_granted (Ok (Completes after x)) h = tt
+    of_granted (Ok (Blocks after moved)) h = h
+    of_granted (Ok (Asks a)) h = tt
+    of_granted (Err e) h = tt
+
+    of_closed : (r : Result Effect Errno) → IfOk r (IsClosed s) → IfOk r (IsInPlace s)
+    of_closed (Ok (Completes after x)) h = tt
+    of_closed (Ok (Blocks after moved)) h = h
+    of_closed (Ok (Asks a)) h = tt
+    of_closed (Err e) h = tt
+
+    by_door : (b : Bool) → closes_door s c carried ≡ b → IfOk (effect_of s c carried) (IsInPlace s)
+    by_door false is = of_granted (effect_of s c carried) (granted s c carried is)
+    by_door true is = by_call c is
+      where
+        by_call : (c : Call) → closes_door s c carried ≡ true → IfOk (effect_of s c carried) (IsInPlace s)
+        by_call (call.Close descriptor) is = of_closed (does_of (close_result s descriptor)) (granted-close s descriptor)
+        by_call c is = grind arith
+
+-- a call that waits, or gives up, leaves what its turn left
+pub waited_leaves : (settings : Settings) (after : State) (moved : Moved) (carried : Carried)
+    → (waited settings after moved carried).after ≡ after
+waited_leaves settings after moved carried = by_test (nat_lt (carried.turns + 1) settings.patience)
+  where
+    by_test : (b : Bool) → (held_up b after moved carried).after ≡ after
     by_test true = refl
     by_test false = refl
 
-blocked_alone : (settings : Settings) (s : State) (outcome : Option Outcome) (carried : Carried) (r : Result Effect Errno)
+-- a turn that is blocked changes nothing
+pub waited_alone : (settings : Settings) (s : State) (carried : Carried) → (waited settings s nothing_moved carried).after ≡ s
+waited_alone settings s carried = waited_leaves settings s nothing_moved carried
+
+blocked_alone : (settings : Settings) (s : State) (outcome : Option Outcome) (carried : Carried) (r : Result Effect Errno) → IfOk r (IsInPlace s)
     → (concluded settings s outcome carried r).answer ≡ answer.Again → (concluded settings s outcome carried r).after ≡ s
-blocked_alone settings s outcome carried (Ok (Completes after x)) again = cc
-blocked_alone settings s outcome carried (Ok Blocks) again = waited_alone settings s carried
-blocked_alone settings s (Some (out.Ok value bytes)) carried (Ok (Asks a)) again = cc
-blocked_alone settings s (Some (out.Fail e)) carried (Ok (Asks a)) again = by_test (a.waits && is_again e) again
+blocked_alone settings s outcome carried (Ok (Completes after x)) there again = cc
+blocked_alone settings s outcome carried (Ok (Blocks after moved)) there again = waited_leaves settings after moved carried ∙ there.0
+blocked_alone settings s (Some (out.Ok value bytes)) carried (Ok (Asks a)) there again = cc
+blocked_alone settings s (Some (out.Fail e)) carried (Ok (Asks a)) there again = by_test (a.waits && is_again e) again
   where
-    by_test : (b : Bool) → (if b then waited settings s carried else failed a.otherwise e).answer ≡ answer.Again → (if b then waited settings s carried else failed a.otherwise e).after ≡ s
+    by_test : (b : Bool) → (if b then waited settings s nothing_moved carried else failed a.otherwise e).answer ≡ answer.Again → (if b then waited settings s nothing_moved carried else failed a.otherwise e).after ≡ s
     by_test true again = waited_alone settings s carried
     by_test false again = cc
-blocked_alone settings s None carried (Ok (Asks a)) again = cc
-blocked_alone settings s outcome carried (Err f) again = refl
+blocked_alone settings s None carried (Ok (Asks a)) there again = cc
+blocked_alone settings s outcome carried (Err f) there again = refl
 
 pub again_leaves_state : (settings : Settings) (s : State) (c : Call) (outcome : Option Outcome) (carried : Carried)
     → (step settings s c outcome carried).answer ≡ answer.Again → (step settings s c outcome carried).after ≡ s
-again_leaves_state settings s c outcome carried again = blocked_alone settings s outcome carried (effect_of s c carried) again
+again_leaves_state settings s c outcome carried again = blocked_alone settings s outcome carried (effect_of s c carried) (in_place s c carried) again
 
 left_alone : (settings : Settings) (s : State) (outcome : Option Outcome) (carried : Carried) (r : Result Effect Errno) (e : Errno) → IfOk r (IsGranted s)
     → (concluded settings s outcome carried r).answer ≡ answer.Reply (reply.Fail e) → (concluded settings s outcome carried r).after ≡ s
 left_alone settings s outcome carried (Ok (Completes after x)) e granted fails = grind arith
-left_alone settings s outcome carried (Ok Blocks) e granted fails = waited_alone settings s carried
+left_alone settings s outcome carried (Ok (Blocks after moved)) e granted fails = waited_leaves settings after moved carried ∙ granted.0
 left_alone settings s (Some (out.Ok value bytes)) carried (Ok (Asks a)) e granted fails = absurd (not_failed (a.succeeds value bytes).1 (granted.0 value bytes) fails)
   where
     not_failed : (r : Reply) → is_failure r ≡ false → answer.Reply r ≡ answer.Reply (reply.Fail e) → ⊥
     not_failed r quiet is = grind arith
 left_alone settings s (Some (out.Fail f)) carried (Ok (Asks a)) e granted fails = by_test (a.waits && is_again f)
   where
-    by_test : (b : Bool) → (if b then waited settings s carried else failed a.otherwise f).after ≡ s
+    by_test : (b : Bool) → (if b then waited settings s nothing_moved carried else failed a.otherwise f).after ≡ s
     by_test true = waited_alone settings s carried
     by_test false = granted.1
 left_alone settings s None carried (Ok (Asks a)) e granted fails = granted.1

@@ -1,5 +1,5 @@
 -- The states between the calls of the examples.
-use Rattle.std.proofs.Common.{◌≡◌, ℕ, ◌+◌, pos, Bool, List, [], ◌∷◌, length, None, true, false, codes, refl, ap, ◌∙◌, if◌then◌else◌, nat_lt}
+use Rattle.std.proofs.Common.{◌≡◌, ℕ, ◌+◌, pos, Bool, List, [], ◌∷◌, length, None, true, false, codes, refl, ap, ◌∙◌, nat_lt}
 use Rattle.std.specs.FinMap as map
 use Rattle.sequential_object.specs.Descriptors.{open_result, close_result, lowest_from}
 use Rattle.sequential_object.specs.Duplicates.{dup_result, dup_from_result, dup2_result}
@@ -9,7 +9,7 @@ use Rattle.sequential_object.specs.Object.{State, Description, File, Pipe, Pair,
 use Rattle.sequential_object.specs.Paths.{path_form}
 use Rattle.sequential_object.specs.Sockets.{pipe_result, shutdown_result, socketpair_result}
 use Rattle.sequential_object.specs.Streams.{Half, PairState, new_half, new_pair}
-use Rattle.sequential_object.specs.Step.{Stepped, nothing_carried, step, waited}
+use Rattle.sequential_object.specs.Step.{Stepped, held_up, nothing_carried, nothing_moved, step, waited}
 use Rattle.sequential_object.specs.Status.{fstat_result, getfl_result, setfl_result}
 use Rattle.sequential_object.specs.Transfers.{ftruncate_result, lseek_result, pread_result, pwrite_result, read_result, write_result}
 use Rattle.posix_terms.specs.declared.call.Access.TheVariants as access
@@ -439,14 +439,14 @@ pair settings = (simp listed, (simp listed, (simp listed, (simp listed, (simp li
 
 -- ## Patience
 
-read_waits : (settings : Settings) (turns : ℕ) → step settings (step settings empty_state call.Pipe None nothing_carried).after (call.Read (pos 0) (pos 4)) None (record { turns = turns })
-    ≡ waited settings (pipe_1 [] false) (record { turns = turns })
+read_waits : (settings : Settings) (turns : ℕ) → step settings (step settings empty_state call.Pipe None nothing_carried).after (call.Read (pos 0) (pos 4)) None (record { turns = turns; moved = nothing_moved })
+    ≡ waited settings (pipe_1 [] false) nothing_moved (record { turns = turns; moved = nothing_moved })
 unfolding pipe_result lowest_from read_result
 read_waits settings turns = simp listed
 
 abbrev answer_by : State → ℕ → ℕ → Answer
 answer_by s turns patience =
-    let stepped : Stepped = if nat_lt (turns + 1) patience then record { after = s; answer = answer.Again; carried = record { turns = turns + 1 } } else record { after = s; answer = answer.Reply (reply.Fail EINTR); carried = nothing_carried } in stepped.answer
+    (held_up (nat_lt (turns + 1) patience) s nothing_moved (record { turns = turns; moved = nothing_moved })).answer
 
 patient_at : (turns : ℕ) → AnswersAfter 3 turns (answer_by (pipe_1 [] false) turns 3)
 patient_at turns settings is = ap (λ (stepped : Stepped). stepped.answer) (read_waits settings turns) ∙ ap (answer_by (pipe_1 [] false) turns) is

@@ -21,7 +21,7 @@ use Rattle.sequential_object.specs.Paths.{node_at, resolved}
 use Rattle.sequential_object.specs.Refusals.{◌>>=◌, count_of, position_of, refuse_if, some_or}
 use Rattle.sequential_object.specs.Sockets.{NewEnd, pipe_result, shut_content, shuttable, shutdown_result, socketpair_result, two_ends, two_numbers}
 use Rattle.sequential_object.specs.Status.{fstat_result, getfl_result, setfl_result, stat_content}
-use Rattle.sequential_object.specs.Step.{Carried, concluded, effect_of, failed, is_again, step, waited}
+use Rattle.sequential_object.specs.Step.{Carried, concluded, effect_of, failed, is_again, nothing_moved, step, waited}
 use Rattle.sequential_object.specs.Streams.{Breaks, Ends, NoRoom, NothingYet, Reading, Reads, Writes, Writing, new_pair, shut}
 use Rattle.sequential_object.specs.Transfers.{base_of, file_in, ftruncate_result, lseek_result, not_listener, offset_of, pread_result, pwrite_result, read_content, read_done, read_result, readable, seek_content, seekable, size_of, start_of, with_offset, writable, write_content, write_done, write_result}
 use Rattle.sequential_object.specs.Unused.{HoldsNothingUnused}
@@ -41,7 +41,7 @@ use Rattle.posix_terms.specs.declared.outcome.Outcome.TheVariants as out
 use Rattle.posix_terms.specs.declared.reply.Reply.TheVariants as reply
 use Rattle.posix_terms.specs.declared.transcript.Settings.{Settings}
 use Rattle.sequential_object.proofs.Maps.{insert_has, insert_keeps, insert_other, insert_same, inserted_is, left_is, paths_total, remove_keeps, remove_other, remove_same}
-use Rattle.sequential_object.proofs.Refused.{waited_alone}
+use Rattle.sequential_object.proofs.Refused.{waited_alone, waited_leaves}
 use Rattle.sequential_object.proofs.Tidy.{IsFree, IsTidy, KeepsFiles, KeepsOthers, Named, Used, but_one, content_tidy, cut_there, cut_tidy, file_tidy, freed_tidy, nothing_unused, object_tidy, opened_tidy, own_tidy, paths_tidy, released_tidy, shared_tidy, tidy_of, unnamed_tidy, unused_tidy}
 use Rattle.sequential_object.proofs.Whole.{NamesKnown, StaysFile, same_kind}
 
@@ -49,7 +49,7 @@ use Rattle.sequential_object.proofs.Whole.{NamesKnown, StaysFile, same_kind}
 
 abbrev LeavesTidy : Result Effect Errno → Type 0
 LeavesTidy (Ok (Completes after r)) = IsTidy after
-LeavesTidy (Ok Blocks) = Unit {0}
+LeavesTidy (Ok (Blocks after moved)) = IsTidy after
 LeavesTidy (Ok (Asks a)) = ((value : ℕ) (bytes : List ℕ) → IsTidy (a.succeeds value bytes).0) × IsTidy a.otherwise
 LeavesTidy (Err e) = Unit {0}
 
@@ -459,7 +459,7 @@ by_close s descriptor h =
 by_reading : (s : State) (key : ℕ) (d : Description) (content : List ℕ → Content) (reading : Reading) → fin.get s.descriptions key ≡ Some d → ((left : List ℕ) → StaysFile s d.object (content left)) → IsTidy s → TidyBy (read_done s d content reading)
 by_reading s key d content (Reads bytes left) there kind h = record { it = content_tidy s d.object (content left) (own_used s key d (content left) there) (kind left) h }
 by_reading s key d content Ends there kind h = record { it = h }
-by_reading s key d content NothingYet there kind h = either d.nonblock _ _ (record { it = tt }) (record { it = tt })
+by_reading s key d content NothingYet there kind h = either d.nonblock _ _ (record { it = tt }) (record { it = h })
 
 by_read_content : (s : State) (key : ℕ) (d : Description) (n : ℕ) (c : Content) → fin.get s.descriptions key ≡ Some d → content_of s d.object ≡ c → IsTidy s → TidyBy (does_of (Ok (read_content s key d n c)))
 by_read_content s key d n (File file) there is h = record { it = own_tidy s key d _ there refl h }
@@ -476,7 +476,7 @@ by_read s descriptor count h =
 by_writing : (s : State) (key : ℕ) (d : Description) (n : ℕ) (content : List ℕ → Content) (writing : Writing) → fin.get s.descriptions key ≡ Some d → ((left : List ℕ) → StaysFile s d.object (content left)) → IsTidy s → TidyBy (write_done s d n content writing)
 by_writing s key d n content (Writes left) there kind h = record { it = content_tidy s d.object (content left) (own_used s key d (content left) there) (kind left) h }
 by_writing s key d n content Breaks there kind h = record { it = tt }
-by_writing s key d n content NoRoom there kind h = either d.nonblock _ _ (record { it = tt }) (record { it = tt })
+by_writing s key d n content NoRoom there kind h = either d.nonblock _ _ (record { it = tt }) (record { it = h })
 
 written_tidy : (s : State) (key : ℕ) (d : Description) (offset : ℕ) (bytes : List ℕ) → fin.get s.descriptions key ≡ Some d → IsTidy s → IsTidy (with_content (with_offset s key d offset) d.object (File bytes))
 written_tidy s key d offset bytes there h =
@@ -713,11 +713,11 @@ by_call s (call.TcpAccept descriptor) carried h = by_accept s descriptor h
 
 by_step : (settings : Settings) (s : State) (outcome : Option Outcome) (carried : Carried) (r : Result Effect Errno) → IsTidy s → TidyBy r → IsTidy (concluded settings s outcome carried r).after
 by_step settings s outcome carried (Ok (Completes after x)) tidy h = h.it
-by_step settings s outcome carried (Ok Blocks) tidy h = subst IsTidy (sym (waited_alone settings s carried)) tidy
+by_step settings s outcome carried (Ok (Blocks after moved)) tidy h = subst IsTidy (sym (waited_leaves settings after moved carried)) h.it
 by_step settings s (Some (out.Ok value bytes)) carried (Ok (Asks a)) tidy h = h.it.0 value bytes
 by_step settings s (Some (out.Fail e)) carried (Ok (Asks a)) tidy h = by_test (a.waits && is_again e) h.it.1
   where
-    by_test : (b : Bool) → IsTidy a.otherwise → IsTidy (if b then waited settings s carried else failed a.otherwise e).after
+    by_test : (b : Bool) → IsTidy a.otherwise → IsTidy (if b then waited settings s nothing_moved carried else failed a.otherwise e).after
     by_test true otherwise = subst IsTidy (sym (waited_alone settings s carried)) tidy
     by_test false otherwise = otherwise
 by_step settings s None carried (Ok (Asks a)) tidy h = h.it.1

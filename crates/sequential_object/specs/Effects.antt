@@ -2,9 +2,14 @@
 -- What is decided of a call that the table does not refuse: which object's lock it takes, and what it does.
 use Rattle.std.specs.Prelude.{ℕ, List, Bool, Option, Some, None, Result, Ok, Err}
 use Rattle.sequential_object.specs.Object.{State}
+use Rattle.posix_terms.specs.declared.carried.Moved.{Moved}
 use Rattle.posix_terms.specs.declared.errno.Errno.{Errno}
 use Rattle.posix_terms.specs.declared.outcome.OutKind.{OutKind}
 use Rattle.posix_terms.specs.declared.reply.Reply.{Reply}
+
+-- no byte was moved so far
+abbrev pub nothing_moved : Moved
+nothing_moved = record { bytes = 0; from = None }
 
 -- what a call asks of the outside, and what comes of it
 pub record Asking : Type 0 where
@@ -20,8 +25,8 @@ pub record Asking : Type 0 where
 pub data Effect : Type 0 where
   -- it is done, and this is its reply
   Completes : (after : State) → (reply : Reply) → Effect
-  -- it cannot go on yet, and waits for a later turn
-  Blocks : Effect
+  -- it cannot go on yet, and waits for a later turn; it leaves this, and has moved so much
+  Blocks : (after : State) → (moved : Moved) → Effect
   -- it goes outside, and its reply is what comes of that
   Asks : (asking : Asking) → Effect
 

@@ -3,7 +3,7 @@
 use Rattle.std.specs.Prelude.{◌≡◌, ℕ, pos, negsuc, List, [], ◌∷◌, map, true, false, codes, None}
 use Rattle.std.specs.FinMap as fin
 use Rattle.sequential_object.specs.Object.{State, empty_state}
-use Rattle.sequential_object.specs.Step.{nothing_carried, step}
+use Rattle.sequential_object.specs.Step.{Carried, nothing_carried, nothing_moved, step}
 use Rattle.posix_terms.specs.declared.call.Access.TheVariants as access
 use Rattle.posix_terms.specs.Calls.{Call}
 use Rattle.posix_terms.specs.declared.call.Call.TheVariants as call
@@ -213,7 +213,9 @@ half_closed_pair =
 abbrev pub AnswersAfter : ℕ → ℕ → Answer → Type 0
 AnswersAfter patience turns a =
     (settings : Settings) → settings.patience ≡ patience
-    → (step settings (step settings empty_state call.Pipe None nothing_carried).after (call.Read (pos 0) (pos 4)) None (record { turns = turns })).answer ≡ a
+    → let piped = step settings empty_state call.Pipe None nothing_carried in
+    let carried : Carried = record { turns = turns; moved = nothing_moved } in
+    (step settings piped.after (call.Read (pos 0) (pos 4)) None carried).answer ≡ a
 
 -- a file is unlinked and then closed
 abbrev pub closed_last : List (Call × Reply)

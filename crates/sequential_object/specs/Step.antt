@@ -1,10 +1,12 @@
 -- Believed: a contract of the headline stands on it.
 -- What one call, taken alone, answers and leaves.
-use Rattle.std.specs.Prelude.{◌≡◌, ◌+◌, Bool, true, false, ◌&&◌, Result, Ok, Err, Option, Some, None, is_some, if◌then◌else◌, nat_lt}
+use Rattle.std.specs.Prelude.{◌≡◌, ℕ, zero, suc, ◌+◌, nat_lt, Bool, true, false, ◌&&◌}
+use Rattle.std.specs.Prelude.{Result, Ok, Err, Option, Some, None, is_some, if◌then◌else◌}
 use Rattle.sequential_object.specs.Descriptors.{open_result, close_result}
 use Rattle.sequential_object.specs.Duplicates.{dup_result, dup_from_result, dup2_result}
 use Rattle.sequential_object.specs.Doors.{host_open_result, tcp_accept_result, tcp_connect_result, tcp_listen_result}
 use Rattle.sequential_object.specs.Effects.{Decision, Effect, Asking, Asks, Blocks, Completes, does_of}
+pub use Rattle.sequential_object.specs.Effects.{nothing_moved}
 use Rattle.sequential_object.specs.Names.{link_result, unlink_result, rename_result, mkdir_result, rmdir_result}
 use Rattle.sequential_object.specs.Object.{State}
 use Rattle.sequential_object.specs.Sockets.{pipe_result, socketpair_result, shutdown_result}
@@ -13,6 +15,7 @@ use Rattle.sequential_object.specs.Transfers.{read_result, write_result, pread_r
 use Rattle.posix_terms.specs.Calls.{Call}
 use Rattle.posix_terms.specs.declared.call.Call.TheVariants as call
 pub use Rattle.posix_terms.specs.declared.carried.Carried.{Carried}
+pub use Rattle.posix_terms.specs.declared.carried.Moved.{Moved}
 use Rattle.posix_terms.specs.declared.errno.Errno.{Errno}
 use Rattle.posix_terms.specs.declared.errno.Errno.TheVariants.{EAGAIN, EINTR, EIO}
 use Rattle.posix_terms.specs.declared.outcome.Outcome.{Outcome}
@@ -20,12 +23,14 @@ use Rattle.posix_terms.specs.declared.outcome.Outcome.TheVariants as outcome
 use Rattle.posix_terms.specs.declared.request.Request.{Request}
 use Rattle.posix_terms.specs.declared.reply.Answer.{Answer}
 use Rattle.posix_terms.specs.declared.reply.Answer.TheVariants as answer
+use Rattle.posix_terms.specs.declared.reply.Reply.{Reply}
 use Rattle.posix_terms.specs.declared.reply.Reply.TheVariants as reply
 use Rattle.posix_terms.specs.declared.transcript.Settings.{Settings}
 
--- `Carried` is what a blocked call hands on to its next turn: the number of its blocked turns so far. Of a call at its first turn it is this
+-- `Carried` is what a blocked call hands on to its next turn: the number of its blocked turns so
+-- far, and what it moved at them. Of a call at its first turn it is this
 abbrev pub nothing_carried : Carried
-nothing_carried = record { turns = 0 }
+nothing_carried = record { turns = 0; moved = nothing_moved }
 
 -- what is decided of a call, by the rows of the call table
 abbrev pub decided : State → Call → Carried → Result Decision Errno
@@ -74,12 +79,24 @@ pub record Stepped : Type 0 where
   pub answer : Answer
   pub carried : Carried
 
--- a call that carries this is blocked: it is made anew at a later turn, until its patience is at its end
-abbrev pub waited : Settings → State → Carried → Stepped
-waited settings s carried =
-    if nat_lt (carried.turns + 1) settings.patience
-    then record { after = s; answer = answer.Again; carried = record { turns = carried.turns + 1 } }
-    else record { after = s; answer = answer.Reply (reply.Fail EINTR); carried = nothing_carried }
+-- the reply to a call that gives up when it has moved so many bytes
+abbrev pub gave_up : ℕ → Reply
+gave_up zero = reply.Fail EINTR
+gave_up (suc n) = reply.Count (suc n)
+
+-- a turn at which a call is blocked, leaves this state and has moved so much, with patience for
+-- another turn or at the end of it
+abbrev pub held_up : Bool → State → Moved → Carried → Stepped
+held_up true after moved carried =
+    let next : Carried = record { turns = carried.turns + 1; moved = moved } in
+    record { after = after; answer = answer.Again; carried = next }
+held_up false after moved carried =
+    record { after = after; answer = answer.Reply (gave_up moved.bytes); carried = nothing_carried }
+
+-- a call that carries this is blocked: it is made anew at later turns, until its patience ends
+abbrev pub waited : Settings → State → Moved → Carried → Stepped
+waited settings after moved carried =
+    held_up (nat_lt (carried.turns + 1) settings.patience) after moved carried
 
 abbrev pub is_again : Errno → Bool
 is_again EAGAIN = true
@@ -89,18 +106,20 @@ is_again e = false
 abbrev pub failed : State → Errno → Stepped
 failed after e = record { after = after; answer = answer.Reply (reply.Fail e); carried = nothing_carried }
 
--- how a call went on outside. EAGAIN may make it wait, and every other failure is its reply. An outcome that is still missing leaves what a
--- failure leaves; until it comes, the answer says nothing
+-- how a call went on outside. EAGAIN may make it wait, which moves nothing, and every other failure
+-- is its reply. An outcome that is still missing leaves what a failure leaves; until it comes, the
+-- answer says nothing
 abbrev pub outside : Settings → State → Asking → Option Outcome → Carried → Stepped
 outside settings s a (Some (outcome.Ok value bytes)) carried =
     record { after = (a.succeeds value bytes).0; answer = answer.Reply (a.succeeds value bytes).1; carried = nothing_carried }
-outside settings s a (Some (outcome.Fail e)) carried = if a.waits && is_again e then waited settings s carried else failed a.otherwise e
+outside settings s a (Some (outcome.Fail e)) carried =
+    if a.waits && is_again e then waited settings s nothing_moved carried else failed a.otherwise e
 outside settings s a None carried = failed a.otherwise EIO
 
 -- The outcome is that of the request which the call makes of the outside
 abbrev pub concluded : Settings → State → Option Outcome → Carried → Result Effect Errno → Stepped
 concluded settings s outcome carried (Ok (Completes after r)) = record { after = after; answer = answer.Reply r; carried = nothing_carried }
-concluded settings s outcome carried (Ok Blocks) = waited settings s carried
+concluded settings s outcome carried (Ok (Blocks after moved)) = waited settings after moved carried
 concluded settings s outcome carried (Ok (Asks a)) = outside settings s a outcome carried
 concluded settings s outcome carried (Err e) = failed s e
 

@@ -1,7 +1,9 @@
 -- Believed: a contract of the headline stands on it.
 -- Streams of bytes in memory: what is in a pipe, and what goes each way between the two sockets of a pair.
--- POSIX.1-2017, System Interfaces: `read`, `write`, `shutdown`. No write is longer than a stream holds, so each moves all of its bytes or none.
-use Rattle.std.specs.Prelude.{ℕ, ◌+◌, List, [], ◌++◌, length, take, drop, Bool, true, false, not, ◌&&◌, ◌==◌, nat_le, if◌then◌else◌}
+-- POSIX.1-2017, System Interfaces: `read`, `write`, `shutdown`. A write is whole or in parts.
+-- A whole one moves all of its bytes or none, one in parts as many as fit. Today each is whole.
+use Rattle.std.specs.Prelude.{ℕ, ◌+◌, ◌-◌, ◌==◌, nat_le, List, [], ◌++◌, length, take, drop}
+use Rattle.std.specs.Prelude.{Bool, true, false, not, ◌&&◌, if◌then◌else◌}
 use Rattle.posix_terms.specs.declared.call.ShutdownHow.{ShutdownHow}
 use Rattle.posix_terms.specs.declared.call.ShutdownHow.TheVariants as how
 use Rattle.posix_terms.specs.declared.limits.TheConstants.Limits as limit
@@ -35,10 +37,27 @@ stream_write most waiting bytes readers =
     if not readers then Breaks else
     if nat_le (length waiting + length bytes) most then Writes (waiting ++ bytes) else NoRoom
 
+-- as many of the bytes go as there is room for; a stream that is full has no room
+abbrev pub stream_part : ℕ → List ℕ → List ℕ → Bool → Writing
+stream_part most waiting bytes readers =
+    if not readers then Breaks else
+    if nat_le most (length waiting) then NoRoom else
+    Writes (waiting ++ take (most - length waiting) bytes)
+
+-- a write that is whole, or one in parts
+abbrev pub stream_put : ℕ → List ℕ → List ℕ → (whole readers : Bool) → Writing
+stream_put most waiting bytes whole readers =
+    if whole then stream_write most waiting bytes readers else
+    stream_part most waiting bytes readers
+
+-- the bytes that go behind those that wait, where such a write is done
+abbrev pub bytes_put : ℕ → List ℕ → List ℕ → (whole : Bool) → List ℕ
+bytes_put most waiting bytes whole = if whole then bytes else take (most - length waiting) bytes
+
 -- ## A pipe
 
-abbrev pub pipe_write : List ℕ → List ℕ → Bool → Writing
-pipe_write waiting bytes readers = stream_write limit.PIPE_BYTES waiting bytes readers
+abbrev pub pipe_write : List ℕ → List ℕ → (whole readers : Bool) → Writing
+pipe_write waiting bytes whole readers = stream_put limit.PIPE_BYTES waiting bytes whole readers
 
 -- ## A pair of sockets
 

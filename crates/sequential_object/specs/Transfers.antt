@@ -1,11 +1,13 @@
 -- Believed: a contract of the headline stands on it.
 -- Reading, writing, moving the offset and cutting.
 -- POSIX.1-2017, System Interfaces: `read`, `pread`, `write`, `pwrite`, `lseek`, `ftruncate`.
-use Rattle.std.specs.Prelude.{ℕ, ◌+◌, ◌^◌, ℤ, pos, negsuc, ◌+ℤ◌, Bool, false, List, [], length, not, ◌==◌, nat_lt, Result, Ok, Err, if◌then◌else◌}
+use Rattle.std.specs.Prelude.{ℕ, ◌+◌, ◌^◌, ◌==◌, nat_lt, ℤ, pos, negsuc, ◌+ℤ◌, List, [], length}
+use Rattle.std.specs.Prelude.{Bool, true, false, not, Result, Ok, Err, if◌then◌else◌}
 use Rattle.std.specs.FinMap as map
 use Rattle.posix_terms.specs.Calls.{can_read, can_write}
 use Rattle.sequential_object.specs.Descriptors.{described, has_end}
-use Rattle.sequential_object.specs.Effects.{Decision, Effect, Completes, Blocks, alone, asks_of, locking}
+use Rattle.sequential_object.specs.Effects.{Decision, Effect, Completes, Blocks, alone, asks_of}
+use Rattle.sequential_object.specs.Effects.{locking, nothing_moved}
 use Rattle.posix_terms.specs.Ends.{side_of, peer_of}
 use Rattle.sequential_object.specs.Files.{bytes_at, resized, written}
 use Rattle.sequential_object.specs.Object.{State, Description, Content, File, Pipe, Pair, DoorTo, content_of, with_content}
@@ -27,14 +29,14 @@ abbrev pub with_offset : State → ℕ → Description → ℕ → State
 with_offset s key d offset = record s { descriptions = map.insert s.descriptions key (record d { offset = offset }) }
 
 -- a call that cannot go on: O_NONBLOCK decides whether it waits
-abbrev pub blocked : Description → Result Effect Errno
-blocked d = if d.nonblock then Err EAGAIN else Ok Blocks
+abbrev pub blocked : State → Description → Result Effect Errno
+blocked s d = if d.nonblock then Err EAGAIN else Ok (Blocks s nothing_moved)
 
 -- a read of a stream, which leaves its object with this content
 abbrev pub read_done : State → Description → (List ℕ → Content) → Reading → Result Effect Errno
 read_done s d content (Reads bytes left) = Ok (Completes (with_content s d.object (content left)) (reply.Data bytes))
 read_done s d content Ends = Ok (Completes s (reply.Data []))
-read_done s d content NothingYet = blocked d
+read_done s d content NothingYet = blocked s d
 
 -- a call that moves so many bytes of a pipe, a pair or a door: where there are none it takes no lock, and this is its reply
 abbrev pub moving : State → Description → ℕ → Reply → Result Effect Errno → Decision
@@ -84,7 +86,7 @@ start_of d file = if d.append then length file else d.offset
 abbrev pub write_done : State → Description → ℕ → (List ℕ → Content) → Writing → Result Effect Errno
 write_done s d count content (Writes left) = Ok (Completes (with_content s d.object (content left)) (reply.Count count))
 write_done s d count content Breaks = Err EPIPE
-write_done s d count content NoRoom = blocked d
+write_done s d count content NoRoom = blocked s d
 
 -- a write of some bytes to a file
 abbrev pub write_file : State → ℕ → Description → List ℕ → List ℕ → Result Effect Errno
@@ -96,7 +98,8 @@ abbrev pub write_content : State → ℕ → Description → List ℕ → Conten
 write_content s key d bytes (File file) =
     locking d.object (if length bytes == 0 then Ok (Completes s (reply.Count 0)) else write_file s key d bytes file)
 write_content s key d bytes (Pipe waiting) =
-    moving s d (length bytes) (reply.Count 0) (write_done s d (length bytes) Pipe (pipe_write waiting bytes (has_end s d.object part.Read)))
+    let writing = pipe_write waiting bytes true (has_end s d.object part.Read) in
+    moving s d (length bytes) (reply.Count 0) (write_done s d (length bytes) Pipe writing)
 write_content s key d bytes (Pair p) =
     let side = side_of d.«end» in
     moving s d (length bytes) (reply.Count 0)

@@ -61,7 +61,7 @@ impl HalfBody {
         ensures answer { result ≡ write_answer (length bytes.now) (stream_write limit.PAIR_BYTES self.old.waiting bytes.now (reaches && not self.old.reading_shut)) }
         ensures left { self.new ≡ record self.old { waiting = left_by_write self.old.waiting (stream_write limit.PAIR_BYTES self.old.waiting bytes.now (reaches && not self.old.reading_shut)) } }
     {
-        self.waiting.put(bytes, reaches && !self.reading_shut)
+        self.waiting.put(bytes, reaches && !self.reading_shut, true)
     }
 
     // Shuts reading, writing or both.

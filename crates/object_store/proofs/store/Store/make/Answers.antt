@@ -1,4 +1,4 @@
-use Rattle.std.proofs.Common.{◌≡◌, ◌≤◌, ℕ, Bool, true, false, ap, arith, refl, sym, subst, rules, Option, Some, None}
+use Rattle.std.proofs.Common.{◌≡◌, ◌≤◌, ℕ, Bool, true, false, arith, refl, sym, subst, rules, Option, Some, None}
 use Rattle.file_descriptions.specs.Descriptions.{AreSound}
 use Rattle.descriptor_table.specs.Table.{IsSound}
 use Rattle.descriptor_table.specs.declared.plan.Op.{Op}

@@ -1,4 +1,4 @@
-use Rattle.std.proofs.Common.{◌≡◌, Some, true, false, ap, arith, refl, subst, sym, ◌∙◌, rules}
+use Rattle.std.proofs.Common.{◌≡◌, Some, true, false, arith, refl, subst, sym, ◌∙◌, rules}
 use Rattle.std.proofs.lemmas.Option.{none-some}
 use Rattle.file_descriptions.specs.Descriptions.{AreSound}
 use Rattle.descriptor_table.specs.Table.{IsSound}
