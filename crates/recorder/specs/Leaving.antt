@@ -1,6 +1,6 @@
 -- Internal: no contract of the headline or of a command stands on it.
 -- Why a worker leaves, and what it brings back from outside.
-use Rattle.std.specs.Prelude.{◌≡◌, ℕ, Bool, true, false, Option, None}
+use Rattle.std.specs.Prelude.{◌≡◌, ◌⊎◌, ℕ, Bool, true, false, Option, None}
 use Rattle.host_doors.specs.Opening.{HasDoor}
 use Rattle.host_doors.specs.declared.stop.DoorStop.{DoorStop}
 use Rattle.host_doors.specs.declared.stop.DoorStop.TheVariants as door_stop
@@ -23,6 +23,11 @@ abbrev pub left_for : ℕ → ℕ → DoorStop → Leave
 left_for i number door_stop.EndOfLog = leave.EndOfLog i
 left_for i number door_stop.Diverged = leave.Diverged i number
 left_for i number door_stop.Memory = leave.Memory
+
+-- thread i left since its outside gave no outcome of this number, or since there was no memory
+abbrev pub IsLeft : ℕ → ℕ → Leave → Type 0
+IsLeft i number why =
+    (why ≡ leave.EndOfLog i) ⊎ (why ≡ leave.Diverged i number) ⊎ (why ≡ leave.Memory)
 
 -- what a machine is stopped for, if it is not stopped already
 abbrev pub cause_of : Leave → Stop

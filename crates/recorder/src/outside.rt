@@ -1,8 +1,7 @@
-ghost use Rattle.std.specs.Prelude.{◌≡◌, ◌⊎◌, ◌+◌, ◌≤◌, true, None, is_some, IfErr, IfOk, OnErr};
+ghost use Rattle.std.specs.Prelude.{◌≡◌, ◌+◌, ◌≤◌, true, None, is_some, IfErr, IfOk, OnErr};
 ghost use Rattle.host_doors.specs.Giving.{CanCount};
 ghost use Rattle.host_doors.specs.Opening.{HasDoor};
-ghost use Rattle.recorder.specs.Leaving.{BringsDoor, brings_back, left_for};
-ghost use Rattle.recorder.specs.declared.leave.Leave.TheVariants as why;
+ghost use Rattle.recorder.specs.Leaving.{BringsDoor, IsLeft, brings_back, left_for};
 
 use crate::leave::Leave;
 use host_doors::{DoorStop, Opened, Outside};
@@ -31,7 +30,7 @@ pub fn reach<O: Outside>(
     ensures given { O.given outside.new ≤ O.given outside.old + 1 }
     ensures failures { O.failures outside.new ≤ O.failures outside.old + 1 }
     ensures same { OnErr result (outside.new ≡ outside.old) }
-    ensures why { IfErr result (λ leave. (leave ≡ why.EndOfLog i) ⊎ (leave ≡ why.Diverged i number) ⊎ (leave ≡ why.Memory)) }
+    ensures why { IfErr result (IsLeft i number) }
     ensures opened { IfOk result (λ r. BringsDoor request.now.kind r.outcome r.opened) }
     ensures back { IfOk result (λ r. is_some r.back ≡ brings_back request.now.kind (is_some door)) }
 {
@@ -54,7 +53,7 @@ fn open<O: Outside>(
     ensures given { O.given outside.new ≤ O.given outside.old + 1 }
     ensures failures { O.failures outside.new ≤ O.failures outside.old + 1 }
     ensures same { OnErr result (outside.new ≡ outside.old) }
-    ensures why { IfErr result (λ leave. (leave ≡ why.EndOfLog i) ⊎ (leave ≡ why.Diverged i number) ⊎ (leave ≡ why.Memory)) }
+    ensures why { IfErr result (IsLeft i number) }
     ensures opened { IfOk result (λ r. BringsDoor request.now.kind r.outcome r.opened) }
     ensures back { IfOk result (λ r. r.back ≡ None) }
 {
@@ -89,7 +88,7 @@ fn pass<O: Outside>(
     ensures given { O.given outside.new ≤ O.given outside.old + 1 }
     ensures failures { O.failures outside.new ≤ O.failures outside.old + 1 }
     ensures same { OnErr result (outside.new ≡ outside.old) }
-    ensures why { IfErr result (λ leave. (leave ≡ why.EndOfLog i) ⊎ (leave ≡ why.Diverged i number) ⊎ (leave ≡ why.Memory)) }
+    ensures why { IfErr result (IsLeft i number) }
     ensures opened { IfOk result (λ r. BringsDoor request.now.kind r.outcome r.opened) }
     ensures back { IfOk result (λ r. is_some r.back ≡ brings_back request.now.kind true) }
 {
@@ -121,7 +120,7 @@ fn accept<O: Outside>(
     ensures given { O.given outside.new ≤ O.given outside.old + 1 }
     ensures failures { O.failures outside.new ≤ O.failures outside.old + 1 }
     ensures same { OnErr result (outside.new ≡ outside.old) }
-    ensures why { IfErr result (λ leave. (leave ≡ why.EndOfLog i) ⊎ (leave ≡ why.Diverged i number) ⊎ (leave ≡ why.Memory)) }
+    ensures why { IfErr result (IsLeft i number) }
     ensures opened { IfOk result (λ r. HasDoor r.outcome r.opened) }
     ensures back { IfOk result (λ r. is_some r.back ≡ true) }
 {
@@ -150,7 +149,7 @@ fn lend<O: Outside>(
     ensures given { O.given outside.new ≤ O.given outside.old + 1 }
     ensures failures { O.failures outside.new ≤ O.failures outside.old + 1 }
     ensures same { OnErr result (outside.new ≡ outside.old) }
-    ensures why { IfErr result (λ leave. (leave ≡ why.EndOfLog i) ⊎ (leave ≡ why.Diverged i number) ⊎ (leave ≡ why.Memory)) }
+    ensures why { IfErr result (IsLeft i number) }
     ensures opened { IfOk result (λ r. BringsDoor request.now.kind r.outcome r.opened) }
     ensures back { IfOk result (λ r. is_some r.back ≡ true) }
 {
