@@ -18,8 +18,10 @@ impl Limits {
     pub const PATH_BYTES: usize = 255;
     /// The greatest count of one read or write (`SSIZE_MAX`).
     pub const COUNT: usize = 32_767;
-    /// Bytes of a pipe; also `PIPE_BUF`.
-    pub const PIPE_BYTES: usize = 32_768;
+    /// Bytes of a pipe.
+    pub const PIPE_BYTES: usize = 4_096;
+    /// The greatest write of a pipe that goes whole (`PIPE_BUF`).
+    pub const PIPE_BUF: usize = 512;
     /// Bytes of one direction of a socket pair.
     pub const PAIR_BYTES: usize = 32_768;
     /// The greatest port of a listener or a connection.

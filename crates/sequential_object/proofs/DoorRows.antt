@@ -12,7 +12,7 @@ use Rattle.sequential_object.specs.Paths.{path_form}
 use Rattle.sequential_object.specs.Sockets.{shutdown_result}
 use Rattle.sequential_object.specs.Status.{fstat_result, getfl_result, setfl_result}
 use Rattle.sequential_object.specs.Step.{Carried, Stepped, asks, nothing_carried, nothing_moved, step}
-use Rattle.sequential_object.specs.Transfers.{lseek_result, read_result, write_result}
+use Rattle.sequential_object.specs.Transfers.{first_write, lseek_result, read_result, write_result}
 use Rattle.posix_terms.specs.declared.call.Access.TheVariants as access
 use Rattle.posix_terms.specs.declared.object.Door.{Door}
 use Rattle.posix_terms.specs.declared.object.Door.TheVariants as door
@@ -59,7 +59,7 @@ abbrev pub short_states : List State
 short_states = host_1 ∷ host_1 ∷ host_1 ∷ []
 
 pub short : (settings : Settings) → Leads settings empty_state short_host_write short_states
-unfolding host_open_result lowest_from write_result
+unfolding host_open_result lowest_from write_result first_write
 short settings = (simp (listed, out-utf8), simp (listed, out-utf8), (simp listed, simp listed, (simp listed, simp listed, tt)))
 
 abbrev file_1 : State
@@ -97,7 +97,7 @@ abbrev pub net_states : List State
 net_states = net_1 ∷ net_1 ∷ net_1 ∷ net_2 ∷ net_3 ∷ net_3 ∷ net_3 ∷ net_3 ∷ net_3 ∷ net_3 ∷ net_4 ∷ net_4 ∷ net_4 ∷ []
 
 pub net : (settings : Settings) → Leads settings empty_state over_loopback net_states
-unfolding tcp_listen_result tcp_connect_result tcp_accept_result lowest_from fstat_result read_result write_result shutdown_result dup2_result close_result
+unfolding tcp_listen_result tcp_connect_result tcp_accept_result lowest_from fstat_result read_result write_result first_write shutdown_result dup2_result close_result
 net settings =
     (simp listed, simp listed, (simp listed, simp listed, (simp listed, simp listed, (simp listed, simp listed, (simp listed, simp listed, (simp listed, simp listed, (simp listed, simp listed, (simp listed, simp listed, (simp listed, simp listed, (simp listed, simp listed, (simp listed, simp listed, (simp listed, simp listed, (simp listed, simp listed, tt)))))))))))))
 
@@ -143,7 +143,7 @@ abbrev pub no_bytes_states : List State
 no_bytes_states = both_1 ∷ both_1 ∷ both_1 ∷ []
 
 pub no_bytes : (settings : Settings) → Leads settings empty_state no_bytes_of_a_door no_bytes_states
-unfolding host_open_result lowest_from read_result write_result
+unfolding host_open_result lowest_from read_result write_result first_write
 no_bytes settings = (simp (listed, out-utf8), simp (listed, out-utf8), (simp listed, simp listed, (simp listed, simp listed, tt)))
 
 abbrev appended_1 : State
@@ -153,7 +153,7 @@ abbrev pub appended_states : List State
 appended_states = appended_1 ∷ appended_1 ∷ appended_1 ∷ appended_1 ∷ appended_1 ∷ []
 
 pub appended : (settings : Settings) → Leads settings empty_state appended_host_file appended_states
-unfolding host_open_result lowest_from getfl_result write_result lseek_result
+unfolding host_open_result lowest_from getfl_result write_result first_write lseek_result
 appended settings =
     (simp (listed, out-utf8), simp (listed, out-utf8), (simp listed, simp listed, (simp listed, simp listed, (simp listed, simp listed, (simp listed, simp listed, tt)))))
 

@@ -1,3 +1,5 @@
+pub mod Binds
+pub mod Parts
 pub mod Refused
 pub mod Listed
 pub mod Chains

@@ -12,7 +12,8 @@ use Rattle.sequential_object.specs.Object.{State}
 use Rattle.sequential_object.specs.Status.{fstat_result, getfl_result, setfl_result}
 use Rattle.sequential_object.specs.Sockets.{pipe_result, socketpair_result, shutdown_result}
 use Rattle.sequential_object.specs.Step.{step, asks, Carried, effect_of, concluded, failed, is_again, nothing_moved, waited}
-use Rattle.sequential_object.specs.Transfers.{read_result, write_result, pread_result, pwrite_result, lseek_result, ftruncate_result}
+use Rattle.posix_terms.specs.declared.carried.Moved.{Moved}
+use Rattle.sequential_object.specs.Transfers.{first_write, read_result, write_result, pread_result, pwrite_result, lseek_result, ftruncate_result}
 use Rattle.posix_terms.specs.declared.call.Access.{Access}
 use Rattle.posix_terms.specs.Calls.{Call}
 use Rattle.posix_terms.specs.declared.call.Call.TheVariants as call
@@ -43,7 +44,7 @@ unfolding locked_object read_result
 locks-read s carried descriptor count = grind arith
 
 locks-write : (s : State) (carried : Carried) (descriptor : ℤ) (bytes : List ℕ) → Locks s (call.Write descriptor bytes) carried
-unfolding locked_object write_result
+unfolding locked_object write_result first_write
 locks-write s carried descriptor bytes = grind arith
 
 locks-pread : (s : State) (carried : Carried) (descriptor count position : ℤ) → Locks s (call.Pread descriptor count position) carried
@@ -235,9 +236,9 @@ steady-read : (s : State) (descriptor count : ℤ) → IfOk (does_of (read_resul
 unfolding read_result
 steady-read s descriptor count = grind arith
 
-steady-write : (s : State) (descriptor : ℤ) (bytes : List ℕ) → IfOk (does_of (write_result s descriptor bytes)) (IsSteady s)
-unfolding write_result
-steady-write s descriptor bytes = grind arith
+steady-write : (s : State) (descriptor : ℤ) (bytes : List ℕ) (moved : Moved) → IfOk (does_of (write_result s descriptor bytes moved)) (IsSteady s)
+unfolding write_result first_write
+steady-write s descriptor bytes moved = grind arith
 
 steady-pread : (s : State) (descriptor count position : ℤ) → IfOk (does_of (pread_result s descriptor count position)) (IsSteady s)
 unfolding pread_result
@@ -315,7 +316,7 @@ steady : (s : State) (c : Call) (carried : Carried) → keeps_table c ≡ false 
 steady s (call.Open path access flags) carried frees = steady-open s path access flags
 steady s (call.Close descriptor) carried frees = steady-close s descriptor
 steady s (call.Read descriptor count) carried frees = steady-read s descriptor count
-steady s (call.Write descriptor bytes) carried frees = steady-write s descriptor bytes
+steady s (call.Write descriptor bytes) carried frees = steady-write s descriptor bytes carried.moved
 steady s (call.Pread descriptor count position) carried frees = steady-pread s descriptor count position
 steady s (call.Pwrite descriptor bytes position) carried frees = steady-pwrite s descriptor bytes position
 steady s (call.Lseek descriptor offset whence) carried frees = steady-lseek s descriptor offset whence

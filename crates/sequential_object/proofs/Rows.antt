@@ -11,7 +11,7 @@ use Rattle.sequential_object.specs.Sockets.{pipe_result, shutdown_result, socket
 use Rattle.sequential_object.specs.Streams.{Half, PairState, new_half, new_pair}
 use Rattle.sequential_object.specs.Step.{Stepped, held_up, nothing_carried, nothing_moved, step, waited}
 use Rattle.sequential_object.specs.Status.{fstat_result, getfl_result, setfl_result}
-use Rattle.sequential_object.specs.Transfers.{ftruncate_result, lseek_result, pread_result, pwrite_result, read_result, write_result}
+use Rattle.sequential_object.specs.Transfers.{first_write, ftruncate_result, lseek_result, pread_result, pwrite_result, read_result, write_result}
 use Rattle.posix_terms.specs.declared.call.Access.TheVariants as access
 use Rattle.posix_terms.specs.declared.call.Call.TheVariants as call
 use Rattle.posix_terms.specs.declared.errno.Errno.TheVariants.{EINTR}
@@ -37,7 +37,7 @@ abbrev pub gap_states : List State
 gap_states = gap_1 ∷ gap_2 ∷ gap_2 ∷ gap_3 ∷ gap_3 ∷ []
 
 pub gap : (settings : Settings) → Runs settings empty_state gap_reads_zero gap_states
-unfolding open_result lowest_from path_form lseek_result fstat_result write_result pread_result
+unfolding open_result lowest_from path_form lseek_result fstat_result write_result first_write pread_result
 gap settings = (simp listed, (simp listed, (simp listed, (simp listed, (simp listed, tt)))))
 
 abbrev dup2_1 : State
@@ -50,7 +50,7 @@ abbrev pub dup2_states : List State
 dup2_states = dup2_1 ∷ dup2_2 ∷ dup2_2 ∷ dup2_2 ∷ dup2_2 ∷ []
 
 pub dup2 : (settings : Settings) → Runs settings empty_state dup2_from_nothing dup2_states
-unfolding open_result lowest_from path_form write_result dup2_result pread_result
+unfolding open_result lowest_from path_form write_result first_write dup2_result pread_result
 dup2 settings = (simp listed, (simp listed, (simp listed, (simp listed, (simp listed, tt)))))
 
 abbrev shared_1 : State
@@ -69,7 +69,7 @@ abbrev pub shared_states : List State
 shared_states = shared_1 ∷ shared_2 ∷ shared_3 ∷ shared_3 ∷ shared_4 ∷ shared_4 ∷ shared_4 ∷ []
 
 pub shared : (settings : Settings) → Runs settings empty_state shared_offset shared_states
-unfolding open_result lowest_from path_form dup_result write_result lseek_result dup_from_result read_result
+unfolding open_result lowest_from path_form dup_result write_result first_write lseek_result dup_from_result read_result
 shared settings = (simp listed, (simp listed, (simp listed, (simp listed, (simp listed, (simp listed, (simp listed, tt)))))))
 
 abbrev unlinked_1 : State
@@ -88,7 +88,7 @@ abbrev pub unlinked_states : List State
 unlinked_states = unlinked_1 ∷ unlinked_2 ∷ unlinked_3 ∷ unlinked_3 ∷ unlinked_3 ∷ unlinked_4 ∷ unlinked_4 ∷ []
 
 pub unlinked : (settings : Settings) → Runs settings empty_state unlinked_but_open unlinked_states
-unfolding open_result lowest_from path_form write_result unlink_result removed fstat_result pread_result close_result
+unfolding open_result lowest_from path_form write_result first_write unlink_result removed fstat_result pread_result close_result
 unlinked settings = (simp listed, (simp listed, (simp listed, (simp listed, (simp listed, (simp listed, (simp listed, tt)))))))
 
 abbrev directories_1 : State
@@ -161,7 +161,7 @@ renamed_states =
     ∷ renamed_5 ∷ renamed_5 ∷ renamed_5 ∷ renamed_6 ∷ renamed_6 ∷ renamed_6 ∷ renamed_6 ∷ []
 
 pub renamed_rows : (settings : Settings) → Runs settings empty_state renamed_files renamed_states
-unfolding open_result lowest_from path_form write_result rename_result renamed fstat_result pread_result read_result link_result file_named added mkdir_result
+unfolding open_result lowest_from path_form write_result first_write rename_result renamed fstat_result pread_result read_result link_result file_named added mkdir_result
 renamed_rows settings =
     (simp listed, (simp listed, (simp listed, (simp listed, (simp listed, (simp listed, (simp listed, (simp listed, (simp listed, (simp listed, (simp listed, (simp listed, (simp listed, (simp listed, (simp listed, (simp listed, (simp listed, tt)))))))))))))))))
 
@@ -184,7 +184,7 @@ abbrev pub positioned_states : List State
 positioned_states = positioned_1 ∷ positioned_2 ∷ positioned_3 ∷ positioned_4 ∷ positioned_4 ∷ positioned_4 ∷ positioned_4 ∷ positioned_4 ∷ positioned_5 ∷ positioned_5 ∷ positioned_5 ∷ positioned_5 ∷ []
 
 pub positioned : (settings : Settings) → Runs settings empty_state positioned_write_and_truncate positioned_states
-unfolding open_result lowest_from path_form write_result pwrite_result ftruncate_result lseek_result pread_result
+unfolding open_result lowest_from path_form write_result first_write pwrite_result ftruncate_result lseek_result pread_result
 positioned settings = (simp listed, (simp listed, (simp listed, (simp listed, (simp listed, (simp listed, (simp listed, (simp listed, (simp listed, (simp listed, (simp listed, (simp listed, tt))))))))))))
 
 abbrev flags_1 : State
@@ -224,7 +224,7 @@ abbrev pub flags_states : List State
 flags_states = flags_1 ∷ flags_1 ∷ flags_2 ∷ flags_3 ∷ flags_3 ∷ flags_4 ∷ flags_5 ∷ flags_6 ∷ flags_6 ∷ flags_7 ∷ flags_8 ∷ flags_9 ∷ flags_9 ∷ flags_10 ∷ flags_10 ∷ flags_11 ∷ flags_11 ∷ flags_11 ∷ []
 
 pub flags : (settings : Settings) → Runs settings empty_state shared_flags flags_states
-unfolding open_result lowest_from path_form getfl_result dup_result setfl_result write_result link_result file_named added fstat_result unlink_result removed dup2_result close_result lseek_result
+unfolding open_result lowest_from path_form getfl_result dup_result setfl_result write_result first_write link_result file_named added fstat_result unlink_result removed dup2_result close_result lseek_result
 flags settings = (simp listed, (simp listed, (simp listed, (simp listed, (simp listed, (simp listed, (simp listed, (simp listed, (simp listed, (simp listed, (simp listed, (simp listed, (simp listed, (simp listed, (simp listed, (simp listed, (simp listed, (simp listed, tt))))))))))))))))))
 
 abbrev closing_1 : State
@@ -384,7 +384,7 @@ pipe_states =
     ∷ pipe_1 [] true ∷ pipe_1 [] true ∷ pipe_1 [] true ∷ pipe_2 ∷ pipe_2 ∷ pipe_2 ∷ pipe_3 ∷ pipe_4 ∷ pipe_4 ∷ pipe_4 ∷ []
 
 pub pipe : (settings : Settings) → Runs settings empty_state pipe_and_its_ends pipe_states
-unfolding pipe_result lowest_from write_result read_result fstat_result lseek_result setfl_result close_result shutdown_result
+unfolding pipe_result lowest_from write_result first_write read_result fstat_result lseek_result setfl_result close_result shutdown_result
 pipe settings =
     (simp listed, (simp listed, (simp listed, (simp listed, (simp listed, (simp listed, (simp listed, (simp listed, (simp listed, (simp listed, (simp listed, (simp listed, (simp listed, (simp listed, (simp listed, (simp listed, (simp listed, tt)))))))))))))))))
 
@@ -434,7 +434,7 @@ pair_states =
     ∷ pair_2 (sockets_of (socket_of [] true) new_half) ∷ pair_2 (sockets_of (socket_of [] true) new_half) ∷ []
 
 pub pair : (settings : Settings) → Runs settings empty_state half_closed_pair pair_states
-unfolding socketpair_result lowest_from write_result read_result close_result shutdown_result
+unfolding socketpair_result lowest_from write_result first_write read_result close_result shutdown_result
 pair settings = (simp listed, (simp listed, (simp listed, (simp listed, (simp listed, (simp listed, (simp listed, (simp listed, (simp listed, (simp listed, tt))))))))))
 
 -- ## Patience

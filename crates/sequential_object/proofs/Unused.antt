@@ -23,6 +23,8 @@ use Rattle.sequential_object.specs.Sockets.{NewEnd, pipe_result, shut_content, s
 use Rattle.sequential_object.specs.Status.{fstat_result, getfl_result, setfl_result, stat_content}
 use Rattle.sequential_object.specs.Step.{Carried, concluded, effect_of, failed, is_again, nothing_moved, step, waited}
 use Rattle.sequential_object.specs.Streams.{Breaks, Ends, NoRoom, NothingYet, Reading, Reads, Writes, Writing, new_pair, shut}
+use Rattle.sequential_object.specs.Transfers.{first_write, is_from, pipe_turn, pipe_written, pauses, write_goes_on, write_resumed}
+use Rattle.posix_terms.specs.declared.carried.Moved.{Moved}
 use Rattle.sequential_object.specs.Transfers.{base_of, file_in, ftruncate_result, lseek_result, not_listener, offset_of, pread_result, pwrite_result, read_content, read_done, read_result, readable, seek_content, seekable, size_of, start_of, with_offset, writable, write_content, write_done, write_result}
 use Rattle.sequential_object.specs.Unused.{HoldsNothingUnused}
 use Rattle.posix_terms.specs.declared.call.Access.{Access}
@@ -41,6 +43,7 @@ use Rattle.posix_terms.specs.declared.outcome.Outcome.TheVariants as out
 use Rattle.posix_terms.specs.declared.reply.Reply.TheVariants as reply
 use Rattle.posix_terms.specs.declared.transcript.Settings.{Settings}
 use Rattle.sequential_object.proofs.Maps.{insert_has, insert_keeps, insert_other, insert_same, inserted_is, left_is, paths_total, remove_keeps, remove_other, remove_same}
+use Rattle.sequential_object.proofs.Binds.{gave, same_ok}
 use Rattle.sequential_object.proofs.Refused.{waited_alone, waited_leaves}
 use Rattle.sequential_object.proofs.Tidy.{IsFree, IsTidy, KeepsFiles, KeepsOthers, Named, Used, but_one, content_tidy, cut_there, cut_tidy, file_tidy, freed_tidy, nothing_unused, object_tidy, opened_tidy, own_tidy, paths_tidy, released_tidy, shared_tidy, tidy_of, unnamed_tidy, unused_tidy}
 use Rattle.sequential_object.proofs.Whole.{NamesKnown, StaysFile, same_kind}
@@ -82,17 +85,6 @@ otherwise_decision true x y hx hy = hx
 otherwise_decision false x y hx hy = hy refl
 
 -- ## Chains that gave something
-
-abbrev out_of_ok : {A : Type 0} → A → Result A Errno → A
-out_of_ok a (Ok x) = x
-out_of_ok a (Err e) = a
-
-same_ok : {A : Type 0} (a b : A) → (let r : Result A Errno = Ok a in r ≡ Ok b) → a ≡ b
-same_ok a b h = ap (out_of_ok a) h
-
-gave : {A B : Type 0} (r : Result A Errno) (f : A → Result B Errno) (b : B) → r >>= f ≡ Ok b → (a : A) × ((r ≡ Ok a) × (f a ≡ Ok b))
-gave (Ok a) f b h = (a, (refl, h))
-gave (Err e) f b h = absurd (true≢false (sym (ap is_ok h)))
 
 some_gave : {A : Type 0} (o : Option A) (e : Errno) (a : A) → some_or o e ≡ Ok a → o ≡ Some a
 some_gave (Some x) e a h = ap Some (same_ok x a h)
@@ -483,19 +475,52 @@ written_tidy s key d offset bytes there h =
     let moved : Description = record d { offset = offset } in
     content_tidy (with_offset s key d offset) d.object (File bytes) (own_used (with_offset s key d offset) key moved (File bytes) (insert_same s.descriptions key moved)) (λ _. refl) (own_tidy s key d moved there refl h)
 
+-- a write of a pipe leaves it a pipe
+by_pause : (s after : State) (key : ℕ) (d : Description) (total : ℕ) → IsTidy after → TidyBy (pauses after key d total)
+by_pause s after key d total h = either d.nonblock _ _ (record { it = h }) (record { it = h })
+
+by_pipe_written : (s : State) (key : ℕ) (d : Description) (all before now : ℕ) (writing : Writing) → fin.get s.descriptions key ≡ Some d → ((left : List ℕ) → StaysFile s d.object (Pipe left)) → IsTidy s → TidyBy (pipe_written s key d all before now writing)
+by_pipe_written s key d all before now (Writes left) there kind h =
+    let after : IsTidy (with_content s d.object (Pipe left)) = (let it = by_writing s key d now Pipe (Writes left) there kind h in it.it) in
+    either (nat_le all (before + now)) _ _ (record { it = after }) (by_pause s (with_content s d.object (Pipe left)) key d (before + now) after)
+by_pipe_written s key d all before now Breaks there kind h = either (before == 0) _ _ (record { it = tt }) (record { it = h })
+by_pipe_written s key d all before now NoRoom there kind h =
+    either (before == 0) _ _ (either d.nonblock _ _ (record { it = tt }) (record { it = h })) (by_pause s s key d before h)
+
+by_turn : (s : State) (key : ℕ) (d : Description) (bytes : List ℕ) (before : ℕ) (waiting : List ℕ) → fin.get s.descriptions key ≡ Some d → content_of s d.object ≡ Pipe waiting → IsTidy s → TidyBy (pipe_turn s key d bytes before waiting)
+by_turn s key d bytes before waiting there is h = by_pipe_written s key d (length bytes) before _ _ there (λ left. same_kind s d.object (Pipe waiting) is) h
+
 by_write_content : (s : State) (key : ℕ) (d : Description) (bytes : List ℕ) (c : Content) → fin.get s.descriptions key ≡ Some d → content_of s d.object ≡ c → IsTidy s → TidyBy (does_of (Ok (write_content s key d bytes c)))
 by_write_content s key d bytes (File file) there is h =
     either (length bytes == 0) _ _ (record { it = h })
     (chain (written file (start_of d file) bytes) _ (λ w _. record { it = written_tidy s key d (start_of d file + w.1) w.0 there h }))
-by_write_content s key d bytes (Pipe waiting) there is h = either_decision (length bytes == 0) _ _ (record { it = h }) (by_writing s key d _ Pipe _ there (λ left. same_kind s d.object (Pipe waiting) is) h)
+by_write_content s key d bytes (Pipe waiting) there is h = either_decision (length bytes == 0) _ _ (record { it = h }) (by_turn s key d bytes 0 waiting there is h)
 by_write_content s key d bytes (Pair p) there is h = either_decision (length bytes == 0) _ _ (record { it = h }) (by_writing s key d _ _ _ there (λ left. same_kind s d.object (Pair p) is) h)
 by_write_content s key d bytes (DoorTo x) there is h = either_decision (length bytes == 0) _ _ (record { it = h }) (record { it = ((λ value sent. h), h) })
 
-by_write : (s : State) (descriptor : ℤ) (bytes : List ℕ) → IsTidy s → TidyBy (does_of (write_result s descriptor bytes))
-unfolding write_result
-by_write s descriptor bytes h =
+by_first : (s : State) (descriptor : ℤ) (bytes : List ℕ) → IsTidy s → TidyBy (does_of (first_write s descriptor bytes))
+unfolding first_write
+by_first s descriptor bytes h =
     decides (writable s descriptor bytes) _ (λ found is.
     by_write_content s found.0 found.1 bytes (content_of s (let d = found.1 in d.object)) (let its = writable_found s descriptor bytes found is in its.there) refl h)
+
+by_resumed : (s : State) (bytes : List ℕ) (moved : Moved) (descriptor : ℤ) (r : Result (ℕ × Description) Errno) → described s descriptor ≡ r → IsTidy s → TidyBy (does_of (Ok (write_resumed s bytes moved r)))
+by_resumed s bytes moved descriptor (Err e) is h = record { it = h }
+by_resumed s bytes moved descriptor (Ok (key, d)) is h = either_decision (is_from moved key) _ _ (by_content (content_of s d.object) refl) (record { it = h })
+  where
+    by_content : (c : Content) → content_of s d.object ≡ c → TidyBy (does_of (Ok (write_goes_on s key d bytes moved c)))
+    by_content (Pipe waiting) was = by_turn s key d bytes moved.bytes waiting (let its = is_found s descriptor (key, d) is in its.there) was h
+    by_content (File file) was = record { it = h }
+    by_content (Pair p) was = record { it = h }
+    by_content (DoorTo x) was = record { it = h }
+
+by_write : (s : State) (descriptor : ℤ) (bytes : List ℕ) (moved : Moved) → IsTidy s → TidyBy (does_of (write_result s descriptor bytes moved))
+unfolding write_result
+by_write s descriptor bytes moved h = by_moved (moved.bytes == 0)
+  where
+    by_moved : (b : Bool) → TidyBy (does_of (if b then first_write s descriptor bytes else Ok (write_resumed s bytes moved (described s descriptor))))
+    by_moved true = by_first s descriptor bytes h
+    by_moved false = by_resumed s bytes moved descriptor (described s descriptor) refl h
 
 by_pread : (s : State) (descriptor count position : ℤ) → IsTidy s → TidyBy (does_of (pread_result s descriptor count position))
 unfolding pread_result
@@ -685,7 +710,7 @@ by_call : (s : State) (c : Call) (carried : Carried) → IsTidy s → TidyBy (ef
 by_call s (call.Open path access flags) carried h = by_open s path access flags h
 by_call s (call.Close descriptor) carried h = by_close s descriptor h
 by_call s (call.Read descriptor count) carried h = by_read s descriptor count h
-by_call s (call.Write descriptor bytes) carried h = by_write s descriptor bytes h
+by_call s (call.Write descriptor bytes) carried h = by_write s descriptor bytes carried.moved h
 by_call s (call.Pread descriptor count position) carried h = by_pread s descriptor count position h
 by_call s (call.Pwrite descriptor bytes position) carried h = by_pwrite s descriptor bytes position h
 by_call s (call.Lseek descriptor offset from) carried h = by_lseek s descriptor offset from h

@@ -12,6 +12,7 @@ pub mod Names
 pub mod Status
 pub mod Doors
 pub mod Step
+pub mod Waiting
 pub mod Unused
 pub mod Locked
 pub mod Legal

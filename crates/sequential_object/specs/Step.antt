@@ -1,7 +1,7 @@
 -- Believed: a contract of the headline stands on it.
 -- What one call, taken alone, answers and leaves.
-use Rattle.std.specs.Prelude.{◌≡◌, ℕ, zero, suc, ◌+◌, nat_lt, Bool, true, false, ◌&&◌}
-use Rattle.std.specs.Prelude.{Result, Ok, Err, Option, Some, None, is_some, if◌then◌else◌}
+use Rattle.std.specs.Prelude.{◌≡◌, ℕ, zero, suc, ◌+◌, Bool, true, false, ◌&&◌, Result, Ok, Err}
+use Rattle.std.specs.Prelude.{Option, Some, None, is_some, if◌then◌else◌, nat_lt}
 use Rattle.sequential_object.specs.Descriptors.{open_result, close_result}
 use Rattle.sequential_object.specs.Duplicates.{dup_result, dup_from_result, dup2_result}
 use Rattle.sequential_object.specs.Doors.{host_open_result, tcp_accept_result, tcp_connect_result, tcp_listen_result}
@@ -37,7 +37,7 @@ abbrev pub decided : State → Call → Carried → Result Decision Errno
 decided s (call.Open path access flags) carried = open_result s path access flags
 decided s (call.Close descriptor) carried = close_result s descriptor
 decided s (call.Read descriptor count) carried = read_result s descriptor count
-decided s (call.Write descriptor bytes) carried = write_result s descriptor bytes
+decided s (call.Write descriptor bytes) carried = write_result s descriptor bytes carried.moved
 decided s (call.Pread descriptor count position) carried = pread_result s descriptor count position
 decided s (call.Pwrite descriptor bytes position) carried = pwrite_result s descriptor bytes position
 decided s (call.Lseek descriptor offset whence) carried = lseek_result s descriptor offset whence
@@ -125,13 +125,6 @@ concluded settings s outcome carried (Err e) = failed s e
 
 abbrev pub step : Settings → State → Call → Option Outcome → Carried → Stepped
 step settings s c outcome carried = concluded settings s outcome carried (effect_of s c carried)
-
--- a call that is blocked leaves the state as it was
-abbrev pub AgainChangesNothing : Type 0
-AgainChangesNothing =
-    (settings : Settings) (s : State) (c : Call) (outcome : Option Outcome) (carried : Carried)
-    → (step settings s c outcome carried).answer ≡ answer.Again
-    → (step settings s c outcome carried).after ≡ s
 
 -- a `close` that goes outside: its descriptor was the last of a door
 abbrev pub closes_door : State → Call → Carried → Bool

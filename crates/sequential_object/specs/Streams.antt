@@ -1,9 +1,9 @@
 -- Believed: a contract of the headline stands on it.
 -- Streams of bytes in memory: what is in a pipe, and what goes each way between the two sockets of a pair.
--- POSIX.1-2017, System Interfaces: `read`, `write`, `shutdown`. A write is whole or in parts.
--- A whole one moves all of its bytes or none, one in parts as many as fit. Today each is whole.
-use Rattle.std.specs.Prelude.{ℕ, ◌+◌, ◌-◌, ◌==◌, nat_le, List, [], ◌++◌, length, take, drop}
-use Rattle.std.specs.Prelude.{Bool, true, false, not, ◌&&◌, if◌then◌else◌}
+-- POSIX.1-2017, System Interfaces: `read`, `write`, `shutdown`. A write is whole or in parts:
+-- a whole one moves all of its bytes or none, one in parts as many as fit.
+use Rattle.std.specs.Prelude.{ℕ, ◌+◌, ◌-◌, List, [], ◌++◌, length, take, drop, Bool, true, false}
+use Rattle.std.specs.Prelude.{not, ◌&&◌, ◌==◌, nat_le, if◌then◌else◌}
 use Rattle.posix_terms.specs.declared.call.ShutdownHow.{ShutdownHow}
 use Rattle.posix_terms.specs.declared.call.ShutdownHow.TheVariants as how
 use Rattle.posix_terms.specs.declared.limits.TheConstants.Limits as limit

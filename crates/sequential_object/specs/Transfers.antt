@@ -1,8 +1,10 @@
 -- Believed: a contract of the headline stands on it.
 -- Reading, writing, moving the offset and cutting.
 -- POSIX.1-2017, System Interfaces: `read`, `pread`, `write`, `pwrite`, `lseek`, `ftruncate`.
-use Rattle.std.specs.Prelude.{ℕ, ◌+◌, ◌^◌, ◌==◌, nat_lt, ℤ, pos, negsuc, ◌+ℤ◌, List, [], length}
-use Rattle.std.specs.Prelude.{Bool, true, false, not, Result, Ok, Err, if◌then◌else◌}
+use Rattle.std.specs.Prelude.{ℕ, zero, suc, ◌+◌, ◌^◌, ℤ, pos, negsuc, ◌+ℤ◌, Bool, false, List, []}
+use Rattle.std.specs.Prelude.{length, drop, not, ◌==◌, nat_le, nat_lt}
+use Rattle.std.specs.Prelude.{Option, Some, None, Result, Ok, Err, if◌then◌else◌}
+use Rattle.posix_terms.specs.declared.carried.Moved.{Moved}
 use Rattle.std.specs.FinMap as map
 use Rattle.posix_terms.specs.Calls.{can_read, can_write}
 use Rattle.sequential_object.specs.Descriptors.{described, has_end}
@@ -12,7 +14,10 @@ use Rattle.posix_terms.specs.Ends.{side_of, peer_of}
 use Rattle.sequential_object.specs.Files.{bytes_at, resized, written}
 use Rattle.sequential_object.specs.Object.{State, Description, Content, File, Pipe, Pair, DoorTo, content_of, with_content}
 use Rattle.sequential_object.specs.Refusals.{◌>>=◌, refuse_if, count_of, position_of}
-use Rattle.sequential_object.specs.Streams.{Reading, Reads, Ends, NothingYet, Writing, Writes, Breaks, NoRoom, pair_read, pair_write, pipe_write, stream_read, with_waiting}
+use Rattle.sequential_object.specs.Streams.{Reading, Reads, Ends, NothingYet, Writing, Writes}
+use Rattle.sequential_object.specs.Streams.{Breaks, NoRoom}
+use Rattle.sequential_object.specs.Streams.{bytes_put, pair_read, pair_write, pipe_write}
+use Rattle.sequential_object.specs.Streams.{stream_read, with_waiting}
 use Rattle.posix_terms.specs.declared.call.Whence.{Whence}
 use Rattle.posix_terms.specs.declared.call.Whence.TheVariants as whence
 use Rattle.posix_terms.specs.declared.errno.Errno.{Errno}
@@ -94,12 +99,46 @@ write_file s key d bytes file = do
   w ← written file (start_of d file) bytes
   Ok (Completes (with_content (with_offset s key d (start_of d file + w.1)) d.object (File w.0)) (reply.Count w.1))
 
+-- ## A write of a pipe, at one of its turns
+
+-- so many bytes moved so far, the first of them by the description of this key
+abbrev pub moved_by : ℕ → ℕ → Moved
+moved_by key zero = nothing_moved
+moved_by key (suc n) = record { bytes = suc n; from = Some key }
+
+-- it cannot go on after so many bytes: it waits, or ends where its description is not to block
+abbrev pub pauses : State → ℕ → Description → ℕ → Result Effect Errno
+pauses after key d total =
+    if d.nonblock then Ok (Completes after (reply.Count total)) else
+    Ok (Blocks after (moved_by key total))
+
+-- the stream takes so many bytes now, or none; so many of all went before
+abbrev pub pipe_written : State → ℕ → Description → (all before now : ℕ) → Writing
+    → Result Effect Errno
+pipe_written s key d all before now (Writes left) =
+    let after = with_content s d.object (Pipe left) in
+    let total = before + now in
+    if nat_le all total then Ok (Completes after (reply.Count total)) else pauses after key d total
+pipe_written s key d all before now Breaks =
+    if before == 0 then Err EPIPE else Ok (Completes s (reply.Count before))
+pipe_written s key d all before now NoRoom =
+    if before == 0 then blocked s d else pauses s key d before
+
+-- the bytes go on where they stopped; of at most PIPE_BUF bytes all go at once
+abbrev pub pipe_turn : State → ℕ → Description → List ℕ → (before : ℕ) → List ℕ
+    → Result Effect Errno
+pipe_turn s key d bytes before waiting =
+    let rest = drop before bytes in
+    let whole = nat_le (length bytes) limit.PIPE_BUF in
+    let now = length (bytes_put limit.PIPE_BYTES waiting rest whole) in
+    let writing = pipe_write waiting rest whole (has_end s d.object part.Read) in
+    pipe_written s key d (length bytes) before now writing
+
 abbrev pub write_content : State → ℕ → Description → List ℕ → Content → Decision
 write_content s key d bytes (File file) =
     locking d.object (if length bytes == 0 then Ok (Completes s (reply.Count 0)) else write_file s key d bytes file)
 write_content s key d bytes (Pipe waiting) =
-    let writing = pipe_write waiting bytes true (has_end s d.object part.Read) in
-    moving s d (length bytes) (reply.Count 0) (write_done s d (length bytes) Pipe writing)
+    moving s d (length bytes) (reply.Count 0) (pipe_turn s key d bytes 0 waiting)
 write_content s key d bytes (Pair p) =
     let side = side_of d.«end» in
     moving s d (length bytes) (reply.Count 0)
@@ -116,11 +155,40 @@ writable s descriptor bytes = do
   _ ← refuse_if (nat_lt limit.COUNT (length bytes)) EINVAL
   Ok found
 
--- `write`; of no bytes it does nothing, and with O_APPEND too leaves the offset
-unfoldable pub write_result : State → ℤ → List ℕ → Result Decision Errno
-write_result s descriptor bytes = do
+-- `write`, which moved nothing before; of no bytes it does nothing, and with O_APPEND too leaves
+-- the offset
+unfoldable pub first_write : State → ℤ → List ℕ → Result Decision Errno
+first_write s descriptor bytes = do
   found ← writable s descriptor bytes
   Ok (write_content s found.0 found.1 bytes (content_of s found.1.object))
+
+-- whether the first byte went by the description of this key
+abbrev pub is_from : Moved → ℕ → Bool
+is_from moved key = is_same moved.from
+  where
+    is_same : Option ℕ → Bool
+    is_same (Some from) = from == key
+    is_same None = false
+
+-- it goes on at the pipe of its description
+abbrev pub write_goes_on : State → ℕ → Description → List ℕ → Moved → Content → Decision
+write_goes_on s key d bytes moved (Pipe waiting) =
+    locking d.object (pipe_turn s key d bytes moved.bytes waiting)
+write_goes_on s key d bytes moved other = alone s (reply.Count moved.bytes)
+
+-- it ends where its descriptor is closed, or names another description
+abbrev pub write_resumed : State → List ℕ → Moved → Result (ℕ × Description) Errno → Decision
+write_resumed s bytes moved (Ok found) =
+    if is_from moved found.0
+    then write_goes_on s found.0 found.1 bytes moved (content_of s found.1.object)
+    else alone s (reply.Count moved.bytes)
+write_resumed s bytes moved (Err e) = alone s (reply.Count moved.bytes)
+
+-- `write`; one that moved bytes before is refused no more
+unfoldable pub write_result : State → ℤ → List ℕ → Moved → Result Decision Errno
+write_result s descriptor bytes moved =
+    if moved.bytes == 0 then first_write s descriptor bytes else
+    Ok (write_resumed s bytes moved (described s descriptor))
 
 -- an offset is a number below 2^63
 abbrev pub offset_of : ℤ → Result ℕ Errno

@@ -1,6 +1,7 @@
 ghost use Rattle.sequential_object.specs.Locked.{KeepsOutside, LeavesAlike, OutsideLocks};
-ghost use Rattle.sequential_object.specs.Step.{AgainChangesNothing, FailChangesNothing};
+ghost use Rattle.sequential_object.specs.Step.{FailChangesNothing};
 ghost use Rattle.sequential_object.specs.Unused.{EndsAreOpen, StartsTidy, StepsKeepTidy};
+ghost use Rattle.sequential_object.specs.Waiting.{AgainMovesInParts, MovedBytesAreTold};
 
 /// A law of the sequential object: a call that fails leaves the state as it was, but for a `close` of a door's
 /// last descriptor.
@@ -8,9 +9,13 @@ pub fn failed_calls_change_nothing()
     ensures { FailChangesNothing }
 {}
 
-/// And so does a turn of a call that is blocked.
-pub fn blocked_calls_change_nothing()
-    ensures { AgainChangesNothing }
+/// A turn at which a call waits leaves the state as it was, but for a write of more than `PIPE_BUF`
+/// bytes to a pipe: it may have added its next bytes to the pipe. What a write hands on to its next
+/// turn counts all the bytes that it added (`again`). A write that moved bytes is never answered a
+/// failure: it is answered as many at least, or hands as many on (`told`).
+pub fn moved_bytes_are_told()
+    ensures again { AgainMovesInParts }
+    ensures told { MovedBytesAreTold }
 {}
 
 /// A call that goes outside takes the lock of a door, or of the one that it would open (`locks`). The calls that

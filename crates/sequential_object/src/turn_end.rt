@@ -1,4 +1,13 @@
-use posix_terms::{Carried, Reply};
+use posix_terms::{Carried, Moved, Reply};
+
+/// How the act of a call on its object ended.
+#[derive(Drop)]
+pub enum ActEnd {
+    /// With this reply.
+    Reply(Reply),
+    /// It cannot go on yet, and has moved so much.
+    Waits(Moved),
+}
 
 /// How a turn of a call ended.
 #[derive(Drop)]

@@ -1,0 +1,143 @@
+-- A write at one of its turns: what it leaves where it waits or fails, and that it tells what it moved.
+use Rattle.std.proofs.Common.{◌∷◌, [], ap, sym, ◌≡◌, ◌≤◌, ◌+◌, ◌-◌, ◌==◌, ◌++◌, inl, inr, ℕ, ℤ, List, length, take, drop, Bool, true, false, Result, Ok, Err, arith, refl, sym, subst}
+use Rattle.std.proofs.lemmas.Bool.Decides.{nat_tests}
+use Rattle.std.proofs.lemmas.List.{length-drop, length-take}
+use Rattle.std.specs.Prelude.{if◌then◌else◌, nat_le, zero, suc}
+use Rattle.posix_terms.specs.declared.call.Call.TheVariants as call
+use Rattle.posix_terms.specs.declared.errno.Errno.{Errno}
+use Rattle.posix_terms.specs.declared.errno.Errno.TheVariants.{EAGAIN, EPIPE}
+use Rattle.posix_terms.specs.declared.limits.TheConstants.Limits as limit
+use Rattle.posix_terms.specs.declared.object.End.TheVariants as part
+use Rattle.posix_terms.specs.declared.reply.Reply.{Reply}
+use Rattle.posix_terms.specs.declared.reply.Reply.TheVariants as reply
+use Rattle.sequential_object.specs.Descriptors.{described, has_end}
+use Rattle.sequential_object.specs.Effects.{Asks, Blocks, Completes, Effect, nothing_moved}
+use Rattle.sequential_object.specs.Object.{State, Description, Pipe, content_of, with_content}
+use Rattle.sequential_object.specs.Streams.{NoRoom, Writes, bytes_put, pipe_write}
+use Rattle.sequential_object.specs.Transfers.{blocked, moved_by, pauses, pipe_turn, pipe_written}
+use Rattle.sequential_object.specs.Waiting.{WaitsInParts}
+
+-- a count of so many bytes at least
+abbrev pub TellsCount : ℕ → Reply → Type 0
+TellsCount before (reply.Count count) = before ≤ count
+TellsCount before r = ⊥
+
+-- a turn of a write that moved so many bytes before: it tells them, and adds to the pipe alone
+abbrev pub IsTurn : State → ℤ → List ℕ → ℕ → Result Effect Errno → Type 0
+IsTurn s descriptor bytes before (Ok (Completes after r)) = TellsCount before r
+IsTurn s descriptor bytes before (Ok (Blocks after moved)) =
+    (moved.bytes ≡ 0 → after ≡ s) × WaitsInParts s (call.Write descriptor bytes) before after moved.bytes × (before ≤ moved.bytes)
+IsTurn s descriptor bytes before (Ok (Asks a)) = ⊥
+IsTurn s descriptor bytes before (Err e) = before ≡ 0
+
+-- the first bytes that are taken are the first of all, as many as they are
+taken_next : (n : ℕ) (l : List ℕ) → take n l ≡ take (length (take n l)) l
+taken_next zero l = refl
+taken_next (suc n) [] = refl
+taken_next (suc n) (x ∷ l) = ap (λ (more : List ℕ). x ∷ more) (taken_next n l)
+
+module _ (s : State) (key : ℕ) (d : Description) (descriptor : ℤ) (bytes waiting : List ℕ) where
+  pauses_turn : (after : State) (before total : ℕ) → before ≤ total → (total ≡ 0 → after ≡ s)
+      → WaitsInParts s (call.Write descriptor bytes) before after total → IsTurn s descriptor bytes before (pauses after key d total)
+  pauses_turn after before total more none waits = by_flag d.nonblock
+    where
+      blocks : (n : ℕ) → before ≤ n → (n ≡ 0 → after ≡ s) → WaitsInParts s (call.Write descriptor bytes) before after n
+          → IsTurn s descriptor bytes before (Ok (Blocks after (moved_by key n)))
+      blocks zero more none waits = ((λ is. none refl), waits, more)
+      blocks (suc n) more none waits = ((λ is. none is), waits, more)
+
+      by_flag : (b : Bool) → IsTurn s descriptor bytes before
+          (if b then Ok (Completes after (reply.Count total)) else Ok (Blocks after (moved_by key total)))
+      by_flag true = more
+      by_flag false = blocks total more none waits
+
+  module _ (there : described s descriptor ≡ Ok (key, d)) (was : content_of s d.object ≡ Pipe waiting) (before : ℕ) where
+    abbrev rest : List ℕ
+    rest = drop before bytes
+
+    -- the bytes that go where the write may go in parts, and there is room
+    parts : nat_le (length bytes) limit.PIPE_BUF ≡ false → nat_le limit.PIPE_BYTES (length waiting) ≡ false
+        → before + length (take (limit.PIPE_BYTES - length waiting) rest) ≡ 0 → ⊥
+    parts long room none =
+        let taken = length-take (limit.PIPE_BYTES - length waiting) rest in
+        let dropped = length-drop before bytes in
+        grind (arith, nat_tests, taken, dropped, long, room, none)
+
+    broken : IsTurn s descriptor bytes before (if before == 0 then Err EPIPE else Ok (Completes s (reply.Count before)))
+    broken = by_zero (before == 0) refl
+      where
+        by_zero : (b : Bool) → (before == 0) ≡ b
+            → IsTurn s descriptor bytes before (if b then Err EPIPE else Ok (Completes s (reply.Count before)))
+        by_zero true is = grind (arith, nat_tests, is)
+        by_zero false is = grind arith
+
+    full : IsTurn s descriptor bytes before (if before == 0 then blocked s d else pauses s key d before)
+    full = by_zero (before == 0) refl
+      where
+        by_flag : (b : Bool) → before ≡ 0 → IsTurn s descriptor bytes before (if b then Err EAGAIN else Ok (Blocks s nothing_moved))
+        by_flag true none = none
+        by_flag false none = ((λ is. refl), inl (refl, sym none), grind (arith, none))
+
+        by_zero : (b : Bool) → (before == 0) ≡ b → IsTurn s descriptor bytes before (if b then blocked s d else pauses s key d before)
+        by_zero true is = by_flag d.nonblock (grind (arith, nat_tests, is))
+        by_zero false is = pauses_turn s before before (grind arith) (λ none. refl) (inl (refl, refl))
+
+    abbrev fitting : List ℕ
+    fitting = take (limit.PIPE_BYTES - length waiting) rest
+
+    abbrev partly : State
+    partly = with_content s d.object (Pipe (waiting ++ fitting))
+
+    adds : nat_le (length bytes) limit.PIPE_BUF ≡ false
+        → WaitsInParts s (call.Write descriptor bytes) before partly (before + length fitting)
+    adds long = inr (
+      grind (arith, nat_tests, long),
+      record {
+        key = key;
+        description = d;
+        waiting = waiting;
+        more = fitting;
+        is_described = there;
+        was = was;
+        after_is = refl;
+        next = taken_next (limit.PIPE_BYTES - length waiting) rest;
+        counted = refl;
+      },
+    )
+
+    goes_in_part : (readers : Bool) → nat_le (length bytes) limit.PIPE_BUF ≡ false
+        → IsTurn s descriptor bytes before (pipe_written s key d (length bytes) before (length fitting) (pipe_write waiting rest false readers))
+    goes_in_part false long = broken
+    goes_in_part true long = by_room (nat_le limit.PIPE_BYTES (length waiting)) refl
+      where
+        by_room : (b : Bool) → nat_le limit.PIPE_BYTES (length waiting) ≡ b
+            → IsTurn s descriptor bytes before (pipe_written s key d (length bytes) before (length fitting) (if b then NoRoom else Writes (waiting ++ fitting)))
+        by_room true is = full
+        by_room false room = by_all (nat_le (length bytes) (before + length fitting))
+          where
+            by_all : (b : Bool) → IsTurn s descriptor bytes before
+                (if b then Ok (Completes partly (reply.Count (before + length fitting))) else pauses partly key d (before + length fitting))
+            by_all true = grind arith
+            by_all false = pauses_turn partly before (before + length fitting) (grind arith) (λ none. absurd (parts long room none)) (adds long)
+
+    all_gone : nat_le (length bytes) (before + length rest) ≡ true
+    all_gone = let dropped = length-drop before bytes in grind (arith, nat_tests, dropped)
+
+    goes_whole : (readers : Bool) → IsTurn s descriptor bytes before (pipe_written s key d (length bytes) before (length rest) (pipe_write waiting rest true readers))
+    goes_whole false = broken
+    goes_whole true = by_room (nat_le (length waiting + length rest) limit.PIPE_BYTES)
+      where
+        by_room : (b : Bool) → IsTurn s descriptor bytes before (pipe_written s key d (length bytes) before (length rest) (if b then Writes (waiting ++ rest) else NoRoom))
+        by_room true = subst (λ (b : Bool). IsTurn s descriptor bytes before
+            (let after = with_content s d.object (Pipe (waiting ++ rest)) in
+            if b then Ok (Completes after (reply.Count (before + length rest))) else pauses after key d (before + length rest)))
+            (sym all_gone) (grind arith)
+        by_room false = full
+
+    pub turn : IsTurn s descriptor bytes before (pipe_turn s key d bytes before waiting)
+    turn = by_whole (nat_le (length bytes) limit.PIPE_BUF) refl
+      where
+        by_whole : (b : Bool) → nat_le (length bytes) limit.PIPE_BUF ≡ b
+            → IsTurn s descriptor bytes before (pipe_written s key d (length bytes) before (length (bytes_put limit.PIPE_BYTES waiting rest b)) (pipe_write waiting rest b (has_end s d.object part.Read)))
+        by_whole true is = goes_whole (has_end s d.object part.Read)
+        by_whole false is = goes_in_part (has_end s d.object part.Read) is

@@ -1,0 +1,59 @@
+-- Internal: no contract of the headline or of a command stands on it.
+-- What a call leaves that cannot go on, and that the bytes which it moved are told.
+use Rattle.std.specs.Prelude.{◌≡◌, ◌⊎◌, ◌<◌, ◌≤◌, ◌+◌, ℕ, ℤ, List, ◌++◌, length, take, drop}
+use Rattle.std.specs.Prelude.{Option, Ok}
+use Rattle.sequential_object.specs.Descriptors.{described}
+use Rattle.sequential_object.specs.Object.{State, Description, Pipe, content_of, with_content}
+use Rattle.sequential_object.specs.Step.{Carried, Moved, step}
+use Rattle.posix_terms.specs.Calls.{Call}
+use Rattle.posix_terms.specs.declared.call.Call.TheVariants as call
+use Rattle.posix_terms.specs.declared.limits.TheConstants.Limits as limit
+use Rattle.posix_terms.specs.declared.outcome.Outcome.{Outcome}
+use Rattle.posix_terms.specs.declared.reply.Answer.{Answer}
+use Rattle.posix_terms.specs.declared.reply.Answer.TheVariants as answer
+use Rattle.posix_terms.specs.declared.reply.Reply.TheVariants as reply
+use Rattle.posix_terms.specs.declared.transcript.Settings.{Settings}
+
+-- the next bytes of a write wait in the pipe of its descriptor too, and all else is as it was; so
+-- many of its bytes went before, and so many with these
+pub record AddsToPipe
+    (s : State) (descriptor : ℤ) (bytes : List ℕ) (before : ℕ) (after : State) (moved : ℕ) : Type 0 where
+  pub key : ℕ
+  pub description : Description
+  pub waiting : List ℕ
+  pub more : List ℕ
+  pub is_described : described s descriptor ≡ Ok (key, description)
+  pub was : content_of s description.object ≡ Pipe waiting
+  pub after_is : after ≡ with_content s description.object (Pipe (waiting ++ more))
+  pub next : more ≡ take (length more) (drop before bytes)
+  pub counted : moved ≡ before + length more
+
+-- a call that waits leaves the state as it was, but for a write of more than PIPE_BUF bytes to a
+-- pipe. What a write hands on counts the bytes that it added
+abbrev pub WaitsInParts : State → Call → (before : ℕ) → State → (moved : ℕ) → Type 0
+WaitsInParts s (call.Write descriptor bytes) before after moved =
+    ((after ≡ s) × (moved ≡ before))
+    ⊎ ((limit.PIPE_BUF < length bytes) × AddsToPipe s descriptor bytes before after moved)
+WaitsInParts s c before after moved = after ≡ s
+
+abbrev pub AgainMovesInParts : Type 0
+AgainMovesInParts =
+    (settings : Settings) (s : State) (c : Call) (outcome : Option Outcome) (carried : Carried)
+    → (step settings s c outcome carried).answer ≡ answer.Again
+    → let stepped = step settings s c outcome carried in
+    WaitsInParts s c carried.moved.bytes stepped.after stepped.carried.moved.bytes
+
+-- an answer that tells so many bytes at least, or hands them on
+abbrev pub TellsMoved : ℕ → Answer → Moved → Type 0
+TellsMoved bytes answer.Again moved = bytes ≤ moved.bytes
+TellsMoved bytes (answer.Reply (reply.Count count)) moved = bytes ≤ count
+TellsMoved bytes a moved = ⊥
+
+-- a write that moved bytes does not fail, and tells them
+abbrev pub MovedBytesAreTold : Type 0
+MovedBytesAreTold =
+    (settings : Settings) (s : State) (descriptor : ℤ) (bytes : List ℕ)
+    (outcome : Option Outcome) (carried : Carried)
+    → 0 < carried.moved.bytes
+    → let stepped = step settings s (call.Write descriptor bytes) outcome carried in
+    TellsMoved carried.moved.bytes stepped.answer stepped.carried.moved
