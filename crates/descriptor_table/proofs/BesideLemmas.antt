@@ -59,7 +59,7 @@ use Rattle.descriptor_table.proofs.FreeLemmas.{HaveNames, apart_by, not_refused,
 use Rattle.descriptor_table.proofs.KnownLemmas.{Sure, sure-call}
 use Rattle.descriptor_table.proofs.OpenedLemmas.{both_opened, shows-door, shows-two}
 use Rattle.descriptor_table.proofs.OpeningLemmas.{asking_of, over_open, over_opens, over_two_ends, with_both}
-use Rattle.descriptor_table.proofs.OtherLemmas.{Fewer, concluded_others, fewer_closed, fewer_flags, fewer_freed, fewer_others, fewer_paths, fewer_released, fewer_same, fewer_shared, fewer_unused, others_both, others_door, others_new, others_there}
+use Rattle.descriptor_table.proofs.OtherLemmas.{Others, Fewer, concluded_others, fewer_closed, fewer_flags, fewer_freed, fewer_others, fewer_paths, fewer_released, fewer_same, fewer_shared, fewer_unused, others_both, others_door, others_new, others_there}
 use Rattle.descriptor_table.proofs.PathLemmas.{births_alike, file_at_name, has_entries_shown, names_shown, node_shown, resolved_shown}
 use Rattle.descriptor_table.proofs.PlanLemmas.{answer_of, ends_shown, last_name, last_open, links_moved, links_without, named_shown, outside_at, renaming_shown, shows-without_name, some_shown}
 use Rattle.descriptor_table.proofs.ShownLemmas.{found_both, lowest_shown}
@@ -72,7 +72,8 @@ use Rattle.descriptor_table.specs.Changes.{AreOpened, CanChange, Changed, IsFree
 use Rattle.descriptor_table.specs.Laws.{RefersAlike}
 use Rattle.descriptor_table.specs.Laws.RefersAlike.{Open, Shut}
 use Rattle.descriptor_table.specs.Plans as plans
-use Rattle.descriptor_table.specs.Plans.{addable, answered, change_of, close_decided, decided_of, decides, door_flags, dup2_decided, dup_decided, dup_from_decided, ends_a_door, errand, leads_outside, link_decided, locks, loses_name, mkdir_decided, new_descriptor, open_decided, opening, opens_door, pipe_decided, planned, release, rename_decided, renames, replaces, rmdir_decided, setfl_decided, socketpair_decided, status_flags, tells, unlink_decided}
+use Rattle.posix_terms.specs.declared.carried.Moved.{Moved}
+use Rattle.descriptor_table.specs.Plans.{decided_with, leaves, resumed_plan, write_plan, addable, answered, change_of, close_decided, decided_of, decides, door_flags, dup2_decided, dup_decided, dup_from_decided, ends_a_door, errand, leads_outside, link_decided, locks, loses_name, mkdir_decided, new_descriptor, open_decided, opening, opens_door, pipe_decided, planned, release, rename_decided, renames, replaces, rmdir_decided, setfl_decided, socketpair_decided, status_flags, tells, unlink_decided}
 use Rattle.descriptor_table.specs.Shows.{Shows, birth_at, is_of, shown, shown_node}
 use Rattle.descriptor_table.specs.Table.{TableState, IsSound, described, is_last_name, is_used, lowest_from}
 use Rattle.descriptor_table.specs.declared.plan.Change.{Change}
@@ -86,6 +87,10 @@ use Rattle.descriptor_table.specs.declared.plan.Op.{Op}
 use Rattle.descriptor_table.specs.declared.plan.Op.TheVariants as op
 use Rattle.descriptor_table.specs.declared.plan.Plan.{Plan}
 use Rattle.descriptor_table.specs.declared.plan.Plan.TheVariants as plan
+
+abbrev is_write : Call → Bool
+is_write (call.Write descriptor bytes) = true
+is_write c = false
 
 module _ (t : TableState) (s : State) (settings : Settings) (outcome made_with : Option Outcome) (carried : Carried) (sound : IsSound t) (all : AreSound t.descriptions) (shows : Shows t s) (keep : ChangesKeepSound) where
   -- what the table decides of a call agrees with what is decided in the state
@@ -342,7 +347,7 @@ module _ (t : TableState) (s : State) (settings : Settings) (outcome made_with :
   -- a call takes a name of a file, which ends with its last one
   agree-lost : (c : Call) (x : Change) (paths left : PathMap) (node : ℕ) → keeps_table c ≡ false
       → ((numbers : NewNumbers) (content : Content) (offset : ℕ)
-      → acted t node op.Release c outcome numbers content offset
+      → acted t node op.Release c carried.moved.bytes outcome numbers content offset
       ≡ replied reply.Done content offset)
       → IsSound (record t { paths = paths })
       → Shows (record t { paths = paths }) (with_paths s left)
@@ -574,7 +579,7 @@ module _ (t : TableState) (s : State) (settings : Settings) (outcome made_with :
       → ((new : NewPair) → CanChange t c (x new) → CanChange t c (change.MakePipe new))
       → ((new : NewPair) (u : TableState) → Changed t c (x new) made_with u → AreOpened t one other new u)
       → ((new : NewPair) → given (x new) made_with ≡ numbers_told c (answer.Reply (reply.Pair (pos new.first) (pos new.second))))
-      → ((node : ℕ) (first second : ℤ) (held : Content) (offset : ℕ) → acted t node act c outcome (numbers_told c (answer.Reply (reply.Pair first second))) held offset ≡ replied (reply.Pair first second) content offset)
+      → ((node : ℕ) (first second : ℤ) (held : Content) (offset : ℕ) → acted t node act c carried.moved.bytes outcome (numbers_told c (answer.Reply (reply.Pair first second))) held offset ≡ replied (reply.Pair first second) content offset)
       → ((after : State) (offset : ℕ) → StandsAt t after act offset)
       → Agree c (plans.new_pair t >>= (λ new. Ok (decides (locks new.node act) (x new)))) (sockets.two_ends s content (record { which = one.0; access = one.1 }) (record { which = other.0; access = other.1 }))
   agree-two c act x content one other has has_too frees silent can makes says acts stays =
@@ -672,44 +677,60 @@ module _ (t : TableState) (s : State) (settings : Settings) (outcome made_with :
   found_at : (descriptor : ℤ) → RefersAlike t s descriptor
   found_at descriptor = found_both t s descriptor sound shows
 
-  agree : (c : Call) → Agree c (decided_of t c) (decided s c carried)
-  agree (call.Open path access flags) = agree-open path access flags
-  agree (call.Close descriptor) = agree-close descriptor (found_at descriptor)
-  agree (call.Read descriptor count) = λ sure. left-read t s settings outcome made_with carried sound all shows descriptor count (found_at descriptor)
-  agree (call.Write descriptor bytes) = λ sure. left-write t s settings outcome made_with carried sound all shows descriptor bytes (found_at descriptor)
-  agree (call.Pread descriptor count position) = λ sure. left-pread t s settings outcome made_with carried sound all shows descriptor count position (found_at descriptor)
-  agree (call.Pwrite descriptor bytes position) = λ sure. left-pwrite t s settings outcome made_with carried sound all shows descriptor bytes position (found_at descriptor)
-  agree (call.Lseek descriptor offset whence) = λ sure. left-lseek t s settings outcome made_with carried sound all shows descriptor offset whence (found_at descriptor)
-  agree (call.Ftruncate descriptor size) = λ sure. left-ftruncate t s settings outcome made_with carried sound all shows descriptor size (found_at descriptor)
-  agree (call.Fstat descriptor) = λ sure. left-fstat t s settings outcome made_with carried sound all shows descriptor (found_at descriptor)
-  agree (call.Dup descriptor) = agree-dup descriptor (found_at descriptor)
-  agree (call.DupFrom descriptor least) = agree-dup_from descriptor least (found_at descriptor)
-  agree (call.Dup2 descriptor target) = agree-dup2 descriptor target (found_at descriptor) (found_at target)
-  agree (call.Getfl descriptor) = λ sure. left-getfl t s settings outcome made_with carried sound all shows descriptor (found_at descriptor)
-  agree (call.Setfl descriptor append nonblock) = agree-setfl descriptor append nonblock (found_at descriptor)
-  agree (call.Link old_path new_path) = agree-link old_path new_path
-  agree (call.Unlink path) = agree-unlink path
-  agree (call.Rename old_path new_path) = agree-rename old_path new_path
-  agree (call.Mkdir path) = agree-mkdir path
-  agree (call.Rmdir path) = agree-rmdir path
-  agree call.Pipe = agree-pipe
-  agree call.Socketpair = agree-socketpair
-  agree (call.Shutdown descriptor how) = λ sure. left-shutdown t s settings outcome made_with carried sound all shows descriptor how (found_at descriptor)
-  agree (call.HostOpen path access flags) =
+  agree : (c : Call) → is_write c ≡ false → Agree c (decided_of t c) (decided s c carried)
+  agree (call.Open path access flags) plain = agree-open path access flags
+  agree (call.Close descriptor) plain = agree-close descriptor (found_at descriptor)
+  agree (call.Read descriptor count) plain = λ sure. left-read t s settings outcome made_with carried sound all shows descriptor count (found_at descriptor)
+  agree (call.Write descriptor bytes) plain = absurd (false≢true (sym plain))
+  agree (call.Pread descriptor count position) plain = λ sure. left-pread t s settings outcome made_with carried sound all shows descriptor count position (found_at descriptor)
+  agree (call.Pwrite descriptor bytes position) plain = λ sure. left-pwrite t s settings outcome made_with carried sound all shows descriptor bytes position (found_at descriptor)
+  agree (call.Lseek descriptor offset whence) plain = λ sure. left-lseek t s settings outcome made_with carried sound all shows descriptor offset whence (found_at descriptor)
+  agree (call.Ftruncate descriptor size) plain = λ sure. left-ftruncate t s settings outcome made_with carried sound all shows descriptor size (found_at descriptor)
+  agree (call.Fstat descriptor) plain = λ sure. left-fstat t s settings outcome made_with carried sound all shows descriptor (found_at descriptor)
+  agree (call.Dup descriptor) plain = agree-dup descriptor (found_at descriptor)
+  agree (call.DupFrom descriptor least) plain = agree-dup_from descriptor least (found_at descriptor)
+  agree (call.Dup2 descriptor target) plain = agree-dup2 descriptor target (found_at descriptor) (found_at target)
+  agree (call.Getfl descriptor) plain = λ sure. left-getfl t s settings outcome made_with carried sound all shows descriptor (found_at descriptor)
+  agree (call.Setfl descriptor append nonblock) plain = agree-setfl descriptor append nonblock (found_at descriptor)
+  agree (call.Link old_path new_path) plain = agree-link old_path new_path
+  agree (call.Unlink path) plain = agree-unlink path
+  agree (call.Rename old_path new_path) plain = agree-rename old_path new_path
+  agree (call.Mkdir path) plain = agree-mkdir path
+  agree (call.Rmdir path) plain = agree-rmdir path
+  agree call.Pipe plain = agree-pipe
+  agree call.Socketpair plain = agree-socketpair
+  agree (call.Shutdown descriptor how) plain = λ sure. left-shutdown t s settings outcome made_with carried sound all shows descriptor how (found_at descriptor)
+  agree (call.HostOpen path access flags) plain =
       over_host_open t s (Agree (call.HostOpen path access flags)) (refused (call.HostOpen path access flags)) path access flags
       (agree-opens (call.HostOpen path access flags) (host_door access flags) None refl (λ n value bytes. refl) (λ value content. refl) (λ value. refl) (λ n. refl) refl)
-  agree (call.TcpListen port) =
+  agree (call.TcpListen port) plain =
       over_listen t s (Agree (call.TcpListen port)) (refused (call.TcpListen port)) port
       (λ asked. agree-opens (call.TcpListen port) (listener_door asked) None refl (λ n value bytes. refl) (λ value content. refl) (λ value. refl) (λ n. refl) refl)
-  agree (call.TcpConnect port) =
+  agree (call.TcpConnect port) plain =
       over_connect t s (Agree (call.TcpConnect port)) (refused (call.TcpConnect port)) port
       (λ asked. agree-opens (call.TcpConnect port) (stream_door asked) None refl (λ n value bytes. refl) (λ value content. refl) (λ value. refl) (λ n. refl) refl)
-  agree (call.TcpAccept descriptor) =
+  agree (call.TcpAccept descriptor) plain =
       over_accept t s (Agree (call.TcpAccept descriptor)) (refused (call.TcpAccept descriptor)) descriptor shows (found_at descriptor)
       (λ d. agree-opens (call.TcpAccept descriptor) (accepted_door d) (Some d.node) refl (λ n value bytes. refl) (λ value content. refl) (λ value. refl) (λ n. refl) refl)
 
-  pub agrees : (c : Call) → Agrees c (answered (decided_of t c)) (decided s c carried)
-  agrees c = agree c (sure-call t sound c)
+  pub agrees : (c : Call) → Agrees c (decided_with t c carried.moved) (decided s c carried)
+  agrees (call.Write descriptor bytes) =
+      left-write t s settings outcome made_with carried sound all shows descriptor bytes (found_at descriptor)
+  agrees c = agree c refl (sure-call t sound c)
+
+-- what is decided of a call changes the same, whatever it moved before
+same_change : (t : TableState) (c : Call) (so_far : Moved) → (decided_with t c so_far).change ≡ change_of t c
+same_change t (call.Write descriptor bytes) so_far = by_moved (so_far.bytes == 0)
+  where
+    by_plan : (r : Result Plan Errno) → change.Nothing ≡ (answered (leaves r)).change
+    by_plan (Ok p) = refl
+    by_plan (Err e) = refl
+
+    by_moved : (b : Bool) → (let d : Decided = if b then answered (decided_of t (call.Write descriptor bytes)) else record { plan = resumed_plan t descriptor so_far; change = change.Nothing } in d.change)
+        ≡ change_of t (call.Write descriptor bytes)
+    by_moved true = refl
+    by_moved false = by_plan (write_plan t descriptor (length bytes))
+same_change t c so_far = refl
 
 -- ## What follows for every call
 
@@ -723,25 +744,31 @@ concluded_agrees t settings s c outcome carried (plan.Node node act keep_table) 
 concluded_agrees t settings s c outcome carried p object (Err e) agrees = agrees
 
 module _ (keep : ChangesKeepSound) (t : TableState) (c : Call) (sound : IsSound t) (all : AreSound t.descriptions) where
-  pub plans-as_step : PlansAsStep t c (planned t c)
+  pub plans-as_step : (so_far : Moved) → PlansAsStep t c so_far (planned t c so_far)
   unfolding locked_object
-  plans-as_step settings s outcome carried shows =
-      concluded_agrees t settings s c outcome carried (planned t c) (locked_object s c carried) (effect_of s c carried) (agrees t s settings outcome outcome carried sound all shows keep c).ties
+  plans-as_step so_far settings s outcome carried same shows =
+      concluded_agrees t settings s c outcome carried (planned t c so_far) (locked_object s c carried) (effect_of s c carried)
+      (subst (λ (m : Moved). AgreesOn t c (planned t c m) (locked_object s c carried) (asks s c carried) (answer_of (effect_of s c carried))) same
+      (agrees t s settings outcome outcome carried sound all shows keep c).ties)
 
-  pub acts-as_step : ActsAsStep t c (planned t c)
-  acts-as_step = by_plan t c (planned t c) (λ settings s outcome carried shows. (agrees t s settings outcome outcome carried sound all shows keep c).acts)
+  pub acts-as_step : (so_far : Moved) → ActsAsStep t c so_far (planned t c so_far)
+  acts-as_step so_far = by_plan t c so_far (planned t c so_far) (λ settings s outcome carried same shows.
+      subst (λ (m : Moved). ActsOn t s settings outcome carried c (planned t c m) (step settings s c outcome carried)) same
+      (agrees t s settings outcome outcome carried sound all shows keep c).acts)
 
-  pub stays-as_step : StaysAsStep t c (planned t c)
-  stays-as_step settings s outcome carried shows = concluded_others t s settings outcome carried (planned t c) (effect_of s c carried) (agrees t s settings outcome outcome carried sound all shows keep c).others
+  pub stays-as_step : (so_far : Moved) → StaysAsStep t c so_far (planned t c so_far)
+  stays-as_step so_far settings s outcome carried same shows =
+      concluded_others t s settings outcome carried (planned t c so_far) (effect_of s c carried)
+      (subst (λ (m : Moved). Others t s (planned t c m) (effect_of s c carried)) same (agrees t s settings outcome outcome carried sound all shows keep c).others)
 
   -- the change of the call, whatever it is made with
   pub changes-as_step : (x : Change) (made_with : Option Outcome) (after : TableState) → x ≡ change_of t c → Changed t c x made_with after → ChangesAsStep t c made_with after
   changes-as_step x made_with after its is settings s outcome carried same shows =
-      (agrees t s settings outcome made_with carried sound all shows keep c).changes after same (subst (λ (y : Change). Changed t c y made_with after) its is)
+      (agrees t s settings outcome made_with carried sound all shows keep c).changes after same (subst (λ (y : Change). Changed t c y made_with after) (its ∙ sym (same_change t c carried.moved)) is)
 
   pub tells-as_step : (x : Change) (made_with : Option Outcome) (number : NewNumbers) → x ≡ change_of t c → number ≡ given x made_with → TellsAsStep t c made_with number
   tells-as_step x made_with number its is settings s outcome carried same shows =
-      is ∙ ap (λ (y : Change). given y made_with) its ∙ (agrees t s settings outcome made_with carried sound all shows keep c).tells same
+      is ∙ ap (λ (y : Change). given y made_with) (its ∙ sym (same_change t c carried.moved)) ∙ (agrees t s settings outcome made_with carried sound all shows keep c).tells same
 
 -- ## A call that the table refuses
 
@@ -756,25 +783,48 @@ refused_as (plan.Reply reply.Done) refused = absurd (false≢true refused)
 refused_as (plan.Node node act keep_table) refused = absurd (false≢true refused)
 
 -- it asks nothing outside, and so closes no door
-refused_answer : ChangesKeepSound → (t : TableState) (settings : Settings) (s : State) (outcome : Option Outcome) (carried : Carried) → IsSound t → AreSound t.descriptions → Shows t s → (c : Call) → is_refused (planned t c) ≡ true
+refused_answer : ChangesKeepSound → (t : TableState) (settings : Settings) (s : State) (outcome : Option Outcome) (carried : Carried) → IsSound t → AreSound t.descriptions → Shows t s → (c : Call) → is_refused (planned t c carried.moved) ≡ true
     → (e : Errno) × ((asks s c carried ≡ None) × ((step settings s c outcome carried).answer ≡ answer.Reply (reply.Fail e)))
 refused_answer keep t settings s outcome carried sound all shows c refused =
-    let how = refused_as (planned t c) refused in
+    let how = refused_as (planned t c carried.moved) refused in
     let agrees : AgreesOn t c (plan.Reply (reply.Fail how.0)) (locked_object s c carried) (asks s c carried) (step settings s c outcome carried).answer =
-    subst (λ (p : Plan). AgreesOn t c p (locked_object s c carried) (asks s c carried) (step settings s c outcome carried).answer) how.1 (plans-as_step keep t c sound all settings s outcome carried shows) in
+    subst (λ (p : Plan). AgreesOn t c p (locked_object s c carried) (asks s c carried) (step settings s c outcome carried).answer) how.1 (plans-as_step keep t c sound all carried.moved settings s outcome carried refl shows) in
     (how.0, agrees.1)
 
 closes_none : (s : State) (c : Call) (carried : Carried) → asks s c carried ≡ None → closes_door s c carried ≡ false
 closes_none s c carried none = grind (arith, none)
 
+-- any other call than a write is planned alike, whatever it moved before
+planned_alike : (t : TableState) (c : Call) (one other : Moved) → is_write c ≡ false → planned t c one ≡ planned t c other
+planned_alike t (call.Write descriptor bytes) one other plain = absurd (false≢true (sym plain))
+planned_alike t c one other plain = refl
+
 -- a call that the table refuses leaves it as it is, and tells no number
-pub refused-as_step : ChangesKeepSound → FailChangesNothing → (t : TableState) (c : Call) (made_with : Option Outcome) → IsSound t → AreSound t.descriptions → is_refused (planned t c) ≡ true
+pub refused-as_step : ChangesKeepSound → FailChangesNothing → (t : TableState) (c : Call) (made_with : Option Outcome) → IsSound t → AreSound t.descriptions → is_refused (planned t c nothing_moved) ≡ true
     → ChangesAsStep t c made_with t × TellsAsStep t c made_with numbers.None
-refused-as_step keep fails t c made_with sound all refused = (
-  λ settings s outcome carried same shows. (
-      let failed = refused_answer keep t settings s outcome carried sound all shows c refused in
-      subst (λ (x : State). Shows t x) (sym (fails settings s c outcome carried failed.0 (closes_none s c carried failed.1.0) failed.1.1)) shows),
-  λ settings s outcome carried same shows. (
-      let failed = refused_answer keep t settings s outcome carried sound all shows c refused in
-      none_told c failed.0 ∙ ap (numbers_told c) (sym failed.1.1)),
-)
+refused-as_step keep fails t c made_with sound all refused = by_write (is_write c) refl
+  where
+    again : (carried : Carried) → is_write c ≡ false → is_refused (planned t c carried.moved) ≡ true
+    again carried plain = ap (λ (p : Plan). is_refused p) (planned_alike t c carried.moved nothing_moved plain) ∙ refused
+
+    by_plan : (r : Result Plan Errno) → change.Nothing ≡ (answered (leaves r)).change
+    by_plan (Ok p) = refl
+    by_plan (Err e) = refl
+
+    writes_nothing : (w : Call) → is_write w ≡ true → change.Nothing ≡ change_of t w
+    writes_nothing (call.Write descriptor bytes) is = by_plan (write_plan t descriptor (length bytes))
+    writes_nothing w is = absurd (false≢true is)
+
+    by_write : (b : Bool) → is_write c ≡ b → ChangesAsStep t c made_with t × TellsAsStep t c made_with numbers.None
+    by_write true is = (
+      changes-as_step keep t c sound all change.Nothing made_with t (writes_nothing c is) refl,
+      tells-as_step keep t c sound all change.Nothing made_with numbers.None (writes_nothing c is) refl,
+    )
+    by_write false is = (
+      λ settings s outcome carried same shows. (
+          let failed = refused_answer keep t settings s outcome carried sound all shows c (again carried is) in
+          subst (λ (x : State). Shows t x) (sym (fails settings s c outcome carried failed.0 (closes_none s c carried failed.1.0) failed.1.1)) shows),
+      λ settings s outcome carried same shows. (
+          let failed = refused_answer keep t settings s outcome carried sound all shows c (again carried is) in
+          none_told c failed.0 ∙ ap (numbers_told c) (sym failed.1.1)),
+    )

@@ -2,8 +2,11 @@
 use Rattle.std.proofs.Common.{arith, ◌≡◌, Option, Result, Ok, Err, refl, sym, subst, ℕ, ◌&&◌, List, Some, None, Bool, true, false, if◌then◌else◌, ap}
 use Rattle.sequential_object.specs.Effects.{Asking, Decision, alone, does_of, locks_of}
 use Rattle.sequential_object.specs.Object.{State, Content, content_of}
-use Rattle.sequential_object.specs.Step.{Carried, Stepped, concluded, request_of, failed, is_again, outside, step, waited, nothing_moved}
+use Rattle.sequential_object.specs.Step.{held_up, Carried, Stepped, concluded, request_of, failed, is_again, outside, step, waited, nothing_moved}
 use Rattle.posix_terms.specs.Calls.{Call}
+use Rattle.std.specs.Prelude.{nat_lt, ◌+◌}
+use Rattle.sequential_object.specs.declared.turn_end.ActEnd.TheVariants as end
+use Rattle.posix_terms.specs.declared.carried.Moved.{Moved}
 use Rattle.posix_terms.specs.declared.errno.Errno.{Errno}
 use Rattle.posix_terms.specs.declared.outcome.Outcome.{Outcome}
 use Rattle.posix_terms.specs.declared.reply.Answer.TheVariants as answer
@@ -44,21 +47,36 @@ abbrev pub ActsOn : TableState → State → Settings → Option Outcome → Car
 ActsOn t s settings outcome carried c (plan.Reply r) stepped = Unit {0}
 ActsOn t s settings outcome carried c (plan.Node node act keep_table) stepped =
     (content : Content) (offset : ℕ) → content_of s (birth_at t node) ≡ content → StandsAt t s act offset
-    → let done : Acted = acted t node act c outcome (numbers_told c stepped.answer) content offset in
+    → let done : Acted = acted t node act c carried.moved.bytes outcome (numbers_told c stepped.answer) content offset in
     IsActed t node act done (ended settings s carried done.ending) stepped
 
 module _ (t : TableState) (s : State) (settings : Settings) (carried : Carried) where
-  -- what waits leaves all as it was
+  -- what waits leaves what its turn left
+  pub pauses_as : (node : ℕ) (act : Op) (after : State) (moved : Moved) (content : Content) (offset : ℕ)
+      → Holds after (birth_at t node) content → StandsAt t after act offset
+      → IsActed t node act (record { ending = end.Waits moved; content = content; offset = offset })
+      (ended settings s carried (end.Waits moved)) (waited settings after moved carried)
+  pauses_as node act after moved content offset holds stands = record {
+    answer_is = by_patience (nat_lt (carried.turns + 1) settings.patience);
+    carried_is = carries (nat_lt (carried.turns + 1) settings.patience);
+    content_is = subst (λ (a : State). Holds a (birth_at t node) content) (sym (waited_after settings after moved carried)) holds;
+    offset_is = subst (λ (a : State). StandsAt t a act offset) (sym (waited_after settings after moved carried)) stands;
+  }
+    where
+      by_patience : (b : Bool) → (held_up b after moved carried).answer ≡ (held_up b s moved carried).answer
+      by_patience true = refl
+      by_patience false = refl
+
+      carries : (b : Bool) → (held_up b after moved carried).carried ≡ (held_up b s moved carried).carried
+      carries true = refl
+      carries false = refl
+
   pub waited_as : (node : ℕ) (act : Op) (content : Content) (offset : ℕ) → content_of s (birth_at t node) ≡ content
       → StandsAt t s act offset
-      → IsActed t node act (record { ending = None; content = content; offset = offset }) (ended settings s carried None) (waited settings s nothing_moved carried)
-  waited_as node act content offset is stands = record {
-    answer_is = refl;
-    carried_is = refl;
-    content_is =
-        subst (λ (a : State). Holds a (birth_at t node) content) (sym (waited_after settings s nothing_moved carried)) (same_content s (birth_at t node) content is);
-    offset_is = subst (λ (a : State). StandsAt t a act offset) (sym (waited_after settings s nothing_moved carried)) stands;
-  }
+      → IsActed t node act (record { ending = end.Waits nothing_moved; content = content; offset = offset })
+      (ended settings s carried (end.Waits nothing_moved)) (waited settings s nothing_moved carried)
+  waited_as node act content offset is stands =
+      pauses_as node act s nothing_moved content offset (same_content s (birth_at t node) content is) stands
 
   -- what goes outside
   pub outside_as : (c : Call) (node : ℕ) (a : Asking) (door : Option ℕ) (content : Content) (offset : ℕ)
@@ -75,7 +93,7 @@ module _ (t : TableState) (s : State) (settings : Settings) (carried : Carried) 
       record { answer_is = ap (λ (r : Reply). answer.Reply r) (told value bytes); carried_is = refl; content_is = held value bytes; offset_is = tt }
   outside_as c node a door content offset is holds told held (Some (outcomes.Fail e)) = by_waiting (a.waits && is_again e)
     where
-      by_waiting : (b : Bool) → let ending = if b then None else Some (reply.Fail e) in
+      by_waiting : (b : Bool) → let ending = if b then end.Waits nothing_moved else end.Reply (reply.Fail e) in
           IsActed t node (op.Ask (record { kind = a.kind; asked = a.asked; waits = a.waits; door = door }))
           (record { ending = ending; content = content; offset = offset }) (ended settings s carried ending)
           (if b then waited settings s nothing_moved carried else failed a.otherwise e)
@@ -84,12 +102,14 @@ module _ (t : TableState) (s : State) (settings : Settings) (carried : Carried) 
   outside_as c node a door content offset is holds told held None =
       record { answer_is = refl; carried_is = refl; content_is = holds; offset_is = tt }
 
-pub by_plan : (t : TableState) (c : Call) (p : Plan)
-    → ((settings : Settings) (s : State) (outcome : Option Outcome) (carried : Carried) → Shows t s
-    → ActsOn t s settings outcome carried c p (step settings s c outcome carried)) → ActsAsStep t c p
-by_plan t c (plan.Reply r) each = tt
-by_plan t c (plan.Node node act keep_table) each =
-    λ settings s outcome carried content offset shows holds stands. each settings s outcome carried shows content offset holds stands
+pub by_plan : (t : TableState) (c : Call) (so_far : Moved) (p : Plan)
+    → ((settings : Settings) (s : State) (outcome : Option Outcome) (carried : Carried) → carried.moved ≡ so_far → Shows t s
+    → ActsOn t s settings outcome carried c p (step settings s c outcome carried)) → ActsAsStep t c so_far p
+by_plan t c so_far (plan.Reply r) each = tt
+by_plan t c so_far (plan.Node node act keep_table) each =
+    λ settings s outcome carried content offset same shows holds stands.
+    subst (λ (m : Moved). let stepped = step settings s c outcome carried in let done : Acted = acted t node act c m.bytes outcome (numbers_told c stepped.answer) content offset in IsActed t node act done (ended settings s carried done.ending) stepped)
+    same (each settings s outcome carried same shows content offset holds stands)
 
 -- ## All that there is to prove
 

@@ -1,6 +1,7 @@
 -- What each table plans and changes is what the sequential object does.
 use Rattle.std.proofs.Common.{ℕ, None, refl}
 use Rattle.posix_terms.specs.Calls.{Call}
+use Rattle.posix_terms.specs.declared.carried.Moved.{Moved}
 use Rattle.file_descriptions.specs.Descriptions.{AreSound, ContainsKey, description_at}
 use Rattle.file_descriptions.specs.declared.description.Description.{Description}
 use Rattle.file_descriptions.specs.Laws.{ChangesKeepSound}
@@ -14,14 +15,14 @@ use Rattle.descriptor_table.proofs.KnownLemmas.{known-change, known-planned}
 use Rattle.descriptor_table.proofs.ShownLemmas.{found_both, shows-empty}
 use Rattle.descriptor_table.proofs.SoundLemmas.{known_at, sound-empty, sound-kept, used-named}
 
-follows-step : ChangesKeepSound → (t : TableState) (c : Call) → IsSound t → AreSound t.descriptions → FollowsStep t c
-follows-step keep t c sound all =
+follows-step : ChangesKeepSound → (t : TableState) (c : Call) (so_far : Moved) → IsSound t → AreSound t.descriptions → FollowsStep t c so_far
+follows-step keep t c so_far sound all =
     record {
-      known = known-planned t c sound;
+      known = known-planned t c so_far sound;
       can = known-change t c sound;
-      plans = plans-as_step keep t c sound all;
-      acts = acts-as_step keep t c sound all;
-      stays = stays-as_step keep t c sound all;
+      plans = plans-as_step keep t c sound all so_far;
+      acts = acts-as_step keep t c sound all so_far;
+      stays = stays-as_step keep t c sound all so_far;
       unchanged = λ same. changes-as_step keep t c sound all (change_of t c) None t refl same;
     }
 

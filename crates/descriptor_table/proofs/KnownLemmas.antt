@@ -35,7 +35,9 @@ use Rattle.descriptor_table.proofs.Binding.{bound}
 use Rattle.descriptor_table.proofs.SoundLemmas.{closed_other, known_of, named_at, sound-closed, used_of, used-named, some_inside}
 use Rattle.descriptor_table.proofs.FreeLemmas.{AreFree, HaveNames, addable_free, apart_by, free_number, free_path, lowest_below, next_object, not_refused, number_below, number_is, renaming_found, two_free, was_some}
 use Rattle.descriptor_table.specs.Changes.{CanChange, IsFreeNumber, Refers, closed}
-use Rattle.descriptor_table.specs.Plans.{IsKnownNumber, IsThere, LocksKnown, MovesKnown, act_or_ask, addable, answered, bytes_asked, change_of, close_decided, decided_of, decides, dup2_decided, dup_decided, dup_from_decided, ends_a_door, errand, fstat_plan, ftruncate_plan, getfl_plan, host_open_decided, leads_outside, leaves, link_decided, loses_name, lseek_plan, mkdir_decided, moves, new_pair, not_listener, of_file, of_listener, open_decided, open_new, open_node, open_there, opening, opens_door, or_none, planned, pread_plan, pwrite_plan, read_count, read_plan, release, rename_decided, renames, replaces, reply_bytes, rmdir_decided, seekable, setfl_decided, shut_act, shutdown_plan, stat_by, stat_plan, tcp_accept_decided, tcp_connect_decided, tcp_listen_decided, tells, unlink_decided, write_plan}
+use Rattle.posix_terms.specs.declared.carried.Moved.{Moved}
+use Rattle.sequential_object.specs.Transfers.{is_from}
+use Rattle.descriptor_table.specs.Plans.{decided_with, is_pipe, locks, seen, resumed_at, resumed_plan, IsKnownNumber, IsThere, LocksKnown, MovesKnown, act_or_ask, addable, answered, bytes_asked, change_of, close_decided, decided_of, decides, dup2_decided, dup_decided, dup_from_decided, ends_a_door, errand, fstat_plan, ftruncate_plan, getfl_plan, host_open_decided, leads_outside, leaves, link_decided, loses_name, lseek_plan, mkdir_decided, moves, new_pair, not_listener, of_file, of_listener, open_decided, open_new, open_node, open_there, opening, opens_door, or_none, planned, pread_plan, pwrite_plan, read_count, read_plan, release, rename_decided, renames, replaces, reply_bytes, rmdir_decided, seekable, setfl_decided, shut_act, shutdown_plan, stat_by, stat_plan, tcp_accept_decided, tcp_connect_decided, tcp_listen_decided, tells, unlink_decided, write_plan}
 use Rattle.descriptor_table.specs.Table.{TableState, IsSound, described, free_object, is_last_name, is_used, key_at, lowest_free, two_numbers}
 use Rattle.descriptor_table.specs.declared.plan.Change.TheVariants as change
 use Rattle.descriptor_table.specs.declared.plan.Decided.{Decided}
@@ -410,10 +412,39 @@ sure-answered : (t : TableState) (c : Call) (r : Result Decided Errno) → Sure 
 sure-answered t c (Ok d) sure = sure
 sure-answered t c (Err e) sure = (none_within (read_count c), tt)
 
-pub known-planned : (t : TableState) (c : Call) → IsSound t → LocksKnown t (read_count c) (planned t c)
-known-planned t c sound = (sure-answered t c (decided_of t c) (sure-call t sound c)).0
+-- a write that goes on is of a description that is there
+known-resumed : (t : TableState) (descriptor : ℤ) (so_far : Moved) → IsSound t → LocksKnown t 0 (resumed_plan t descriptor so_far)
+known-resumed t descriptor so_far sound = by_found (described t descriptor) refl
+  where
+    by_found : (r : Result (ℕ × Description) Errno) → described t descriptor ≡ r → LocksKnown t 0 (resumed_at so_far r)
+    by_found (Err e) is = none_within 0
+    by_found (Ok found) is = by_test (is_from so_far (let d : Description = found.1 in d.birth) && is_pipe (let d : Description = found.1 in d.«end»))
+      where
+        by_test : (b : Bool) → LocksKnown t 0 (if b then locks (let d : Description = found.1 in d.node) (op.Write (seen found.0 found.1)) else plan.Reply (reply.Count so_far.bytes))
+        by_test true = (found_known t sound descriptor found is, found_key t sound descriptor found is)
+        by_test false = none_within 0
+
+-- what was decided of a call that moved so much before
+known-with : (t : TableState) (c : Call) (so_far : Moved) → IsSound t
+    → LocksKnown t (read_count c) (decided_with t c so_far).plan × CanChange t c (decided_with t c so_far).change
+known-with t (call.Write descriptor bytes) so_far sound = by_moved (so_far.bytes == 0)
+  where
+    c : Call
+    c = call.Write descriptor bytes
+
+    by_moved : (b : Bool) → (let d : Decided = if b then answered (decided_of t c) else record { plan = resumed_plan t descriptor so_far; change = change.Nothing } in
+        LocksKnown t (read_count c) d.plan × CanChange t c d.change)
+    by_moved true = sure-answered t c (decided_of t c) (sure-call t sound c)
+    by_moved false = (known-resumed t descriptor so_far sound, tt)
+known-with t c so_far sound = sure-answered t c (decided_of t c) (sure-call t sound c)
+
+pub known-planned : (t : TableState) (c : Call) (so_far : Moved) → IsSound t → LocksKnown t (read_count c) (planned t c so_far)
+known-planned t c so_far sound = (known-with t c so_far sound).0
+
+pub known-decided : (t : TableState) (c : Call) (so_far : Moved) → IsSound t → CanChange t c (decided_with t c so_far).change
+known-decided t c so_far sound = (known-with t c so_far sound).1
 
 pub known-change : (t : TableState) (c : Call) → IsSound t → CanChange t c (change_of t c)
 known-change t c sound = (sure-answered t c (decided_of t c) (sure-call t sound c)).1
 
-pub ruleset known = (known-planned, known-change)
+pub ruleset known = (known-planned, known-decided, known-change)

@@ -17,14 +17,23 @@ use Rattle.sequential_object.specs.Refusals.{◌>>=◌, count_of, position_of, r
 use Rattle.sequential_object.specs.Sockets.{shut_content, shuttable, shutdown_result}
 use Rattle.sequential_object.specs.Status.{fstat_result, getfl_result, stat_content}
 use Rattle.sequential_object.specs.Step.{Carried, Stepped, concluded, decided, outside, request_of}
-use Rattle.sequential_object.specs.Streams.{PairState, Reading, Reads, Ends, NothingYet, Writing, Writes, Breaks, NoRoom, pair_read, pair_write, pipe_write, shut, stream_read, with_waiting}
+use Rattle.sequential_object.specs.Streams.{PairState, Reading, Reads, Ends, NothingYet, Writing, Writes, Breaks, NoRoom, pair_read, pair_write, shut, stream_read, with_waiting}
 use Rattle.sequential_object.specs.Transfers as transfers
 use Rattle.sequential_object.specs.Transfers.{with_offset, base_of, file_in, ftruncate_result, host_offset, lseek_result, offset_of, pread_result, pwrite_result, read_content, read_done, read_result, seek_content, size_of, start_of, write_at, write_content, write_done, write_file, write_result}
+use Rattle.sequential_object.specs.declared.turn_end.ActEnd.TheVariants as end
+use Rattle.std.proofs.lemmas.Bool.Decides.{nat_tests}
+use Rattle.std.specs.Prelude.{nat_le}
+use Rattle.sequential_object.specs.Transfers.{blocked, first_write, is_from, moved_by, pauses, pipe_turn, pipe_written, write_goes_on, write_resumed}
+use Rattle.descriptor_table.specs.Acts as acts
+use Rattle.descriptor_table.specs.Acts.{paused, pipe_acted, stopped}
+use Rattle.descriptor_table.specs.Plans.{decided_with, is_pipe, resumed_plan}
+use Rattle.descriptor_table.proofs.DecidedLemmas.{pauses_as}
+use Rattle.descriptor_table.proofs.FollowLemmas.{waited_after}
 use Rattle.posix_terms.specs.declared.call.Call.TheVariants as call
 use Rattle.posix_terms.specs.declared.call.ShutdownHow.{ShutdownHow}
 use Rattle.posix_terms.specs.declared.call.Whence.{Whence}
 use Rattle.posix_terms.specs.declared.errno.Errno.{Errno}
-use Rattle.posix_terms.specs.declared.errno.Errno.TheVariants.{EAGAIN, EBADF, EINVAL, ENOTSOCK, ESPIPE}
+use Rattle.posix_terms.specs.declared.errno.Errno.TheVariants.{EAGAIN, EBADF, EINVAL, ENOTSOCK, EPIPE, ESPIPE}
 use Rattle.posix_terms.specs.declared.object.Door.{Door}
 use Rattle.posix_terms.specs.declared.object.Door.TheVariants as door
 use Rattle.posix_terms.specs.declared.object.End.{End}
@@ -136,7 +145,7 @@ module _ (t : TableState) (s : State) (settings : Settings) (outcome made_with :
   -- a stream that cannot go on
   stops : {c : Call} {node : ℕ} {act : Op} {content : Content} {offset : ℕ} (b : Bool) → None ≡ agreement.request_of c act
       → content_of s (birth_at t node) ≡ content → StandsAt t s act offset
-      → Under c node act (record { ending = if b then Some (reply.Fail EAGAIN) else None; content = content; offset = offset })
+      → Under c node act (record { ending = if b then end.Reply (reply.Fail EAGAIN) else end.Waits nothing_moved; content = content; offset = offset })
       (if b then Err EAGAIN else Ok (Blocks s nothing_moved))
   stops true inside is stands = refuses inside is stands
   stops {c} {node} {act} {content} {offset} false inside is stands = record {
@@ -160,14 +169,14 @@ module _ (t : TableState) (s : State) (settings : Settings) (outcome made_with :
       → content_of s (birth_at t node) ≡ content
       → ((a : Answer) → numbers.None ≡ numbers_told c a) → false ≡ keeps_table c
       → ((o : ℕ) → StandsAt t s act o
-      → Under c node act (acted t node act c outcome (numbers_told c (concluded settings s outcome carried does).answer) content o) does)
+      → Under c node act (acted t node act c carried.moved.bytes outcome (numbers_told c (concluded settings s outcome carried does).answer) content o) does)
       → Left c (Ok (locks node act)) (Ok (locking (birth_at t node) does))
   under {c} {node} {act} {content} {does} offset at is silent frees each = record {
     ties = (refl, ((each offset at).asks, frees));
     acts = λ found o holds stands.
         subst
         (λ (x : Content).
-        let done : Acted = acted t node act c outcome (numbers_told c (concluded settings s outcome carried does).answer) x o in
+        let done : Acted = acted t node act c carried.moved.bytes outcome (numbers_told c (concluded settings s outcome carried does).answer) x o in
         IsActed t node act done (ended settings s carried done.ending) (concluded settings s outcome carried does))
         (sym is ∙ holds) (each o stands).acts;
     others = (each offset at).others;
@@ -339,10 +348,76 @@ module _ (t : TableState) (s : State) (settings : Settings) (outcome made_with :
       by_reading n o holds was Ends is alike stands = stays refl is stands
       by_reading n o holds was NothingYet is alike stands = stops d.flags.nonblock refl is stands
 
-  pub left-write : (descriptor : ℤ) (bytes : List ℕ) → RefersAlike t s descriptor → Follows (call.Write descriptor bytes)
-  unfolding write_plan write_result
-  left-write descriptor bytes (Shut table state) = rw (table, state) (refuse EBADF)
-  left-write descriptor bytes (Open key d offset at got there table state) =
+  -- a turn of a write of a pipe, of which so many bytes went before
+  module _ (key : ℕ) (d : Description) (offset : ℕ) (got : fin.get t.descriptions.by_key key ≡ Some d)
+      (there : fin.get s.descriptions d.birth ≡ Some (shown t d offset)) (descriptor : ℤ) (bytes : List ℕ) (before : ℕ) (waiting : List ℕ)
+      (is : held d ≡ Pipe waiting) (o : ℕ) (stands : offset_at s (birth_of t key) ≡ Some o) where
+    abbrev put : List ℕ → State
+    put left = with_content s (birth_at t d.node) (Pipe left)
+
+    put_shown : (left : List ℕ) → Shows t (put left)
+    put_shown left =
+        shows-content t s (birth_at t d.node) (Pipe left) shows (object_there t s sound all shows key d got) (alike_pipe (held d) left waiting is)
+
+    -- it cannot go on
+    pauses_under : (after : State) (content : Content) (total : ℕ) → Holds after (birth_at t d.node) content
+        → offset_at after (birth_of t key) ≡ Some o → OthersStay t (locks d.node (op.Write (seen key d))) s after → Shows t after
+        → Under (call.Write descriptor bytes) d.node (op.Write (seen key d))
+        (record { ending = paused (seen key d) (birth_of t key) total; content = content; offset = o })
+        (pauses after d.birth (shown t d offset) total)
+    pauses_under after content total holds at others later = rw (← birth_got t.descriptions key d got) (by_flag d.flags.nonblock)
+      where
+        by_flag : (b : Bool) → Under (call.Write descriptor bytes) d.node (op.Write (seen key d))
+            (record { ending = if b then end.Reply (reply.Count total) else end.Waits (moved_by (birth_of t key) total); content = content; offset = o })
+            (if b then Ok (Completes after (reply.Count total)) else Ok (Blocks after (moved_by (birth_of t key) total)))
+        by_flag true = completes refl holds at others later
+        by_flag false = record {
+          asks = refl;
+          acts = pauses_as t s settings carried d.node (op.Write (seen key d)) after (moved_by (birth_of t key) total) content o holds at;
+          others = others;
+          shown = subst (Shows t) (sym (waited_after settings after (moved_by (birth_of t key) total) carried)) later;
+        }
+
+    written_under : (now : ℕ) (w : Writing)
+        → Under (call.Write descriptor bytes) d.node (op.Write (seen key d))
+        (acts.pipe_written (seen key d) (birth_of t key) (length bytes) before now waiting o w)
+        (pipe_written s d.birth (shown t d offset) (length bytes) before now w)
+    written_under now (Writes left) = by_all (nat_le (length bytes) (before + now))
+      where
+        by_all : (b : Bool) → Under (call.Write descriptor bytes) d.node (op.Write (seen key d))
+            (record { ending = if b then end.Reply (reply.Count (before + now)) else paused (seen key d) (birth_of t key) (before + now); content = Pipe left; offset = o })
+            (if b then Ok (Completes (put left) (reply.Count (before + now))) else pauses (put left) d.birth (shown t d offset) (before + now))
+        by_all true = puts key got refl (alike_pipe (held d) left waiting is) stands
+        by_all false =
+            pauses_under (put left) (Pipe left) (before + now) (put_content s (birth_at t d.node) (Pipe left)) stands
+            (others_put t s d.node (op.Write (seen key d)) (Pipe left)) (put_shown left)
+    written_under now Breaks = by_none (before == 0)
+      where
+        by_none : (b : Bool) → Under (call.Write descriptor bytes) d.node (op.Write (seen key d))
+            (replied (if b then reply.Fail EPIPE else reply.Count before) (Pipe waiting) o)
+            (if b then Err EPIPE else Ok (Completes s (reply.Count before)))
+        by_none true = refuses refl is stands
+        by_none false = stays refl is stands
+    written_under now NoRoom = by_none (before == 0)
+      where
+        by_none : (b : Bool) → Under (call.Write descriptor bytes) d.node (op.Write (seen key d))
+            (if b then stopped (seen key d) (Pipe waiting) o else record { ending = paused (seen key d) (birth_of t key) before; content = Pipe waiting; offset = o })
+            (if b then blocked s (shown t d offset) else pauses s d.birth (shown t d offset) before)
+        by_none true = stops d.flags.nonblock refl is stands
+        by_none false =
+            pauses_under s (Pipe waiting) before (same_content s (birth_at t d.node) (Pipe waiting) is) stands
+            (fewer_others t (locks d.node (op.Write (seen key d))) s s (fewer_same s)) shows
+
+    pipe_turns : Under (call.Write descriptor bytes) d.node (op.Write (seen key d))
+        (pipe_acted t d.node (seen key d) bytes before waiting o)
+        (pipe_turn s d.birth (shown t d offset) bytes before waiting)
+    pipe_turns = rw (open_at key d offset got there part.Read (ap (is_of part.Read) is)) (written_under _ _)
+
+  left-first : (descriptor : ℤ) (bytes : List ℕ) → carried.moved.bytes ≡ 0 → RefersAlike t s descriptor
+      → Left (call.Write descriptor bytes) (write_plan t descriptor (length bytes)) (first_write s descriptor bytes)
+  unfolding write_plan first_write
+  left-first descriptor bytes none (Shut table state) = rw (table, state) (refuse EBADF)
+  left-first descriptor bytes none (Open key d offset at got there table state) =
       rw (table, state, transfers_by d.«end» (held d) (shows.ends key d got))
       (over_within (not_listener d.«end») _ _ _ (λ _.
       over_within (refuse_if (not (can_write d.access)) EBADF) _ _ _ (λ _.
@@ -351,9 +426,8 @@ module _ (t : TableState) (s : State) (settings : Settings) (outcome made_with :
       (λ file is. under offset stands is (λ a. refl) refl (λ o stands.
       rw (← offset_is_at key d offset got there o stands) (by_length file is (length bytes == 0))))
       (λ waiting is. over_zero (reply.Count 0) (length bytes == 0) refl (under offset stands is (λ a. refl) refl (λ o stands.
-      rw (open_at key d offset got there part.Read (ap (is_of part.Read) is))
-      (by_writing o (λ left. Pipe left) (Pipe waiting) (pipe_write waiting bytes true (is_open t d.node part.Read)) is
-      (λ left. alike_pipe (held d) left waiting is) stands))))
+      subst (λ (before : ℕ). Under (call.Write descriptor bytes) d.node act (pipe_acted t d.node (seen key d) bytes before waiting o)
+      (pipe_turn s d.birth (shown t d offset) bytes 0 waiting)) (sym none) (pipe_turns key d offset got there descriptor bytes 0 waiting is o stands))))
       (λ p is. over_zero (reply.Count 0) (length bytes == 0) refl (under offset stands is (λ a. refl) refl (λ o stands.
       rw (open_at key d offset got there peer (ap (is_of peer) is))
       (by_writing o (λ left. Pair (with_waiting p (peer_of side) left)) (Pair p) (pair_write p side bytes (is_open t d.node peer)) is
@@ -407,6 +481,48 @@ module _ (t : TableState) (s : State) (settings : Settings) (outcome made_with :
       by_writing o holds was (Writes left) is alike stands = puts key got refl (alike left) stands
       by_writing o holds was Breaks is alike stands = refuses refl is stands
       by_writing o holds was NoRoom is alike stands = stops d.flags.nonblock refl is stands
+
+  left-resumed : (descriptor : ℤ) (bytes : List ℕ) → RefersAlike t s descriptor
+      → Agrees t s settings outcome made_with carried (call.Write descriptor bytes)
+      (record { plan = resumed_plan t descriptor carried.moved; change = change.Nothing })
+      (Ok (write_resumed s bytes carried.moved (posix.described s descriptor)))
+  left-resumed descriptor bytes (Shut table state) = rw (table, state) (answers refl)
+  left-resumed descriptor bytes (Open key d offset at got there table state) = rw (table, state) (by_key (is_from carried.moved d.birth))
+    where
+      by_end : Left (call.Write descriptor bytes)
+          (Ok (if is_pipe d.«end» then locks d.node (op.Write (seen key d)) else plan.Reply (reply.Count carried.moved.bytes)))
+          (Ok (write_goes_on s d.birth (shown t d offset) bytes carried.moved (held d)))
+      by_end =
+          by_kind key (λ e. Ok (if is_pipe e then locks d.node (op.Write (seen key d)) else plan.Reply (reply.Count carried.moved.bytes)))
+          (λ x. Ok (write_goes_on s d.birth (shown t d offset) bytes carried.moved x)) got
+          (λ file is. answers refl)
+          (λ waiting is. goes_on waiting is) (λ waiting is. goes_on waiting is)
+          (λ side p its is. answers refl) (λ door. answers refl)
+        where
+          goes_on : (waiting : List ℕ) → held d ≡ Pipe waiting
+              → Left (call.Write descriptor bytes) (Ok (locks d.node (op.Write (seen key d))))
+              (Ok (locking (birth_at t d.node) (pipe_turn s d.birth (shown t d offset) bytes carried.moved.bytes waiting)))
+          goes_on waiting is = under offset (stands_at key d offset got there) is (λ a. refl) refl
+              (λ o stands. pipe_turns key d offset got there descriptor bytes carried.moved.bytes waiting is o stands)
+
+      by_key : (b : Bool) → Left (call.Write descriptor bytes)
+          (Ok (if b && is_pipe d.«end» then locks d.node (op.Write (seen key d)) else plan.Reply (reply.Count carried.moved.bytes)))
+          (Ok (if b then write_goes_on s d.birth (shown t d offset) bytes carried.moved (held d) else alone s (reply.Count carried.moved.bytes)))
+      by_key true = by_end
+      by_key false = answers refl
+
+  pub left-write : (descriptor : ℤ) (bytes : List ℕ) → RefersAlike t s descriptor
+      → Agrees t s settings outcome made_with carried (call.Write descriptor bytes)
+      (decided_with t (call.Write descriptor bytes) carried.moved) (decided s (call.Write descriptor bytes) carried)
+  unfolding write_result
+  left-write descriptor bytes refers = by_moved (carried.moved.bytes == 0) refl
+    where
+      by_moved : (b : Bool) → (carried.moved.bytes == 0) ≡ b
+          → Agrees t s settings outcome made_with carried (call.Write descriptor bytes)
+          (if b then answered (decided_of t (call.Write descriptor bytes)) else record { plan = resumed_plan t descriptor carried.moved; change = change.Nothing })
+          (if b then first_write s descriptor bytes else Ok (write_resumed s bytes carried.moved (posix.described s descriptor)))
+      by_moved true none = left-first descriptor bytes (grind (arith, nat_tests, none)) refers
+      by_moved false some = left-resumed descriptor bytes refers
 
   pub left-pread : (descriptor count position : ℤ) → RefersAlike t s descriptor → Follows (call.Pread descriptor count position)
   unfolding pread_plan pread_result

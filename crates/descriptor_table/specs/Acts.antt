@@ -1,7 +1,8 @@
 -- Believed: a contract of the headline stands on it.
 -- What an act does with the object that is locked for it.
-use Rattle.std.specs.Prelude.{◌≡◌, ◌≢◌, ◌⊎◌, ◌≤◌, ◌==◌, ℕ, ◌+◌, pos, ◌+ℤ◌, List, [], length}
-use Rattle.std.specs.Prelude.{Bool, true, not, ◌&&◌, Option, Some, None, Result, Ok, Err, if◌then◌else◌}
+use Rattle.std.specs.Prelude.{◌≡◌, ◌≢◌, ◌⊎◌, ◌≤◌, ◌==◌, ℕ, ◌+◌, nat_le, pos, ◌+ℤ◌, List, [], drop}
+use Rattle.std.specs.Prelude.{length}
+use Rattle.std.specs.Prelude.{Bool, not, ◌&&◌, Option, Some, None, Result, Ok, Err, if◌then◌else◌}
 use Rattle.std.specs.Option.{option_map}
 use Rattle.std.specs.FinMap as map
 use Rattle.sequential_object.specs.Files.{bytes_at, resized, written}
@@ -10,8 +11,12 @@ use Rattle.posix_terms.specs.Ends.{is_first, side_of, peer_of}
 use Rattle.sequential_object.specs.Object.{State, Content, File, Pipe, Pair, DoorTo, content_of}
 use Rattle.sequential_object.specs.Step.{Carried, Stepped, is_again, nothing_carried, nothing_moved}
 use Rattle.sequential_object.specs.Step.{step, waited}
-use Rattle.sequential_object.specs.Streams.{Reading, Reads, Ends, NothingYet, Writing, Writes, Breaks, NoRoom, new_pair, pair_read, pair_write, pipe_write, shut, stream_read, with_waiting}
-use Rattle.sequential_object.specs.Transfers.{base_of, offset_of}
+use Rattle.sequential_object.specs.Streams.{Reading, Reads, Ends, NothingYet, Writing, Writes}
+use Rattle.sequential_object.specs.Streams.{Breaks, NoRoom}
+use Rattle.sequential_object.specs.Streams.{bytes_put, new_pair, pair_read, pair_write, pipe_write}
+use Rattle.sequential_object.specs.Streams.{shut}
+use Rattle.sequential_object.specs.Streams.{stream_read, with_waiting}
+use Rattle.sequential_object.specs.Transfers.{base_of, moved_by, offset_of}
 use Rattle.posix_terms.specs.Calls.{Call}
 use Rattle.posix_terms.specs.declared.call.Call.TheVariants as call
 use Rattle.posix_terms.specs.declared.errno.Errno.{Errno}
@@ -29,6 +34,10 @@ use Rattle.posix_terms.specs.declared.reply.ObjectKind.TheVariants as kind
 use Rattle.posix_terms.specs.declared.reply.Reply.{Reply}
 use Rattle.posix_terms.specs.declared.reply.Reply.TheVariants as reply
 use Rattle.posix_terms.specs.declared.transcript.Settings.{Settings}
+use Rattle.sequential_object.specs.declared.turn_end.ActEnd.{ActEnd}
+use Rattle.sequential_object.specs.declared.turn_end.ActEnd.TheVariants as end
+use Rattle.posix_terms.specs.declared.carried.Moved.{Moved}
+use Rattle.posix_terms.specs.declared.limits.TheConstants.Limits as limit
 use Rattle.descriptor_table.specs.Agreement.{numbers_told}
 use Rattle.descriptor_table.specs.Shows.{Shows, birth_at, birth_of}
 use Rattle.descriptor_table.specs.Table.{TableState}
@@ -42,14 +51,14 @@ use Rattle.descriptor_table.specs.declared.plan.Opened.{Opened}
 use Rattle.descriptor_table.specs.declared.plan.Plan.{Plan}
 use Rattle.descriptor_table.specs.declared.plan.Plan.TheVariants as plan
 
--- the reply with which an act ends, if it need not wait; what its object holds then, and where its description stands
+-- how an act ends; what its object holds then, and where its description stands
 pub record Acted : Type 0 where
-  pub ending : Option Reply
+  pub ending : ActEnd
   pub content : Content
   pub offset : ℕ
 
 abbrev pub replied : Reply → Content → ℕ → Acted
-replied r content offset = record { ending = Some r; content = content; offset = offset }
+replied r content offset = record { ending = end.Reply r; content = content; offset = offset }
 
 -- a write to a file that starts here, and leaves the offset where it is told
 abbrev pub wrote : Result (List ℕ × ℕ) Errno → List ℕ → ℕ → (ℕ → ℕ) → Acted
@@ -73,7 +82,10 @@ is_open t node which = let ends = ends_of t.descriptions node in not ((if is_fir
 
 -- what cannot go on leaves all as it is; O_NONBLOCK decides whether it waits
 abbrev pub stopped : Opened → Content → ℕ → Acted
-stopped at content offset = record { ending = if at.flags.nonblock then Some (reply.Fail EAGAIN) else None; content = content; offset = offset }
+stopped at content offset =
+    let ending =
+    if at.flags.nonblock then end.Reply (reply.Fail EAGAIN) else end.Waits nothing_moved in
+    record { ending = ending; content = content; offset = offset }
 
 -- a read of a stream, by what its object holds when so many bytes are left
 abbrev pub has_read : Opened → (List ℕ → Content) → Content → ℕ → Reading → Acted
@@ -86,6 +98,34 @@ abbrev pub has_written : Opened → (List ℕ → Content) → Content → ℕ �
 has_written to holds content offset count (Writes left) = replied (reply.Count count) (holds left) offset
 has_written to holds content offset count Breaks = replied (reply.Fail EPIPE) content offset
 has_written to holds content offset count NoRoom = stopped to content offset
+
+-- ## A write of a pipe, at one of its turns
+
+-- it cannot go on after so many bytes, the first of which went by the description of this birth
+abbrev pub paused : Opened → ℕ → ℕ → ActEnd
+paused to birth total =
+    if to.flags.nonblock then end.Reply (reply.Count total) else end.Waits (moved_by birth total)
+
+-- the stream takes so many bytes now, or none; so many of all went before
+abbrev pub pipe_written : Opened → ℕ → (all before now : ℕ) → List ℕ → ℕ → Writing → Acted
+pipe_written to birth all before now waiting offset (Writes left) =
+    let total = before + now in
+    let ending =
+    if nat_le all total then end.Reply (reply.Count total) else paused to birth total in
+    record { ending = ending; content = Pipe left; offset = offset }
+pipe_written to birth all before now waiting offset Breaks =
+    replied (if before == 0 then reply.Fail EPIPE else reply.Count before) (Pipe waiting) offset
+pipe_written to birth all before now waiting offset NoRoom =
+    if before == 0 then stopped to (Pipe waiting) offset else
+    record { ending = paused to birth before; content = Pipe waiting; offset = offset }
+
+abbrev pub pipe_acted : TableState → ℕ → Opened → List ℕ → ℕ → List ℕ → ℕ → Acted
+pipe_acted t node to bytes before waiting offset =
+    let rest = drop before bytes in
+    let whole = nat_le (length bytes) limit.PIPE_BUF in
+    let now = length (bytes_put limit.PIPE_BYTES waiting rest whole) in
+    let writing = pipe_write waiting rest whole (is_open t node part.Read) in
+    pipe_written to (birth_of t to.key) (length bytes) before now waiting offset writing
 
 -- ## What comes of a request
 
@@ -110,10 +150,12 @@ held_after out.Accept value content = DoorTo door.Stream
 held_after k value content = content
 
 -- EAGAIN may make a call wait, and every other failure is its reply. While the outcome is missing the ending says nothing
-abbrev pub outside_ending : Errand → NewNumbers → Option Outcome → Option Reply
-outside_ending e given (Some (outcome.Ok value bytes)) = Some (told_outside e.kind given value bytes)
-outside_ending e given (Some (outcome.Fail error)) = if e.waits && is_again error then None else Some (reply.Fail error)
-outside_ending e given None = Some (reply.Fail EIO)
+abbrev pub outside_ending : Errand → NewNumbers → Option Outcome → ActEnd
+outside_ending e given (Some (outcome.Ok value bytes)) =
+    end.Reply (told_outside e.kind given value bytes)
+outside_ending e given (Some (outcome.Fail error)) =
+    if e.waits && is_again error then end.Waits nothing_moved else end.Reply (reply.Fail error)
+outside_ending e given None = end.Reply (reply.Fail EIO)
 
 abbrev pub outside_content : Errand → Content → Option Outcome → Content
 outside_content e content (Some (outcome.Ok value bytes)) = held_after e.kind value content
@@ -132,37 +174,51 @@ read_acted t node from count (Pair p) offset =
 -- a door is not read here
 read_acted t node from count (DoorTo door) offset = replied reply.Done (DoorTo door) offset
 
-abbrev pub write_acted : TableState → ℕ → Opened → List ℕ → Content → ℕ → Acted
-write_acted t node to bytes (File file) offset =
+abbrev pub write_acted : TableState → ℕ → Opened → List ℕ → ℕ → Content → ℕ → Acted
+write_acted t node to bytes before (File file) offset =
     let start = if to.flags.append then length file else offset in
     if length bytes == 0 then replied (reply.Count 0) (File file) offset else wrote (written file start bytes) file offset (λ count. start + count)
-write_acted t node to bytes (Pipe waiting) offset =
-    let writing = pipe_write waiting bytes true (is_open t node part.Read) in
-    has_written to Pipe (Pipe waiting) offset (length bytes) writing
-write_acted t node to bytes (Pair p) offset =
+write_acted t node to bytes before (Pipe waiting) offset =
+    pipe_acted t node to bytes before waiting offset
+write_acted t node to bytes before (Pair p) offset =
     let side = side_of to.«end» in
     has_written to (λ left. Pair (with_waiting p (peer_of side) left)) (Pair p) offset (length bytes) (pair_write p side bytes (is_open t node (part.Socket (peer_of side))))
 -- and not written here
-write_acted t node to bytes (DoorTo door) offset = replied reply.Done (DoorTo door) offset
+write_acted t node to bytes before (DoorTo door) offset = replied reply.Done (DoorTo door) offset
 
--- with the numbers that were given, and the outcome of a call that goes outside
-abbrev pub acted : TableState → ℕ → Op → Call → Option Outcome → NewNumbers → Content → ℕ → Acted
-acted t node (op.Open cut) c o given content offset = replied (numbers_reply given) (if cut then File [] else content) offset
-acted t node op.Release (call.Dup2 descriptor target) o given content offset = replied (reply.Number target) content offset
-acted t node op.Release _ o given content offset = replied reply.Done content offset
-acted t node (op.Read from count) c o given content offset = read_acted t node from count content offset
-acted t node (op.Write to) (call.Write descriptor bytes) o given content offset = write_acted t node to bytes content offset
-acted t node (op.Pread count position) c o given (File file) offset = replied (reply.Data (bytes_at file position count)) (File file) offset
-acted t node (op.Pwrite start) (call.Pwrite descriptor bytes position) o given (File file) offset =
+-- of a call that moved so many bytes before, with the numbers that were given, and the outcome of
+-- one that goes outside
+abbrev pub acted : TableState → ℕ → Op → Call → ℕ → Option Outcome → NewNumbers → Content → ℕ
+    → Acted
+acted t node (op.Open cut) c before o given content offset =
+    replied (numbers_reply given) (if cut then File [] else content) offset
+acted t node op.Release (call.Dup2 descriptor target) before o given content offset =
+    replied (reply.Number target) content offset
+acted t node op.Release _ before o given content offset = replied reply.Done content offset
+acted t node (op.Read from count) c before o given content offset =
+    read_acted t node from count content offset
+acted t node (op.Write to) (call.Write descriptor bytes) before o given content offset =
+    write_acted t node to bytes before content offset
+acted t node (op.Pread count position) c before o given (File file) offset =
+    replied (reply.Data (bytes_at file position count)) (File file) offset
+acted t node (op.Pwrite start) (call.Pwrite descriptor bytes position) before o given (File file) offset =
     if length bytes == 0 then replied (reply.Count 0) (File file) offset else wrote (written file start bytes) file offset (λ count. offset)
-acted t node (op.Lseek at) (call.Lseek descriptor to whence) o given (File file) offset = sought (offset_of (pos (base_of whence offset (length file)) +ℤ to)) file offset
-acted t node (op.Ftruncate size) c o given (File file) offset = replied reply.Done (File (resized file size)) offset
-acted t node (op.Fstat links) c o given (File file) offset = replied (reply.Stat kind.File (length file) links) (File file) offset
-acted t node op.Pipe c o given content offset = replied (numbers_reply given) (Pipe []) offset
-acted t node op.Socketpair c o given content offset = replied (numbers_reply given) (Pair new_pair) offset
-acted t node (op.Shutdown side how) c o given (Pair p) offset = replied reply.Done (Pair (shut p side how)) offset
-acted t node (op.Ask errand) c o given content offset = record { ending = outside_ending errand given o; content = outside_content errand content o; offset = offset }
-acted t node _ c o given content offset = replied reply.Done content offset
+acted t node (op.Lseek at) (call.Lseek descriptor to whence) before o given (File file) offset =
+    sought (offset_of (pos (base_of whence offset (length file)) +ℤ to)) file offset
+acted t node (op.Ftruncate size) c before o given (File file) offset =
+    replied reply.Done (File (resized file size)) offset
+acted t node (op.Fstat links) c before o given (File file) offset =
+    replied (reply.Stat kind.File (length file) links) (File file) offset
+acted t node op.Pipe c before o given content offset =
+    replied (numbers_reply given) (Pipe []) offset
+acted t node op.Socketpair c before o given content offset =
+    replied (numbers_reply given) (Pair new_pair) offset
+acted t node (op.Shutdown side how) c before o given (Pair p) offset =
+    replied reply.Done (Pair (shut p side how)) offset
+acted t node (op.Ask errand) c before o given content offset =
+    let ending = outside_ending errand given o in
+    record { ending = ending; content = outside_content errand content o; offset = offset }
+acted t node _ c before o given content offset = replied reply.Done content offset
 
 abbrev pub offset_at : State → ℕ → Option ℕ
 offset_at s birth = option_map (λ (d : posix.Description). d.offset) (map.get s.descriptions birth)
@@ -179,10 +235,10 @@ abbrev pub Holds : State → ℕ → Content → Type 0
 Holds s birth content = (other : Content) → map.get s.objects birth ≡ Some other → other ≡ content
 
 -- the answer of a turn that ends so, and what is carried on from it
-abbrev pub ended : Settings → State → Carried → Option Reply → Answer × Carried
-ended settings s carried (Some r) = (answer.Reply r, nothing_carried)
-ended settings s carried None =
-    let stepped = waited settings s nothing_moved carried in (stepped.answer, stepped.carried)
+abbrev pub ended : Settings → State → Carried → ActEnd → Answer × Carried
+ended settings s carried (end.Reply r) = (answer.Reply r, nothing_carried)
+ended settings s carried (end.Waits moved) =
+    let stepped = waited settings s moved carried in (stepped.answer, stepped.carried)
 
 -- the step answers as the act ends, and leaves the content and the offset that the act leaves
 pub record IsActed (t : TableState) (node : ℕ) (act : Op) (done : Acted) (answered : Answer × Carried) (stepped : Stepped) : Type 0 where
@@ -192,13 +248,15 @@ pub record IsActed (t : TableState) (node : ℕ) (act : Op) (done : Acted) (answ
   pub offset_is : StandsAt t stepped.after act done.offset
 
 -- an act on the object of the plan, at the offset of its description, does what the step does
-abbrev pub ActsAsStep : TableState → Call → Plan → Type 0
-ActsAsStep t c (plan.Reply r) = Unit {0}
-ActsAsStep t c (plan.Node node act keep_table) =
+abbrev pub ActsAsStep : TableState → Call → Moved → Plan → Type 0
+ActsAsStep t c so_far (plan.Reply r) = Unit {0}
+ActsAsStep t c so_far (plan.Node node act keep_table) =
     (settings : Settings) (s : State) (outcome : Option Outcome) (carried : Carried) (content : Content) (offset : ℕ)
-    → Shows t s → content_of s (birth_at t node) ≡ content → StandsAt t s act offset
+    → carried.moved ≡ so_far → Shows t s → content_of s (birth_at t node) ≡ content
+    → StandsAt t s act offset
     → let stepped = step settings s c outcome carried in
-    let done : Acted = acted t node act c outcome (numbers_told c stepped.answer) content offset in
+    let done : Acted =
+    acted t node act c so_far.bytes outcome (numbers_told c stepped.answer) content offset in
     IsActed t node act done (ended settings s carried done.ending) stepped
 
 -- ## What stays
@@ -224,5 +282,8 @@ pub record OthersStay (t : TableState) (p : Plan) (s after : State) : Type 0 whe
   pub contents : (birth : ℕ) (content : Content) → IsOther t p birth → map.get after.objects birth ≡ Some content → map.get s.objects birth ≡ Some content
   pub offsets : (birth offset : ℕ) → IsStill t p birth → offset_at after birth ≡ Some offset → (offset_at s birth ≡ Some offset) ⊎ ((s.next_description ≤ birth) × (offset ≡ 0))
 
-abbrev pub StaysAsStep : TableState → Call → Plan → Type 0
-StaysAsStep t c p = (settings : Settings) (s : State) (outcome : Option Outcome) (carried : Carried) → Shows t s → OthersStay t p s (step settings s c outcome carried).after
+abbrev pub StaysAsStep : TableState → Call → Moved → Plan → Type 0
+StaysAsStep t c so_far p =
+    (settings : Settings) (s : State) (outcome : Option Outcome) (carried : Carried)
+    → carried.moved ≡ so_far → Shows t s
+    → OthersStay t p s (step settings s c outcome carried).after

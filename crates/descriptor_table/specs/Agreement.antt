@@ -7,6 +7,7 @@ use Rattle.sequential_object.specs.Locked.{keeps_table, locked_object}
 use Rattle.sequential_object.specs.Object.{State}
 use Rattle.sequential_object.specs.Step.{Carried, asks, step}
 use Rattle.posix_terms.specs.Calls.{Call}
+use Rattle.posix_terms.specs.declared.carried.Moved.{Moved}
 use Rattle.posix_terms.specs.declared.call.Call.TheVariants as call
 use Rattle.posix_terms.specs.declared.outcome.Outcome.{Outcome}
 use Rattle.posix_terms.specs.declared.reply.Answer.{Answer}
@@ -41,9 +42,13 @@ abbrev pub AgreesOn : TableState → Call → Plan → Option ℕ → Option Req
 AgreesOn t c (plan.Reply r) object request answered = (object ≡ None) × ((request ≡ None) × (answered ≡ answer.Reply r))
 AgreesOn t c (plan.Node node act keep_table) object request answered = (object ≡ Some (birth_at t node)) × ((request ≡ request_of c act) × (keep_table ≡ keeps_table c))
 
--- whatever the objects hold and wherever the offsets are
-abbrev pub PlansAsStep : TableState → Call → Plan → Type 0
-PlansAsStep t c p = (settings : Settings) (s : State) (outcome : Option Outcome) (carried : Carried) → Shows t s → AgreesOn t c p (locked_object s c carried) (asks s c carried) (step settings s c outcome carried).answer
+-- whatever the objects hold and wherever the offsets are; of a call that moved so much before
+abbrev pub PlansAsStep : TableState → Call → Moved → Plan → Type 0
+PlansAsStep t c so_far p =
+    (settings : Settings) (s : State) (outcome : Option Outcome) (carried : Carried)
+    → carried.moved ≡ so_far → Shows t s
+    → AgreesOn t c p (locked_object s c carried) (asks s c carried)
+    (step settings s c outcome carried).answer
 
 -- ## Change and step
 

@@ -6,6 +6,7 @@ use Rattle.sequential_object.specs.Descriptors as posix
 use Rattle.sequential_object.specs.Names.{file_named}
 use Rattle.sequential_object.specs.Object.{State, empty_state}
 use Rattle.posix_terms.specs.Calls.{Call}
+use Rattle.posix_terms.specs.declared.carried.Moved.{Moved}
 use Rattle.posix_terms.specs.declared.errno.Errno.TheVariants.{EBADF}
 use Rattle.posix_terms.specs.declared.object.Door.{Door}
 use Rattle.file_descriptions.specs.Descriptions.{AreSound, ContainsKey, with_offset}
@@ -17,14 +18,14 @@ use Rattle.descriptor_table.specs.Plans.{LocksKnown, change_of, planned, read_co
 use Rattle.descriptor_table.specs.Shows.{Shows, same_door, shown}
 use Rattle.descriptor_table.specs.Table.{IsSound, TableState, described, empty_table, is_used, key_at}
 
--- what is planned of a call is what its step does
-pub record FollowsStep (t : TableState) (c : Call) : Type 0 where
-  pub known : LocksKnown t (read_count c) (planned t c)
+-- what is planned of a call that moved so much before is what its step does
+pub record FollowsStep (t : TableState) (c : Call) (so_far : Moved) : Type 0 where
+  pub known : LocksKnown t (read_count c) (planned t c so_far)
   -- and what was looked up for its change is so
   pub can : CanChange t c (change_of t c)
-  pub plans : PlansAsStep t c (planned t c)
-  pub acts : ActsAsStep t c (planned t c)
-  pub stays : StaysAsStep t c (planned t c)
+  pub plans : PlansAsStep t c so_far (planned t c so_far)
+  pub acts : ActsAsStep t c so_far (planned t c so_far)
+  pub stays : StaysAsStep t c so_far (planned t c so_far)
   -- where it changes no table, the table as it is shows the state after it
   pub unchanged : Changes t c None t → ChangesAsStep t c None t
 
@@ -53,7 +54,8 @@ pub record TableFollows : Type 0 where
   -- the first table is sound, and shows the first state
   pub first : IsSound empty_table × Shows empty_table empty_state
   -- what is planned of a call is what its step does
-  pub calls : (t : TableState) (c : Call) → IsSound t → AreSound t.descriptions → FollowsStep t c
+  pub calls : (t : TableState) (c : Call) (so_far : Moved) → IsSound t → AreSound t.descriptions
+      → FollowsStep t c so_far
   -- a descriptor refers to what it refers to in the state that the table shows
   pub found : (t : TableState) (s : State) (descriptor : ℤ) → IsSound t → Shows t s → RefersAlike t s descriptor
   -- the file that a path names is one of the objects in use

@@ -21,7 +21,9 @@ use Rattle.posix_terms.specs.declared.call.Call.TheVariants as call
 use Rattle.posix_terms.specs.declared.call.OpenFlags.{OpenFlags}
 use Rattle.posix_terms.specs.declared.call.ShutdownHow.{ShutdownHow}
 use Rattle.posix_terms.specs.declared.call.Whence.{Whence}
+use Rattle.posix_terms.specs.declared.carried.Moved.{Moved}
 use Rattle.posix_terms.specs.declared.errno.Errno.{Errno}
+use Rattle.sequential_object.specs.Transfers.{is_from}
 use Rattle.posix_terms.specs.declared.errno.Errno.TheVariants.{EBADF, EBUSY, EINVAL, EEXIST, EISDIR, EMFILE, ENFILE, ENOENT, ENOSPC, ENOTSOCK, ESPIPE}
 use Rattle.posix_terms.specs.declared.limits.TheConstants.Limits as limit
 use Rattle.posix_terms.specs.declared.object.Door.TheVariants as door
@@ -177,6 +179,23 @@ write_plan t descriptor count = do
   _ ← refuse_if (not (can_write found.1.access)) EBADF
   _ ← refuse_if (nat_lt limit.COUNT count) EINVAL
   Ok (moves found.1 count (reply.Count 0) (act_or_ask found.1 (op.Write (seen found.0 found.1)) (errand found.1 out.Write count (not found.1.flags.nonblock))))
+
+-- an end of a pipe
+abbrev pub is_pipe : End → Bool
+is_pipe part.Read = true
+is_pipe part.Write = true
+is_pipe e = false
+
+-- a write that moved bytes before goes on at the pipe of its description, or reports them
+abbrev pub resumed_at : Moved → Result (ℕ × Description) Errno → Plan
+resumed_at so_far (Ok found) =
+    if is_from so_far found.1.birth && is_pipe found.1.«end»
+    then locks found.1.node (op.Write (seen found.0 found.1))
+    else plan.Reply (reply.Count so_far.bytes)
+resumed_at so_far (Err e) = plan.Reply (reply.Count so_far.bytes)
+
+abbrev pub resumed_plan : TableState → ℤ → Moved → Plan
+resumed_plan t descriptor so_far = resumed_at so_far (described t descriptor)
 
 unfoldable pub pread_plan : TableState → ℤ → ℤ → ℤ → Result Plan Errno
 pread_plan t descriptor count position = do
@@ -424,8 +443,15 @@ abbrev pub answered : Result Decided Errno → Decided
 answered (Ok d) = d
 answered (Err e) = tells (reply.Fail e) change.Nothing
 
-abbrev pub planned : TableState → Call → Plan
-planned t c = (answered (decided_of t c)).plan
+-- what is decided of a call that moved so much before
+abbrev pub decided_with : TableState → Call → Moved → Decided
+decided_with t (call.Write descriptor bytes) so_far =
+    if so_far.bytes == 0 then answered (decided_of t (call.Write descriptor bytes)) else
+    record { plan = resumed_plan t descriptor so_far; change = change.Nothing }
+decided_with t c so_far = answered (decided_of t c)
+
+abbrev pub planned : TableState → Call → Moved → Plan
+planned t c so_far = (decided_with t c so_far).plan
 
 abbrev pub change_of : TableState → Call → Change
 change_of t c = (answered (decided_of t c)).change

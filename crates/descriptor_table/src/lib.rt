@@ -14,10 +14,10 @@
 //!
 //! ```rust
 //! use descriptor_table::{Decided, NewNumbers, Op, Plan, Table};
-//! use posix_terms::Call;
+//! use posix_terms::{Call, Moved};
 //!
 //! let mut table = Table::new(alloc)?;
-//! let Decided { plan, change } = table.decide(&Call::Pipe);
+//! let Decided { plan, change } = table.decide(&Call::Pipe, Moved::NOTHING);
 //! let wanted = Plan::Node {
 //!     node: 0,
 //!     op: Op::Pipe,

@@ -4,7 +4,22 @@ ghost use Rattle.descriptor_table.specs.Agreement.{PlansAsStep};
 ghost use Rattle.descriptor_table.specs.Table.{is_used};
 ghost use Rattle.sequential_object.specs.Names.{file_named};
 ghost use Rattle.descriptor_table.specs.Changes.{CanChange};
-ghost use Rattle.descriptor_table.specs.Plans.{LocksKnown, addable, answered, opening, open_decided, close_decided, read_count, read_plan, write_plan, pread_plan, pwrite_plan, lseek_plan, ftruncate_plan, fstat_plan, dup_decided, dup_from_decided, dup2_decided, status_number, getfl_plan, setfl_decided, shutdown_plan, stat_by, new_pair, pipe_decided, socketpair_decided, act_or_ask, decided_of, decides, errand, host_open_decided, leads_outside, leaves, not_listener, of_listener, opens_door, replaces, seekable, shut_act, tcp_accept_decided, tcp_connect_decided, tcp_listen_decided, tells, link_decided, loses_name, unlink_decided, rename_decided, mkdir_decided, rmdir_decided, planned, locks, seen, release, open_there, open_new, new_descriptor};
+ghost use Rattle.descriptor_table.specs.Plans.{LocksKnown, addable, answered, opening};
+ghost use Rattle.descriptor_table.specs.Plans.{open_decided, close_decided, read_count, read_plan};
+ghost use Rattle.descriptor_table.specs.Plans.{write_plan, pread_plan, pwrite_plan, lseek_plan};
+ghost use Rattle.descriptor_table.specs.Plans.{ftruncate_plan, fstat_plan, dup_decided};
+ghost use Rattle.descriptor_table.specs.Plans.{dup_from_decided, dup2_decided, status_number};
+ghost use Rattle.descriptor_table.specs.Plans.{getfl_plan, setfl_decided, shutdown_plan, stat_by};
+ghost use Rattle.descriptor_table.specs.Plans.{new_pair, pipe_decided, socketpair_decided};
+ghost use Rattle.descriptor_table.specs.Plans.{act_or_ask, decided_of, decides, errand};
+ghost use Rattle.descriptor_table.specs.Plans.{host_open_decided, leads_outside, leaves};
+ghost use Rattle.descriptor_table.specs.Plans.{not_listener, of_listener, opens_door, replaces};
+ghost use Rattle.descriptor_table.specs.Plans.{seekable, shut_act, tcp_accept_decided};
+ghost use Rattle.descriptor_table.specs.Plans.{tcp_connect_decided, tcp_listen_decided, tells};
+ghost use Rattle.descriptor_table.specs.Plans.{link_decided, loses_name, unlink_decided};
+ghost use Rattle.descriptor_table.specs.Plans.{rename_decided, mkdir_decided, rmdir_decided};
+ghost use Rattle.descriptor_table.specs.Plans.{planned, locks, seen, release, open_there, open_new};
+ghost use Rattle.descriptor_table.specs.Plans.{new_descriptor, decided_with, is_pipe, resumed_plan};
 ghost use Rattle.directories.specs.Entries.{node_of};
 ghost use Rattle.std.specs.Prelude.{not};
 ghost use Rattle.posix_terms.specs.Ends.{is_end};
@@ -17,12 +32,14 @@ use crate::table::Table;
 use directories::Node;
 use file_descriptions::{Description, StatusFlags, changes_keep_sound};
 use posix_terms::{
-    Access, Call, Door, End, Errno, Limits, ObjectKind, OpenFlags, OutKind, Reply, ShutdownHow,
-    Whence,
+    Access, Call, Door, End, Errno, Limits, Moved, ObjectKind, OpenFlags, OutKind, Reply,
+    ShutdownHow, Whence,
 };
 
 impl Table {
-    /// What the table makes of a call: its reply, exactly where the call takes no object's lock. Otherwise
+    /// What the table makes of a call that moved so much before: its reply, exactly where the call takes
+    /// no object's lock. So it is for a write that moved bytes, where its descriptor is closed or names
+    /// another description than the one by which the first byte went (docs/profile.md). Otherwise
     /// the object, and what the call does there with the description, its end, its flags and the number of
     /// names as they are now. That object is there, or it is the one that the call makes, and a description
     /// whose offset the call reads or moves is there, and so is an object whose door is taken along; and no
@@ -31,29 +48,42 @@ impl Table {
     /// of which the table shows all but contents and offsets (`step`). What the call does with the object's
     /// content and the offset, and whether it has to wait, is what the step does (`acts`), and the step leaves
     /// other objects and other offsets as they are (`others`).
-    pub fn plan(&self, call: &Call) -> Plan
-        ensures plan { result ≡ planned self.now call.now }
+    pub fn plan(&self, call: &Call, so_far: Moved) -> Plan
+        ensures plan { result ≡ planned self.now call.now so_far }
         ensures object { LocksKnown self.now (read_count call.now) result }
-        ensures step { PlansAsStep self.now call.now result }
-        ensures acts { ActsAsStep self.now call.now result }
-        ensures others { StaysAsStep self.now call.now result }
+        ensures step { PlansAsStep self.now call.now so_far result }
+        ensures acts { ActsAsStep self.now call.now so_far result }
+        ensures others { StaysAsStep self.now call.now so_far result }
     {
-        self.decide(call).plan
+        self.decide(call, so_far).plan
     }
 
     /// The plan of a call, as `plan` tells it, and with it what the call changes in the table: all that this needs
     /// is looked up here (`can`), so that `carry_out` looks nothing up again.
     #[tactic(auto, using(crate::proofs::KnownLemmas::known))]
-    pub fn decide(&self, call: &Call) -> Decided
-        ensures decided { result ≡ answered (decided_of self.now call.now) }
+    pub fn decide(&self, call: &Call, so_far: Moved) -> Decided
+        ensures decided { result ≡ decided_with self.now call.now so_far }
         ensures can { CanChange self.now call.now result.change }
         ensures object { LocksKnown self.now (read_count call.now) result.plan }
-        ensures step { PlansAsStep self.now call.now result.plan }
-        ensures acts { ActsAsStep self.now call.now result.plan }
-        ensures others { StaysAsStep self.now call.now result.plan }
+        ensures step { PlansAsStep self.now call.now so_far result.plan }
+        ensures acts { ActsAsStep self.now call.now so_far result.plan }
+        ensures others { StaysAsStep self.now call.now so_far result.plan }
     {
         self.known();
         changes_keep_sound();
+        match call {
+            Call::Write { descriptor, .. } if so_far.bytes > 0 => Decided {
+                plan: self.plan_resumed(*descriptor, so_far),
+                change: Change::Nothing,
+            },
+            _ => self.decide_anew(call),
+        }
+    }
+
+    // What is decided of a call that moved nothing before.
+    fn decide_anew(&self, call: &Call) -> Decided
+        ensures { result ≡ answered (decided_of self.now call.now) }
+    {
         match self.decide_call(call) {
             Ok(decided) => decided,
             Err(error) => Decided {
@@ -233,6 +263,24 @@ impl Table {
         let ask = errand(&description, OutKind::Write, count as u64, waits);
         let op = act_or_ask(&description, Op::Write { to }, ask);
         Ok(locks(description.node, op))
+    }
+
+    // A write that moved bytes before goes on at the pipe of its description, or reports them.
+    fn plan_resumed(&self, descriptor: i64, so_far: Moved) -> Plan
+        ensures { result ≡ resumed_plan self.now descriptor so_far }
+    {
+        match self.described(descriptor) {
+            Ok((key, description))
+                if so_far.from == Some(description.birth) && is_pipe(description.end) => {
+                locks(
+                    description.node,
+                    Op::Write {
+                        to: seen(key, &description),
+                    },
+                )
+            }
+            _ => Plan::Reply(Reply::Count(so_far.bytes)),
+        }
     }
 
     #[tactic(auto, unfolding(crate::specs::Plans::pread_plan))]
@@ -752,6 +800,13 @@ fn release(description: &Description, reply: Reply) -> Plan
         return locks(description.node, act_or_ask(description, Op::Release, ask));
     }
     Plan::Reply(reply)
+}
+
+// Whether this is an end of a pipe.
+fn is_pipe(end: End) -> bool
+    ensures { result ≡ is_pipe end }
+{
+    matches!(end, End::Read | End::Write)
 }
 
 // An access and flags as one number.

@@ -4,7 +4,7 @@ ghost use Rattle.directories.specs.Entries.{node_of};
 ghost use Rattle.directories.specs.Lookup.{moved_name};
 ghost use Rattle.sequential_object.specs.Paths.{components_of};
 ghost use Rattle.file_descriptions.specs.Descriptions.{AreSound, ContainsKey, description_at, is_last_held, with_flags, with_offset, ends_of};
-ghost use Rattle.descriptor_table.specs.Shows.{Shows};
+ghost use Rattle.descriptor_table.specs.Shows.{Shows, birth_of};
 ghost use Rattle.sequential_object.specs.Object.{State, FileNode, empty_state};
 ghost use Rattle.descriptor_table.specs.Changes.{CanMove, IsFreeNumber, IsFreePath, IsNextObject, NamesUsed, Refers, let_go, opened, shared, with_file, with_object, with_paths, without_gone};
 ghost use Rattle.descriptor_table.specs.Table.{IsSound, empty_table, key_at, described, lowest_free, free_object, is_closed, is_gone, is_used, two_numbers};
@@ -78,6 +78,14 @@ impl Table {
         ensures { result ≡ (description_at self.now.descriptions key).offset }
     {
         self.descriptions.offset(key)
+    }
+
+    /// The birth of a description: how many were made before it.
+    pub fn birth(&self, key: usize) -> u128
+        requires { ContainsKey self.now.descriptions key }
+        ensures { result ≡ birth_of self.now key }
+    {
+        self.descriptions.birth(key)
     }
 
     /// Sets the offset of a description. What the table shows is no matter of offsets (`shows`).

@@ -19,7 +19,7 @@ use Rattle.sequential_object.specs.Names.{link_result, unlink_result, rename_res
 use Rattle.sequential_object.specs.Object.{State}
 use Rattle.sequential_object.specs.Status.{fstat_result, getfl_result, setfl_result}
 use Rattle.sequential_object.specs.Sockets.{pipe_result, socketpair_result, shutdown_result}
-use Rattle.sequential_object.specs.Transfers.{read_result, write_result, pread_result, pwrite_result, lseek_result, ftruncate_result}
+use Rattle.sequential_object.specs.Transfers.{first_write, read_result, write_result, pread_result, pwrite_result, lseek_result, ftruncate_result}
 use Rattle.posix_terms.specs.declared.call.Access.{Access}
 use Rattle.posix_terms.specs.Calls.{Call}
 use Rattle.posix_terms.specs.declared.call.Call.TheVariants as call
@@ -67,7 +67,7 @@ unfolding read_result
 suits-read s carried descriptor count = grind (arith, nat_tests)
 
 suits-write : (s : State) (carried : Carried) (descriptor : ℤ) (bytes : List ℕ) → Suits (call.Write descriptor bytes) (asks s (call.Write descriptor bytes) carried)
-unfolding write_result
+unfolding write_result first_write
 suits-write s carried descriptor bytes = grind (arith, nat_tests)
 
 suits-pread : (s : State) (carried : Carried) (descriptor count position : ℤ) → Suits (call.Pread descriptor count position) (asks s (call.Pread descriptor count position) carried)

@@ -7,6 +7,7 @@ use Rattle.std.proofs.Math.Seq.{get_or-append_seam}
 use Rattle.std.specs.Option.{option_map}
 use Rattle.std.specs.Prelude.{slice_get}
 use Rattle.posix_terms.specs.Calls.{Call}
+use Rattle.posix_terms.specs.declared.carried.Moved.{Moved}
 use Rattle.posix_terms.specs.declared.transcript.HistoryRow.{HistoryRow}
 use Rattle.posix_terms.specs.declared.transcript.Turn.{Turn}
 use Rattle.det_mutex.specs.declared.lock.DetLock.{DetLock}
@@ -42,25 +43,25 @@ wanted_kept phase.Working rows later calls = refl
 wanted_kept (phase.WantsTable call carried) rows later calls = refl
 wanted_kept (phase.WantsObject call carried clock object) rows later calls = refl
 wanted_kept (phase.Granted place object e) rows later calls = refl
-wanted_kept (phase.ToOutside o) rows later calls = ap (kept_call o.keeps_table) (calls o.row)
-wanted_kept (phase.Outside o) rows later calls = ap (kept_call o.keeps_table) (calls o.row)
-wanted_kept (phase.Recorded o) rows later calls = ap (kept_call o.keeps_table) (calls o.row)
+wanted_kept (phase.ToOutside o) rows later calls = ap (λ (c : Option Call). kept_call o.keeps_table c o.carried.moved) (calls o.row)
+wanted_kept (phase.Outside o) rows later calls = ap (λ (c : Option Call). kept_call o.keeps_table c o.carried.moved) (calls o.row)
+wanted_kept (phase.Recorded o) rows later calls = ap (λ (c : Option Call). kept_call o.keeps_table c o.carried.moved) (calls o.row)
 wanted_kept (phase.Blocked carried) rows later calls = refl
 wanted_kept phase.Ended rows later calls = refl
 
 -- ## What was decided
 
-pub waits_decided : (h : Stored) (x : Locking) (call : Call) → IsWanted h call (Some x) → IsDecided h call x
-waits_decided h x call is = sym (same_Some _ _ is)
+pub waits_decided : (h : Stored) (x : Locking) (call : Call) (so_far : Moved) → IsWanted h (call, so_far) (Some x) → IsDecided h call so_far x
+waits_decided h x call so_far is = sym (same_Some _ _ is)
 
-pub decided_waits : (h : Stored) (x : Locking) (call : Call) → IsDecided h call x → IsWanted h call (Some x)
-decided_waits h x call is = ap (λ d. Some d) (sym is)
+pub decided_waits : (h : Stored) (x : Locking) (call : Call) (so_far : Moved) → IsDecided h call so_far x → IsWanted h (call, so_far) (Some x)
+decided_waits h x call so_far is = ap (λ d. Some d) (sym is)
 
-pub wanted_some : {A : Type 0} (h : Stored) (call : Call) → IsWanted h call None → A
-wanted_some h call is = absurd (none-some _ is)
+pub wanted_some : {A : Type 0} (h : Stored) (call : Call) (so_far : Moved) → IsWanted h (call, so_far) None → A
+wanted_some h call so_far is = absurd (none-some _ is)
 
 -- a call that was granted, and keeps the table where it goes outside
-pub started_waits : (rows : List HistoryRow) (turn : Turn) (call : Call) (carried : Carried) (object : Option ℕ) (x : TurnStart) (h new : Stored) (l : Locking) → IsDecided h call l → KeepsStore (keeps_table call) x h new
+pub started_waits : (rows : List HistoryRow) (turn : Turn) (call : Call) (carried : Carried) (object : Option ℕ) (x : TurnStart) (h new : Stored) (l : Locking) → IsDecided h call carried.moved l → KeepsStore (keeps_table call) x h new
     → HasDecided (phase_started (length rows) object call carried x) (rows ++ granted_row turn call ∷ []) new (Some l)
 started_waits rows turn call carried object (start.Ended e) h new l decided kept other is = absurd (none-some other is)
 started_waits rows turn call carried object (start.GoesOut errand) h new l decided kept other is = by_keep (keeps_table call) kept is
@@ -71,11 +72,12 @@ started_waits rows turn call carried object (start.GoesOut errand) h new l decid
         (slice_get-get_or (rows ++ granted_row turn call ∷ []) (length rows) (granted_row turn call) (omega (arith, length-append rows (granted_row turn call ∷ [])))
         ∙ ap (λ (r : HistoryRow). Some r) (get_or-append_seam rows (granted_row turn call) [] (granted_row turn call)))
 
-    by_keep : (b : Bool) → KeepsStore b (start.GoesOut errand) h new → kept_call b (call_at (rows ++ granted_row turn call ∷ []) (length rows)) ≡ Some other → IsWanted new other (Some l)
+    by_keep : (b : Bool) → KeepsStore b (start.GoesOut errand) h new → kept_call b (call_at (rows ++ granted_row turn call ∷ []) (length rows)) carried.moved ≡ Some other → IsWanted new other (Some l)
     by_keep false kept is = absurd (none-some other is)
     by_keep true kept is =
-        let same : call ≡ other = same_Some call other (sym own ∙ is) in
-        subst (λ (c : Call). IsWanted new c (Some l)) same (subst (λ (s : Stored). IsWanted s call (Some l)) (sym kept) (decided_waits h l call decided))
+        let same : (call, carried.moved) ≡ other = same_Some (call, carried.moved) other (sym (ap (option_map (λ (c : Call). (c, carried.moved))) own) ∙ is) in
+        subst (λ (c : Call × Moved). IsWanted new c (Some l)) same
+        (subst (λ (s : Stored). IsWanted s (call, carried.moved) (Some l)) (sym kept) (decided_waits h l call carried.moved decided))
 
 -- ## All threads
 

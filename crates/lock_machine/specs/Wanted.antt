@@ -5,7 +5,8 @@ use Rattle.std.specs.Option.{option_map}
 use Rattle.posix_terms.specs.Calls.{Call}
 use Rattle.posix_terms.specs.declared.transcript.HistoryRow.{HistoryRow}
 use Rattle.det_mutex.specs.declared.lock.DetLock.{DetLock}
-use Rattle.descriptor_table.specs.Plans.{answered, decided_of}
+use Rattle.posix_terms.specs.declared.carried.Moved.{Moved}
+use Rattle.descriptor_table.specs.Plans.{decided_with}
 use Rattle.object_store.specs.Store.{Stored, locking_of}
 use Rattle.object_store.specs.declared.patience.Locking.{Locking}
 use Rattle.lock_machine.specs.declared.thread.Phase.{Phase}
@@ -18,21 +19,23 @@ use Rattle.lock_machine.specs.declared.thread.Thread.{Thread}
 abbrev pub call_at : List HistoryRow → ℕ → Option Call
 call_at rows n = option_map (λ (r : HistoryRow). r.call) (slice_get rows n)
 
-abbrev pub kept_call : Bool → Option Call → Option Call
-kept_call true call = call
-kept_call false call = None
+-- with what it moved before
+abbrev pub kept_call : Bool → Option Call → Moved → Option (Call × Moved)
+kept_call true call so_far = option_map (λ c. (c, so_far)) call
+kept_call false call so_far = None
 
 -- one that wants an object, or is outside and keeps the table
-abbrev pub wanted_call : Phase → List HistoryRow → Option Call
-wanted_call (phase.WantsObject call carried clock object) rows = Some call
-wanted_call (phase.ToOutside o) rows = kept_call o.keeps_table (call_at rows o.row)
-wanted_call (phase.Outside o) rows = kept_call o.keeps_table (call_at rows o.row)
-wanted_call (phase.Recorded o) rows = kept_call o.keeps_table (call_at rows o.row)
+abbrev pub wanted_call : Phase → List HistoryRow → Option (Call × Moved)
+wanted_call (phase.WantsObject call carried clock object) rows = Some (call, carried.moved)
+wanted_call (phase.ToOutside o) rows = kept_call o.keeps_table (call_at rows o.row) o.carried.moved
+wanted_call (phase.Outside o) rows = kept_call o.keeps_table (call_at rows o.row) o.carried.moved
+wanted_call (phase.Recorded o) rows = kept_call o.keeps_table (call_at rows o.row) o.carried.moved
 wanted_call p rows = None
 
 -- a call that it has now it had before
 abbrev pub BringsNoCall : Phase → List HistoryRow → Phase → List HistoryRow → Type 0
-BringsNoCall p rows q later = (call : Call) → wanted_call q later ≡ Some call → wanted_call p rows ≡ Some call
+BringsNoCall p rows q later =
+    (call : Call × Moved) → wanted_call q later ≡ Some call → wanted_call p rows ≡ Some call
 
 -- each row has the call that it had
 abbrev pub KeepsCalls : List HistoryRow → List HistoryRow → Type 0
@@ -41,12 +44,14 @@ KeepsCalls rows later = (n : ℕ) → call_at later n ≡ call_at rows n
 -- ## What was decided of it
 
 -- this is there, and is what the table decides of the call
-abbrev pub IsWanted : Stored → Call → Option Locking → Type 0
-IsWanted h call wanted = option_map (λ x. Some x) wanted ≡ Some (locking_of (answered (decided_of h.table call)))
+abbrev pub IsWanted : Stored → Call × Moved → Option Locking → Type 0
+IsWanted h (call, so_far) wanted =
+    option_map (λ x. Some x) wanted ≡ Some (locking_of (decided_with h.table call so_far))
 
 -- of the call that a thread holds the table for
 abbrev pub HasDecided : Phase → List HistoryRow → Stored → Option Locking → Type 0
-HasDecided p rows h wanted = (call : Call) → wanted_call p rows ≡ Some call → IsWanted h call wanted
+HasDecided p rows h wanted =
+    (call : Call × Moved) → wanted_call p rows ≡ Some call → IsWanted h call wanted
 
 -- of that of thread k, where it holds the table
 abbrev pub HasDecidedAt : ℕ → Phase → DetLock → List HistoryRow → Stored → Option Locking → Type 0

@@ -303,7 +303,7 @@ fn grant(
     requires born { BornWithin (2 ^ 126) shared.old.store }
     requires row { HasRoom 1 shared.old.rows }
     requires room { HasSpaceFor call thread.old.room }
-    requires decided { IsDecided shared.old.store call locking }
+    requires decided { IsDecided shared.old.store call carried.moved locking }
     requires wanted { shared.old.wanted ≡ Some locking }
     ensures event { (clock : ℕ) → Grants patience turn call carried (Some object) (parts (timed thread.old clock) shared.old.lock shared.old.store shared.old.rows.items) (parts (timed thread.new clock) shared.new.lock shared.new.store shared.new.rows.items) }
     ensures live { is_live thread.old.phase ≡ true → is_live thread.new.phase ≡ true }

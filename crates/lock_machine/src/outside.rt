@@ -199,7 +199,8 @@ fn end_turn(
     requires born { BornWithin (2 ^ 126) store.old }
     requires asked { bytes_asked outing.errand ≤ room.old.told }
     requires copy { room.old.told ≤ room.old.row }
-    requires decided { outing.keeps_table ≡ true → IsWanted store.old call.now wanted }
+    requires decided { outing.keeps_table ≡ true
+        → IsWanted store.old (call.now, outing.carried.moved) wanted }
     ensures event { EndsTurn outing.keeps_table patience outing call.now outcome.now result store.old store.new }
     ensures copy { turn_bytes result ≤ room.new.row }
     ensures births { BearsInTime 0 store.old 1 store.new }

@@ -18,11 +18,12 @@ use Rattle.sequential_object.specs.Descriptors.{close_result, described, ended_o
 use Rattle.sequential_object.specs.Doors.{NewDoor, host_open_result, host_path, listener_in, opens, port_of, tcp_accept_result, tcp_connect_result, tcp_listen_result}
 use Rattle.sequential_object.specs.Effects.{Decision, Asking, Asks, Completes, Effect, asks_of, alone, does_of, locking, locks_of}
 use Rattle.sequential_object.specs.Locked.{keeps_table, locked_object}
-use Rattle.sequential_object.specs.Object.{Content, Description, Directory, DoorTo, File, FileNode, Node, Pair, Pipe, State, any_below, content_of, path_cmp, with_object}
+use Rattle.sequential_object.specs.Object.{Content, Description, Directory, DoorTo, File, FileNode, Node, Pair, Pipe, State, any_below, content_of, is_door, path_cmp, with_object}
 use Rattle.posix_terms.specs.Calls.{can_write}
 use Rattle.sequential_object.specs.Refusals.{◌>>=◌, count_of, refuse_if, some_or}
 use Rattle.sequential_object.specs.Sockets.{shuttable, shutdown_result}
-use Rattle.sequential_object.specs.Transfers.{lseek_result, moving, not_listener, read_content, read_result, readable, seekable, writable, write_content, write_result}
+use Rattle.posix_terms.specs.declared.carried.Moved.{Moved}
+use Rattle.sequential_object.specs.Transfers.{first_write, is_from, write_goes_on, write_resumed, lseek_result, moving, not_listener, read_content, read_result, readable, seekable, writable, write_content, write_result}
 use Rattle.sequential_object.specs.Step.{Carried, Stepped, asks, concluded, held_up, is_again, nothing_carried, nothing_moved, request_of, step}
 use Rattle.posix_terms.specs.declared.call.Access.TheVariants.{ReadWrite}
 use Rattle.posix_terms.specs.declared.call.ShutdownHow.{ShutdownHow}
@@ -240,15 +241,39 @@ read_no_listener s descriptor count carried k port taken at =
     let own : d.object ≡ k = read_is s one.0.0 d two.0 k (content_of s d.object) (ap (λ (x : Decision). x.locks) (same_ok decided it.0 two.1.1) ∙ it.1.1) in
     refused_at s d.object k port not_listener refl (readable_described s descriptor one.0 one.1.0).1 own at
 
-pub write_no_listener : {A : Type 0} (s : State) (descriptor : ℤ) (bytes : List ℕ) (carried : Carried) (k port : ℕ) → locked_object s (call.Write descriptor bytes) carried ≡ Some k → fin.get s.objects k ≡ Some (DoorTo (door.Listener port)) → A
-unfolding locked_object write_result
-write_no_listener s descriptor bytes carried k port taken at =
-    let it = locks_as (write_result s descriptor bytes) k taken in
+first_no_listener : {A : Type 0} (s : State) (descriptor : ℤ) (bytes : List ℕ) (k port : ℕ) → locks_of (first_write s descriptor bytes) ≡ Some k → fin.get s.objects k ≡ Some (DoorTo (door.Listener port)) → A
+unfolding first_write
+first_no_listener s descriptor bytes k port taken at =
+    let it = locks_as (first_write s descriptor bytes) k taken in
     let one = gave (writable s descriptor bytes) _ it.0 it.1.0 in
     let d = one.0.1 in
     let decided = write_content s one.0.0 d bytes (content_of s d.object) in
     let own : d.object ≡ k = written_is s one.0.0 d bytes k (content_of s d.object) (ap (λ (x : Decision). x.locks) (same_ok decided it.0 one.1.1) ∙ it.1.1) in
     refused_at s d.object k port not_listener refl (writable_described s descriptor bytes one.0 one.1.0).1 own at
+
+-- a write that goes on has a pipe
+resumed_no_listener : {A : Type 0} (s : State) (bytes : List ℕ) (moved : Moved) (r : Result (ℕ × Description) Errno) (k port : ℕ) → locks_of (Ok (write_resumed s bytes moved r)) ≡ Some k → fin.get s.objects k ≡ Some (DoorTo (door.Listener port)) → A
+resumed_no_listener s bytes moved (Err e) k port taken at = absurd (none-some k taken)
+resumed_no_listener {A} s bytes moved (Ok (key, d)) k port taken at = by_key (is_from moved key) taken
+  where
+    by_content : (c : Content) → content_of s d.object ≡ c → (let x = write_goes_on s key d bytes moved c in x.locks) ≡ Some k → A
+    by_content (Pipe waiting) is taken =
+        absurd (false≢true (ap (λ (c : Content). is_door c) (sym is ∙ ap (content_of s) (same_Some d.object k taken) ∙ content_at s k (DoorTo (door.Listener port)) at)))
+    by_content (File file) is taken = absurd (none-some k taken)
+    by_content (Pair p) is taken = absurd (none-some k taken)
+    by_content (DoorTo x) is taken = absurd (none-some k taken)
+
+    by_key : (b : Bool) → locks_of (Ok (if b then write_goes_on s key d bytes moved (content_of s d.object) else alone s (reply.Count moved.bytes))) ≡ Some k → A
+    by_key true taken = by_content (content_of s d.object) refl taken
+    by_key false taken = absurd (none-some k taken)
+
+pub write_no_listener : {A : Type 0} (s : State) (descriptor : ℤ) (bytes : List ℕ) (carried : Carried) (k port : ℕ) → locked_object s (call.Write descriptor bytes) carried ≡ Some k → fin.get s.objects k ≡ Some (DoorTo (door.Listener port)) → A
+unfolding locked_object write_result
+write_no_listener {A} s descriptor bytes carried k port taken at = by_moved (carried.moved.bytes == 0) taken
+  where
+    by_moved : (b : Bool) → locks_of (if b then first_write s descriptor bytes else Ok (write_resumed s bytes carried.moved (described s descriptor))) ≡ Some k → A
+    by_moved true taken = first_no_listener s descriptor bytes k port taken at
+    by_moved false taken = resumed_no_listener s bytes carried.moved (described s descriptor) k port taken at
 
 pub lseek_no_listener : {A : Type 0} (s : State) (descriptor offset : ℤ) (from : Whence) (carried : Carried) (k port : ℕ) → locked_object s (call.Lseek descriptor offset from) carried ≡ Some k → fin.get s.objects k ≡ Some (DoorTo (door.Listener port)) → A
 unfolding locked_object lseek_result

@@ -23,6 +23,8 @@ use Rattle.sequential_object.specs.Sockets.{NewEnd, pipe_result, shut_content, s
 use Rattle.sequential_object.specs.Status.{fstat_result, getfl_result, setfl_result, stat_content}
 use Rattle.sequential_object.specs.Step.{Carried, concluded, effect_of, step, held_up}
 use Rattle.sequential_object.specs.Streams.{Breaks, Ends, NoRoom, NothingYet, Reading, Reads, Writes, Writing, new_pair}
+use Rattle.posix_terms.specs.declared.carried.Moved.{Moved}
+use Rattle.sequential_object.specs.Transfers.{first_write, is_from, pauses, pipe_turn, pipe_written, write_goes_on, write_resumed}
 use Rattle.sequential_object.specs.Transfers.{base_of, file_in, ftruncate_result, lseek_result, not_listener, offset_of, pread_result, pwrite_result, read_content, read_done, read_result, readable, seek_content, size_of, start_of, writable, write_content, write_done, write_result, seekable}
 use Rattle.posix_terms.specs.declared.call.Access.{Access}
 use Rattle.posix_terms.specs.Calls.{Call}
@@ -297,16 +299,48 @@ by_writing s d n content (Writes left) plain = record { it = adds_content s s d.
 by_writing s d n content Breaks plain = record { it = tt }
 by_writing s d n content NoRoom plain = either s d.nonblock _ _ (record { it = tt }) (record { it = adds_none s })
 
+by_pause : (s after : State) (key : ℕ) (d : Description) (total : ℕ) → AddsNone s after → AddsBy s (pauses after key d total)
+by_pause s after key d total h = either s d.nonblock _ _ (record { it = h }) (record { it = h })
+
+by_pipe_written : (s : State) (key : ℕ) (d : Description) (all before now : ℕ) (writing : Writing) → AddsBy s (pipe_written s key d all before now writing)
+by_pipe_written s key d all before now (Writes left) =
+    let after : AddsNone s (with_content s d.object (Pipe left)) = adds_content s s d.object (Pipe left) refl (adds_none s) in
+    either s (nat_le all (before + now)) _ _ (record { it = after }) (by_pause s (with_content s d.object (Pipe left)) key d (before + now) after)
+by_pipe_written s key d all before now Breaks = either s (before == 0) _ _ (record { it = tt }) (record { it = adds_none s })
+by_pipe_written s key d all before now NoRoom =
+    either s (before == 0) _ _ (either s d.nonblock _ _ (record { it = tt }) (record { it = adds_none s })) (by_pause s s key d before (adds_none s))
+
+by_turn : (s : State) (key : ℕ) (d : Description) (bytes : List ℕ) (before : ℕ) (waiting : List ℕ) → AddsBy s (pipe_turn s key d bytes before waiting)
+by_turn s key d bytes before waiting = by_pipe_written s key d (length bytes) before _ _
+
 by_write_content : (s : State) (key : ℕ) (d : Description) (bytes : List ℕ) (c : Content) → fin.get s.descriptions key ≡ Some d → AddsBy s (does_of (Ok (write_content s key d bytes c)))
 by_write_content s key d bytes (File file) there = either s (length bytes == 0) _ _ (record { it = adds_none s }) (chain s (written file (start_of d file) bytes) _ (λ w _. record { it = adds_content s _ d.object (File w.0) refl (adds_own s key d _ there refl) }))
-by_write_content s key d bytes (Pipe waiting) there = either_decision s (length bytes == 0) _ _ (record { it = adds_none s }) (by_writing s d _ Pipe _ (λ left. refl))
+by_write_content s key d bytes (Pipe waiting) there = either_decision s (length bytes == 0) _ _ (record { it = adds_none s }) (by_turn s key d bytes 0 waiting)
 by_write_content s key d bytes (Pair p) there = either_decision s (length bytes == 0) _ _ (record { it = adds_none s }) (by_writing s d _ _ _ (λ left. refl))
 by_write_content s key d bytes (DoorTo x) there = either_decision s (length bytes == 0) _ _ (record { it = adds_none s }) (record { it = adds_none s })
 
-by_write : (s : State) (descriptor : ℤ) (bytes : List ℕ) → AddsBy s (does_of (write_result s descriptor bytes))
-unfolding write_result
-by_write s descriptor bytes =
+by_first : (s : State) (descriptor : ℤ) (bytes : List ℕ) → AddsBy s (does_of (first_write s descriptor bytes))
+unfolding first_write
+by_first s descriptor bytes =
     decides s (writable s descriptor bytes) _ (λ found is. by_write_content s found.0 found.1 bytes (content_of s (let d = found.1 in d.object)) (is_described s descriptor found (writable_described s descriptor bytes found is).0))
+
+by_resumed : (s : State) (bytes : List ℕ) (moved : Moved) (r : Result (ℕ × Description) Errno) → AddsBy s (does_of (Ok (write_resumed s bytes moved r)))
+by_resumed s bytes moved (Err e) = record { it = adds_none s }
+by_resumed s bytes moved (Ok (key, d)) = either_decision s (is_from moved key) _ _ (by_content (content_of s d.object)) (record { it = adds_none s })
+  where
+    by_content : (c : Content) → AddsBy s (does_of (Ok (write_goes_on s key d bytes moved c)))
+    by_content (Pipe waiting) = by_turn s key d bytes moved.bytes waiting
+    by_content (File file) = record { it = adds_none s }
+    by_content (Pair p) = record { it = adds_none s }
+    by_content (DoorTo x) = record { it = adds_none s }
+
+by_write : (s : State) (descriptor : ℤ) (bytes : List ℕ) (moved : Moved) → AddsBy s (does_of (write_result s descriptor bytes moved))
+unfolding write_result
+by_write s descriptor bytes moved = by_moved (moved.bytes == 0)
+  where
+    by_moved : (b : Bool) → AddsBy s (does_of (if b then first_write s descriptor bytes else Ok (write_resumed s bytes moved (described s descriptor))))
+    by_moved true = by_first s descriptor bytes
+    by_moved false = by_resumed s bytes moved (described s descriptor)
 
 by_pread : (s : State) (descriptor count position : ℤ) → AddsBy s (does_of (pread_result s descriptor count position))
 unfolding pread_result
@@ -448,7 +482,7 @@ by_call : (s : State) (c : Call) (carried : Carried) → IsPlain s → AddsBy s 
 by_call s (call.Open path access flags) carried h = by_open s path access flags h
 by_call s (call.Close descriptor) carried h = by_close s descriptor
 by_call s (call.Read descriptor count) carried h = by_read s descriptor count
-by_call s (call.Write descriptor bytes) carried h = by_write s descriptor bytes
+by_call s (call.Write descriptor bytes) carried h = by_write s descriptor bytes carried.moved
 by_call s (call.Pread descriptor count position) carried h = by_pread s descriptor count position
 by_call s (call.Pwrite descriptor bytes position) carried h = by_pwrite s descriptor bytes position
 by_call s (call.Lseek descriptor offset from) carried h = by_lseek s descriptor offset from

@@ -11,6 +11,9 @@ use Rattle.sequential_object.specs.Effects.{Effect, Asks, Blocks, Completes}
 use Rattle.sequential_object.specs.Object.{State, Content, DoorTo, File, Pair, Pipe, content_of}
 use Rattle.sequential_object.specs.Step.{Carried, Moved, Stepped, asks, concluded, effect_of, failed, is_again, nothing_carried, step, waited, held_up, nothing_moved}
 use Rattle.posix_terms.specs.Calls.{Call}
+use Rattle.sequential_object.specs.declared.turn_end.ActEnd.{ActEnd}
+use Rattle.sequential_object.specs.declared.turn_end.ActEnd.TheVariants as act_end
+use Rattle.posix_terms.specs.declared.carried.Moved.{Moved}
 use Rattle.posix_terms.specs.declared.errno.Errno.{Errno}
 use Rattle.posix_terms.specs.declared.object.Door.{Door}
 use Rattle.posix_terms.specs.declared.object.End.{End}
@@ -38,32 +41,33 @@ use Rattle.descriptor_table.specs.declared.plan.Plan.TheVariants as plan
 use Rattle.sequential_object.specs.Worlds.{World}
 use Rattle.object_store.specs.Acting.{held_by, offset_of_key}
 use Rattle.object_store.specs.Bodies.{Kept, first_kept, kept_as, keeping}
-use Rattle.object_store.specs.Store.{EndsTurn, IsPlanned, Replies, RepliesAlways, Stands, Stored, TableMade, kept_at}
+use Rattle.object_store.specs.Store.{EndsTurn, IsPlanned, IsPlannedWith, Replies, RepliesAlways, Stands, Stored, TableMade, kept_at}
 use Rattle.object_store.proofs.Found.{birth_is, known_at}
 use Rattle.object_store.proofs.Numbering.{lowest_is_free}
-use Rattle.object_store.proofs.Shapes.{Finds, IsMaking, finds, planned_fits, suits}
+use Rattle.object_store.proofs.Shapes.{Finds, HasAct, IsMaking, finds, planned_fits, suits}
+use Rattle.object_store.proofs.Shapes.HasAct.{WritesOut, WritesTo}
 use Rattle.object_store.proofs.Stepping.{Leaves, Rewrites, moved_stands, reply_stands, rested_stands, still_stands}
 
 -- what the table promises of a call that it made
-pub made_leaves : (law : TableFollows) (h : Stored) (w : World) (c : Call) (o : Option Outcome) (u : TableState) (settings : Settings) (carried : Carried) → Stands h w → TableMade h c o u → Leaves h.table u (planned h.table c) w.object (step settings w.object c o carried).after
+pub made_leaves : (law : TableFollows) (h : Stored) (w : World) (c : Call) (o : Option Outcome) (u : TableState) (settings : Settings) (carried : Carried) → Stands h w → TableMade h c o u → Leaves h.table u (planned h.table c carried.moved) w.object (step settings w.object c o carried).after
 made_leaves law h w c o u settings carried st made =
     record {
       sound = made.sound;
       described = made.described;
       shows = made.follows settings w.object o carried (λ keeps. refl) st.shows;
-      others = (law.calls h.table c st.sound st.described).stays settings w.object o carried st.shows;
+      others = (law.calls h.table c carried.moved st.sound st.described).stays settings w.object o carried refl st.shows;
       numbers = made.numbers;
       offsets = made.offsets;
     }
 
 -- the table stays as it was
-stays_leaves : (law : TableFollows) (h : Stored) (w : World) (c : Call) (settings : Settings) (carried : Carried) → Stands h w → Changes h.table c None h.table → Leaves h.table h.table (planned h.table c) w.object (step settings w.object c None carried).after
+stays_leaves : (law : TableFollows) (h : Stored) (w : World) (c : Call) (settings : Settings) (carried : Carried) → Stands h w → Changes h.table c None h.table → Leaves h.table h.table (planned h.table c carried.moved) w.object (step settings w.object c None carried).after
 stays_leaves law h w c settings carried st same =
     record {
       sound = st.sound;
       described = st.described;
-      shows = (law.calls h.table c st.sound st.described).unchanged same settings w.object None carried (λ keeps. refl) st.shows;
-      others = (law.calls h.table c st.sound st.described).stays settings w.object None carried st.shows;
+      shows = (law.calls h.table c carried.moved st.sound st.described).unchanged same settings w.object None carried (λ keeps. refl) st.shows;
+      others = (law.calls h.table c carried.moved st.sound st.described).stays settings w.object None carried refl st.shows;
       numbers = record { numbers = λ node birth is. inl is; objects = omega arith; born = inl refl; descriptions = omega arith };
       offsets = λ key e is. inl (e, is, refl, refl);
     }
@@ -131,61 +135,61 @@ held_is law (part.Door door) (Pipe bytes) k has is = absurd (false≢true has)
 held_is law (part.Door door) (Pair p) k has is = absurd (false≢true has)
 
 -- so it does what it does with what it finds there
-same_done : TableFollows → (t : TableState) (node : ℕ) (act : Op) (c : Call) (given : NewNumbers) (content : Content) (k : Kept) (offset : ℕ) → IsKind act → suits act content ≡ true → content ≡ kept_as content k → acted t node act c None given content offset ≡ acted t node act c None given (held_for act k) offset
-same_done law t node (op.Open cut) c given content k offset kind has is = ap (λ (x : Content). acted t node (op.Open cut) c None given x offset) (held_is law part.Only content k has is)
-same_done law t node op.Release c given content k offset kind has is = absurd kind
-same_done law t node (op.Read from n) c given content k offset kind has is = ap (λ (x : Content). acted t node (op.Read from n) c None given x offset) (held_is law from.«end» content k has is)
-same_done law t node (op.Write to) c given content k offset kind has is = ap (λ (x : Content). acted t node (op.Write to) c None given x offset) (held_is law to.«end» content k has is)
-same_done law t node (op.Pread n start) c given content k offset kind has is = ap (λ (x : Content). acted t node (op.Pread n start) c None given x offset) (held_is law part.Only content k has is)
-same_done law t node (op.Pwrite start) c given content k offset kind has is = ap (λ (x : Content). acted t node (op.Pwrite start) c None given x offset) (held_is law part.Only content k has is)
-same_done law t node (op.Lseek at) c given content k offset kind has is = ap (λ (x : Content). acted t node (op.Lseek at) c None given x offset) (held_is law part.Only content k has is)
-same_done law t node (op.Ftruncate size) c given content k offset kind has is = ap (λ (x : Content). acted t node (op.Ftruncate size) c None given x offset) (held_is law part.Only content k has is)
-same_done law t node (op.Fstat links) c given content k offset kind has is = ap (λ (x : Content). acted t node (op.Fstat links) c None given x offset) (held_is law part.Only content k has is)
-same_done law t node op.Pipe c given content k offset kind has is = refl
-same_done law t node op.Socketpair c given content k offset kind has is = refl
-same_done law t node (op.Ask errand) c given content k offset kind has is = absurd kind
-same_done law t node (op.Shutdown side how) c given content k offset kind has is = ap (λ (x : Content). acted t node (op.Shutdown side how) c None given x offset) (held_is law (part.Socket side) content k has is)
+same_done : TableFollows → (t : TableState) (node : ℕ) (act : Op) (c : Call) (before : ℕ) (given : NewNumbers) (content : Content) (k : Kept) (offset : ℕ) → IsKind act → suits act content ≡ true → content ≡ kept_as content k → acted t node act c before None given content offset ≡ acted t node act c before None given (held_for act k) offset
+same_done law t node (op.Open cut) c before given content k offset kind has is = ap (λ (x : Content). acted t node (op.Open cut) c before None given x offset) (held_is law part.Only content k has is)
+same_done law t node op.Release c before given content k offset kind has is = absurd kind
+same_done law t node (op.Read from n) c before given content k offset kind has is = ap (λ (x : Content). acted t node (op.Read from n) c before None given x offset) (held_is law from.«end» content k has is)
+same_done law t node (op.Write to) c before given content k offset kind has is = ap (λ (x : Content). acted t node (op.Write to) c before None given x offset) (held_is law to.«end» content k has is)
+same_done law t node (op.Pread n start) c before given content k offset kind has is = ap (λ (x : Content). acted t node (op.Pread n start) c before None given x offset) (held_is law part.Only content k has is)
+same_done law t node (op.Pwrite start) c before given content k offset kind has is = ap (λ (x : Content). acted t node (op.Pwrite start) c before None given x offset) (held_is law part.Only content k has is)
+same_done law t node (op.Lseek at) c before given content k offset kind has is = ap (λ (x : Content). acted t node (op.Lseek at) c before None given x offset) (held_is law part.Only content k has is)
+same_done law t node (op.Ftruncate size) c before given content k offset kind has is = ap (λ (x : Content). acted t node (op.Ftruncate size) c before None given x offset) (held_is law part.Only content k has is)
+same_done law t node (op.Fstat links) c before given content k offset kind has is = ap (λ (x : Content). acted t node (op.Fstat links) c before None given x offset) (held_is law part.Only content k has is)
+same_done law t node op.Pipe c before given content k offset kind has is = refl
+same_done law t node op.Socketpair c before given content k offset kind has is = refl
+same_done law t node (op.Ask errand) c before given content k offset kind has is = absurd kind
+same_done law t node (op.Shutdown side how) c before given content k offset kind has is = ap (λ (x : Content). acted t node (op.Shutdown side how) c before None given x offset) (held_is law (part.Socket side) content k has is)
 
 -- an act that makes its object finds nothing
-making_done : (t : TableState) (node : ℕ) (act : Op) (keep : Bool) (c : Call) (given : NewNumbers) (x y : Content) (offset : ℕ) → IsKind act → IsMaking keep act → acted t node act c None given x offset ≡ acted t node act c None given y offset
-making_done t node (op.Open cut) keep c given x y offset kind making = ap (λ (b : Bool). acted t node (op.Open b) c None given x offset) making ∙ sym (ap (λ (b : Bool). acted t node (op.Open b) c None given y offset) making)
-making_done t node op.Pipe keep c given x y offset kind making = refl
-making_done t node op.Socketpair keep c given x y offset kind making = refl
-making_done t node op.Release keep c given x y offset kind making = absurd making
-making_done t node (op.Read from n) keep c given x y offset kind making = absurd making
-making_done t node (op.Write to) keep c given x y offset kind making = absurd making
-making_done t node (op.Pread n start) keep c given x y offset kind making = absurd making
-making_done t node (op.Pwrite start) keep c given x y offset kind making = absurd making
-making_done t node (op.Lseek at) keep c given x y offset kind making = absurd making
-making_done t node (op.Ftruncate size) keep c given x y offset kind making = absurd making
-making_done t node (op.Fstat links) keep c given x y offset kind making = absurd making
-making_done t node (op.Shutdown side how) keep c given x y offset kind making = absurd making
-making_done t node (op.Ask errand) keep c given x y offset kind making = absurd kind
+making_done : (t : TableState) (node : ℕ) (act : Op) (keep : Bool) (c : Call) (before : ℕ) (given : NewNumbers) (x y : Content) (offset : ℕ) → IsKind act → IsMaking keep act → acted t node act c before None given x offset ≡ acted t node act c before None given y offset
+making_done t node (op.Open cut) keep c before given x y offset kind making = ap (λ (b : Bool). acted t node (op.Open b) c before None given x offset) making ∙ sym (ap (λ (b : Bool). acted t node (op.Open b) c before None given y offset) making)
+making_done t node op.Pipe keep c before given x y offset kind making = refl
+making_done t node op.Socketpair keep c before given x y offset kind making = refl
+making_done t node op.Release keep c before given x y offset kind making = absurd making
+making_done t node (op.Read from n) keep c before given x y offset kind making = absurd making
+making_done t node (op.Write to) keep c before given x y offset kind making = absurd making
+making_done t node (op.Pread n start) keep c before given x y offset kind making = absurd making
+making_done t node (op.Pwrite start) keep c before given x y offset kind making = absurd making
+making_done t node (op.Lseek at) keep c before given x y offset kind making = absurd making
+making_done t node (op.Ftruncate size) keep c before given x y offset kind making = absurd making
+making_done t node (op.Fstat links) keep c before given x y offset kind making = absurd making
+making_done t node (op.Shutdown side how) keep c before given x y offset kind making = absurd making
+making_done t node (op.Ask errand) keep c before given x y offset kind making = absurd kind
 
 -- ## What the act leaves
 
-module _ (law : TableFollows) (h : Stored) (w : World) (c : Call) (node : ℕ) (act : Op) (settings : Settings) (carried : Carried) (st : Stands h w) (planned_is : IsPlanned h c node act) where
+module _ (law : TableFollows) (h : Stored) (w : World) (c : Call) (node : ℕ) (act : Op) (settings : Settings) (carried : Carried) (st : Stands h w) (planned_is : IsPlannedWith h c carried.moved node act) where
   abbrev stepped : Stepped
   stepped = step settings w.object c None carried
 
   known : LocksKnown h.table (read_count c) (plan.Node node act planned_is.0)
-  known = subst (LocksKnown h.table (read_count c)) planned_is.1 (law.calls h.table c st.sound st.described).known
+  known = subst (LocksKnown h.table (read_count c)) planned_is.1 (law.calls h.table c carried.moved st.sound st.described).known
 
-  act_does : ActsAsStep h.table c (plan.Node node act planned_is.0)
-  act_does = subst (ActsAsStep h.table c) planned_is.1 (law.calls h.table c st.sound st.described).acts
+  act_does : ActsAsStep h.table c carried.moved (plan.Node node act planned_is.0)
+  act_does = subst (ActsAsStep h.table c carried.moved) planned_is.1 (law.calls h.table c carried.moved st.sound st.described).acts
 
   all_found : Finds h.table
   all_found = finds law h.table w.object st.sound st.shows
 
   abbrev done_with : Content → Acted
-  done_with content = acted h.table node act c None (numbers_told c stepped.answer) content (offset_in h act)
+  done_with content = acted h.table node act c carried.moved.bytes None (numbers_told c stepped.answer) content (offset_in h act)
 
   -- the step does what the act does with what is there
   abbrev IsDone : Acted → Type 0
   IsDone done = IsActed h.table node act done (ended settings w.object carried done.ending) stepped
 
   on : (content : Content) → content_of w.object (birth_at h.table node) ≡ content → IsDone (done_with content)
-  on content is = act_does settings w.object None carried content (offset_in h act) st.shows is (stands_at h w (read_count c) act st known.1)
+  on content is = act_does settings w.object None carried content (offset_in h act) refl st.shows is (stands_at h w (read_count c) act st known.1)
 
   some_of : (b : ℕ) (o : Option Content) → fin.get w.object.objects b ≡ o → is_some o ≡ true → (x : Content) × (fin.get w.object.objects b ≡ Some x)
   some_of b None is there = absurd (false≢true there)
@@ -206,35 +210,35 @@ module _ (law : TableFollows) (h : Stored) (w : World) (c : Call) (node : ℕ) (
       on_old : is_used h.table node ≡ true → IsDone (done_with (held_for act (kept_at h node)))
       on_old used =
           let content = content_of w.object (birth_at h.table node) in
-          let has : suits act content ≡ true = (planned_fits h.table c node act planned_is.0 planned_is.1).2 all_found used w.object st.shows in
-          subst IsDone (same_done law h.table node act c (numbers_told c stepped.answer) content (kept_at h node) (offset_in h act) kind has (there_is used)) (on content refl)
+          let has : suits act content ≡ true = (planned_fits h.table c carried.moved node act planned_is.0 planned_is.1).2 all_found used w.object st.shows in
+          subst IsDone (same_done law h.table node act c carried.moved.bytes (numbers_told c stepped.answer) content (kept_at h node) (offset_in h act) kind has (there_is used)) (on content refl)
 
       on_new : free_object h.table ≡ Some node → IsDone (done_with (held_for act (kept_at h node)))
       on_new free =
           let slot = lowest_is_free h.table.objects 48 0 node free in
-          let making : IsMaking planned_is.0 act = (planned_fits h.table c node act planned_is.0 planned_is.1).1 all_found (ap (λ (o : Option ℕ). is_some o) slot) in
+          let making : IsMaking planned_is.0 act = (planned_fits h.table c carried.moved node act planned_is.0 planned_is.1).1 all_found (ap (λ (o : Option ℕ). is_some o) slot) in
           let content = content_of w.object (birth_at h.table node) in
-          subst IsDone (making_done h.table node act planned_is.0 c (numbers_told c stepped.answer) content (held_for act (kept_at h node)) (offset_in h act) kind making) (on content refl)
+          subst IsDone (making_done h.table node act planned_is.0 c carried.moved.bytes (numbers_told c stepped.answer) content (held_for act (kept_at h node)) (offset_in h act) kind making) (on content refl)
 
 -- a release leaves what is there
-released_is : (law : TableFollows) (h : Stored) (w : World) (c : Call) (node : ℕ) (settings : Settings) (carried : Carried) (st : Stands h w) (planned_is : IsPlanned h c node op.Release)
+released_is : (law : TableFollows) (h : Stored) (w : World) (c : Call) (node : ℕ) (settings : Settings) (carried : Carried) (st : Stands h w) (planned_is : IsPlannedWith h c carried.moved node op.Release)
     → let content = content_of w.object (birth_at h.table node) in
     let stepped = step settings w.object c None carried in
-    let done = acted h.table node op.Release c None (numbers_told c stepped.answer) content 0 in
+    let done = acted h.table node op.Release c carried.moved.bytes None (numbers_told c stepped.answer) content 0 in
     (content ≡ kept_as content (kept_at h node)) × IsActed h.table node op.Release done (ended settings w.object carried done.ending) stepped
 released_is law h w c node settings carried st planned_is =
     let known = known law h w c node op.Release settings carried st planned_is in (
       there_is law h w c node op.Release settings carried st planned_is
-          (⊎_elim (λ used. used) (λ free. absurd ((planned_fits h.table c node op.Release planned_is.0 planned_is.1).1 (finds law h.table w.object st.sound st.shows) (ap (λ (o : Option ℕ). is_some o) (lowest_is_free h.table.objects 48 0 node free)))) known.0.1),
+          (⊎_elim (λ used. used) (λ free. absurd ((planned_fits h.table c carried.moved node op.Release planned_is.0 planned_is.1).1 (finds law h.table w.object st.sound st.shows) (ap (λ (o : Option ℕ). is_some o) (lowest_is_free h.table.objects 48 0 node free)))) known.0.1),
       on law h w c node op.Release settings carried st planned_is (content_of w.object (birth_at h.table node)) refl,
     )
 
 -- ## How turns end
 
-abbrev Turns : Settings → World → Carried → Stepped → Option Reply → Type 0
+abbrev Turns : Settings → World → Carried → Stepped → ActEnd → Type 0
 Turns settings w carried stepped e = (stepped.answer, stepped.carried) ≡ ended settings w.object carried e
 
-turn_ends : (h : Stored) (w : World) (node : ℕ) (act : Op) (settings : Settings) (carried : Carried) (done : Acted) (stepped : Stepped) (e : Option Reply) → IsActed h.table node act done (ended settings w.object carried done.ending) stepped → e ≡ done.ending → Turns settings w carried stepped e
+turn_ends : (h : Stored) (w : World) (node : ℕ) (act : Op) (settings : Settings) (carried : Carried) (done : Acted) (stepped : Stepped) (e : ActEnd) → IsActed h.table node act done (ended settings w.object carried done.ending) stepped → e ≡ done.ending → Turns settings w carried stepped e
 turn_ends h w node act settings carried done _ e now same =
     ap₂ (λ (a : Answer) (b : Carried). (a, b)) now.answer_is now.carried_is ∙ ap (ended settings w.object carried) (sym same)
 
@@ -261,30 +265,30 @@ carries_nothing settings s None carried (Ok (Asks a)) r is = refl
 carries_nothing settings s outcome carried (Err e) r is = refl
 
 -- an act ends so whatever the call carries
-abbrev pub EndsAlways : Stored → Call → Option Reply → Stored → Type 0
+abbrev pub EndsAlways : Stored → Call → ActEnd → Stored → Type 0
 EndsAlways old c e new = (carried : Carried) → EndsTurn carried old c e new
 
-pub replies_end : (old : Stored) (c : Call) (r : Reply) (new : Stored) → RepliesAlways old c r new → EndsAlways old c (Some r) new
+pub replies_end : (old : Stored) (c : Call) (r : Reply) (new : Stored) → RepliesAlways old c r new → EndsAlways old c (act_end.Reply r) new
 replies_end old c r new replies carried settings w st =
     let now = replies carried settings w st in
     (ap₂ (λ (a : Answer) (b : Carried). (a, b)) now.0 (carries_nothing settings w.object None carried (effect_of w.object c carried) r now.0), now.1)
 
-pub replies_turn : (carried : Carried) (old : Stored) (c : Call) (r : Reply) (new : Stored) → RepliesAlways old c r new → EndsTurn carried old c (Some r) new
+pub replies_turn : (carried : Carried) (old : Stored) (c : Call) (r : Reply) (new : Stored) → RepliesAlways old c r new → EndsTurn carried old c (act_end.Reply r) new
 replies_turn carried old c r new replies = replies_end old c r new replies carried
 
-pub end_replies : (carried : Carried) (old : Stored) (c : Call) (r : Reply) (new : Stored) → EndsTurn carried old c (Some r) new → Replies carried old c r new
+pub end_replies : (carried : Carried) (old : Stored) (c : Call) (r : Reply) (new : Stored) → EndsTurn carried old c (act_end.Reply r) new → Replies carried old c r new
 end_replies carried old c r new ends settings w st = let now = ends settings w st in (ap (λ (p : Answer × Carried). p.0) now.0, now.1)
 
-pub ends_reply : (old : Stored) (c : Call) (r : Reply) (new : Stored) → EndsAlways old c (Some r) new → RepliesAlways old c r new
+pub ends_reply : (old : Stored) (c : Call) (r : Reply) (new : Stored) → EndsAlways old c (act_end.Reply r) new → RepliesAlways old c r new
 ends_reply old c r new ends carried = end_replies carried old c r new (ends carried)
 
 -- ## Calls that the table answers
 
-pub reply_makes : (law : TableFollows) (h : Stored) (c : Call) (r : Reply) (u : TableState) → planned h.table c ≡ plan.Reply r → TableMade h c None u → RepliesAlways h c r (record h { table = u })
-reply_makes law h c r u is made carried settings w st =
+pub reply_makes : (law : TableFollows) (h : Stored) (c : Call) (r : Reply) (u : TableState) (carried : Carried) → planned h.table c carried.moved ≡ plan.Reply r → TableMade h c None u → Replies carried h c r (record h { table = u })
+reply_makes law h c r u carried is made settings w st =
     let after = (step settings w.object c None carried).after in
     let agrees : AgreesOn h.table c (plan.Reply r) (locked_object w.object c carried) (asks w.object c carried) (step settings w.object c None carried).answer =
-    subst (λ (p : Plan). AgreesOn h.table c p (locked_object w.object c carried) (asks w.object c carried) (step settings w.object c None carried).answer) is ((law.calls h.table c st.sound st.described).plans settings w.object None carried st.shows) in
+    subst (λ (p : Plan). AgreesOn h.table c p (locked_object w.object c carried) (asks w.object c carried) (step settings w.object c None carried).answer) is ((law.calls h.table c carried.moved st.sound st.described).plans settings w.object None carried refl st.shows) in
     (agrees.1.1, reply_stands h w u r after st (subst (λ (p : Plan). Leaves h.table u p w.object after) is (made_leaves law h w c None u settings carried st made)))
 
 -- ## Calls that act on an object
@@ -311,31 +315,52 @@ rests_still t node op.Socketpair keep rests birth = tt
 rests_still t node (op.Shutdown side how) keep rests birth = tt
 rests_still t node (op.Ask errand) keep rests birth = tt
 
-pub known_of : (law : TableFollows) (h : Stored) (w : World) (c : Call) (node : ℕ) (act : Op) (keep : Bool) → Stands h w → planned h.table c ≡ plan.Node node act keep → LocksKnown h.table (read_count c) (plan.Node node act keep)
-known_of law h w c node act keep st is = subst (LocksKnown h.table (read_count c)) is (law.calls h.table c st.sound st.described).known
+pub known_of : (law : TableFollows) (h : Stored) (w : World) (c : Call) (so_far : Moved) (node : ℕ) (act : Op) (keep : Bool) → Stands h w → planned h.table c so_far ≡ plan.Node node act keep → LocksKnown h.table (read_count c) (plan.Node node act keep)
+known_of law h w c so_far node act keep st is = subst (LocksKnown h.table (read_count c)) is (law.calls h.table c so_far st.sound st.described).known
+
+-- any act but that of a write is planned of its call whatever this moved before
+abbrev pub Plain : Op → Type 0
+Plain (op.Write to) = ⊥
+Plain (op.Ask errand) = ⊥
+Plain act = Unit {0}
+
+plain_of : (act : Op) → Rests act → IsKind act → Plain act
+plain_of (op.Write to) rests kind = absurd rests
+plain_of (op.Ask errand) rests kind = absurd kind
+plain_of act rests kind = tt
+
+planned_plain : (t : TableState) (c : Call) (act : Op) → HasAct c act → Plain act → (one other : Moved) → planned t c one ≡ planned t c other
+planned_plain t _ _ (WritesTo descriptor bytes to) plain one other = absurd plain
+planned_plain t _ _ (WritesOut descriptor bytes asked waits d) plain one other = absurd plain
+planned_plain t _ _ has plain one other = refl
+
+pub always : (h : Stored) (c : Call) (node : ℕ) (act : Op) → Plain act → IsPlanned h c node act → (so_far : Moved) → IsPlannedWith h c so_far node act
+always h c node act plain (one, (keep, is)) so_far =
+    (keep, planned_plain h.table c act (planned_fits h.table c one node act keep is).0 plain so_far one ∙ is)
 
 -- the table was changed, and the object
-pub made_ends : (law : TableFollows) (h : Stored) (c : Call) (node : ℕ) (act : Op) (u : TableState) (given : NewNumbers) (bodies : List Kept) (e : Option Reply) → Rests act → IsKind act → IsPlanned h c node act → TableMade h c None u → TellsAsStep h.table c None given
-    → let done = acted h.table node act c None given (held_for act (kept_at h node)) (offset_in h act) in
-    e ≡ done.ending → Rewrites h node done.content bodies → EndsAlways h c e (record { table = u; bodies = bodies })
-made_ends law h c node act u given bodies e rests kind (keep, is) made tells same rewrites carried settings w st =
+pub made_ends : (law : TableFollows) (h : Stored) (c : Call) (node : ℕ) (act : Op) (u : TableState) (given : NewNumbers) (bodies : List Kept) (e : ActEnd) → Rests act → IsKind act → IsPlanned h c node act → TableMade h c None u → TellsAsStep h.table c None given
+    → (done : Acted) → ((before : ℕ) → acted h.table node act c before None given (held_for act (kept_at h node)) (offset_in h act) ≡ done)
+    → e ≡ done.ending → Rewrites h node done.content bodies → EndsAlways h c e (record { table = u; bodies = bodies })
+made_ends law h c node act u given bodies e rests kind planned made tells done done_is same rewrites carried settings w st =
+    let (keep, is) = always h c node act (plain_of act rests kind) planned carried.moved in
     let stepped = step settings w.object c None carried in
     let told : numbers_told c stepped.answer ≡ given = sym (tells settings w.object None carried (λ keeps. refl) st.shows) in
-    let P : NewNumbers → Type 0 = λ n. let done = acted h.table node act c None n (held_for act (kept_at h node)) (offset_in h act) in IsActed h.table node act done (ended settings w.object carried done.ending) stepped in
-    let now : P given = subst P told (acted_kind law h w c node act settings carried st (keep, is) kind) in
-    let done = acted h.table node act c None given (held_for act (kept_at h node)) (offset_in h act) in
+    let P : NewNumbers → Type 0 = λ n. let done = acted h.table node act c carried.moved.bytes None n (held_for act (kept_at h node)) (offset_in h act) in IsActed h.table node act done (ended settings w.object carried done.ending) stepped in
+    let now = subst (λ (d : Acted). IsActed h.table node act d (ended settings w.object carried d.ending) stepped) (done_is carried.moved.bytes) (subst P told (acted_kind law h w c node act settings carried st (keep, is) kind)) in
     let leaves = subst (λ (p : Plan). Leaves h.table u p w.object stepped.after) is (made_leaves law h w c None u settings carried st made) in
-    (turn_ends h w node act settings carried done stepped e now same, still_stands h w st u node act keep stepped.after leaves (known_of law h w c node act keep st is).0 done.content now.content_is bodies rewrites (rests_still h.table node act keep rests))
+    (turn_ends h w node act settings carried done stepped e now same, still_stands h w st u node act keep stepped.after leaves (known_of law h w c carried.moved node act keep st is).0 done.content now.content_is bodies rewrites (rests_still h.table node act keep rests))
 
 -- the object alone was changed
-pub stays_ends : (law : TableFollows) (h : Stored) (c : Call) (node : ℕ) (act : Op) (bodies : List Kept) (done : Acted) (e : Option Reply) → Rests act → IsKind act → IsPlanned h c node act → Changes h.table c None h.table → ((given : NewNumbers) → acted h.table node act c None given (held_for act (kept_at h node)) (offset_in h act) ≡ done)
+pub stays_ends : (law : TableFollows) (h : Stored) (c : Call) (node : ℕ) (act : Op) (bodies : List Kept) (done : Acted) (e : ActEnd) → Rests act → IsKind act → IsPlanned h c node act → Changes h.table c None h.table → ((before : ℕ) (given : NewNumbers) → acted h.table node act c before None given (held_for act (kept_at h node)) (offset_in h act) ≡ done)
     → e ≡ done.ending → Rewrites h node done.content bodies → EndsAlways h c e (record h { bodies = bodies })
-stays_ends law h c node act bodies done e rests kind (keep, is) same done_is ends rewrites carried settings w st =
+stays_ends law h c node act bodies done e rests kind planned same done_is ends rewrites carried settings w st =
+    let (keep, is) = always h c node act (plain_of act rests kind) planned carried.moved in
     let stepped = step settings w.object c None carried in
     let P : Acted → Type 0 = λ d. IsActed h.table node act d (ended settings w.object carried d.ending) stepped in
-    let now : P done = subst P (done_is (numbers_told c stepped.answer)) (acted_kind law h w c node act settings carried st (keep, is) kind) in
+    let now : P done = subst P (done_is carried.moved.bytes (numbers_told c stepped.answer)) (acted_kind law h w c node act settings carried st (keep, is) kind) in
     let leaves = subst (λ (p : Plan). Leaves h.table h.table p w.object stepped.after) is (stays_leaves law h w c settings carried st same) in
-    (turn_ends h w node act settings carried done stepped e now ends, still_stands h w st h.table node act keep stepped.after leaves (known_of law h w c node act keep st is).0 done.content now.content_is bodies rewrites (rests_still h.table node act keep rests))
+    (turn_ends h w node act settings carried done stepped e now ends, still_stands h w st h.table node act keep stepped.after leaves (known_of law h w c carried.moved node act keep st is).0 done.content now.content_is bodies rewrites (rests_still h.table node act keep rests))
 
 -- the key whose offset an act moves
 pub data Moves : Op → ℕ → Type 0 where
@@ -359,44 +384,55 @@ moves_still t node _ keep _ (ByWrite to) birth apart = apart
 moves_still t node _ keep _ (BySeek from) birth apart = apart
 
 -- the offset is moved
-pub moved_ends : (law : TableFollows) (h : Stored) (c : Call) (node : ℕ) (act : Op) (key : ℕ) (bodies : List Kept) (done : Acted) (e : Option Reply) → Moves act key → IsKind act → IsPlanned h c node act → Changes h.table c None h.table → ((given : NewNumbers) → acted h.table node act c None given (held_for act (kept_at h node)) (offset_in h act) ≡ done)
-    → e ≡ done.ending → Rewrites h node done.content bodies → EndsAlways h c e (record { table = record h.table { descriptions = with_offset h.table.descriptions key done.offset }; bodies = bodies })
-moved_ends law h c node act key bodies done e moves kind (keep, is) same done_is ends rewrites carried settings w st =
+pub moved_turn : (law : TableFollows) (h : Stored) (c : Call) (carried : Carried) (node : ℕ) (act : Op) (key : ℕ) (bodies : List Kept) (done : Acted) (e : ActEnd) → Moves act key → IsKind act → IsPlannedWith h c carried.moved node act → Changes h.table c None h.table → ((given : NewNumbers) → acted h.table node act c carried.moved.bytes None given (held_for act (kept_at h node)) (offset_in h act) ≡ done)
+    → e ≡ done.ending → Rewrites h node done.content bodies → EndsTurn carried h c e (record { table = record h.table { descriptions = with_offset h.table.descriptions key done.offset }; bodies = bodies })
+moved_turn law h c carried node act key bodies done e moves kind (keep, is) same done_is ends rewrites settings w st =
     let stepped = step settings w.object c None carried in
     let P : Acted → Type 0 = λ d. IsActed h.table node act d (ended settings w.object carried d.ending) stepped in
     let now : P done = subst P (done_is (numbers_told c stepped.answer)) (acted_kind law h w c node act settings carried st (keep, is) kind) in
     let leaves = subst (λ (p : Plan). Leaves h.table h.table p w.object stepped.after) is (stays_leaves law h w c settings carried st same) in
-    let known = known_of law h w c node act keep st is in (
+    let known = known_of law h w c carried.moved node act keep st is in (
       turn_ends h w node act settings carried done stepped e now ends,
       moved_stands h w st h.table node act keep stepped.after leaves known.0 done.content now.content_is bodies rewrites refl key done.offset (moves_known h.table (read_count c) act key moves known.1) (law.offsets h.table key done.offset st.sound st.described (moves_known h.table (read_count c) act key moves known.1)) (moves_at h.table stepped.after act key done.offset moves now.offset_is) (moves_still h.table node act keep key moves),
     )
 
+pub moved_ends : (law : TableFollows) (h : Stored) (c : Call) (node : ℕ) (act : Op) (key : ℕ) (bodies : List Kept) (done : Acted) (e : ActEnd) → Moves act key → IsKind act → Plain act → IsPlanned h c node act → Changes h.table c None h.table → ((before : ℕ) (given : NewNumbers) → acted h.table node act c before None given (held_for act (kept_at h node)) (offset_in h act) ≡ done)
+    → e ≡ done.ending → Rewrites h node done.content bodies → EndsAlways h c e (record { table = record h.table { descriptions = with_offset h.table.descriptions key done.offset }; bodies = bodies })
+moved_ends law h c node act key bodies done e moves kind plain planned same done_is ends rewrites carried =
+    moved_turn law h c carried node act key bodies done e moves kind (always h c node act plain planned carried.moved) same (done_is carried.moved.bytes) ends rewrites
+
 -- the offset is left where it was
-pub rested_ends : (law : TableFollows) (h : Stored) (c : Call) (node : ℕ) (act : Op) (key : ℕ) (bodies : List Kept) (done : Acted) (e : Option Reply) → Moves act key → IsKind act → IsPlanned h c node act → Changes h.table c None h.table → ((given : NewNumbers) → acted h.table node act c None given (held_for act (kept_at h node)) (offset_in h act) ≡ done)
-    → done.offset ≡ offset_of_key h key → e ≡ done.ending → Rewrites h node done.content bodies → EndsAlways h c e (record h { bodies = bodies })
-rested_ends law h c node act key bodies done e moves kind (keep, is) same done_is rests ends rewrites carried settings w st =
+pub rested_turn : (law : TableFollows) (h : Stored) (c : Call) (carried : Carried) (node : ℕ) (act : Op) (key : ℕ) (bodies : List Kept) (done : Acted) (e : ActEnd) → Moves act key → IsKind act → IsPlannedWith h c carried.moved node act → Changes h.table c None h.table → ((given : NewNumbers) → acted h.table node act c carried.moved.bytes None given (held_for act (kept_at h node)) (offset_in h act) ≡ done)
+    → done.offset ≡ offset_of_key h key → e ≡ done.ending → Rewrites h node done.content bodies → EndsTurn carried h c e (record h { bodies = bodies })
+rested_turn law h c carried node act key bodies done e moves kind (keep, is) same done_is rests ends rewrites settings w st =
     let stepped = step settings w.object c None carried in
     let P : Acted → Type 0 = λ d. IsActed h.table node act d (ended settings w.object carried d.ending) stepped in
     let now : P done = subst P (done_is (numbers_told c stepped.answer)) (acted_kind law h w c node act settings carried st (keep, is) kind) in
     let leaves = subst (λ (p : Plan). Leaves h.table h.table p w.object stepped.after) is (stays_leaves law h w c settings carried st same) in
-    let known = known_of law h w c node act keep st is in (
+    let known = known_of law h w c carried.moved node act keep st is in (
       turn_ends h w node act settings carried done stepped e now ends,
       rested_stands h w st h.table node act keep stepped.after leaves known.0 done.content now.content_is bodies rewrites refl key (moves_known h.table (read_count c) act key moves known.1) (moves_at h.table stepped.after act key done.offset moves now.offset_is ∙ ap (λ (n : ℕ). Some n) rests) (moves_still h.table node act keep key moves),
     )
 
+pub rested_ends : (law : TableFollows) (h : Stored) (c : Call) (node : ℕ) (act : Op) (key : ℕ) (bodies : List Kept) (done : Acted) (e : ActEnd) → Moves act key → IsKind act → Plain act → IsPlanned h c node act → Changes h.table c None h.table → ((before : ℕ) (given : NewNumbers) → acted h.table node act c before None given (held_for act (kept_at h node)) (offset_in h act) ≡ done)
+    → done.offset ≡ offset_of_key h key → e ≡ done.ending → Rewrites h node done.content bodies → EndsAlways h c e (record h { bodies = bodies })
+rested_ends law h c node act key bodies done e moves kind plain planned same done_is rests ends rewrites carried =
+    rested_turn law h c carried node act key bodies done e moves kind (always h c node act plain planned carried.moved) same (done_is carried.moved.bytes) rests ends rewrites
+
 -- what referred to an object does so no more, and the object holds what it held
 pub released_ends : (law : TableFollows) (h : Stored) (c : Call) (node : ℕ) (u : TableState) (r : Reply) → IsPlanned h c node op.Release → TableMade h c None u
-    → ((given : NewNumbers) (content : Content) → let done = acted h.table node op.Release c None given content 0 in (done.ending ≡ Some r) × (done.content ≡ content)) → RepliesAlways h c r (record h { table = u })
-released_ends law h c node u r (keep, is) made done_is carried settings w st =
+    → ((before : ℕ) (given : NewNumbers) (content : Content) → let done = acted h.table node op.Release c before None given content 0 in (done.ending ≡ act_end.Reply r) × (done.content ≡ content)) → RepliesAlways h c r (record h { table = u })
+released_ends law h c node u r planned made done_is carried settings w st =
+    let (keep, is) = always h c node op.Release tt planned carried.moved in
     let stepped = step settings w.object c None carried in
     let content = content_of w.object (birth_at h.table node) in
     let found = released_is law h w c node settings carried st (keep, is) in
-    let done = acted h.table node op.Release c None (numbers_told c stepped.answer) content 0 in
-    let both = done_is (numbers_told c stepped.answer) content in
+    let done = acted h.table node op.Release c carried.moved.bytes None (numbers_told c stepped.answer) content 0 in
+    let both = done_is carried.moved.bytes (numbers_told c stepped.answer) content in
     let leaves = subst (λ (p : Plan). Leaves h.table u p w.object stepped.after) is (made_leaves law h w c None u settings carried st made) in
     let rewrites : Rewrites h node done.content h.bodies = record { here = subst (λ (x : Content). x ≡ kept_as x (kept_at h node)) (sym both.1) found.0; others = λ k apart. refl } in (
-      ap (λ (p : Answer × Carried). p.0) (turn_ends h w node op.Release settings carried done stepped (Some r) found.1 (sym both.0)),
-      still_stands h w st u node op.Release keep stepped.after leaves (known_of law h w c node op.Release keep st is).0 done.content found.1.content_is h.bodies rewrites (rests_still h.table node op.Release keep tt),
+      ap (λ (p : Answer × Carried). p.0) (turn_ends h w node op.Release settings carried done stepped (act_end.Reply r) found.1 (sym both.0)),
+      still_stands h w st u node op.Release keep stepped.after leaves (known_of law h w c carried.moved node op.Release keep st is).0 done.content found.1.content_is h.bodies rewrites (rests_still h.table node op.Release keep tt),
     )
 
 -- ## Bodies

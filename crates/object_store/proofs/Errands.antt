@@ -1,5 +1,5 @@
 -- Which door an errand takes along.
-use Rattle.std.proofs.Common.{◌≡◌, ℕ, ◌==◌, ◌&&◌, [], length, Option, Some, None, Result, Ok, Err, Bool, true, false, not, if◌then◌else◌, refl, sym, ap, ◌∙◌, subst, IfOk}
+use Rattle.std.proofs.Common.{List, ◌≡◌, ℕ, ◌==◌, ◌&&◌, [], length, Option, Some, None, Result, Ok, Err, Bool, true, false, not, if◌then◌else◌, refl, sym, ap, ◌∙◌, subst, IfOk}
 use Rattle.std.proofs.lemmas.Bool.{eqb-true, true≢false}
 use Rattle.std.specs.Prelude.{ℤ, nat_lt}
 use Rattle.posix_terms.specs.Calls.{can_read, can_write}
@@ -10,6 +10,9 @@ use Rattle.sequential_object.specs.Locked.{OutsideLocks, locked_object, locks_do
 use Rattle.sequential_object.specs.Refusals.{◌>>=◌, count_of, refuse_if, some_or}
 use Rattle.sequential_object.specs.Step.{Carried}
 use Rattle.posix_terms.specs.Calls.{Call}
+use Rattle.descriptor_table.specs.declared.plan.Change.TheVariants as change
+use Rattle.posix_terms.specs.declared.carried.Moved.{Moved}
+use Rattle.sequential_object.specs.Transfers.{is_from}
 use Rattle.posix_terms.specs.declared.call.Call.TheVariants as call
 use Rattle.posix_terms.specs.declared.call.ShutdownHow.{ShutdownHow}
 use Rattle.posix_terms.specs.declared.errno.Errno.{Errno}
@@ -27,7 +30,7 @@ use Rattle.descriptor_table.specs.Laws.RefersAlike.{Open, Shut}
 use Rattle.posix_terms.specs.declared.call.Access.{Access}
 use Rattle.posix_terms.specs.declared.call.Access.TheVariants.{ReadWrite}
 use Rattle.sequential_object.specs.Duplicates.{descriptor_number}
-use Rattle.descriptor_table.specs.Plans.{act_or_ask, answered, close_decided, decided_of, errand, host_open_decided, leads_outside, leaves, locks, lseek_plan, not_listener, of_listener, opening, opens_door, planned, read_plan, seekable, seen, shut_act, shutdown_plan, tcp_accept_decided, tcp_connect_decided, tcp_listen_decided, write_plan}
+use Rattle.descriptor_table.specs.Plans.{decided_with, is_pipe, resumed_at, resumed_plan, act_or_ask, answered, close_decided, decided_of, errand, host_open_decided, leads_outside, leaves, locks, lseek_plan, not_listener, of_listener, opening, opens_door, planned, read_plan, seekable, seen, shut_act, shutdown_plan, tcp_accept_decided, tcp_connect_decided, tcp_listen_decided, write_plan}
 use Rattle.descriptor_table.specs.Table.{TableState, described, free_object, lowest_free}
 use Rattle.descriptor_table.specs.declared.plan.Decided.{Decided}
 use Rattle.descriptor_table.specs.declared.plan.Errand.{Errand}
@@ -148,8 +151,24 @@ takes_answered : (t : TableState) (c : Call) (r : Result Decided Errno) → IfOk
 takes_answered t c (Ok d) has = has
 takes_answered t c (Err e) has = tt
 
-door_is_planned : (t : TableState) (c : Call) (node : ℕ) (errand : Errand) (keep : Bool) → planned t c ≡ plan.Node node (op.Ask errand) keep → errand.door ≡ door_planned t c node
-door_is_planned t c node errand keep is = subst (TakesDoor t c) is (takes_answered t c (decided_of t c) (takes t c errand (planned_fits t c node (op.Ask errand) keep is).0))
+door_is_planned : (t : TableState) (c : Call) (so_far : Moved) (node : ℕ) (errand : Errand) (keep : Bool) → planned t c so_far ≡ plan.Node node (op.Ask errand) keep → errand.door ≡ door_planned t c node
+door_is_planned t c so_far node errand keep is = subst (TakesDoor t c) is (by_call c (planned_fits t c so_far node (op.Ask errand) keep is).0)
+  where
+    by_found : (descriptor : ℤ) (bytes : List ℕ) (r : Result (ℕ × Description) Errno) → TakesDoor t (call.Write descriptor bytes) (resumed_at so_far r)
+    by_found descriptor bytes (Err e) = tt
+    by_found descriptor bytes (Ok found) = by_test (is_from so_far (let d : Description = found.1 in d.birth) && is_pipe (let d : Description = found.1 in d.«end»))
+      where
+        by_test : (b : Bool) → TakesDoor t (call.Write descriptor bytes) (if b then locks (let d : Description = found.1 in d.node) (op.Write (seen found.0 found.1)) else plan.Reply (reply.Count so_far.bytes))
+        by_test true = tt
+        by_test false = tt
+
+    by_call : (c : Call) → HasAct c (op.Ask errand) → TakesDoor t c (decided_with t c so_far).plan
+    by_call (call.Write descriptor bytes) has = by_moved (so_far.bytes == 0)
+      where
+        by_moved : (b : Bool) → TakesDoor t (call.Write descriptor bytes) (let d : Decided = if b then answered (decided_of t (call.Write descriptor bytes)) else record { plan = resumed_plan t descriptor so_far; change = change.Nothing } in d.plan)
+        by_moved true = takes_answered t (call.Write descriptor bytes) (decided_of t (call.Write descriptor bytes)) (takes t (call.Write descriptor bytes) errand has)
+        by_moved false = by_found descriptor bytes (described t descriptor)
+    by_call c has = takes_answered t c (decided_of t c) (takes t c errand has)
 
 -- ## In the world
 
@@ -171,10 +190,10 @@ by_call law h w _ node carried _ st (Connects port asked waits taken) locked = r
 by_call law h w _ node carried _ st (Accepts descriptor asked waits taken) locked = number_found h w descriptor st (law.found h.table w.object descriptor st.sound st.shows)
 
 -- an errand takes along the door that its call does
-pub door_known : (law : TableFollows) (h : Stored) (w : World) (c : Call) (node : ℕ) (errand : Errand) (keep : Bool) (carried : Carried) → Stands h w → planned h.table c ≡ plan.Node node (op.Ask errand) keep → errand.door ≡ numbered w (door_taken w.object c carried)
+pub door_known : (law : TableFollows) (h : Stored) (w : World) (c : Call) (node : ℕ) (errand : Errand) (keep : Bool) (carried : Carried) → Stands h w → planned h.table c carried.moved ≡ plan.Node node (op.Ask errand) keep → errand.door ≡ numbered w (door_taken w.object c carried)
 door_known law h w c node errand keep carried st is =
     let locked : Some node ≡ numbered w (locked_object w.object c carried) = sym (number_known law h w c carried st ∙ ap object_of is) in
-    door_is_planned h.table c node errand keep is ∙ by_call law h w c node carried errand st (planned_fits h.table c node (op.Ask errand) keep is).0 locked
+    door_is_planned h.table c carried.moved node errand keep is ∙ by_call law h w c node carried errand st (planned_fits h.table c carried.moved node (op.Ask errand) keep is).0 locked
 
 -- ## By the definition
 

@@ -1,5 +1,5 @@
 -- Each act of the store, as the table plans it, makes its call.
-use Rattle.std.proofs.Common.{◌≡◌, ℕ, ◌+◌, ◌<◌, ◌==◌, List, [], length, None, Result, Ok, Err, Bool, true, false, refl, sym, ap, ◌∙◌, subst, Option, Some}
+use Rattle.std.proofs.Common.{◌≡◌, ℕ, ◌+◌, ◌<◌, ◌==◌, List, [], length, None, Result, Ok, Err, Bool, true, false, refl, sym, ap, ◌∙◌, subst, Some}
 use Rattle.std.proofs.lemmas.Bool.{true≢false}
 use Rattle.std.proofs.lemmas.Option.{none-some, same_Some}
 use Rattle.std.specs.Prelude.{ℤ, ◌+ℤ◌, pos, slice_index_or, slice_set, if◌then◌else◌}
@@ -10,6 +10,15 @@ use Rattle.sequential_object.specs.Streams as stream
 use Rattle.sequential_object.specs.Streams.{Reading, Writing, new_pair, pair_read, pair_write, pipe_write, shut, stream_read, with_waiting}
 use Rattle.sequential_object.specs.Transfers.{base_of, offset_of}
 use Rattle.posix_terms.specs.Calls.{Call}
+use Rattle.sequential_object.specs.declared.turn_end.ActEnd.{ActEnd}
+use Rattle.sequential_object.specs.declared.turn_end.ActEnd.TheVariants as act_end
+use Rattle.posix_terms.specs.declared.carried.Moved.{Moved}
+use Rattle.descriptor_table.specs.Acts as acts
+use Rattle.descriptor_table.specs.Acts.{paused, stopped}
+use Rattle.descriptor_table.specs.Plans.{decided_of, decided_with, resumed_plan}
+use Rattle.descriptor_table.specs.declared.plan.Decided.{Decided}
+use Rattle.descriptor_table.specs.declared.plan.Change.TheVariants as change
+use Rattle.object_store.proofs.Doing.{moved_turn, rested_turn}
 use Rattle.posix_terms.specs.declared.call.Call.TheVariants as call
 use Rattle.posix_terms.specs.declared.call.Whence.{Whence}
 use Rattle.posix_terms.specs.declared.call.ShutdownHow.{ShutdownHow}
@@ -21,7 +30,7 @@ use Rattle.posix_terms.specs.declared.object.Side.{Side}
 use Rattle.posix_terms.specs.declared.object.Side.TheVariants.{Side0, Side1}
 use Rattle.posix_terms.specs.declared.reply.ObjectKind.TheVariants as kind
 use Rattle.sequential_object.specs.Locked.{keeps_table, locked_object}
-use Rattle.sequential_object.specs.Step.{Carried, asks, nothing_carried, step}
+use Rattle.sequential_object.specs.Step.{Carried, asks, step}
 use Rattle.posix_terms.specs.declared.reply.Answer.{Answer}
 use Rattle.posix_terms.specs.declared.reply.Reply.{Reply}
 use Rattle.posix_terms.specs.declared.reply.Reply.TheVariants as reply
@@ -50,7 +59,7 @@ use Rattle.object_store.specs.Bodies.{Kept, first_kept, keeping}
 use Rattle.object_store.specs.Patience.{Waits}
 use Rattle.object_store.specs.Acting.{acts_inside, ActsOn, HasRead, HasWritten, Seeks, Writes, WritesFile, cut_bodies, held_by, holding, moved, offset_of_key, release_reply, rewritten, start_at}
 use Rattle.object_store.specs.declared.patience.Locking.{Locking}
-use Rattle.object_store.specs.Store.{IsChange, IsDecided, EndsTurn, IsPlanned, Makes, Replies, RepliesAlways, Stands, Stored, TableMade, body_at, kept_at, locking_in}
+use Rattle.object_store.specs.Store.{IsChange, IsDecided, EndsTurn, IsPlanned, IsPlannedWith, Makes, Replies, RepliesAlways, Stands, Stored, TableMade, body_at, kept_at, locking_in}
 use Rattle.object_store.proofs.Doing.{EndsAlways, end_replies, bodies_same, bodies_set, ends_reply, made_ends, moved_ends, released_ends, rested_ends, stays_ends}
 use Rattle.object_store.proofs.Doing.Moves.{ByRead, ByWrite, BySeek}
 use Rattle.object_store.proofs.Shapes.{HasAct, planned_fits}
@@ -68,21 +77,35 @@ locking_is (plan.Node node act keep) by x is =
     subst (λ (z : Locking). ((kept : Bool) × (plan.Node node act keep ≡ plan.Node z.object z.op kept)) × (by ≡ z.change)) same ((keep, refl), refl)
 locking_is (plan.Reply r) by x is = absurd (none-some x is)
 
-pub decided_planned : (h : Stored) (c : Call) (x : Locking) → IsDecided h c x → IsPlanned h c x.object x.op
-decided_planned h c x is = (locking_is (planned h.table c) (change_of h.table c) x is).0
+pub decided_planned : (h : Stored) (c : Call) (so_far : Moved) (x : Locking) → IsDecided h c so_far x → IsPlannedWith h c so_far x.object x.op
+decided_planned h c so_far x is = (locking_is (planned h.table c so_far) (let d = decided_with h.table c so_far in d.change) x is).0
 
-pub decided_change : TableFollows → (h : Stored) (c : Call) (x : Locking) → IsSound h.table → AreSound h.table.descriptions → IsDecided h c x → IsChange h c x.change
-decided_change law h c x sound all is =
-    let its : change_of h.table c ≡ x.change = (locking_is (planned h.table c) (change_of h.table c) x is).1 in
-    (sym its, subst (CanChange h.table c) its (law.calls h.table c sound all).can)
+-- what is decided of a call changes the same, whatever it moved before
+same_change : (t : TableState) (c : Call) (so_far : Moved) → (let d = decided_with t c so_far in d.change) ≡ change_of t c
+same_change t (call.Write descriptor bytes) so_far = by_moved (so_far.bytes == 0)
+  where
+    by_plan : (r : Result Plan Errno) → change.Nothing ≡ (answered (leaves r)).change
+    by_plan (Ok p) = refl
+    by_plan (Err e) = refl
+
+    by_moved : (b : Bool) → (let d : Decided = if b then answered (decided_of t (call.Write descriptor bytes)) else record { plan = resumed_plan t descriptor so_far; change = change.Nothing } in d.change)
+        ≡ change_of t (call.Write descriptor bytes)
+    by_moved true = refl
+    by_moved false = by_plan (write_plan t descriptor (length bytes))
+same_change t c so_far = refl
+
+pub decided_change : TableFollows → (h : Stored) (c : Call) (so_far : Moved) (x : Locking) → IsSound h.table → AreSound h.table.descriptions → IsDecided h c so_far x → IsChange h c x.change
+decided_change law h c so_far x sound all is =
+    let its : change_of h.table c ≡ x.change = sym (same_change h.table c so_far) ∙ (locking_is (planned h.table c so_far) (let d = decided_with h.table c so_far in d.change) x is).1 in
+    (sym its, subst (CanChange h.table c) its (law.calls h.table c so_far sound all).can)
 
 -- so its object has a number, and what its act moves is there
-pub decided_known : TableFollows → (h : Stored) (c : Call) (x : Locking) → IsSound h.table → AreSound h.table.descriptions → IsDecided h c x
+pub decided_known : TableFollows → (h : Stored) (c : Call) (so_far : Moved) (x : Locking) → IsSound h.table → AreSound h.table.descriptions → IsDecided h c so_far x
     → IsKnownNumber h.table x.object × MovesKnown h.table (read_count c) x.op
-decided_known law h c x sound all is = subst (LocksKnown h.table (read_count c)) (decided_planned h c x is).1 (law.calls h.table c sound all).known
+decided_known law h c so_far x sound all is = subst (LocksKnown h.table (read_count c)) (decided_planned h c so_far x is).1 (law.calls h.table c so_far sound all).known
 
 pub act_of : (h : Stored) (c : Call) (node : ℕ) (act : Op) → IsPlanned h c node act → HasAct c act
-act_of h c node act (keep, is) = (planned_fits h.table c node act keep is).0
+act_of h c node act (so_far, (keep, is)) = (planned_fits h.table c so_far node act keep is).0
 
 -- ## Acts that leave the table as it was
 
@@ -127,11 +150,14 @@ unchanged t _ _ (Accepts descriptor asked waits d) of = absurd of
 still : (h : Stored) (c : Call) (node : ℕ) (act : Op) → IsPlanned h c node act → OfContent act → Changes h.table c None h.table
 still h c node act planned of = unchanged h.table c act (act_of h c node act planned) of
 
-as_is : (h new : Stored) (c : Call) (x e : Option Reply) (z : Stored) → e ≡ x → new ≡ z → EndsAlways h c x z → EndsAlways h c e new
-as_is h new c x e z answers leaves ends = subst (λ (y : Option Reply). EndsAlways h c y new) (sym answers) (subst (λ (y : Stored). EndsAlways h c x y) (sym leaves) ends)
+as_is : (h new : Stored) (c : Call) (x e : ActEnd) (z : Stored) → e ≡ x → new ≡ z → EndsAlways h c x z → EndsAlways h c e new
+as_is h new c x e z answers leaves ends = subst (λ (y : ActEnd). EndsAlways h c y new) (sym answers) (subst (λ (y : Stored). EndsAlways h c x y) (sym leaves) ends)
 
-replied_as : (h new : Stored) (c : Call) (x r : Reply) (z : Stored) → r ≡ x → new ≡ z → EndsAlways h c (Some x) z → RepliesAlways h c r new
-replied_as h new c x r z answers leaves ends = ends_reply h c r new (as_is h new c (Some x) (Some r) z (ap Some answers) leaves ends)
+as_it_is : (h new : Stored) (c : Call) (carried : Carried) (x e : ActEnd) (z : Stored) → e ≡ x → new ≡ z → EndsTurn carried h c x z → EndsTurn carried h c e new
+as_it_is h new c carried x e z answers leaves ends = subst (λ (y : ActEnd). EndsTurn carried h c y new) (sym answers) (subst (λ (y : Stored). EndsTurn carried h c x y) (sym leaves) ends)
+
+replied_as : (h new : Stored) (c : Call) (x r : Reply) (z : Stored) → r ≡ x → new ≡ z → EndsAlways h c (act_end.Reply x) z → RepliesAlways h c r new
+replied_as h new c x r z answers leaves ends = ends_reply h c r new (as_is h new c (act_end.Reply x) (act_end.Reply r) z (ap act_end.Reply answers) leaves ends)
 
 -- ## Reading
 
@@ -149,21 +175,21 @@ stream_offset t node n from (part.Socket side) k offset its =
     let own = side_of from.«end» in read_offset from (λ left. Pair (with_waiting k.pair own left)) (Pair k.pair) offset (pair_read k.pair own n (is_open t node (part.Socket (peer_of own))))
 stream_offset t node n from (part.Door door) k offset its = refl
 
-read_stream_ends : (law : TableFollows) (h new : Stored) (c : Call) (node n : ℕ) (from : Opened) (which : End) (e : Option Reply) → IsPlanned h c node (op.Read from n) → node < length h.bodies → from.«end» ≡ which → is_end which part.Only ≡ false
+read_stream_ends : (law : TableFollows) (h new : Stored) (c : Call) (node n : ℕ) (from : Opened) (which : End) (e : ActEnd) → IsPlanned h c node (op.Read from n) → node < length h.bodies → from.«end» ≡ which → is_end which part.Only ≡ false
     → ActsOn (read_acted h.table node from n (held_by which (kept_at h node)) (offset_of_key h from.key)) h node e new → EndsAlways h c e new
 read_stream_ends law h new c node n from which e planned inside through its (answers, leaves) =
     let done = read_acted h.table node from n (held_by which (kept_at h node)) (offset_of_key h from.key) in
     as_is h new c e e _ refl leaves
-    (rested_ends law h c node (op.Read from n) from.key (slice_set h.bodies node (keeping done.content (kept_at h node))) done e (ByRead from n) tt planned (still h c node (op.Read from n) planned tt)
-    (λ given. ap (λ (x : End). read_acted h.table node from n (held_by x (kept_at h node)) (offset_of_key h from.key)) through)
+    (rested_ends law h c node (op.Read from n) from.key (slice_set h.bodies node (keeping done.content (kept_at h node))) done e (ByRead from n) tt tt planned (still h c node (op.Read from n) planned tt)
+    (λ before given. ap (λ (x : End). read_acted h.table node from n (held_by x (kept_at h node)) (offset_of_key h from.key)) through)
     (stream_offset h.table node n from which (kept_at h node) (offset_of_key h from.key) its) answers (bodies_set h node done.content inside))
 
-read_by : (law : TableFollows) (h new : Stored) (c : Call) (node n : ℕ) (from : Opened) (which : End) (e : Option Reply) → IsPlanned h c node (op.Read from n) → node < length h.bodies → from.«end» ≡ which → HasRead which h node from n e new → EndsAlways h c e new
+read_by : (law : TableFollows) (h new : Stored) (c : Call) (node n : ℕ) (from : Opened) (which : End) (e : ActEnd) → IsPlanned h c node (op.Read from n) → node < length h.bodies → from.«end» ≡ which → HasRead which h node from n e new → EndsAlways h c e new
 read_by law h new c node n from part.Only e planned inside through (answers, leaves) =
     let done = read_acted h.table node from n (File (body_at h node)) (offset_of_key h from.key) in
     as_is h new c _ e _ answers leaves
-    (moved_ends law h c node (op.Read from n) from.key h.bodies done (Some (reply.Data (bytes_at (body_at h node) (offset_of_key h from.key) n))) (ByRead from n) tt planned (still h c node (op.Read from n) planned tt)
-    (λ given. ap (λ (x : End). read_acted h.table node from n (held_by x (kept_at h node)) (offset_of_key h from.key)) through) refl (bodies_same h node done.content refl))
+    (moved_ends law h c node (op.Read from n) from.key h.bodies done (act_end.Reply (reply.Data (bytes_at (body_at h node) (offset_of_key h from.key) n))) (ByRead from n) tt tt planned (still h c node (op.Read from n) planned tt)
+    (λ before given. ap (λ (x : End). read_acted h.table node from n (held_by x (kept_at h node)) (offset_of_key h from.key)) through) refl (bodies_same h node done.content refl))
 read_by law h new c node n from part.Read e planned inside through acts_on = read_stream_ends law h new c node n from part.Read e planned inside through refl acts_on
 read_by law h new c node n from part.Write e planned inside through acts_on = read_stream_ends law h new c node n from part.Write e planned inside through refl acts_on
 read_by law h new c node n from (part.Socket Side0) e planned inside through acts_on = read_stream_ends law h new c node n from (part.Socket Side0) e planned inside through refl acts_on
@@ -171,35 +197,35 @@ read_by law h new c node n from (part.Socket Side1) e planned inside through act
 read_by law h new c node n from (part.Door door) e planned inside through (answers, leaves) =
     let done = read_acted h.table node from n (DoorTo door) (offset_of_key h from.key) in
     as_is h new c _ e _ answers leaves
-    (rested_ends law h c node (op.Read from n) from.key h.bodies done (Some reply.Done) (ByRead from n) tt planned (still h c node (op.Read from n) planned tt)
-    (λ given. ap (λ (x : End). read_acted h.table node from n (held_by x (kept_at h node)) (offset_of_key h from.key)) through) refl refl (bodies_same h node done.content refl))
+    (rested_ends law h c node (op.Read from n) from.key h.bodies done (act_end.Reply reply.Done) (ByRead from n) tt tt planned (still h c node (op.Read from n) planned tt)
+    (λ before given. ap (λ (x : End). read_acted h.table node from n (held_by x (kept_at h node)) (offset_of_key h from.key)) through) refl refl (bodies_same h node done.content refl))
 
-pub read_ends : (law : TableFollows) (h new : Stored) (c : Call) (node n : ℕ) (from : Opened) (e : Option Reply) → IsPlanned h c node (op.Read from n) → node < length h.bodies → HasRead from.«end» h node from n e new → EndsAlways h c e new
+pub read_ends : (law : TableFollows) (h new : Stored) (c : Call) (node n : ℕ) (from : Opened) (e : ActEnd) → IsPlanned h c node (op.Read from n) → node < length h.bodies → HasRead from.«end» h node from n e new → EndsAlways h c e new
 read_ends law h new c node n from e planned inside has = read_by law h new c node n from from.«end» e planned inside refl has
 
-pub pread_ends : (law : TableFollows) (h : Stored) (c : Call) (node n start : ℕ) (r : Reply) → IsPlanned h c node (op.Pread n start) → r ≡ reply.Data (bytes_at (body_at h node) start n) → EndsAlways h c (Some r) h
+pub pread_ends : (law : TableFollows) (h : Stored) (c : Call) (node n start : ℕ) (r : Reply) → IsPlanned h c node (op.Pread n start) → r ≡ reply.Data (bytes_at (body_at h node) start n) → EndsAlways h c (act_end.Reply r) h
 pread_ends law h c node n start r planned answers =
-    let done = acted h.table node (op.Pread n start) c None numbers.None (File (body_at h node)) 0 in
+    let done = acted h.table node (op.Pread n start) c 0 None numbers.None (File (body_at h node)) 0 in
     let x = reply.Data (bytes_at (body_at h node) start n) in
-    as_is h h c (Some x) (Some r) h (ap Some answers) refl (stays_ends law h c node (op.Pread n start) h.bodies done (Some x) tt tt planned (still h c node (op.Pread n start) planned tt) (λ given. refl) refl (bodies_same h node done.content refl))
+    as_is h h c (act_end.Reply x) (act_end.Reply r) h (ap act_end.Reply answers) refl (stays_ends law h c node (op.Pread n start) h.bodies done (act_end.Reply x) tt tt planned (still h c node (op.Pread n start) planned tt) (λ before given. refl) refl (bodies_same h node done.content refl))
 
 pub fstat_makes : (law : TableFollows) (h : Stored) (c : Call) (node links : ℕ) (r : Reply) → IsPlanned h c node (op.Fstat links) → r ≡ reply.Stat kind.File (length (body_at h node)) links → RepliesAlways h c r h
 fstat_makes law h c node links r planned answers =
-    let done = acted h.table node (op.Fstat links) c None numbers.None (File (body_at h node)) 0 in
+    let done = acted h.table node (op.Fstat links) c 0 None numbers.None (File (body_at h node)) 0 in
     let x = reply.Stat kind.File (length (body_at h node)) links in
-    replied_as h h c x r h answers refl (stays_ends law h c node (op.Fstat links) h.bodies done (Some x) tt tt planned (still h c node (op.Fstat links) planned tt) (λ given. refl) refl (bodies_same h node done.content refl))
+    replied_as h h c x r h answers refl (stays_ends law h c node (op.Fstat links) h.bodies done (act_end.Reply x) tt tt planned (still h c node (op.Fstat links) planned tt) (λ before given. refl) refl (bodies_same h node done.content refl))
 
 pub ftruncate_makes : (law : TableFollows) (h new : Stored) (c : Call) (node size : ℕ) (r : Reply) → IsPlanned h c node (op.Ftruncate size) → node < length h.bodies → r ≡ reply.Done → new ≡ rewritten h node (resized (body_at h node) size) → RepliesAlways h c r new
 ftruncate_makes law h new c node size r planned inside answers leaves =
-    let done = acted h.table node (op.Ftruncate size) c None numbers.None (File (body_at h node)) 0 in
+    let done = acted h.table node (op.Ftruncate size) c 0 None numbers.None (File (body_at h node)) 0 in
     replied_as h new c reply.Done r _ answers leaves
-    (stays_ends law h c node (op.Ftruncate size) (slice_set h.bodies node (keeping done.content (kept_at h node))) done (Some reply.Done) tt tt planned (still h c node (op.Ftruncate size) planned tt) (λ given. refl) refl (bodies_set h node done.content inside))
+    (stays_ends law h c node (op.Ftruncate size) (slice_set h.bodies node (keeping done.content (kept_at h node))) done (act_end.Reply reply.Done) tt tt planned (still h c node (op.Ftruncate size) planned tt) (λ before given. refl) refl (bodies_set h node done.content inside))
 
 pub shutdown_makes : (law : TableFollows) (h new : Stored) (c : Call) (node : ℕ) (side : Side) (how : ShutdownHow) (r : Reply) → IsPlanned h c node (op.Shutdown side how) → node < length h.bodies → r ≡ reply.Done → new ≡ holding h node (Pair (shut (kept_at h node).pair side how)) → RepliesAlways h c r new
 shutdown_makes law h new c node side how r planned inside answers leaves =
-    let done = acted h.table node (op.Shutdown side how) c None numbers.None (Pair (kept_at h node).pair) 0 in
+    let done = acted h.table node (op.Shutdown side how) c 0 None numbers.None (Pair (kept_at h node).pair) 0 in
     replied_as h new c reply.Done r _ answers leaves
-    (stays_ends law h c node (op.Shutdown side how) (slice_set h.bodies node (keeping done.content (kept_at h node))) done (Some reply.Done) tt tt planned (still h c node (op.Shutdown side how) planned tt) (λ given. refl) refl (bodies_set h node done.content inside))
+    (stays_ends law h c node (op.Shutdown side how) (slice_set h.bodies node (keeping done.content (kept_at h node))) done (act_end.Reply reply.Done) tt tt planned (still h c node (op.Shutdown side how) planned tt) (λ before given. refl) refl (bodies_set h node done.content inside))
 
 -- ## Writing
 
@@ -211,9 +237,9 @@ MakesNone old new =
 same_makes_none : (old new same : Stored) → new ≡ same → MakesNone old same → MakesNone old new
 same_makes_none old new same is none = subst (MakesNone old) (sym is) none
 
-pub write_makes_none : (which : End) (old new : Stored) (node : ℕ) (to : Opened) (bytes : List ℕ) (e : Option Reply)
-    → HasWritten which old node to bytes e new → MakesNone old new
-write_makes_none part.Only old new node to bytes e h = by_length (length bytes == 0) h.0 h.2
+pub write_makes_none : (which : End) (old new : Stored) (node : ℕ) (to : Opened) (bytes : List ℕ) (before : ℕ) (e : ActEnd)
+    → HasWritten which old node to bytes before e new → MakesNone old new
+write_makes_none part.Only old new node to bytes before e h = by_length (length bytes == 0) h.0 h.2
   where
     start : ℕ
     start = start_at old to node
@@ -226,90 +252,99 @@ write_makes_none part.Only old new node to bytes e h = by_length (length bytes =
     by_length : (b : Bool) (r : Reply) → WritesFile b old node to bytes r new → MakesNone old new
     by_length true r h = same_makes_none old new old h.1 (refl, refl)
     by_length false r h = by_result (written (body_at old node) start bytes) r h
-write_makes_none part.Read old new node to bytes e h = same_makes_none old new _ h.1 (refl, refl)
-write_makes_none part.Write old new node to bytes e h = same_makes_none old new _ h.1 (refl, refl)
-write_makes_none (part.Socket side) old new node to bytes e h = same_makes_none old new _ h.1 (refl, refl)
-write_makes_none (part.Door door) old new node to bytes e h = same_makes_none old new old h.1 (refl, refl)
+write_makes_none part.Read old new node to bytes before e h = same_makes_none old new _ h.1 (refl, refl)
+write_makes_none part.Write old new node to bytes before e h = same_makes_none old new _ h.1 (refl, refl)
+write_makes_none (part.Socket side) old new node to bytes before e h = same_makes_none old new _ h.1 (refl, refl)
+write_makes_none (part.Door door) old new node to bytes before e h = same_makes_none old new old h.1 (refl, refl)
 
 written_offset : (to : Opened) (holds : List ℕ → Content) (content : Content) (offset count : ℕ) (w : Writing) → (let done : Acted = has_written to holds content offset count w in done.offset) ≡ offset
 written_offset to holds content offset count (stream.Writes left) = refl
 written_offset to holds content offset count stream.Breaks = refl
 written_offset to holds content offset count stream.NoRoom = refl
 
-stream_written_offset : (t : TableState) (node : ℕ) (to : Opened) (bytes : List ℕ) (which : End) (k : Kept) (offset : ℕ) → is_end which part.Only ≡ false → (let done : Acted = write_acted t node to bytes (held_by which k) offset in done.offset) ≡ offset
-stream_written_offset t node to bytes part.Only k offset its = absurd (true≢false its)
-stream_written_offset t node to bytes part.Read k offset its = written_offset to Pipe (Pipe k.pipe) offset (length bytes) (pipe_write k.pipe bytes true (is_open t node part.Read))
-stream_written_offset t node to bytes part.Write k offset its = written_offset to Pipe (Pipe k.pipe) offset (length bytes) (pipe_write k.pipe bytes true (is_open t node part.Read))
-stream_written_offset t node to bytes (part.Socket side) k offset its =
+pipe_written_offset : (to : Opened) (birth all before now : ℕ) (waiting : List ℕ) (offset : ℕ) (x : Writing) → (let done : Acted = acts.pipe_written to birth all before now waiting offset x in done.offset) ≡ offset
+pipe_written_offset to birth all before now waiting offset (stream.Writes left) = refl
+pipe_written_offset to birth all before now waiting offset stream.Breaks = refl
+pipe_written_offset to birth all before now waiting offset stream.NoRoom = by_none (before == 0)
+  where
+    by_none : (b : Bool) → (let done : Acted = if b then stopped to (Pipe waiting) offset else record { ending = paused to birth before; content = Pipe waiting; offset = offset } in done.offset) ≡ offset
+    by_none true = refl
+    by_none false = refl
+
+stream_written_offset : (t : TableState) (node : ℕ) (to : Opened) (bytes : List ℕ) (before : ℕ) (which : End) (k : Kept) (offset : ℕ) → is_end which part.Only ≡ false → (let done : Acted = write_acted t node to bytes before (held_by which k) offset in done.offset) ≡ offset
+stream_written_offset t node to bytes before part.Only k offset its = absurd (true≢false its)
+stream_written_offset t node to bytes before part.Read k offset its = pipe_written_offset to _ _ before _ k.pipe offset _
+stream_written_offset t node to bytes before part.Write k offset its = pipe_written_offset to _ _ before _ k.pipe offset _
+stream_written_offset t node to bytes before (part.Socket side) k offset its =
     let own = side_of to.«end» in written_offset to (λ left. Pair (with_waiting k.pair (peer_of own) left)) (Pair k.pair) offset (length bytes) (pair_write k.pair own bytes (is_open t node (part.Socket (peer_of own))))
-stream_written_offset t node to bytes (part.Door door) k offset its = refl
+stream_written_offset t node to bytes before (part.Door door) k offset its = refl
 
-write_acts : (h : Stored) (c : Call) (descriptor : ℤ) (bytes : List ℕ) (node : ℕ) (to : Opened) (which : End) (given : NewNumbers) → c ≡ call.Write descriptor bytes → to.«end» ≡ which
-    → acted h.table node (op.Write to) c None given (held_by to.«end» (kept_at h node)) (offset_of_key h to.key) ≡ write_acted h.table node to bytes (held_by which (kept_at h node)) (offset_of_key h to.key)
-write_acts h c descriptor bytes node to which given call_is through =
-    ap (λ (x : Call). acted h.table node (op.Write to) x None given (held_by to.«end» (kept_at h node)) (offset_of_key h to.key)) call_is
-    ∙ ap (λ (x : End). write_acted h.table node to bytes (held_by x (kept_at h node)) (offset_of_key h to.key)) through
+write_acts : (h : Stored) (c : Call) (descriptor : ℤ) (bytes : List ℕ) (node : ℕ) (to : Opened) (before : ℕ) (which : End) (given : NewNumbers) → c ≡ call.Write descriptor bytes → to.«end» ≡ which
+    → acted h.table node (op.Write to) c before None given (held_by to.«end» (kept_at h node)) (offset_of_key h to.key) ≡ write_acted h.table node to bytes before (held_by which (kept_at h node)) (offset_of_key h to.key)
+write_acts h c descriptor bytes node to before which given call_is through =
+    ap (λ (x : Call). acted h.table node (op.Write to) x before None given (held_by to.«end» (kept_at h node)) (offset_of_key h to.key)) call_is
+    ∙ ap (λ (x : End). write_acted h.table node to bytes before (held_by x (kept_at h node)) (offset_of_key h to.key)) through
 
-write_stream_ends : (law : TableFollows) (h new : Stored) (c : Call) (descriptor : ℤ) (bytes : List ℕ) (node : ℕ) (to : Opened) (which : End) (e : Option Reply) → IsPlanned h c node (op.Write to) → c ≡ call.Write descriptor bytes → node < length h.bodies → to.«end» ≡ which → is_end which part.Only ≡ false
-    → ActsOn (write_acted h.table node to bytes (held_by which (kept_at h node)) (offset_of_key h to.key)) h node e new → EndsAlways h c e new
-write_stream_ends law h new c descriptor bytes node to which e planned call_is inside through its (answers, leaves) =
-    let done = write_acted h.table node to bytes (held_by which (kept_at h node)) (offset_of_key h to.key) in
-    as_is h new c e e _ refl leaves
-    (rested_ends law h c node (op.Write to) to.key (slice_set h.bodies node (keeping done.content (kept_at h node))) done e (ByWrite to) tt planned (still h c node (op.Write to) planned tt) (λ given. write_acts h c descriptor bytes node to which given call_is through)
-    (stream_written_offset h.table node to bytes which (kept_at h node) (offset_of_key h to.key) its) answers (bodies_set h node done.content inside))
+write_stream_ends : (law : TableFollows) (h new : Stored) (c : Call) (carried : Carried) (descriptor : ℤ) (bytes : List ℕ) (node : ℕ) (to : Opened) (which : End) (e : ActEnd) → IsPlannedWith h c carried.moved node (op.Write to) → c ≡ call.Write descriptor bytes → node < length h.bodies → to.«end» ≡ which → is_end which part.Only ≡ false
+    → ActsOn (write_acted h.table node to bytes carried.moved.bytes (held_by which (kept_at h node)) (offset_of_key h to.key)) h node e new → EndsTurn carried h c e new
+write_stream_ends law h new c carried descriptor bytes node to which e planned call_is inside through its (answers, leaves) =
+    let done = write_acted h.table node to bytes carried.moved.bytes (held_by which (kept_at h node)) (offset_of_key h to.key) in
+    as_it_is h new c carried e e _ refl leaves
+    (rested_turn law h c carried node (op.Write to) to.key (slice_set h.bodies node (keeping done.content (kept_at h node))) done e (ByWrite to) tt planned (still h c node (op.Write to) (carried.moved, planned) tt) (λ given. write_acts h c descriptor bytes node to carried.moved.bytes which given call_is through)
+    (stream_written_offset h.table node to bytes carried.moved.bytes which (kept_at h node) (offset_of_key h to.key) its) answers (bodies_set h node done.content inside))
 
 -- to a file
-write_none_ends : (law : TableFollows) (h : Stored) (c : Call) (descriptor : ℤ) (bytes : List ℕ) (node : ℕ) (to : Opened) → IsPlanned h c node (op.Write to) → c ≡ call.Write descriptor bytes → to.«end» ≡ part.Only → (length bytes == 0) ≡ true → EndsAlways h c (Some (reply.Count 0)) h
-write_none_ends law h c descriptor bytes node to planned call_is through none =
+write_none_ends : (law : TableFollows) (h : Stored) (c : Call) (carried : Carried) (descriptor : ℤ) (bytes : List ℕ) (node : ℕ) (to : Opened) → IsPlannedWith h c carried.moved node (op.Write to) → c ≡ call.Write descriptor bytes → to.«end» ≡ part.Only → (length bytes == 0) ≡ true → EndsTurn carried h c (act_end.Reply (reply.Count 0)) h
+write_none_ends law h c carried descriptor bytes node to planned call_is through none =
     let done : Acted = replied (reply.Count 0) (File (body_at h node)) (offset_of_key h to.key) in
-    rested_ends law h c node (op.Write to) to.key h.bodies done (Some (reply.Count 0)) (ByWrite to) tt planned (still h c node (op.Write to) planned tt) (λ given. write_acts h c descriptor bytes node to part.Only given call_is through ∙ rw none refl) refl refl (bodies_same h node done.content refl)
+    rested_turn law h c carried node (op.Write to) to.key h.bodies done (act_end.Reply (reply.Count 0)) (ByWrite to) tt planned (still h c node (op.Write to) (carried.moved, planned) tt) (λ given. write_acts h c descriptor bytes node to carried.moved.bytes part.Only given call_is through ∙ rw none refl) refl refl (bodies_same h node done.content refl)
 
-write_some_ends : (law : TableFollows) (h new : Stored) (c : Call) (descriptor : ℤ) (bytes : List ℕ) (node : ℕ) (to : Opened) (r : Reply) (w : Result (List ℕ × ℕ) Errno) → IsPlanned h c node (op.Write to) → c ≡ call.Write descriptor bytes → to.«end» ≡ part.Only → (length bytes == 0) ≡ false → node < length h.bodies
-    → written (body_at h node) (start_at h to node) bytes ≡ w → Writes w h (λ count. moved h to.key (start_at h to node + count)) node r new → EndsAlways h c (Some r) new
-write_some_ends law h new c descriptor bytes node to r (Ok (file, count)) planned call_is through some inside is (answers, leaves) =
+write_some_ends : (law : TableFollows) (h new : Stored) (c : Call) (carried : Carried) (descriptor : ℤ) (bytes : List ℕ) (node : ℕ) (to : Opened) (r : Reply) (w : Result (List ℕ × ℕ) Errno) → IsPlannedWith h c carried.moved node (op.Write to) → c ≡ call.Write descriptor bytes → to.«end» ≡ part.Only → (length bytes == 0) ≡ false → node < length h.bodies
+    → written (body_at h node) (start_at h to node) bytes ≡ w → Writes w h (λ count. moved h to.key (start_at h to node + count)) node r new → EndsTurn carried h c (act_end.Reply r) new
+write_some_ends law h new c carried descriptor bytes node to r (Ok (file, count)) planned call_is through some inside is (answers, leaves) =
     let done : Acted = replied (reply.Count count) (File file) (start_at h to node + count) in
-    as_is h new c (Some (reply.Count count)) (Some r) _ (ap Some answers) leaves
-    (moved_ends law h c node (op.Write to) to.key (slice_set h.bodies node (keeping done.content (kept_at h node))) done (Some (reply.Count count)) (ByWrite to) tt planned (still h c node (op.Write to) planned tt)
-    (λ given. write_acts h c descriptor bytes node to part.Only given call_is through ∙ rw (is, some) refl) refl (bodies_set h node done.content inside))
-write_some_ends law h new c descriptor bytes node to r (Err e) planned call_is through some inside is (answers, leaves) =
+    as_it_is h new c carried (act_end.Reply (reply.Count count)) (act_end.Reply r) _ (ap act_end.Reply answers) leaves
+    (moved_turn law h c carried node (op.Write to) to.key (slice_set h.bodies node (keeping done.content (kept_at h node))) done (act_end.Reply (reply.Count count)) (ByWrite to) tt planned (still h c node (op.Write to) (carried.moved, planned) tt)
+    (λ given. write_acts h c descriptor bytes node to carried.moved.bytes part.Only given call_is through ∙ rw (is, some) refl) refl (bodies_set h node done.content inside))
+write_some_ends law h new c carried descriptor bytes node to r (Err e) planned call_is through some inside is (answers, leaves) =
     let done : Acted = replied (reply.Fail e) (File (body_at h node)) (offset_of_key h to.key) in
-    as_is h new c (Some (reply.Fail e)) (Some r) h (ap Some answers) leaves
-    (rested_ends law h c node (op.Write to) to.key h.bodies done (Some (reply.Fail e)) (ByWrite to) tt planned (still h c node (op.Write to) planned tt)
-    (λ given. write_acts h c descriptor bytes node to part.Only given call_is through ∙ rw (is, some) refl) refl refl (bodies_same h node done.content refl))
+    as_it_is h new c carried (act_end.Reply (reply.Fail e)) (act_end.Reply r) h (ap act_end.Reply answers) leaves
+    (rested_turn law h c carried node (op.Write to) to.key h.bodies done (act_end.Reply (reply.Fail e)) (ByWrite to) tt planned (still h c node (op.Write to) (carried.moved, planned) tt)
+    (λ given. write_acts h c descriptor bytes node to carried.moved.bytes part.Only given call_is through ∙ rw (is, some) refl) refl refl (bodies_same h node done.content refl))
 
-write_file_ends : (law : TableFollows) (h new : Stored) (c : Call) (descriptor : ℤ) (bytes : List ℕ) (node : ℕ) (to : Opened) (r : Reply) (b : Bool) → IsPlanned h c node (op.Write to) → c ≡ call.Write descriptor bytes → to.«end» ≡ part.Only → (length bytes == 0) ≡ b → node < length h.bodies → WritesFile b h node to bytes r new → EndsAlways h c (Some r) new
-write_file_ends law h new c descriptor bytes node to r true planned call_is through none inside (answers, leaves) = as_is h new c (Some (reply.Count 0)) (Some r) h (ap Some answers) leaves (write_none_ends law h c descriptor bytes node to planned call_is through none)
-write_file_ends law h new c descriptor bytes node to r false planned call_is through some inside writes = write_some_ends law h new c descriptor bytes node to r (written (body_at h node) (start_at h to node) bytes) planned call_is through some inside refl writes
+write_file_ends : (law : TableFollows) (h new : Stored) (c : Call) (carried : Carried) (descriptor : ℤ) (bytes : List ℕ) (node : ℕ) (to : Opened) (r : Reply) (b : Bool) → IsPlannedWith h c carried.moved node (op.Write to) → c ≡ call.Write descriptor bytes → to.«end» ≡ part.Only → (length bytes == 0) ≡ b → node < length h.bodies → WritesFile b h node to bytes r new → EndsTurn carried h c (act_end.Reply r) new
+write_file_ends law h new c carried descriptor bytes node to r true planned call_is through none inside (answers, leaves) = as_it_is h new c carried (act_end.Reply (reply.Count 0)) (act_end.Reply r) h (ap act_end.Reply answers) leaves (write_none_ends law h c carried descriptor bytes node to planned call_is through none)
+write_file_ends law h new c carried descriptor bytes node to r false planned call_is through some inside writes = write_some_ends law h new c carried descriptor bytes node to r (written (body_at h node) (start_at h to node) bytes) planned call_is through some inside refl writes
 
-write_by : (law : TableFollows) (h new : Stored) (c : Call) (descriptor : ℤ) (bytes : List ℕ) (node : ℕ) (to : Opened) (which : End) (e : Option Reply) → IsPlanned h c node (op.Write to) → c ≡ call.Write descriptor bytes → node < length h.bodies → to.«end» ≡ which → HasWritten which h node to bytes e new → EndsAlways h c e new
-write_by law h new c descriptor bytes node to part.Only e planned call_is inside through (r, is, writes) = as_is h new c (Some r) e new is refl (write_file_ends law h new c descriptor bytes node to r (length bytes == 0) planned call_is through refl inside writes)
-write_by law h new c descriptor bytes node to part.Read e planned call_is inside through acts_on = write_stream_ends law h new c descriptor bytes node to part.Read e planned call_is inside through refl acts_on
-write_by law h new c descriptor bytes node to part.Write e planned call_is inside through acts_on = write_stream_ends law h new c descriptor bytes node to part.Write e planned call_is inside through refl acts_on
-write_by law h new c descriptor bytes node to (part.Socket Side0) e planned call_is inside through acts_on = write_stream_ends law h new c descriptor bytes node to (part.Socket Side0) e planned call_is inside through refl acts_on
-write_by law h new c descriptor bytes node to (part.Socket Side1) e planned call_is inside through acts_on = write_stream_ends law h new c descriptor bytes node to (part.Socket Side1) e planned call_is inside through refl acts_on
-write_by law h new c descriptor bytes node to (part.Door door) e planned call_is inside through (answers, leaves) =
-    let done = write_acted h.table node to bytes (DoorTo door) (offset_of_key h to.key) in
-    as_is h new c _ e _ answers leaves
-    (rested_ends law h c node (op.Write to) to.key h.bodies done (Some reply.Done) (ByWrite to) tt planned (still h c node (op.Write to) planned tt) (λ given. write_acts h c descriptor bytes node to (part.Door door) given call_is through) refl refl (bodies_same h node done.content refl))
+write_by : (law : TableFollows) (h new : Stored) (c : Call) (carried : Carried) (descriptor : ℤ) (bytes : List ℕ) (node : ℕ) (to : Opened) (which : End) (e : ActEnd) → IsPlannedWith h c carried.moved node (op.Write to) → c ≡ call.Write descriptor bytes → node < length h.bodies → to.«end» ≡ which → HasWritten which h node to bytes carried.moved.bytes e new → EndsTurn carried h c e new
+write_by law h new c carried descriptor bytes node to part.Only e planned call_is inside through (r, is, writes) = as_it_is h new c carried (act_end.Reply r) e new is refl (write_file_ends law h new c carried descriptor bytes node to r (length bytes == 0) planned call_is through refl inside writes)
+write_by law h new c carried descriptor bytes node to part.Read e planned call_is inside through acts_on = write_stream_ends law h new c carried descriptor bytes node to part.Read e planned call_is inside through refl acts_on
+write_by law h new c carried descriptor bytes node to part.Write e planned call_is inside through acts_on = write_stream_ends law h new c carried descriptor bytes node to part.Write e planned call_is inside through refl acts_on
+write_by law h new c carried descriptor bytes node to (part.Socket Side0) e planned call_is inside through acts_on = write_stream_ends law h new c carried descriptor bytes node to (part.Socket Side0) e planned call_is inside through refl acts_on
+write_by law h new c carried descriptor bytes node to (part.Socket Side1) e planned call_is inside through acts_on = write_stream_ends law h new c carried descriptor bytes node to (part.Socket Side1) e planned call_is inside through refl acts_on
+write_by law h new c carried descriptor bytes node to (part.Door door) e planned call_is inside through (answers, leaves) =
+    let done = write_acted h.table node to bytes carried.moved.bytes (DoorTo door) (offset_of_key h to.key) in
+    as_it_is h new c carried _ e _ answers leaves
+    (rested_turn law h c carried node (op.Write to) to.key h.bodies done (act_end.Reply reply.Done) (ByWrite to) tt planned (still h c node (op.Write to) (carried.moved, planned) tt) (λ given. write_acts h c descriptor bytes node to carried.moved.bytes (part.Door door) given call_is through) refl refl (bodies_same h node done.content refl))
 
-pub write_ends : (law : TableFollows) (h new : Stored) (c : Call) (descriptor : ℤ) (bytes : List ℕ) (node : ℕ) (to : Opened) (e : Option Reply) → IsPlanned h c node (op.Write to) → c ≡ call.Write descriptor bytes → node < length h.bodies → HasWritten to.«end» h node to bytes e new → EndsAlways h c e new
-write_ends law h new c descriptor bytes node to e planned call_is inside has = write_by law h new c descriptor bytes node to to.«end» e planned call_is inside refl has
+pub write_ends : (law : TableFollows) (h new : Stored) (c : Call) (carried : Carried) (descriptor : ℤ) (bytes : List ℕ) (node : ℕ) (to : Opened) (e : ActEnd) → IsPlannedWith h c carried.moved node (op.Write to) → c ≡ call.Write descriptor bytes → node < length h.bodies → HasWritten to.«end» h node to bytes carried.moved.bytes e new → EndsTurn carried h c e new
+write_ends law h new c carried descriptor bytes node to e planned call_is inside has = write_by law h new c carried descriptor bytes node to to.«end» e planned call_is inside refl has
 
 pub pwrite_none_makes : (law : TableFollows) (h : Stored) (c : Call) (descriptor : ℤ) (bytes : List ℕ) (position : ℤ) (node start : ℕ) → IsPlanned h c node (op.Pwrite start) → c ≡ call.Pwrite descriptor bytes position → (length bytes == 0) ≡ true → RepliesAlways h c (reply.Count 0) h
 pwrite_none_makes law h c descriptor bytes position node start planned call_is none =
     let done : Acted = replied (reply.Count 0) (File (body_at h node)) 0 in
-    ends_reply h c (reply.Count 0) h (stays_ends law h c node (op.Pwrite start) h.bodies done (Some (reply.Count 0)) tt tt planned (still h c node (op.Pwrite start) planned tt) (λ given. rw (call_is, none) refl) refl (bodies_same h node done.content refl))
+    ends_reply h c (reply.Count 0) h (stays_ends law h c node (op.Pwrite start) h.bodies done (act_end.Reply (reply.Count 0)) tt tt planned (still h c node (op.Pwrite start) planned tt) (λ before given. rw (call_is, none) refl) refl (bodies_same h node done.content refl))
 
 pwrite_by : (law : TableFollows) (h new : Stored) (c : Call) (descriptor : ℤ) (bytes : List ℕ) (position : ℤ) (node start : ℕ) (r : Reply) (w : Result (List ℕ × ℕ) Errno) → IsPlanned h c node (op.Pwrite start) → c ≡ call.Pwrite descriptor bytes position → (length bytes == 0) ≡ false → node < length h.bodies
     → written (body_at h node) start bytes ≡ w → Writes w h (λ count. h) node r new → RepliesAlways h c r new
 pwrite_by law h new c descriptor bytes position node start r (Ok (file, count)) planned call_is some inside is (answers, leaves) =
     let done : Acted = replied (reply.Count count) (File file) 0 in
     replied_as h new c (reply.Count count) r _ answers leaves
-    (stays_ends law h c node (op.Pwrite start) (slice_set h.bodies node (keeping done.content (kept_at h node))) done (Some (reply.Count count)) tt tt planned (still h c node (op.Pwrite start) planned tt) (λ given. rw (call_is, is, some) refl) refl (bodies_set h node done.content inside))
+    (stays_ends law h c node (op.Pwrite start) (slice_set h.bodies node (keeping done.content (kept_at h node))) done (act_end.Reply (reply.Count count)) tt tt planned (still h c node (op.Pwrite start) planned tt) (λ before given. rw (call_is, is, some) refl) refl (bodies_set h node done.content inside))
 pwrite_by law h new c descriptor bytes position node start r (Err e) planned call_is some inside is (answers, leaves) =
     let done : Acted = replied (reply.Fail e) (File (body_at h node)) 0 in
     replied_as h new c (reply.Fail e) r h answers leaves
-    (stays_ends law h c node (op.Pwrite start) h.bodies done (Some (reply.Fail e)) tt tt planned (still h c node (op.Pwrite start) planned tt) (λ given. rw (call_is, is, some) refl) refl (bodies_same h node done.content refl))
+    (stays_ends law h c node (op.Pwrite start) h.bodies done (act_end.Reply (reply.Fail e)) tt tt planned (still h c node (op.Pwrite start) planned tt) (λ before given. rw (call_is, is, some) refl) refl (bodies_same h node done.content refl))
 
 pub pwrite_makes : (law : TableFollows) (h new : Stored) (c : Call) (descriptor : ℤ) (bytes : List ℕ) (position : ℤ) (node start : ℕ) (r : Reply) → IsPlanned h c node (op.Pwrite start) → c ≡ call.Pwrite descriptor bytes position → (length bytes == 0) ≡ false → node < length h.bodies
     → Writes (written (body_at h node) start bytes) h (λ count. h) node r new → RepliesAlways h c r new
@@ -322,11 +357,11 @@ seek_by : (law : TableFollows) (h new : Stored) (c : Call) (descriptor offset : 
 seek_by law h new c descriptor offset whence node from r (Ok to) planned call_is is (answers, leaves) =
     let done : Acted = replied (reply.Number (pos to)) (File (body_at h node)) to in
     replied_as h new c (reply.Number (pos to)) r _ answers leaves
-    (moved_ends law h c node (op.Lseek from) from.key h.bodies done (Some (reply.Number (pos to))) (BySeek from) tt planned (still h c node (op.Lseek from) planned tt) (λ given. rw (call_is, is) refl) refl (bodies_same h node done.content refl))
+    (moved_ends law h c node (op.Lseek from) from.key h.bodies done (act_end.Reply (reply.Number (pos to))) (BySeek from) tt tt planned (still h c node (op.Lseek from) planned tt) (λ before given. rw (call_is, is) refl) refl (bodies_same h node done.content refl))
 seek_by law h new c descriptor offset whence node from r (Err e) planned call_is is (answers, leaves) =
     let done : Acted = replied (reply.Fail e) (File (body_at h node)) (offset_of_key h from.key) in
     replied_as h new c (reply.Fail e) r h answers leaves
-    (rested_ends law h c node (op.Lseek from) from.key h.bodies done (Some (reply.Fail e)) (BySeek from) tt planned (still h c node (op.Lseek from) planned tt) (λ given. rw (call_is, is) refl) refl refl (bodies_same h node done.content refl))
+    (rested_ends law h c node (op.Lseek from) from.key h.bodies done (act_end.Reply (reply.Fail e)) (BySeek from) tt tt planned (still h c node (op.Lseek from) planned tt) (λ before given. rw (call_is, is) refl) refl refl (bodies_same h node done.content refl))
 
 pub lseek_makes : (law : TableFollows) (h new : Stored) (c : Call) (descriptor offset : ℤ) (whence : Whence) (node : ℕ) (from : Opened) (r : Reply) → IsPlanned h c node (op.Lseek from) → c ≡ call.Lseek descriptor offset whence
     → Seeks (offset_of (pos (base_of whence (offset_of_key h from.key) (length (body_at h node))) +ℤ offset)) h from.key r new → RepliesAlways h c r new
@@ -335,14 +370,14 @@ lseek_makes law h new c descriptor offset whence node from r planned call_is see
 
 -- ## Opening and releasing
 
-released_done : (t : TableState) (node : ℕ) (c : Call) (given : NewNumbers) (content : Content) → HasAct c op.Release → let done : Acted = acted t node op.Release c None given content 0 in (done.ending ≡ Some (release_reply c)) × (done.content ≡ content)
-released_done t node _ given content (Closes descriptor) = (refl, refl)
-released_done t node _ given content (Replaces descriptor target) = (refl, refl)
-released_done t node _ given content (Unnames path) = (refl, refl)
-released_done t node _ given content (Renames old_path new_path) = (refl, refl)
+released_done : (t : TableState) (node : ℕ) (c : Call) (before : ℕ) (given : NewNumbers) (content : Content) → HasAct c op.Release → let done : Acted = acted t node op.Release c before None given content 0 in (done.ending ≡ act_end.Reply (release_reply c)) × (done.content ≡ content)
+released_done t node _ before given content (Closes descriptor) = (refl, refl)
+released_done t node _ before given content (Replaces descriptor target) = (refl, refl)
+released_done t node _ before given content (Unnames path) = (refl, refl)
+released_done t node _ before given content (Renames old_path new_path) = (refl, refl)
 
 pub release_makes : (law : TableFollows) (h : Stored) (c : Call) (node : ℕ) (u : TableState) → IsPlanned h c node op.Release → TableMade h c None u → RepliesAlways h c (release_reply c) (record h { table = u })
-release_makes law h c node u planned made = released_ends law h c node u (release_reply c) planned made (λ given content. released_done h.table node c given content (act_of h c node op.Release planned))
+release_makes law h c node u planned made = released_ends law h c node u (release_reply c) planned made (λ before given content. released_done h.table node c before given content (act_of h c node op.Release planned))
 
 cut_rewrites : (h : Stored) (node : ℕ) (cut : Bool) → node < length h.bodies → Rewrites h node (if cut then File [] else File (body_at h node)) (cut_bodies h node cut)
 cut_rewrites h node true inside = bodies_set h node (File []) inside
@@ -351,17 +386,17 @@ cut_rewrites h node false inside = bodies_same h node (File (body_at h node)) re
 pub open_makes : (law : TableFollows) (h : Stored) (c : Call) (node : ℕ) (cut : Bool) (u : TableState) (given : NewNumbers) → IsPlanned h c node (op.Open cut) → TableMade h c None u → TellsAsStep h.table c None given → node < length h.bodies
     → RepliesAlways h c (numbers_reply given) (record { table = u; bodies = cut_bodies h node cut })
 open_makes law h c node cut u given planned made tells inside =
-    ends_reply h c (numbers_reply given) _ (made_ends law h c node (op.Open cut) u given (cut_bodies h node cut) (Some (numbers_reply given)) tt tt planned made tells refl (cut_rewrites h node cut inside))
+    ends_reply h c (numbers_reply given) _ (made_ends law h c node (op.Open cut) u given (cut_bodies h node cut) (act_end.Reply (numbers_reply given)) tt tt planned made tells (replied (numbers_reply given) (if cut then File [] else File (body_at h node)) 0) (λ before. refl) refl (cut_rewrites h node cut inside))
 
 pub pipe_makes : (law : TableFollows) (h : Stored) (c : Call) (node : ℕ) (u : TableState) (given : NewNumbers) → IsPlanned h c node op.Pipe → TableMade h c None u → TellsAsStep h.table c None given → node < length h.bodies
     → RepliesAlways h c (numbers_reply given) (record { table = u; bodies = slice_set h.bodies node (keeping (Pipe []) (kept_at h node)) })
 pipe_makes law h c node u given planned made tells inside =
-    ends_reply h c (numbers_reply given) _ (made_ends law h c node op.Pipe u given (slice_set h.bodies node (keeping (Pipe []) (kept_at h node))) (Some (numbers_reply given)) tt tt planned made tells refl (bodies_set h node (Pipe []) inside))
+    ends_reply h c (numbers_reply given) _ (made_ends law h c node op.Pipe u given (slice_set h.bodies node (keeping (Pipe []) (kept_at h node))) (act_end.Reply (numbers_reply given)) tt tt planned made tells (replied (numbers_reply given) (Pipe []) 0) (λ before. refl) refl (bodies_set h node (Pipe []) inside))
 
 pub pair_makes : (law : TableFollows) (h : Stored) (c : Call) (node : ℕ) (u : TableState) (given : NewNumbers) → IsPlanned h c node op.Socketpair → TableMade h c None u → TellsAsStep h.table c None given → node < length h.bodies
     → RepliesAlways h c (numbers_reply given) (record { table = u; bodies = slice_set h.bodies node (keeping (Pair new_pair) (kept_at h node)) })
 pair_makes law h c node u given planned made tells inside =
-    ends_reply h c (numbers_reply given) _ (made_ends law h c node op.Socketpair u given (slice_set h.bodies node (keeping (Pair new_pair) (kept_at h node))) (Some (numbers_reply given)) tt tt planned made tells refl (bodies_set h node (Pair new_pair) inside))
+    ends_reply h c (numbers_reply given) _ (made_ends law h c node op.Socketpair u given (slice_set h.bodies node (keeping (Pair new_pair) (kept_at h node))) (act_end.Reply (numbers_reply given)) tt tt planned made tells (replied (numbers_reply given) (Pair new_pair) 0) (λ before. refl) refl (bodies_set h node (Pair new_pair) inside))
 
 -- ## The store after a change of its table
 
@@ -398,26 +433,26 @@ only_lseek h c node from planned other = by_act c (act_of h c node (op.Lseek fro
 -- ## A turn of a call that asks nothing outside
 
 -- what the plan says that the step asks
-pub plan_asks : (law : TableFollows) (h : Stored) (c : Call) (node : ℕ) (act : Op) (keep : Bool) (w : World) (carried : Carried) → planned h.table c ≡ plan.Node node act keep → Stands h w → asks w.object c carried ≡ request_of c act
+pub plan_asks : (law : TableFollows) (h : Stored) (c : Call) (node : ℕ) (act : Op) (keep : Bool) (w : World) (carried : Carried) → planned h.table c carried.moved ≡ plan.Node node act keep → Stands h w → asks w.object c carried ≡ request_of c act
 plan_asks law h c node act keep w carried is st =
     let settings : Settings = record { patience = 1; door_cost = 1 } in
     let agrees : AgreesOn h.table c (plan.Node node act keep) (locked_object w.object c carried) (asks w.object c carried) (step settings w.object c None carried).answer =
-    subst (λ (p : Plan). AgreesOn h.table c p (locked_object w.object c carried) (asks w.object c carried) (step settings w.object c None carried).answer) is ((law.calls h.table c st.sound st.described).plans settings w.object None carried st.shows) in
+    subst (λ (p : Plan). AgreesOn h.table c p (locked_object w.object c carried) (asks w.object c carried) (step settings w.object c None carried).answer) is ((law.calls h.table c carried.moved st.sound st.described).plans settings w.object None carried refl st.shows) in
     agrees.1.0
 
 -- and whether the call keeps the table
-pub plan_keeps : (law : TableFollows) (h : Stored) (c : Call) (node : ℕ) (act : Op) (keep : Bool) (w : World) → planned h.table c ≡ plan.Node node act keep → Stands h w → keep ≡ keeps_table c
-plan_keeps law h c node act keep w is st =
+pub plan_keeps : (law : TableFollows) (h : Stored) (c : Call) (node : ℕ) (act : Op) (keep : Bool) (w : World) (carried : Carried) → planned h.table c carried.moved ≡ plan.Node node act keep → Stands h w → keep ≡ keeps_table c
+plan_keeps law h c node act keep w carried is st =
     let settings : Settings = record { patience = 1; door_cost = 1 } in
-    let agrees : AgreesOn h.table c (plan.Node node act keep) (locked_object w.object c nothing_carried) (asks w.object c nothing_carried) (step settings w.object c None nothing_carried).answer =
-    subst (λ (p : Plan). AgreesOn h.table c p (locked_object w.object c nothing_carried) (asks w.object c nothing_carried) (step settings w.object c None nothing_carried).answer) is ((law.calls h.table c st.sound st.described).plans settings w.object None nothing_carried st.shows) in
+    let agrees : AgreesOn h.table c (plan.Node node act keep) (locked_object w.object c carried) (asks w.object c carried) (step settings w.object c None carried).answer =
+    subst (λ (p : Plan). AgreesOn h.table c p (locked_object w.object c carried) (asks w.object c carried) (step settings w.object c None carried).answer) is ((law.calls h.table c carried.moved st.sound st.described).plans settings w.object None carried refl st.shows) in
     agrees.1.1
 
-pub reply_asks : (law : TableFollows) (h : Stored) (c : Call) (r : Reply) (w : World) (carried : Carried) → planned h.table c ≡ plan.Reply r → Stands h w → asks w.object c carried ≡ None
+pub reply_asks : (law : TableFollows) (h : Stored) (c : Call) (r : Reply) (w : World) (carried : Carried) → planned h.table c carried.moved ≡ plan.Reply r → Stands h w → asks w.object c carried ≡ None
 reply_asks law h c r w carried is st =
     let settings : Settings = record { patience = 1; door_cost = 1 } in
     let agrees : AgreesOn h.table c (plan.Reply r) (locked_object w.object c carried) (asks w.object c carried) (step settings w.object c None carried).answer =
-    subst (λ (p : Plan). AgreesOn h.table c p (locked_object w.object c carried) (asks w.object c carried) (step settings w.object c None carried).answer) is ((law.calls h.table c st.sound st.described).plans settings w.object None carried st.shows) in
+    subst (λ (p : Plan). AgreesOn h.table c p (locked_object w.object c carried) (asks w.object c carried) (step settings w.object c None carried).answer) is ((law.calls h.table c carried.moved st.sound st.described).plans settings w.object None carried refl st.shows) in
     agrees.1.0
 
 pub inside_asks : (c : Call) (act : Op) → acts_inside act ≡ true → request_of c act ≡ None
@@ -436,34 +471,34 @@ inside_asks c op.Socketpair inside = refl
 inside_asks c (op.Shutdown side how) inside = refl
 
 -- it asks nothing outside, in whatever world
-abbrev pub AsksNothing : Stored → Call → Type 0
-AsksNothing h c = (w : World) (carried : Carried) → Stands h w → asks w.object c carried ≡ None
+abbrev pub AsksNothing : Stored → Call → Carried → Type 0
+AsksNothing h c carried = (w : World) → Stands h w → asks w.object c carried ≡ None
 
-pub reply_alone : (law : TableFollows) (h : Stored) (c : Call) (r : Reply) → planned h.table c ≡ plan.Reply r → AsksNothing h c
-reply_alone law h c r is w carried st = reply_asks law h c r w carried is st
+pub reply_alone : (law : TableFollows) (h : Stored) (c : Call) (carried : Carried) (r : Reply) → planned h.table c carried.moved ≡ plan.Reply r → AsksNothing h c carried
+reply_alone law h c carried r is w st = reply_asks law h c r w carried is st
 
-pub act_alone : (law : TableFollows) (h : Stored) (c : Call) (node : ℕ) (act : Op) → IsPlanned h c node act → acts_inside act ≡ true → AsksNothing h c
-act_alone law h c node act (keep, is) inside w carried st = plan_asks law h c node act keep w carried is st ∙ inside_asks c act inside
+pub act_alone : (law : TableFollows) (h : Stored) (c : Call) (carried : Carried) (node : ℕ) (act : Op) → IsPlannedWith h c carried.moved node act → acts_inside act ≡ true → AsksNothing h c carried
+act_alone law h c carried node act (keep, is) inside w st = plan_asks law h c node act keep w carried is st ∙ inside_asks c act inside
 
 -- it ends with a reply
-pub turn_replied : (h new : Stored) (c : Call) (r : Reply) (patience : ℕ) (carried : Carried) → AsksNothing h c → Replies carried h c r new → Makes patience carried h c (start.Ended (end.Reply r)) new
+pub turn_replied : (h new : Stored) (c : Call) (r : Reply) (patience : ℕ) (carried : Carried) → AsksNothing h c carried → Replies carried h c r new → Makes patience carried h c (start.Ended (end.Reply r)) new
 turn_replied h new c r patience carried alone replies settings w same st =
     let done = replies settings w st in
     record {
-      request = alone w carried st;
+      request = alone w st;
       answer_is = ap (λ (a : Answer). answered_with a (step settings w.object c None carried).carried) done.0;
       change = done.1;
     }
 
-pub act_replied : (h new : Stored) (c : Call) (r : Reply) (patience : ℕ) (carried : Carried) → AsksNothing h c → EndsTurn carried h c (Some r) new → Makes patience carried h c (start.Ended (end.Reply r)) new
+pub act_replied : (h new : Stored) (c : Call) (r : Reply) (patience : ℕ) (carried : Carried) → AsksNothing h c carried → EndsTurn carried h c (act_end.Reply r) new → Makes patience carried h c (start.Ended (end.Reply r)) new
 act_replied h new c r patience carried alone ends = turn_replied h new c r patience carried alone (end_replies carried h c r new ends)
 
 -- it has to wait
-pub act_waits : (h new : Stored) (c : Call) (patience : ℕ) (carried : Carried) (e : TurnEnd) → AsksNothing h c → EndsTurn carried h c None new → Waits patience carried e → Makes patience carried h c (start.Ended e) new
-act_waits h new c patience carried e alone ends waits settings w same st =
+pub act_waits : (h new : Stored) (c : Call) (patience : ℕ) (moved : Moved) (carried : Carried) (e : TurnEnd) → AsksNothing h c carried → EndsTurn carried h c (act_end.Waits moved) new → Waits patience moved carried e → Makes patience carried h c (start.Ended e) new
+act_waits h new c patience moved carried e alone ends waits settings w same st =
     let done = ends settings w st in
     record {
-      request = alone w carried st;
+      request = alone w st;
       answer_is = ap (λ (p : Answer × Carried). answered_with p.0 p.1) done.0 ∙ waits settings w.object same;
       change = done.1;
     }

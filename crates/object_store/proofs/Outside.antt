@@ -10,8 +10,11 @@ use Rattle.sequential_object.specs.Object.{State, Content, File, content_of}
 use Rattle.posix_terms.specs.Outcomes.{bytes_fit, fits, value_fits}
 use Rattle.sequential_object.specs.Effects.{Effect, Asks, Blocks, Completes}
 use Rattle.sequential_object.specs.Step as posix
-use Rattle.sequential_object.specs.Step.{AgainChangesNothing, Carried, FailChangesNothing, Stepped, closes_door, concluded, effect_of, failed, is_again, nothing_carried, step, waited, held_up, nothing_moved}
+use Rattle.sequential_object.specs.Step.{Carried, FailChangesNothing, Stepped, closes_door, concluded, effect_of, failed, is_again, nothing_carried, step, waited, held_up, nothing_moved}
 use Rattle.posix_terms.specs.Calls.{Call}
+use Rattle.posix_terms.specs.declared.call.Call.TheVariants as call
+use Rattle.sequential_object.specs.Waiting.{AgainMovesInParts, WaitsInParts}
+use Rattle.sequential_object.specs.declared.turn_end.ActEnd.TheVariants as act_end
 use Rattle.posix_terms.specs.declared.errno.Errno.{Errno}
 use Rattle.posix_terms.specs.declared.errno.Errno.TheVariants.{EAGAIN, EINTR}
 use Rattle.posix_terms.specs.declared.outcome.OutKind.{OutKind}
@@ -118,21 +121,21 @@ port_fits _ _ o (Accepts descriptor asked waits d) fit = refl
 -- ## The act of the plan
 
 -- the step does what the errand says
-asked_does : (law : TableFollows) (h : Stored) (w : World) (c : Call) (node : ℕ) (errand : Errand) (keep : Bool) (o : Option Outcome) (settings : Settings) (carried : Carried) → Stands h w → planned h.table c ≡ plan.Node node (op.Ask errand) keep
+asked_does : (law : TableFollows) (h : Stored) (w : World) (c : Call) (node : ℕ) (errand : Errand) (keep : Bool) (o : Option Outcome) (settings : Settings) (carried : Carried) → Stands h w → planned h.table c carried.moved ≡ plan.Node node (op.Ask errand) keep
     → let stepped = step settings w.object c o carried in
-    let done = acted h.table node (op.Ask errand) c o (numbers_told c stepped.answer) (content_of w.object (birth_at h.table node)) 0 in
+    let done = acted h.table node (op.Ask errand) c carried.moved.bytes o (numbers_told c stepped.answer) (content_of w.object (birth_at h.table node)) 0 in
     IsActed h.table node (op.Ask errand) done (ended settings w.object carried done.ending) stepped
 asked_does law h w c node errand keep o settings carried st is =
-    let does : ActsAsStep h.table c (plan.Node node (op.Ask errand) keep) = subst (ActsAsStep h.table c) is (law.calls h.table c st.sound st.described).acts in
-    does settings w.object o carried (content_of w.object (birth_at h.table node)) 0 st.shows refl tt
+    let does : ActsAsStep h.table c carried.moved (plan.Node node (op.Ask errand) keep) = subst (ActsAsStep h.table c carried.moved) is (law.calls h.table c carried.moved st.sound st.described).acts in
+    does settings w.object o carried (content_of w.object (birth_at h.table node)) 0 refl st.shows refl tt
 
 -- the store stands for the world behind it, whose object holds what is kept
-asked_stands : (law : TableFollows) (h : Stored) (w : World) (c : Call) (node : ℕ) (errand : Errand) (keep : Bool) (o : Option Outcome) (u : TableState) (settings : Settings) (carried : Carried) (content : Content) → Stands h w → planned h.table c ≡ plan.Node node (op.Ask errand) keep → TableMade h c o u
+asked_stands : (law : TableFollows) (h : Stored) (w : World) (c : Call) (node : ℕ) (errand : Errand) (keep : Bool) (o : Option Outcome) (u : TableState) (settings : Settings) (carried : Carried) (content : Content) → Stands h w → planned h.table c carried.moved ≡ plan.Node node (op.Ask errand) keep → TableMade h c o u
     → content ≡ kept_as content (kept_at h node) → Holds (step settings w.object c o carried).after (birth_at h.table node) content → Stands (record { table = u; bodies = h.bodies }) (world_with w (step settings w.object c o carried).after)
 asked_stands law h w c node errand keep o u settings carried content st is made kept holds =
     let after = (step settings w.object c o carried).after in
     let leaves : Leaves h.table u (plan.Node node (op.Ask errand) keep) w.object after = subst (λ (p : Plan). Leaves h.table u p w.object after) is (made_leaves law h w c o u settings carried st made) in
-    still_stands h w st u node (op.Ask errand) keep after leaves (known_of law h w c node (op.Ask errand) keep st is).0 content holds h.bodies (bodies_same h node content kept) (λ birth. tt)
+    still_stands h w st u node (op.Ask errand) keep after leaves (known_of law h w c carried.moved node (op.Ask errand) keep st is).0 content holds h.bodies (bodies_same h node content kept) (λ birth. tt)
 
 -- ## Waiting
 
@@ -145,7 +148,7 @@ waited_apart settings s carried same = by_test (nat_lt (carried.turns + 1) setti
     by_test false same = cc
 
 -- so the answer to EAGAIN tells which of both it is
-told_waits : (settings : Settings) (s after : State) (carried : Carried) (a b : Bool) → (let x : Stepped = if a && true then waited settings s nothing_moved carried else failed after EAGAIN in x.answer) ≡ (ended settings s carried (if b && true then None else Some (reply.Fail EAGAIN))).0 → b ≡ a
+told_waits : (settings : Settings) (s after : State) (carried : Carried) (a b : Bool) → (let x : Stepped = if a && true then waited settings s nothing_moved carried else failed after EAGAIN in x.answer) ≡ (ended settings s carried (if b && true then act_end.Waits nothing_moved else act_end.Reply (reply.Fail EAGAIN))).0 → b ≡ a
 told_waits settings s after carried true true same = refl
 told_waits settings s after carried true false same = absurd (waited_apart settings s carried same)
 told_waits settings s after carried false true same = absurd (waited_apart settings s carried (sym same))
@@ -153,14 +156,14 @@ told_waits settings s after carried false false same = refl
 
 -- by what the call does
 effect_waits : (settings : Settings) (s : State) (c : Call) (carried : Carried) (r : Request) (b : Bool) (e : Result Effect Errno) → posix.request_of c e ≡ Some r
-    → (let x : Stepped = concluded settings s (Some (outcome.Fail EAGAIN)) carried e in x.answer) ≡ (ended settings s carried (if b && true then None else Some (reply.Fail EAGAIN))).0 → b ≡ waits_by e
+    → (let x : Stepped = concluded settings s (Some (outcome.Fail EAGAIN)) carried e in x.answer) ≡ (ended settings s carried (if b && true then act_end.Waits nothing_moved else act_end.Reply (reply.Fail EAGAIN))).0 → b ≡ waits_by e
 effect_waits settings s c carried r b (Ok (Asks a)) asked same = told_waits settings s a.otherwise carried a.waits b same
 effect_waits settings s c carried r b (Ok (Blocks after moved)) asked same = absurd (none-some r asked)
 effect_waits settings s c carried r b (Ok (Completes after reply)) asked same = absurd (none-some r asked)
 effect_waits settings s c carried r b (Err e) asked same = absurd (none-some r asked)
 
 -- an errand waits just where its call does
-waits_known : (law : TableFollows) (h : Stored) (w : World) (c : Call) (node : ℕ) (errand : Errand) (keep : Bool) (carried : Carried) → Stands h w → planned h.table c ≡ plan.Node node (op.Ask errand) keep → errand.waits ≡ waits_outside w.object c carried
+waits_known : (law : TableFollows) (h : Stored) (w : World) (c : Call) (node : ℕ) (errand : Errand) (keep : Bool) (carried : Carried) → Stands h w → planned h.table c carried.moved ≡ plan.Node node (op.Ask errand) keep → errand.waits ≡ waits_outside w.object c carried
 waits_known law h w c node errand keep carried st is =
     let settings : Settings = record { patience = 1; door_cost = 1 } in
     let now = asked_does law h w c node errand keep (Some (outcome.Fail EAGAIN)) settings carried st is in
@@ -169,15 +172,15 @@ waits_known law h w c node errand keep carried st is =
 -- ## Going outside
 
 -- an errand that does not keep the table is of an object that is there
-asked_used : (law : TableFollows) (h : Stored) (w : World) (c : Call) (node : ℕ) (errand : Errand) (keep : Bool) → Stands h w → planned h.table c ≡ plan.Node node (op.Ask errand) keep → keep ≡ false → is_used h.table node ≡ true
-asked_used law h w c node errand keep st is frees =
+asked_used : (law : TableFollows) (h : Stored) (w : World) (c : Call) (carried : Carried) (node : ℕ) (errand : Errand) (keep : Bool) → Stands h w → planned h.table c carried.moved ≡ plan.Node node (op.Ask errand) keep → keep ≡ false → is_used h.table node ≡ true
+asked_used law h w c carried node errand keep st is frees =
     ⊎_elim (λ (used : is_used h.table node ≡ true). used)
     (λ (free : free_object h.table ≡ Some node).
-    let making : keep ≡ true = (planned_fits h.table c node (op.Ask errand) keep is).1 (finds law h.table w.object st.sound st.shows) (ap (λ (o : Option ℕ). is_some o) (lowest_is_free h.table.objects 48 0 node free)) in
+    let making : keep ≡ true = (planned_fits h.table c carried.moved node (op.Ask errand) keep is).1 (finds law h.table w.object st.sound st.shows) (ap (λ (o : Option ℕ). is_some o) (lowest_is_free h.table.objects 48 0 node free)) in
     absurd (false≢true (sym frees ∙ making)))
-    (known_of law h w c node (op.Ask errand) keep st is).0.1
+    (known_of law h w c carried.moved node (op.Ask errand) keep st is).0.1
 
-pub goes_out : (law : TableFollows) (h new : Stored) (c : Call) (node : ℕ) (errand : Errand) (keep : Bool) (patience : ℕ) (carried : Carried) → planned h.table c ≡ plan.Node node (op.Ask errand) keep → LeavesTable keep h c new → Makes patience carried h c (start.GoesOut errand) new
+pub goes_out : (law : TableFollows) (h new : Stored) (c : Call) (node : ℕ) (errand : Errand) (keep : Bool) (patience : ℕ) (carried : Carried) → planned h.table c carried.moved ≡ plan.Node node (op.Ask errand) keep → LeavesTable keep h c new → Makes patience carried h c (start.GoesOut errand) new
 goes_out law h new c node errand keep patience carried is leaves settings w same st =
     record {
       request = plan_asks law h c node (op.Ask errand) keep w carried is st;
@@ -189,15 +192,15 @@ goes_out law h new c node errand keep patience carried is leaves settings w same
     }
   where
     by_call : keep ≡ keeps_table c
-    by_call = plan_keeps law h c node (op.Ask errand) keep w is st
+    by_call = plan_keeps law h c node (op.Ask errand) keep w carried is st
 
     has : HasAct c (op.Ask errand)
-    has = (planned_fits h.table c node (op.Ask errand) keep is).0
+    has = (planned_fits h.table c carried.moved node (op.Ask errand) keep is).0
 
     change : keeps_table c ≡ false → Stands new (world_with w (step settings w.object c None carried).after)
     change frees =
         let left : LeavesTable false h c new = subst (λ (b : Bool). LeavesTable b h c new) (by_call ∙ frees) leaves in
-        let used = asked_used law h w c node errand keep st is (by_call ∙ frees) in
+        let used = asked_used law h w c carried node errand keep st is (by_call ∙ frees) in
         let content = content_of w.object (birth_at h.table node) in
         subst (λ (x : Stored). Stands x (world_with w (step settings w.object c None carried).after)) (sym left.1)
         (asked_stands law h w c node errand keep None new.table settings carried content st is left.0 (there_is law h w c node (op.Ask errand) settings carried st (keep, is) used) (asked_does law h w c node errand keep None settings carried st is).content_is)
@@ -249,12 +252,12 @@ read_fits asked value bytes fit =
 -- ## Opening a door
 
 -- nor does an outcome that does not fit
-pub off_port : (law : TableFollows) (h new : Stored) (c : Call) (node : ℕ) (errand : Errand) (keep : Bool) (o : Outcome) (e : TurnEnd) (patience : ℕ) (carried : Carried) → planned h.table c ≡ plan.Node node (op.Ask errand) keep → at_port c o ≡ false → Opens patience carried h c o e new
+pub off_port : (law : TableFollows) (h new : Stored) (c : Call) (node : ℕ) (errand : Errand) (keep : Bool) (o : Outcome) (e : TurnEnd) (patience : ℕ) (carried : Carried) → planned h.table c carried.moved ≡ plan.Node node (op.Ask errand) keep → at_port c o ≡ false → Opens patience carried h c o e new
 off_port law h new c node errand keep o e patience carried is off settings w r same st keeps asked fit =
     let own : Request = record { kind = errand.kind; asked = errand.asked; call = c } in
     let its : own ≡ r = same_Some own r (sym (plan_asks law h c node (op.Ask errand) keep w carried is st) ∙ asked) in
     let fit_own : fits errand.kind errand.asked o ≡ true = subst (λ (q : Request). fits q.kind q.asked o ≡ true) (sym its) fit in
-    absurd (false≢true (sym off ∙ port_fits c errand o (planned_fits h.table c node (op.Ask errand) keep is).0 fit_own))
+    absurd (false≢true (sym off ∙ port_fits c errand o (planned_fits h.table c carried.moved node (op.Ask errand) keep is).0 fit_own))
 
 -- a new door is kept nowhere
 door_kept : (k : OutKind) (value : ℕ) (content : Content) (kept : Kept) → opens_door k ≡ true → held_after k value content ≡ kept_as (held_after k value content) kept
@@ -269,7 +272,7 @@ door_kept out.Shutdown value content kept opens = absurd (false≢true opens)
 door_kept out.Close value content kept opens = absurd (false≢true opens)
 
 -- a failure is a reply, or makes the call wait
-failing : (settings : Settings) (s : State) (carried : Carried) (e : Errno) (b : Bool) → let a : Answer = (ended settings s carried (if b then None else Some (reply.Fail e))).0 in (a ≡ answer.Again) ⊎ ((x : Errno) × (a ≡ answer.Reply (reply.Fail x)))
+failing : (settings : Settings) (s : State) (carried : Carried) (e : Errno) (b : Bool) → let a : Answer = (ended settings s carried (if b then act_end.Waits nothing_moved else act_end.Reply (reply.Fail e))).0 in (a ≡ answer.Again) ⊎ ((x : Errno) × (a ≡ answer.Reply (reply.Fail x)))
 failing settings s carried e true = by_test (nat_lt (carried.turns + 1) settings.patience)
   where
     by_test : (b : Bool) → let x : Stepped = held_up b s nothing_moved carried in (x.answer ≡ answer.Again) ⊎ ((y : Errno) × (x.answer ≡ answer.Reply (reply.Fail y)))
@@ -278,28 +281,35 @@ failing settings s carried e true = by_test (nat_lt (carried.turns + 1) settings
 failing settings s carried e false = inr (e, refl)
 
 -- so it leaves all as it was
-fail_leaves : TableFollows → FailChangesNothing → AgainChangesNothing → (h : Stored) (w : World) (c : Call) (node : ℕ) (errand : Errand) (keep : Bool) (e : Errno) (settings : Settings) (carried : Carried) → Stands h w → planned h.table c ≡ plan.Node node (op.Ask errand) keep → keeps_table c ≡ true → (step settings w.object c (Some (outcome.Fail e)) carried).after ≡ w.object
+fail_leaves : TableFollows → FailChangesNothing → AgainMovesInParts → (h : Stored) (w : World) (c : Call) (node : ℕ) (errand : Errand) (keep : Bool) (e : Errno) (settings : Settings) (carried : Carried) → Stands h w → planned h.table c carried.moved ≡ plan.Node node (op.Ask errand) keep → keeps_table c ≡ true → (step settings w.object c (Some (outcome.Fail e)) carried).after ≡ w.object
 fail_leaves law fails waits h w c node errand keep e settings carried st is keeps =
     let o = Some (outcome.Fail e) in
     let now = asked_does law h w c node errand keep o settings carried st is in
-    let has = (planned_fits h.table c node (op.Ask errand) keep is).0 in
+    let has = (planned_fits h.table c carried.moved node (op.Ask errand) keep is).0 in
     elim (failing settings w.object carried e (errand.waits && is_again e)) [
-      | inl again ↦ waits settings w.object c o carried (now.answer_is ∙ again)
+      | inl again ↦ stays c _ _ keeps (waits settings w.object c o carried (now.answer_is ∙ again))
       | inr failed ↦ fails settings w.object c o carried failed.0 (keeps_no_close w.object c carried errand has keeps) (now.answer_is ∙ failed.1)
     ]
+  where
+    after : State
+    after = (step settings w.object c (Some (outcome.Fail e)) carried).after
+
+    stays : (c : Call) (before moved : ℕ) → keeps_table c ≡ true → WaitsInParts w.object c before after moved → after ≡ w.object
+    stays (call.Write descriptor bytes) before moved keeps waits = absurd (false≢true keeps)
+    stays c before moved keeps waits = waits
 
 -- the birth of an object that is not there yet
 free_birth : (h : Stored) (node : ℕ) → free_object h.table ≡ Some node → birth_at h.table node ≡ h.table.made_objects
 free_birth h node free = ap (λ (o : Option ℕ). unwrap_or o h.table.made_objects) (lowest_is_free h.table.objects 48 0 node free)
 
-door_stands : TableFollows → FailChangesNothing → AgainChangesNothing → (h : Stored) (w : World) (c : Call) (node : ℕ) (errand : Errand) (keep : Bool) (o : Outcome) (u : TableState) (settings : Settings) (carried : Carried) → Stands h w → planned h.table c ≡ plan.Node node (op.Ask errand) keep → TableMade h c (Some o) u → keeps_table c ≡ true
+door_stands : TableFollows → FailChangesNothing → AgainMovesInParts → (h : Stored) (w : World) (c : Call) (node : ℕ) (errand : Errand) (keep : Bool) (o : Outcome) (u : TableState) (settings : Settings) (carried : Carried) → Stands h w → planned h.table c carried.moved ≡ plan.Node node (op.Ask errand) keep → TableMade h c (Some o) u → keeps_table c ≡ true
     → Stands (record { table = u; bodies = h.bodies }) (world_with w (step settings w.object c (Some o) carried).after)
 door_stands law fails waits h w c node errand keep (outcome.Ok value bytes) u settings carried st is made keeps =
     let content = content_of w.object (birth_at h.table node) in
-    let opens = keeps_opens c errand (planned_fits h.table c node (op.Ask errand) keep is).0 keeps in
+    let opens = keeps_opens c errand (planned_fits h.table c carried.moved node (op.Ask errand) keep is).0 keeps in
     let now = asked_does law h w c node errand keep (Some (outcome.Ok value bytes)) settings carried st is in
     asked_stands law h w c node errand keep (Some (outcome.Ok value bytes)) u settings carried (held_after errand.kind value content) st is made (door_kept errand.kind value content (kept_at h node) opens) now.content_is
-door_stands law fails waits h w c node errand keep (outcome.Fail e) u settings carried st is made keeps = ⊎_elim on_old on_new (known_of law h w c node (op.Ask errand) keep st is).0.1
+door_stands law fails waits h w c node errand keep (outcome.Fail e) u settings carried st is made keeps = ⊎_elim on_old on_new (known_of law h w c carried.moved node (op.Ask errand) keep st is).0.1
   where
     on_old : is_used h.table node ≡ true → Stands (record { table = u; bodies = h.bodies }) (world_with w (step settings w.object c (Some (outcome.Fail e)) carried).after)
     on_old used =
@@ -316,13 +326,13 @@ door_stands law fails waits h w c node errand keep (outcome.Fail e) u settings c
         λ other got. absurd (false≢true (sym (next_is_new h w st) ∙ ap (λ (x : Option Content). is_some x) (sym (ap₂ (λ (x : State) (b : ℕ). fin.get x.objects b) left birth) ∙ got))) in
         asked_stands law h w c node errand keep (Some (outcome.Fail e)) u settings carried (File (kept_at h node).file) st is made refl holds
 
-pub door_opens : TableFollows → FailChangesNothing → AgainChangesNothing → (h new : Stored) (c : Call) (node : ℕ) (errand : Errand) (keep : Bool) (o : Outcome) (given : NewNumbers) (e : TurnEnd) (patience : ℕ) (carried : Carried) → planned h.table c ≡ plan.Node node (op.Ask errand) keep → TableMade h c (Some o) new.table → TellsAsStep h.table c (Some o) given
+pub door_opens : TableFollows → FailChangesNothing → AgainMovesInParts → (h new : Stored) (c : Call) (node : ℕ) (errand : Errand) (keep : Bool) (o : Outcome) (given : NewNumbers) (e : TurnEnd) (patience : ℕ) (carried : Carried) → planned h.table c carried.moved ≡ plan.Node node (op.Ask errand) keep → TableMade h c (Some o) new.table → TellsAsStep h.table c (Some o) given
     → new.bodies ≡ h.bodies → (opens_door errand.kind ≡ true → EndsOutside patience carried errand given o e) → Opens patience carried h c o e new
 door_opens law fails waits h new c node errand keep o given e patience carried is made tells bodies ends settings w r same st keeps asked fit =
     let stepped = step settings w.object c (Some o) carried in
     let now = asked_does law h w c node errand keep (Some o) settings carried st is in
     let told : numbers_told c stepped.answer ≡ given = sym (tells settings w.object (Some o) carried (λ x. refl) st.shows) in
-    let opens = keeps_opens c errand (planned_fits h.table c node (op.Ask errand) keep is).0 keeps in
+    let opens = keeps_opens c errand (planned_fits h.table c carried.moved node (op.Ask errand) keep is).0 keeps in
     let ending = ap₂ (λ (a : Answer) (b : Carried). (a, b)) now.answer_is now.carried_is ∙ ap (λ (n : NewNumbers). ended settings w.object carried (outside_ending errand n (Some o))) told in (
       ap as_answer ending ∙ ends opens settings w.object same,
       subst (λ (x : Stored). Stands x (world_with w stepped.after)) (changed_is h new bodies) (door_stands law fails waits h w c node errand keep o new.table settings carried st is made keeps),

@@ -14,6 +14,8 @@ use Rattle.sequential_object.specs.Object.{State, Content, Node, FileNode, Direc
 use Rattle.sequential_object.specs.Paths.{node_at, resolved}
 use Rattle.sequential_object.specs.Refusals.{◌>>=◌, count_of, position_of, refuse_if, some_or}
 use Rattle.sequential_object.specs.Transfers.{size_of}
+use Rattle.posix_terms.specs.declared.carried.Moved.{Moved}
+use Rattle.sequential_object.specs.Transfers.{is_from}
 use Rattle.posix_terms.specs.declared.call.Access.{Access}
 use Rattle.posix_terms.specs.declared.call.Access.TheVariants.{ReadWrite}
 use Rattle.posix_terms.specs.Calls.{Call}
@@ -36,7 +38,7 @@ use Rattle.posix_terms.specs.declared.reply.ObjectKind.TheVariants as kind
 use Rattle.posix_terms.specs.declared.reply.Reply.{Reply}
 use Rattle.posix_terms.specs.declared.reply.Reply.TheVariants as reply
 use Rattle.file_descriptions.specs.declared.description.Description.{Description}
-use Rattle.descriptor_table.specs.Plans.{act_or_ask, addable, answered, close_decided, decided_of, decides, dup2_decided, dup_decided, dup_from_decided, ends_a_door, errand, fstat_plan, ftruncate_plan, getfl_plan, host_open_decided, leads_outside, leaves, link_decided, locks, lseek_plan, mkdir_decided, new_pair, not_listener, of_file, of_listener, open_decided, open_node, open_there, opening, opens_door, planned, loses_name, pread_plan, pwrite_plan, read_plan, release, rename_decided, renames, replaces, rmdir_decided, seekable, seen, setfl_decided, shut_act, shutdown_plan, stat_by, stat_plan, tcp_accept_decided, tcp_connect_decided, tcp_listen_decided, tells, unlink_decided, write_plan}
+use Rattle.descriptor_table.specs.Plans.{decided_with, is_pipe, resumed_at, resumed_plan, act_or_ask, addable, answered, close_decided, decided_of, decides, dup2_decided, dup_decided, dup_from_decided, ends_a_door, errand, fstat_plan, ftruncate_plan, getfl_plan, host_open_decided, leads_outside, leaves, link_decided, locks, lseek_plan, mkdir_decided, new_pair, not_listener, of_file, of_listener, open_decided, open_node, open_there, opening, opens_door, planned, loses_name, pread_plan, pwrite_plan, read_plan, release, rename_decided, renames, replaces, rmdir_decided, seekable, seen, setfl_decided, shut_act, shutdown_plan, stat_by, stat_plan, tcp_accept_decided, tcp_connect_decided, tcp_listen_decided, tells, unlink_decided, write_plan}
 use Rattle.descriptor_table.specs.Shows.{Shows, birth_at, is_of}
 use Rattle.descriptor_table.specs.Table.{IsSound, TableState, described, free_object, is_last_name, is_used, lowest_free}
 use Rattle.descriptor_table.specs.Laws.{RefersAlike, TableFollows}
@@ -427,5 +429,25 @@ fits_answered : (t : TableState) (c : Call) (r : Result Decided Errno) → IfOk 
 fits_answered t c (Ok d) fits = fits
 fits_answered t c (Err e) fits = tt
 
-pub planned_fits : (t : TableState) (c : Call) (node : ℕ) (act : Op) (keep : Bool) → planned t c ≡ plan.Node node act keep → HasAct c act × (Finds t → is_used t node ≡ false → IsMaking keep act) × (Finds t → is_used t node ≡ true → Suits t node act)
-planned_fits t c node act keep is = subst (FitsPlan t c) is (fits_answered t c (decided_of t c) (plan_fits t c))
+-- a write that goes on has the pipe of its description
+resumed_fits : (t : TableState) (descriptor : ℤ) (bytes : List ℕ) (so_far : Moved) → FitsPlan t (call.Write descriptor bytes) (resumed_plan t descriptor so_far)
+resumed_fits t descriptor bytes so_far = by_found (described t descriptor) refl
+  where
+    by_found : (r : Result (ℕ × Description) Errno) → described t descriptor ≡ r → FitsPlan t (call.Write descriptor bytes) (resumed_at so_far r)
+    by_found (Err e) is = tt
+    by_found (Ok found) is = by_test (is_from so_far (let d : Description = found.1 in d.birth) && is_pipe (let d : Description = found.1 in d.«end»))
+      where
+        by_test : (b : Bool) → FitsPlan t (call.Write descriptor bytes) (if b then locks (let d : Description = found.1 in d.node) (op.Write (seen found.0 found.1)) else plan.Reply (reply.Count so_far.bytes))
+        by_test true = fits_found t (call.Write descriptor bytes) descriptor found (op.Write (seen found.0 found.1)) is (WritesTo descriptor bytes (seen found.0 found.1)) (λ content has. has)
+        by_test false = tt
+
+fits_with : (t : TableState) (c : Call) (so_far : Moved) → FitsPlan t c (decided_with t c so_far).plan
+fits_with t (call.Write descriptor bytes) so_far = by_moved (so_far.bytes == 0)
+  where
+    by_moved : (b : Bool) → FitsPlan t (call.Write descriptor bytes) (let d : Decided = if b then answered (decided_of t (call.Write descriptor bytes)) else record { plan = resumed_plan t descriptor so_far; change = change.Nothing } in d.plan)
+    by_moved true = fits_answered t (call.Write descriptor bytes) (decided_of t (call.Write descriptor bytes)) (plan_fits t (call.Write descriptor bytes))
+    by_moved false = resumed_fits t descriptor bytes so_far
+fits_with t c so_far = fits_answered t c (decided_of t c) (plan_fits t c)
+
+pub planned_fits : (t : TableState) (c : Call) (so_far : Moved) (node : ℕ) (act : Op) (keep : Bool) → planned t c so_far ≡ plan.Node node act keep → HasAct c act × (Finds t → is_used t node ≡ false → IsMaking keep act) × (Finds t → is_used t node ≡ true → Suits t node act)
+planned_fits t c so_far node act keep is = subst (FitsPlan t c) is (fits_with t c so_far)

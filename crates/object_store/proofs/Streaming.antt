@@ -1,7 +1,8 @@
 -- What a stream answers is how an act on it ends.
-use Rattle.std.proofs.Common.{◌≡◌, ℕ, List, length, take, drop, ◌++◌, ◌==◌, Bool, true, false, if◌then◌else◌, refl, ap, ◌∙◌, Option, Some}
+use Rattle.std.proofs.Common.{◌≡◌, ℕ, List, length, take, drop, ◌++◌, ◌==◌, Bool, true, false, if◌then◌else◌, refl, ap, ◌∙◌}
 use Rattle.std.proofs.Math.Seq.{take-append_seam}
-use Rattle.posix_terms.specs.declared.reply.Reply.{Reply}
+use Rattle.sequential_object.specs.declared.turn_end.ActEnd.{ActEnd}
+use Rattle.sequential_object.specs.declared.turn_end.ActEnd.TheVariants as act_end
 use Rattle.sequential_object.specs.Object.{Content, Pair}
 use Rattle.sequential_object.specs.Streams as stream
 use Rattle.sequential_object.specs.Streams.{Half, PairState, Reading, Writing, stream_read, with_waiting}
@@ -14,7 +15,7 @@ use Rattle.pipes.specs.Pipe.{read_answer, write_answer}
 use Rattle.stream_sockets.specs.Pair.{left_by_read, left_by_write, read_into}
 use Rattle.object_store.specs.Acting.{ending_of_read, ending_of_write}
 
-abbrev ends_as : Acted → Option Reply
+abbrev ends_as : Acted → ActEnd
 ends_as done = done.ending
 
 abbrev leaves : Acted → Content
@@ -47,5 +48,5 @@ read_ending from holds content offset n half place more count = by_tests half.re
     by_tests false true true = refl
     by_tests false true false = refl
     by_tests false false more =
-        ap (λ (k : ℕ). Some (reply.Data (take (length (take n half.waiting)) (take k half.waiting ++ drop (length half.waiting) place)))) count
-        ∙ ap (λ (bytes : List ℕ). Some (reply.Data bytes)) (take-append_seam (take n half.waiting) (drop (length half.waiting) place))
+        ap (λ (k : ℕ). act_end.Reply (reply.Data (take (length (take n half.waiting)) (take k half.waiting ++ drop (length half.waiting) place)))) count
+        ∙ ap (λ (bytes : List ℕ). act_end.Reply (reply.Data bytes)) (take-append_seam (take n half.waiting) (drop (length half.waiting) place))

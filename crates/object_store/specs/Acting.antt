@@ -1,7 +1,9 @@
 -- Internal: no contract of the headline or of a command stands on it.
 -- What the acts of calls make of the table and the bodies.
-use Rattle.std.specs.Prelude.{◌≡◌, ℕ, ◌+◌, ◌==◌, List, [], take, length, slice_set, pos, Bool, true, false, Result, Ok, Err, if◌then◌else◌, Option, Some}
+use Rattle.std.specs.Prelude.{◌≡◌, ℕ, ◌+◌, ◌==◌, List, [], take, length, slice_set, pos, Bool, true, false, Result, Ok, Err, if◌then◌else◌}
 use Rattle.posix_terms.specs.Calls.{Call}
+use Rattle.sequential_object.specs.declared.turn_end.ActEnd.{ActEnd}
+use Rattle.sequential_object.specs.declared.turn_end.ActEnd.TheVariants as act_end
 use Rattle.posix_terms.specs.declared.call.Call.TheVariants as call
 use Rattle.posix_terms.specs.declared.errno.Errno.{Errno}
 use Rattle.posix_terms.specs.declared.reply.Reply.{Reply}
@@ -78,15 +80,16 @@ held_by (part.Socket side) k = Pair k.pair
 held_by (part.Door door) k = DoorTo door
 
 -- an act on a stream ended so, and left this in its object
-abbrev pub ActsOn : Acted → Stored → ℕ → Option Reply → Stored → Type 0
+abbrev pub ActsOn : Acted → Stored → ℕ → ActEnd → Stored → Type 0
 ActsOn done old node e new = (e ≡ done.ending) × (new ≡ holding old node done.content)
 
-abbrev pub HasRead : End → Stored → ℕ → Opened → ℕ → Option Reply → Stored → Type 0
+abbrev pub HasRead : End → Stored → ℕ → Opened → ℕ → ActEnd → Stored → Type 0
 HasRead part.Only old node from count e new =
     let bytes = bytes_at (body_at old node) (offset_of_key old from.key) count in
-    (e ≡ Some (reply.Data bytes)) × (new ≡ moved old from.key (offset_of_key old from.key + length bytes))
+    (e ≡ act_end.Reply (reply.Data bytes))
+    × (new ≡ moved old from.key (offset_of_key old from.key + length bytes))
 -- a door is read outside, and none here
-HasRead (part.Door door) old node from count e new = (e ≡ Some reply.Done) × (new ≡ old)
+HasRead (part.Door door) old node from count e new = (e ≡ act_end.Reply reply.Done) × (new ≡ old)
 HasRead which old node from count e new = ActsOn (read_acted old.table node from count (held_by which (kept_at old node)) (offset_of_key old from.key)) old node e new
 
 -- to a file; of no bytes it does nothing
@@ -94,21 +97,26 @@ abbrev pub WritesFile : Bool → Stored → ℕ → Opened → List ℕ → Repl
 WritesFile true old node to bytes r new = (r ≡ reply.Count 0) × (new ≡ old)
 WritesFile false old node to bytes r new = Writes (written (body_at old node) (start_at old to node) bytes) old (λ count. moved old to.key (start_at old to node + count)) node r new
 
-abbrev pub HasWritten : End → Stored → ℕ → Opened → List ℕ → Option Reply → Stored → Type 0
-HasWritten part.Only old node to bytes e new = (r : Reply) × (e ≡ Some r) × WritesFile (length bytes == 0) old node to bytes r new
+-- so many of the bytes went before
+abbrev pub HasWritten : End → Stored → ℕ → Opened → List ℕ → ℕ → ActEnd → Stored → Type 0
+HasWritten part.Only old node to bytes before e new =
+    (r : Reply) × (e ≡ act_end.Reply r) × WritesFile (length bytes == 0) old node to bytes r new
 -- nor written here
-HasWritten (part.Door door) old node to bytes e new = (e ≡ Some reply.Done) × (new ≡ old)
-HasWritten which old node to bytes e new = ActsOn (write_acted old.table node to bytes (held_by which (kept_at old node)) (offset_of_key old to.key)) old node e new
+HasWritten (part.Door door) old node to bytes before e new =
+    (e ≡ act_end.Reply reply.Done) × (new ≡ old)
+HasWritten which old node to bytes before e new =
+    let content = held_by which (kept_at old node) in
+    ActsOn (write_acted old.table node to bytes before content (offset_of_key old to.key)) old node e new
 
 -- ## Streams, by what their bodies answer
 
 -- of a read, which put these bytes into its place
-abbrev pub ending_of_read : PipeAnswer → List ℕ → Bool → Option Reply
-ending_of_read (pipe.Data count) bytes nonblock = Some (reply.Data (take count bytes))
-ending_of_read pipe.End bytes nonblock = Some (reply.Data [])
+abbrev pub ending_of_read : PipeAnswer → List ℕ → Bool → ActEnd
+ending_of_read (pipe.Data count) bytes nonblock = act_end.Reply (reply.Data (take count bytes))
+ending_of_read pipe.End bytes nonblock = act_end.Reply (reply.Data [])
 ending_of_read _ bytes nonblock = stopped_ending nonblock
 
-abbrev pub ending_of_write : PipeAnswer → Bool → Option Reply
-ending_of_write (pipe.Count count) nonblock = Some (reply.Count count)
-ending_of_write pipe.Broken nonblock = Some (reply.Fail EPIPE)
+abbrev pub ending_of_write : PipeAnswer → Bool → ActEnd
+ending_of_write (pipe.Count count) nonblock = act_end.Reply (reply.Count count)
+ending_of_write pipe.Broken nonblock = act_end.Reply (reply.Fail EPIPE)
 ending_of_write _ nonblock = stopped_ending nonblock

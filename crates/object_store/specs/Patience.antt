@@ -1,7 +1,9 @@
 -- Internal: no contract of the headline or of a command stands on it.
 -- How a turn of a call ended, and how long a call waits that cannot go on.
-use Rattle.std.specs.Prelude.{◌≡◌, ℕ, Bool, Some, if◌then◌else◌, Option, None}
-use Rattle.posix_terms.specs.declared.reply.Reply.{Reply}
+use Rattle.std.specs.Prelude.{◌≡◌, ℕ, Bool, Some, if◌then◌else◌}
+use Rattle.posix_terms.specs.declared.carried.Moved.{Moved}
+use Rattle.sequential_object.specs.declared.turn_end.ActEnd.{ActEnd}
+use Rattle.sequential_object.specs.declared.turn_end.ActEnd.TheVariants as act_end
 use Rattle.sequential_object.specs.Object.{State}
 use Rattle.sequential_object.specs.Step.{Carried, waited, nothing_moved}
 use Rattle.posix_terms.specs.declared.errno.Errno.TheVariants.{EAGAIN}
@@ -23,19 +25,20 @@ turn_bytes (end.Reply reply) = reply_bytes reply
 turn_bytes (end.Blocked carried) = 0
 
 -- how many bytes an act brings that replies so, or has to wait
-abbrev pub act_bytes : Option Reply → ℕ
-act_bytes (Some reply) = reply_bytes reply
-act_bytes None = 0
+abbrev pub act_bytes : ActEnd → ℕ
+act_bytes (act_end.Reply reply) = reply_bytes reply
+act_bytes (act_end.Waits moved) = 0
 
 -- what cannot go on waits, or fails where its description is not to block
-abbrev pub stopped_ending : Bool → Option Reply
-stopped_ending nonblock = if nonblock then Some (Fail EAGAIN) else None
+abbrev pub stopped_ending : Bool → ActEnd
+stopped_ending nonblock =
+    if nonblock then act_end.Reply (Fail EAGAIN) else act_end.Waits nothing_moved
 
--- the end of a turn of a call that cannot go on, and carries this
-abbrev pub Waits : ℕ → Carried → TurnEnd → Type 0
-Waits patience carried e =
+-- the end of a turn of a call that cannot go on, carries this and has moved so much
+abbrev pub Waits : ℕ → Moved → Carried → TurnEnd → Type 0
+Waits patience moved carried e =
     (settings : Settings) (s : State) → settings.patience ≡ patience
-    → answer_in (waited settings s nothing_moved carried) ≡ e
+    → answer_in (waited settings s moved carried) ≡ e
 
 -- an answer with what is carried on, as one of the lock machine
 abbrev pub as_answer : posix.Answer × Carried → TurnEnd

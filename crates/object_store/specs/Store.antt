@@ -7,6 +7,8 @@ use Rattle.sequential_object.specs.Locked.{keeps_table, locked_object}
 use Rattle.posix_terms.specs.Outcomes.{fits}
 use Rattle.sequential_object.specs.Step.{Carried, asks, step}
 use Rattle.posix_terms.specs.Calls.{Call}
+use Rattle.posix_terms.specs.declared.carried.Moved.{Moved}
+use Rattle.sequential_object.specs.declared.turn_end.ActEnd.{ActEnd}
 use Rattle.posix_terms.specs.declared.call.Call.TheVariants as call
 use Rattle.posix_terms.specs.declared.limits.TheConstants.Limits as limit
 use Rattle.posix_terms.specs.declared.outcome.OutKind.{OutKind}
@@ -21,7 +23,8 @@ use Rattle.file_descriptions.specs.Descriptions.{AreSound}
 use Rattle.file_descriptions.specs.declared.description.Description.{Description}
 use Rattle.descriptor_table.specs.Agreement.{ChangesAsStep, NumbersStay, OffsetsStay, object_of, request_of}
 use Rattle.descriptor_table.specs.Changes.{CanChange}
-use Rattle.descriptor_table.specs.Plans.{answered, bytes_asked, change_of, decided_of, planned, read_count, reply_bytes}
+use Rattle.descriptor_table.specs.Plans.{bytes_asked, change_of, decided_with, planned, read_count}
+use Rattle.descriptor_table.specs.Plans.{reply_bytes}
 use Rattle.descriptor_table.specs.Shows as shown
 use Rattle.descriptor_table.specs.Table.{IsSound, TableState, empty_table}
 use Rattle.descriptor_table.specs.declared.plan.Errand.{Errand}
@@ -71,7 +74,7 @@ pub record Stands (h : Stored) (w : World) : Type 0 where
 
 -- the number of the object that a call locks which carries this
 abbrev pub number_locked : Stored → Call → Carried → Option ℕ
-number_locked h c carried = object_of (planned h.table c)
+number_locked h c carried = object_of (planned h.table c carried.moved)
 
 -- in whatever world they stand for it is the number of the object whose lock the call takes
 abbrev pub LocksAsStep : Type 0
@@ -112,9 +115,9 @@ locking_in (plan.Reply r) change = None
 abbrev pub locking_of : Decided → Option Locking
 locking_of d = locking_in d.plan d.change
 
--- this was decided of the call
-abbrev pub IsDecided : Stored → Call → Locking → Type 0
-IsDecided h c x = locking_of (answered (decided_of h.table c)) ≡ Some x
+-- this was decided of the call, which moved so much before
+abbrev pub IsDecided : Stored → Call → Moved → Locking → Type 0
+IsDecided h c so_far x = locking_of (decided_with h.table c so_far) ≡ Some x
 
 -- a change that was decided of a call, and can be made
 abbrev pub IsChange : Stored → Call → Change → Type 0
@@ -124,7 +127,9 @@ IsChange h c x = (x ≡ change_of h.table c) × CanChange h.table c x
 -- nothing has changed
 abbrev pub ComesTo : Carried → Stored → Call → AtTable → Stored → Type 0
 ComesTo carried old c (at.Answers r) new = (number_locked old c carried ≡ None) × ((patience : ℕ) → Makes patience carried old c (start.Ended (end.Reply r)) new) × (reply_bytes r ≤ read_count c)
-ComesTo carried old c (at.Locks x) new = (number_locked old c carried ≡ Some x.object) × (x.object < limit.OBJECTS) × IsDecided old c x × (new ≡ old)
+ComesTo carried old c (at.Locks x) new =
+    (number_locked old c carried ≡ Some x.object) × (x.object < limit.OBJECTS)
+    × IsDecided old c carried.moved x × (new ≡ old)
 
 -- a turn that ended brings no more bytes than the call may read. One that goes outside asks no more, and leaves the room for them as it was
 abbrev pub UsesRoom : ℕ → List ℕ → List ℕ → TurnStart → Type 0
@@ -143,7 +148,7 @@ Opens patience carried old c o e new =
     (answer_in (step settings w.object c (Some o) carried) ≡ e) × Stands new (world_with w (step settings w.object c (Some o) carried).after)
 
 -- the act of a turn of a call that carries this was made, in whatever world they stood for: so it ended
-abbrev pub EndsTurn : Carried → Stored → Call → Option Reply → Stored → Type 0
+abbrev pub EndsTurn : Carried → Stored → Call → ActEnd → Stored → Type 0
 EndsTurn carried old c e new =
     (settings : Settings) (w : World) → Stands old w →
     let stepped = step settings w.object c None carried in
@@ -163,9 +168,14 @@ RepliesAlways old c r new = (carried : Carried) → Replies carried old c r new
 abbrev pub first_stored : Stored
 first_stored = record { table = empty_table; bodies = replicate limit.OBJECTS first_kept }
 
--- the table plans this act on this object for the call
+-- the table plans this act on this object for the call, which moved so much before
+abbrev pub IsPlannedWith : Stored → Call → Moved → ℕ → Op → Type 0
+IsPlannedWith h c so_far node act =
+    (keep : Bool) × (planned h.table c so_far ≡ plan.Node node act keep)
+
+-- it does, with whatever the call moved before
 abbrev pub IsPlanned : Stored → Call → ℕ → Op → Type 0
-IsPlanned h c node act = (keep : Bool) × (planned h.table c ≡ plan.Node node act keep)
+IsPlanned h c node act = (so_far : Moved) × IsPlannedWith h c so_far node act
 
 -- the kinds of requests that open doors
 abbrev pub opens_door : OutKind → Bool

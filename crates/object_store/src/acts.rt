@@ -1,3 +1,4 @@
+ghost use Rattle.sequential_object.specs.Step.{Carried};
 ghost use Rattle.std.specs.Prelude.{◌≡◌, ◌^◌, ◌+◌, ◌-◌, ◌<◌, ◌≤◌, ◌==◌, ◌+ℤ◌, pos, length, false, IfOk};
 ghost use Rattle.sequential_object.specs.Files.{bytes_at, resized, written};
 ghost use Rattle.sequential_object.specs.Transfers.{base_of, offset_of};
@@ -10,12 +11,14 @@ ghost use Rattle.descriptor_table.specs.Plans.{reply_bytes};
 ghost use Rattle.object_store.specs.Acting.{Seeks, Writes, cut_bodies, release_reply, moved, offset_of_key, rewritten, start_at};
 ghost use Rattle.descriptor_table.specs.declared.plan.Op.TheVariants as op;
 ghost use Rattle.object_store.specs.Patience.{act_bytes};
-ghost use Rattle.object_store.specs.Store.{EndsTurn, IsChange, IsPlanned, RepliesAlways, body_at};
+ghost use Rattle.object_store.specs.Store.{EndsTurn, IsChange, IsPlanned, IsPlannedWith};
+ghost use Rattle.object_store.specs.Store.{RepliesAlways, body_at};
 
 use crate::store::Store;
 use descriptor_table::{Change, NewNumbers, Opened, table_follows_step};
 use memory_files::FileBody;
-use posix_terms::{Bytes, Call, Carried, Errno, ObjectKind, Reply, Whence};
+use posix_terms::{Bytes, Call, Errno, Moved, ObjectKind, Reply, Whence};
+use sequential_object::ActEnd;
 
 // What calls do with the file whose lock they took, by the file's number and the key of the description.
 impl Store {
@@ -129,12 +132,13 @@ impl Store {
         call: &Call,
         node: usize,
         to: Opened,
-        carried: Carried,
-    ) -> Option<Reply>
+        moved: Moved,
+    ) -> ActEnd
         requires inside { node < limit.OBJECTS }
         requires known { ContainsKey self.old.table.descriptions to.key }
-        requires planned { IsPlanned self.old call.now node (op.Write to) }
-        ensures ends { EndsTurn carried self.old call.now result self.new }
+        requires planned { IsPlannedWith self.old call.now moved node (op.Write to) }
+        ensures ends { (carried : Carried) → carried.moved ≡ moved
+            → EndsTurn carried self.old call.now result self.new }
         ensures few { act_bytes result ≡ 0 }
         ensures births { (self.new.table.descriptions.made ≡ self.old.table.descriptions.made) × (self.new.table.made_objects ≡ self.old.table.made_objects) }
     {
@@ -142,7 +146,7 @@ impl Store {
         let _ = &self.bodies;
         table_follows_step();
         match call {
-            Call::Write { bytes, .. } => self.write(node, to, bytes.as_slice()),
+            Call::Write { bytes, .. } => self.write(node, to, bytes.as_slice(), moved),
             _ => unreachable!(),
         }
     }

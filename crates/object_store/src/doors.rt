@@ -10,7 +10,7 @@ use crate::patience::{Locking, fail_outside};
 use crate::store::Store;
 use descriptor_table::{Change, Errand, NewNumbers, Op, table_follows_step};
 use posix_terms::{Call, Carried, Errno, Outcome, Reply};
-use sequential_object::{TurnEnd, blocked_calls_change_nothing, failed_calls_change_nothing};
+use sequential_object::{TurnEnd, failed_calls_change_nothing, moved_bytes_are_told};
 
 // Calls that go outside.
 impl Store {
@@ -43,14 +43,14 @@ impl Store {
     ) -> TurnEnd
         requires descriptions { self.old.table.descriptions.made < 2 ^ 127 }
         requires objects { self.old.table.made_objects < 2 ^ 127 }
-        requires decided { IsDecided self.old call.now locking }
+        requires decided { IsDecided self.old call.now carried.moved locking }
         ensures opens { Opens patience carried self.old call.now outcome.now result self.new }
         ensures few { turn_bytes result ≡ 0 }
         ensures births { (self.new.table.descriptions.made ≤ self.old.table.descriptions.made + 2) × (self.new.table.made_objects ≤ self.old.table.made_objects + 1) }
     {
         table_follows_step();
         failed_calls_change_nothing();
-        blocked_calls_change_nothing();
+        moved_bytes_are_told();
         // What holds of every table holds of this one.
         let _ = self.table.made();
         let Op::Ask(errand) = locking.op else {

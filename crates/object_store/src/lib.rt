@@ -4,12 +4,13 @@
 //! `Store::settle_or_lock` makes the turn of a call that the table alone answers, and of any other
 //! tells which object it has to lock and what was decided of it, a [`Locking`]; then `Store::make`
 //! takes that and makes its turn, and asks that fewer than 2^127 descriptions and objects were ever
-//! made. The [`TurnStart`] is how the turn ended, or what
-//! the call asks outside: then [`end_outside`] ends it by the outcome, or `Store::open_door` where
-//! the call kept the table. By the contracts a turn does what the sequential object does. A call
-//! that cannot go on is blocked until it was for as many turns as its patience, and then fails with
-//! `EINTR`. A store takes the room for all bodies when it is made. For the bytes of a read the
-//! caller hands in room, as many as `descriptor_table::read_count` says, or has a [`Room`] for them.
+//! made. The [`TurnStart`] is how the turn ended, or what the call asks outside: then
+//! [`end_outside`] ends it by the outcome, or `Store::open_door` where the call kept the table. By
+//! the contracts a turn does what the sequential object does. A call that cannot go on is blocked
+//! until it was for as many turns as its patience. Then it fails with `EINTR`, or returns the count
+//! of what it moved at these turns. A store takes the room for all bodies when it is made. For the
+//! bytes of a read the caller hands in room, as many as `descriptor_table::read_count` says, or has
+//! a [`Room`] for them.
 //!
 //! ```rust
 //! use object_store::{AtTable, Store, TurnEnd, TurnStart};

@@ -9,7 +9,7 @@ ghost use Rattle.object_store.specs.Patience.{EndsOutside, Waits, act_bytes, sto
 
 use descriptor_table::{Change, Errand, Op};
 use posix_terms::{Bytes, Carried, Errno, Moved, OutKind, Outcome, Reply};
-use sequential_object::TurnEnd;
+use sequential_object::{ActEnd, TurnEnd};
 use std::mem::replace;
 
 /// What a call comes to once its thread has the table.
@@ -39,31 +39,33 @@ pub enum TurnStart {
     GoesOut(Errand),
 }
 
-// The reply of an act that cannot go on: none where it waits, and a failure where its description is not to block.
-pub(crate) fn stopped(nonblock: bool) -> Option<Reply>
+// The end of an act that cannot go on and moved nothing: it waits, or fails where its description is not to block.
+pub(crate) fn stopped(nonblock: bool) -> ActEnd
     ensures shown { result ≡ stopped_ending nonblock }
     ensures few { act_bytes result ≡ 0 }
 {
     if nonblock {
-        Some(Reply::Fail(Errno::EAGAIN))
+        ActEnd::Reply(Reply::Fail(Errno::EAGAIN))
     } else {
-        None
+        ActEnd::Waits(Moved::NOTHING)
     }
 }
 
 // The end of a turn of a call that cannot go on, and carries this: it is made again, until it was blocked for as
 // many turns as its patience.
-pub(crate) fn blocked(patience: u32, carried: Carried) -> TurnEnd
-    ensures waits { Waits patience carried result }
+pub(crate) fn blocked(patience: u32, moved: Moved, carried: Carried) -> TurnEnd
+    ensures waits { Waits patience moved carried result }
     ensures few { turn_bytes result ≡ 0 }
 {
     if u64::from(carried.turns) + 1 < u64::from(patience) {
         TurnEnd::Blocked(Carried {
             turns: carried.turns + 1,
-            moved: Moved::NOTHING,
+            moved,
         })
-    } else {
+    } else if moved.bytes == 0 {
         TurnEnd::Reply(Reply::Fail(Errno::EINTR))
+    } else {
+        TurnEnd::Reply(Reply::Count(moved.bytes))
     }
 }
 
@@ -146,7 +148,7 @@ pub(crate) fn fail_outside(errand: Errand, error: Errno, patience: u32, carried:
     ensures few { turn_bytes result ≡ 0 }
 {
     if errand.waits && error == Errno::EAGAIN {
-        return blocked(patience, carried);
+        return blocked(patience, Moved::NOTHING, carried);
     }
     TurnEnd::Reply(Reply::Fail(error))
 }

@@ -80,7 +80,7 @@ impl Room {
     ) -> TurnStart
         requires descriptions { store.old.table.descriptions.made < 2 ^ 127 }
         requires objects { store.old.table.made_objects < 2 ^ 127 }
-        requires decided { IsDecided store.old call.now locking }
+        requires decided { IsDecided store.old call.now carried.moved locking }
         requires room { HasSpaceFor call.now self.old }
         ensures makes { Makes patience carried store.old call.now result store.new }
         ensures kept { KeepsStore (keeps_table call.now) result store.old store.new }

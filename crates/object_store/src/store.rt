@@ -8,13 +8,15 @@ ghost use Rattle.descriptor_table.specs.Changes.{IsAtPort};
 ghost use Rattle.sequential_object.specs.Locked.{keeps_table};
 ghost use Rattle.object_store.specs.Acting.{acts_inside};
 ghost use Rattle.object_store.specs.Patience.{act_bytes};
-ghost use Rattle.object_store.specs.Store.{ComesTo, EndsTurn, IsChange, IsDecided, IsPlanned, KeepsStore, UsesRoom, Makes, Replies, TableMade, first_stored};
+ghost use Rattle.object_store.specs.Store.{ComesTo, EndsTurn, IsChange, IsDecided, IsPlannedWith};
+ghost use Rattle.object_store.specs.Store.{KeepsStore, UsesRoom, Makes, Replies, TableMade};
+ghost use Rattle.object_store.specs.Store.{first_stored};
 
 use crate::body::Body;
 use crate::patience::{AtTable, Locking, TurnStart, blocked};
 use descriptor_table::{Change, Decided, NewNumbers, Op, Plan, Table, table_follows_step};
 use posix_terms::{Call, Carried, Limits, Outcome, Reply};
-use sequential_object::TurnEnd;
+use sequential_object::{ActEnd, TurnEnd};
 use std::alloc::{AllocError, Global};
 use std::marker::Model;
 use std::mem::replace;
@@ -45,7 +47,7 @@ impl Model for Store {
 
 impl Store {
     /// Nothing is open, and there is only the root. It takes the room for all bodies that there can be, some
-    /// 7.5 MiB.
+    /// 6.2 MiB.
     pub fn new(alloc: Global) -> Result<Store, AllocError>
         ensures { IfOk result (λ s. s ≡ first_stored) }
     {
@@ -68,7 +70,7 @@ impl Store {
         ensures births { (self.new.table.descriptions.made ≤ self.old.table.descriptions.made + 2) × (self.new.table.made_objects ≤ self.old.table.made_objects + 1) }
     {
         table_follows_step();
-        let Decided { plan, change } = self.table.decide(call);
+        let Decided { plan, change } = self.table.decide(call, carried.moved);
         match plan {
             Plan::Reply(reply) => AtTable::Answers(self.settle(call, carried, reply, change)),
             Plan::Node { node, op, .. } => AtTable::Locks(Locking {
@@ -82,7 +84,8 @@ impl Store {
     /// Makes one turn of a call that carries this from its blocked turns, and took the lock of its object: as it was
     /// decided by `settle_or_lock`, while the table was kept. A call that cannot go on is blocked
     /// until it was for as many turns as its patience, and then fails with EINTR; where its description has
-    /// O_NONBLOCK it fails at once with EAGAIN. A call that goes outside gets its errand, with the number of the
+    /// O_NONBLOCK it fails at once with EAGAIN. A write that moved bytes of a pipe returns their count in
+    /// place of either. A call that goes outside gets its errand, with the number of the
     /// object whose door it takes along; unless it keeps the table, its change is made, and `end_outside` ends its
     /// turn. Where it keeps the table nothing has changed (`kept`), and `open_door` ends its turn.
     ///
@@ -99,7 +102,7 @@ impl Store {
     ) -> TurnStart
         requires descriptions { self.old.table.descriptions.made < 2 ^ 127 }
         requires objects { self.old.table.made_objects < 2 ^ 127 }
-        requires decided { IsDecided self.old call.now locking }
+        requires decided { IsDecided self.old call.now carried.moved locking }
         requires room { read_count call.now ≤ length room.old.items }
         ensures makes { Makes patience carried self.old call.now result self.new }
         ensures kept { KeepsStore (keeps_table call.now) result self.old self.new }
@@ -116,8 +119,8 @@ impl Store {
                 TurnStart::GoesOut(errand)
             }
             op => TurnStart::Ended(match self.act(call, object, op, change, carried, room) {
-                Some(reply) => TurnEnd::Reply(reply),
-                None => blocked(patience, carried),
+                ActEnd::Reply(reply) => TurnEnd::Reply(reply),
+                ActEnd::Waits(moved) => blocked(patience, moved, carried),
             }),
         }
     }
@@ -126,7 +129,7 @@ impl Store {
     fn settle(&mut self, call: &Call, carried: Carried, reply: Reply, change: Change) -> Reply
         requires descriptions { self.old.table.descriptions.made < 2 ^ 127 }
         requires objects { self.old.table.made_objects < 2 ^ 127 }
-        requires planned { planned self.old.table call.now ≡ plan.Reply reply }
+        requires planned { planned self.old.table call.now carried.moved ≡ plan.Reply reply }
         requires change { IsChange self.old call.now change }
         ensures same { result ≡ reply }
         ensures reply { Replies carried self.old call.now result self.new }
@@ -170,10 +173,10 @@ impl Store {
         change: Change,
         carried: Carried,
         room: &mut Vec<u8>,
-    ) -> Option<Reply>
+    ) -> ActEnd
         requires descriptions { self.old.table.descriptions.made < 2 ^ 127 }
         requires objects { self.old.table.made_objects < 2 ^ 127 }
-        requires planned { IsPlanned self.old call.now node op }
+        requires planned { IsPlannedWith self.old call.now carried.moved node op }
         requires inside { node < limit.OBJECTS }
         requires known { MovesKnown self.old.table (read_count call.now) op }
         requires change { IsChange self.old call.now change }
@@ -188,19 +191,19 @@ impl Store {
         table_follows_step();
         match op {
             Op::Read { from, count } => self.read(node, from, taken(room, count)),
-            Op::Write { to } => self.write_call(call, node, to, carried),
-            Op::Open { cut } => Some(self.open(call, node, cut, change)),
-            Op::Release => Some(self.release(call, node, change)),
+            Op::Write { to } => self.write_call(call, node, to, carried.moved),
+            Op::Open { cut } => ActEnd::Reply(self.open(call, node, cut, change)),
+            Op::Release => ActEnd::Reply(self.release(call, node, change)),
             Op::Pread { count, position } => {
-                Some(self.pread(node, position, taken(room, count)))
+                ActEnd::Reply(self.pread(node, position, taken(room, count)))
             }
-            Op::Ftruncate { size } => Some(self.ftruncate(node, size)),
-            Op::Fstat { links } => Some(self.fstat(node, links)),
-            Op::Pwrite { position } => Some(self.pwrite_call(call, node, position)),
-            Op::Lseek { at } => Some(self.lseek_call(call, node, at)),
-            Op::Pipe => Some(self.open_pipe(call, node, change)),
-            Op::Socketpair => Some(self.open_pair(call, node, change)),
-            Op::Shutdown { side, how } => Some(self.shutdown(node, side, how)),
+            Op::Ftruncate { size } => ActEnd::Reply(self.ftruncate(node, size)),
+            Op::Fstat { links } => ActEnd::Reply(self.fstat(node, links)),
+            Op::Pwrite { position } => ActEnd::Reply(self.pwrite_call(call, node, position)),
+            Op::Lseek { at } => ActEnd::Reply(self.lseek_call(call, node, at)),
+            Op::Pipe => ActEnd::Reply(self.open_pipe(call, node, change)),
+            Op::Socketpair => ActEnd::Reply(self.open_pair(call, node, change)),
+            Op::Shutdown { side, how } => ActEnd::Reply(self.shutdown(node, side, how)),
             Op::Ask(_) => unreachable!(),
         }
     }

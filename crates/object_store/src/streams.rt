@@ -8,8 +8,11 @@ ghost use Rattle.file_descriptions.specs.Descriptions.{ContainsKey};
 ghost use Rattle.posix_terms.specs.declared.limits.TheConstants.Limits as limit;
 ghost use Rattle.pipes.specs.Pipe.{read_answer, write_answer};
 ghost use Rattle.stream_sockets.specs.Pair.{left_by_read, left_by_write, read_into};
-ghost use Rattle.descriptor_table.specs.Acts.{has_read, has_written, is_open, read_acted, write_acted};
+ghost use Rattle.descriptor_table.specs.Acts.{has_read, has_written, is_open, paused, pipe_acted};
+ghost use Rattle.descriptor_table.specs.Acts.{read_acted};
 ghost use Rattle.descriptor_table.specs.Plans.{reply_bytes};
+ghost use Rattle.descriptor_table.specs.Shows.{birth_of};
+ghost use Rattle.sequential_object.specs.Transfers.{moved_by};
 ghost use Rattle.descriptor_table.specs.declared.plan.Op.TheVariants as op;
 ghost use Rattle.object_store.specs.Acting.{ActsOn, HasRead, HasWritten, ending_of_read, ending_of_write, holding, offset_of_key};
 ghost use Rattle.object_store.specs.Patience.{act_bytes};
@@ -20,27 +23,28 @@ use crate::patience::stopped;
 use crate::store::Store;
 use descriptor_table::{Change, Opened};
 use pipes::PipeAnswer;
-use posix_terms::{Bytes, Call, End, Errno, Reply, ShutdownHow, Side};
+use posix_terms::{Bytes, Call, End, Errno, Limits, Moved, Reply, ShutdownHow, Side};
+use sequential_object::ActEnd;
 
 // A read and a write, and what calls do with a pipe or a pair of sockets, whose lock they took.
 impl Store {
     // POSIX.1-2017, `read`, of as many bytes as there is room for.
-    pub(crate) fn read(&mut self, node: usize, from: Opened, into: Vec<u8>) -> Option<Reply>
+    pub(crate) fn read(&mut self, node: usize, from: Opened, into: Vec<u8>) -> ActEnd
         requires inside { node < limit.OBJECTS }
         requires known { ContainsKey self.old.table.descriptions from.key }
         ensures read { HasRead from.«end» self.old node from (length into.items) result self.new }
         ensures few { act_bytes result ≤ length into.items }
     {
         match from.end {
-            End::Only => Some(self.read_file(node, from, into)),
+            End::Only => ActEnd::Reply(self.read_file(node, from, into)),
             End::Read | End::Write => self.read_pipe(node, from, into),
             End::Socket(side) => self.read_pair(node, from, side, into),
             // A door is read outside.
-            End::Door(_) => Some(Reply::Done),
+            End::Door(_) => ActEnd::Reply(Reply::Done),
         }
     }
 
-    fn read_pipe(&mut self, node: usize, from: Opened, into: Vec<u8>) -> Option<Reply>
+    fn read_pipe(&mut self, node: usize, from: Opened, into: Vec<u8>) -> ActEnd
         requires inside { node < limit.OBJECTS }
         ensures acts { ActsOn (read_acted self.old.table node from (length into.items) (Pipe (kept_at self.old node).pipe) (offset_of_key self.old from.key)) self.old node result self.new }
         ensures few { act_bytes result ≤ length into.items }
@@ -51,7 +55,7 @@ impl Store {
         read_ending(answer, bytes, from.flags.nonblock)
     }
 
-    fn read_pair(&mut self, node: usize, from: Opened, side: Side, into: Vec<u8>) -> Option<Reply>
+    fn read_pair(&mut self, node: usize, from: Opened, side: Side, into: Vec<u8>) -> ActEnd
         requires inside { node < limit.OBJECTS }
         ensures acts { ActsOn (has_read from (λ left. Pair (with_waiting (kept_at self.old node).pair side left)) (Pair (kept_at self.old node).pair) (offset_of_key self.old from.key) (pair_read (kept_at self.old node).pair side (length into.items) (is_open self.old.table node (part.Socket (peer_of side))))) self.old node result self.new }
         ensures few { act_bytes result ≤ length into.items }
@@ -63,33 +67,65 @@ impl Store {
     }
 
     // POSIX.1-2017, `write`; to a file, of no bytes it does nothing.
-    pub(crate) fn write(&mut self, node: usize, to: Opened, bytes: &[u8]) -> Option<Reply>
+    pub(crate) fn write(&mut self, node: usize, to: Opened, bytes: &[u8], moved: Moved) -> ActEnd
         requires inside { node < limit.OBJECTS }
         requires known { ContainsKey self.old.table.descriptions to.key }
-        ensures written { HasWritten to.«end» self.old node to bytes.now result self.new }
+        ensures written { HasWritten to.«end» self.old node to bytes.now moved.bytes result self.new }
         ensures few { act_bytes result ≡ 0 }
     {
         match to.end {
-            End::Only if bytes.is_empty() => Some(Reply::Count(0)),
-            End::Only => Some(self.write_file(node, to, bytes)),
-            End::Read | End::Write => self.write_pipe(node, to, bytes),
+            End::Only if bytes.is_empty() => ActEnd::Reply(Reply::Count(0)),
+            End::Only => ActEnd::Reply(self.write_file(node, to, bytes)),
+            End::Read | End::Write => self.write_pipe(node, to, bytes, moved.bytes),
             End::Socket(side) => self.write_pair(node, to, side, bytes),
             // A door is written outside.
-            End::Door(_) => Some(Reply::Done),
+            End::Door(_) => ActEnd::Reply(Reply::Done),
         }
     }
 
-    fn write_pipe(&mut self, node: usize, to: Opened, bytes: &[u8]) -> Option<Reply>
+    // A turn of a write of a pipe, of which so many bytes went before. Of at most `PIPE_BUF` bytes
+    // it is whole.
+    fn write_pipe(&mut self, node: usize, to: Opened, bytes: &[u8], before: u64) -> ActEnd
         requires inside { node < limit.OBJECTS }
-        ensures acts { ActsOn (write_acted self.old.table node to bytes.now (Pipe (kept_at self.old node).pipe) (offset_of_key self.old to.key)) self.old node result self.new }
+        requires known { ContainsKey self.old.table.descriptions to.key }
+        ensures acts { ActsOn
+            (pipe_acted self.old.table node to bytes.now before (kept_at self.old node).pipe
+            (offset_of_key self.old to.key)) self.old node result self.new }
         ensures few { act_bytes result ≡ 0 }
     {
         let readers = self.is_open(node, End::Read);
-        let answer = self.bodies[node].pipe.put(bytes, readers, true);
-        write_ending(answer, to.flags.nonblock)
+        let rest = &bytes[bytes.len().min(before as usize)..];
+        let whole = bytes.len() <= Limits::PIPE_BUF;
+        let answer = self.bodies[node].pipe.put(rest, readers, whole);
+        match answer {
+            PipeAnswer::Count(now) => {
+                let total = before + now as u64;
+                if bytes.len() as u64 <= total {
+                    return ActEnd::Reply(Reply::Count(total));
+                }
+                self.pauses(to, total)
+            }
+            PipeAnswer::Broken if before == 0 => ActEnd::Reply(Reply::Fail(Errno::EPIPE)),
+            PipeAnswer::Broken => ActEnd::Reply(Reply::Count(before)),
+            _ if before == 0 => stopped(to.flags.nonblock),
+            _ => self.pauses(to, before),
+        }
     }
 
-    fn write_pair(&mut self, node: usize, to: Opened, side: Side, bytes: &[u8]) -> Option<Reply>
+    // A write of a pipe that cannot go on after so many bytes waits, or ends where its description
+    // is not to block.
+    fn pauses(&self, to: Opened, total: u64) -> ActEnd
+        requires known { ContainsKey self.now.table.descriptions to.key }
+        ensures ends { result ≡ paused to (birth_of self.now.table to.key) total }
+        ensures few { act_bytes result ≡ 0 }
+    {
+        if to.flags.nonblock {
+            return ActEnd::Reply(Reply::Count(total));
+        }
+        ActEnd::Waits(moved_by(self.table.birth(to.key), total))
+    }
+
+    fn write_pair(&mut self, node: usize, to: Opened, side: Side, bytes: &[u8]) -> ActEnd
         requires inside { node < limit.OBJECTS }
         ensures acts { ActsOn (has_written to (λ left. Pair (with_waiting (kept_at self.old node).pair (peer_of side) left)) (Pair (kept_at self.old node).pair) (offset_of_key self.old to.key) (length bytes.now) (pair_write (kept_at self.old node).pair side bytes.now (is_open self.old.table node (part.Socket (peer_of side))))) self.old node result self.new }
         ensures few { act_bytes result ≡ 0 }
@@ -192,7 +228,7 @@ impl Store {
 }
 
 // The end of a read that was answered so.
-fn read_ending(answer: PipeAnswer, bytes: Vec<u8>, nonblock: bool) -> Option<Reply>
+fn read_ending(answer: PipeAnswer, bytes: Vec<u8>, nonblock: bool) -> ActEnd
     ensures shown { result ≡ ending_of_read answer bytes.items nonblock }
     ensures few { act_bytes result ≤ length bytes.items }
 {
@@ -200,24 +236,37 @@ fn read_ending(answer: PipeAnswer, bytes: Vec<u8>, nonblock: bool) -> Option<Rep
     match answer {
         PipeAnswer::Data(count) => {
             bytes.truncate(count);
-            Some(Reply::Data(Bytes::from_vec(bytes)))
+            ActEnd::Reply(Reply::Data(Bytes::from_vec(bytes)))
         }
         PipeAnswer::End => {
             bytes.truncate(0);
-            Some(Reply::Data(Bytes::from_vec(bytes)))
+            ActEnd::Reply(Reply::Data(Bytes::from_vec(bytes)))
         }
         PipeAnswer::Count(_) | PipeAnswer::Broken | PipeAnswer::Block => stopped(nonblock),
     }
 }
 
 // The end of a write that was answered so.
-fn write_ending(answer: PipeAnswer, nonblock: bool) -> Option<Reply>
+fn write_ending(answer: PipeAnswer, nonblock: bool) -> ActEnd
     ensures shown { result ≡ ending_of_write answer nonblock }
     ensures few { act_bytes result ≡ 0 }
 {
     match answer {
-        PipeAnswer::Count(count) => Some(Reply::Count(count as u64)),
-        PipeAnswer::Broken => Some(Reply::Fail(Errno::EPIPE)),
+        PipeAnswer::Count(count) => ActEnd::Reply(Reply::Count(count as u64)),
+        PipeAnswer::Broken => ActEnd::Reply(Reply::Fail(Errno::EPIPE)),
         PipeAnswer::Data(_) | PipeAnswer::End | PipeAnswer::Block => stopped(nonblock),
+    }
+}
+
+// So many bytes moved so far, the first of them by the description of this birth.
+fn moved_by(birth: u128, bytes: u64) -> Moved
+    ensures { result ≡ moved_by birth bytes }
+{
+    if bytes == 0 {
+        return Moved::NOTHING;
+    }
+    Moved {
+        bytes,
+        from: Some(birth),
     }
 }

@@ -11,7 +11,7 @@ use Rattle.sequential_object.specs.Object.{State}
 use Rattle.sequential_object.specs.Refusals.{◌>>=◌}
 use Rattle.sequential_object.specs.Sockets.{shutdown_result}
 use Rattle.sequential_object.specs.Step.{Carried, asks, request_of}
-use Rattle.sequential_object.specs.Transfers.{lseek_result, read_result, write_result}
+use Rattle.sequential_object.specs.Transfers.{first_write, lseek_result, read_result, write_result}
 use Rattle.posix_terms.specs.declared.call.Access.{Access}
 use Rattle.posix_terms.specs.Calls.{Call}
 use Rattle.posix_terms.specs.declared.call.Call.TheVariants as call
@@ -48,7 +48,7 @@ unfolding read_result
 of_read s carried descriptor count = grind (arith, nat_tests)
 
 of_write : (s : State) (carried : Carried) (descriptor : ℤ) (bytes : List ℕ) → IsOf (call.Write descriptor bytes) (asks s (call.Write descriptor bytes) carried)
-unfolding write_result
+unfolding write_result first_write
 of_write s carried descriptor bytes = grind (arith, nat_tests)
 
 of_lseek : (s : State) (carried : Carried) (descriptor offset : ℤ) (whence : Whence) → IsOf (call.Lseek descriptor offset whence) (asks s (call.Lseek descriptor offset whence) carried)

@@ -24,7 +24,7 @@ returns-clause-decided c =
     let shared = c.args.shared.now in
     let new = c.make-start.new.store in
     let kept : KeepsStore (keeps_table c.args.call) c.make-start.result shared.store new = search rules in
-    let decided : IsDecided shared.store c.args.call c.args.locking = search rules in
+    let decided : IsDecided shared.store c.args.call c.args.carried.moved c.args.locking = search rules in
     let waits : HasDecided (phase_started (length shared.rows.items) (Some c.args.object) c.args.call c.args.carried c.make-start.result) (shared.rows.items ++ granted_row c.args.turn c.args.call ∷ []) new (Some c.args.locking) =
     started_waits shared.rows.items c.args.turn c.args.call c.args.carried (Some c.args.object) c.make-start.result shared.store new c.args.locking decided kept in
     subst (λ (w : Option Locking). HasDecided c.seat.result c.seat.new.history.items new w) (sym c.requires.wanted)

@@ -1,6 +1,6 @@
 use Rattle.std.proofs.Common.{Ok, ◌≡◌, Option, Some, ap, subst, rules}
 use Rattle.object_store.specs.declared.patience.Locking.{Locking}
-use Rattle.lock_machine.proofs.Wanting.{wanted_some}
+use Rattle.lock_machine.proofs.Wanting.{waits_decided, wanted_some}
 use Rattle.lock_machine.specs.Wanted.{IsWanted, wanted_call}
 use Rattle.lock_machine.specs.declared.thread.Phase.{Phase}
 use Rattle.lock_machine.specs.Events.{parts}
@@ -24,5 +24,14 @@ unreachable-requires c =
     let want = c.in-WantsObject in
     let shared = c.args.shared.now in
     let is : c.args.thread.now.phase ≡ phase.WantsObject want.call want.carried want.clock want.object = search rules in
-    let its : wanted_call c.args.thread.now.phase shared.rows.items ≡ Some want.call = ap (λ (p : Phase). wanted_call p shared.rows.items) is in
-    wanted_some shared.store want.call (subst (λ (w : Option Locking). IsWanted shared.store want.call w) c.in_default-wanted.is (c.requires.decided want.call its))
+    let its : wanted_call c.args.thread.now.phase shared.rows.items ≡ Some (want.call, want.carried.moved) = ap (λ (p : Phase). wanted_call p shared.rows.items) is in
+    wanted_some shared.store want.call want.carried.moved (subst (λ (w : Option Locking). IsWanted shared.store (want.call, want.carried.moved) w) c.in_default-wanted.is (c.requires.decided (want.call, want.carried.moved) its))
+
+pub grant-requires-clause-decided : goal.grant-requires-clause-decided
+grant-requires-clause-decided c =
+    let want = c.in-WantsObject in
+    let shared = c.args.shared.now in
+    let is : c.args.thread.now.phase ≡ phase.WantsObject want.call want.carried want.clock want.object = search rules in
+    let its : wanted_call c.args.thread.now.phase shared.rows.items ≡ Some (want.call, want.carried.moved) = ap (λ (p : Phase). wanted_call p shared.rows.items) is in
+    waits_decided shared.store c.in-Some.locking want.call want.carried.moved
+    (subst (λ (w : Option Locking). IsWanted shared.store (want.call, want.carried.moved) w) c.in-Some.is (c.requires.decided (want.call, want.carried.moved) its))

@@ -12,6 +12,7 @@ use Rattle.lock_machine.specs.Births.{BornWithin}
 use Rattle.lock_machine.specs.Waiting.{HasRoom, rows_due}
 use Rattle.lock_machine.specs.declared.thread.Phase.{Phase}
 use Rattle.lock_machine.proofs.Bearing.{few_born}
+use Rattle.lock_machine.specs.Wanted.{HasDecided}
 use Rattle.lock_machine.proofs.events.try_object.Goals as goal
 use Rattle.lock_machine.proofs.events.try_object.Goals.{then-is_some+then-not-keeps, else-is_some, else-is_some-via-then-is_some+else-not-keeps, else-is_some-via-else-is_some, then-not-keeps-2, else-not-keeps-2}
 
@@ -71,6 +72,16 @@ grant_object-requires-clause-row c =
     let is : c.args.thread.now.phase ≡ phase.WantsObject want.call want.carried want.clock want.object = search rules in
     let own = subst (λ (p : Phase). HasRoom (rows_due p) c.args.shared.now.rows) is c.requires.row in
     let P : Shared → Type 0 = λ s. HasRoom 1 s.rows in
+    elim c.if-not-keeps-2.branch [
+      | then-not-keeps-2 w ↦ subst P (sym w.shared-is) own
+      | else-not-keeps-2 w ↦ subst P (sym w.shared-is) own
+    ]
+
+pub grant_object-requires-clause-decided : goal.grant_object-requires-clause-decided
+grant_object-requires-clause-decided c =
+    let held : c.args.shared.now.lock.holder ≡ Some c.args.i = search rules in
+    let own : HasDecided c.args.thread.now.phase c.args.shared.now.rows.items c.args.shared.now.store c.args.shared.now.wanted = c.requires.decided held in
+    let P : Shared → Type 0 = λ s. HasDecided c.args.thread.now.phase s.rows.items s.store s.wanted in
     elim c.if-not-keeps-2.branch [
       | then-not-keeps-2 w ↦ subst P (sym w.shared-is) own
       | else-not-keeps-2 w ↦ subst P (sym w.shared-is) own

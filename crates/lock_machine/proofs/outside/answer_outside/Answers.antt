@@ -1,5 +1,11 @@
-use Rattle.std.proofs.Common.{◌≡◌, ◌+◌, ◌^◌, List, Some, None, true, refl, sym, ap, ◌∙◌, subst, length, rules}
-use Rattle.std.proofs.lemmas.Option.{slice_get_read}
+use Rattle.std.proofs.Common.{◌≡◌, ◌+◌, ◌^◌, ℕ, Bool, List, Option, Some, None, true, false, refl, sym, ap, ◌∙◌, subst, length, rules}
+use Rattle.std.proofs.lemmas.Option.{none-some, slice_get_read}
+use Rattle.std.specs.Option.{option_map}
+use Rattle.posix_terms.specs.Calls.{Call}
+use Rattle.det_mutex.specs.declared.lock.DetLock.{DetLock}
+use Rattle.lock_machine.specs.Wanted.{KeepsCalls, LeavesWanted, call_at, kept_call, wanted_call}
+use Rattle.lock_machine.specs.declared.thread.Phase.{Phase}
+use Rattle.lock_machine.proofs.Wanting.{calls_set}
 use Rattle.std.specs.Prelude.{nat_le, slice_get}
 use Rattle.std.proofs.Math.ListN.{set}
 use Rattle.std.proofs.lemmas.List.{get_or-set_same}
@@ -9,6 +15,7 @@ use Rattle.logical_clocks.specs.declared.clocks.ThreadClock.{ThreadClock}
 use Rattle.posix_terms.specs.declared.transcript.HistoryRow.{HistoryRow}
 use Rattle.lock_machine.specs.Outings.{AnswersOutside, answer_cost, outside_parts, table_freed}
 use Rattle.lock_machine.specs.Held.{phase_behind}
+use Rattle.lock_machine.specs.declared.machine.Shared.{Shared}
 use Rattle.lock_machine.specs.Threads.{timed}
 use Rattle.lock_machine.proofs.Parting.{concludes_made, concludes_pending, holds_locks, got_set, object_holder}
 use Rattle.lock_machine.proofs.Bearing.{few_born}
@@ -59,3 +66,44 @@ returns-clause-event c =
 pub end_turn-end-requires-clause-born : goal.end_turn-end-requires-clause-born
 end_turn-end-requires-clause-born c =
     few_born c.args.clocks.now c.args.shared.now.store c.requires.few c.clock-now.ensures.all_within_limit c.requires.born
+
+pub end_turn-end-requires-clause-decided : goal.end_turn-end-requires-clause-decided
+end_turn-end-requires-clause-decided c keeps =
+    let outing = c.args.outing in
+    let shared = c.args.shared.now in
+    let rows = shared.rows in
+    let size : rows.len ≡ length rows.items = search rules in
+    let there : slice_get rows.items outing.row ≡ Some c.in-Some.row.now = slice_get_read rows.items rows.len outing.row c.in-Some.row.now size (c.in-Some.ensures.variant.0 refl) c.in-Some.ensures.value in
+    let held : shared.lock.holder ≡ Some c.args.i = search rules in
+    let call : call_at rows.items outing.row ≡ Some c.in-Some.row.now.call = ap (option_map (λ (r : HistoryRow). r.call)) there in
+    let its : wanted_call c.args.thread.now.phase rows.items ≡ Some (c.in-Some.row.now.call, outing.carried.moved) =
+    ap (λ (p : Phase). wanted_call p rows.items) c.requires.recorded
+    ∙ ap (λ (b : Bool). kept_call b (call_at rows.items outing.row) outing.carried.moved) keeps
+    ∙ ap (λ (o : Option Call). kept_call true o outing.carried.moved) call in
+    c.requires.decided held (c.in-Some.row.now.call, outing.carried.moved) its
+
+pub returns-clause-others : goal.returns-clause-others
+returns-clause-others c = record { others = search rules; forward = search rules; live = search rules }
+
+pub returns-clause-wanted : goal.returns-clause-wanted
+returns-clause-wanted c = by_keep c.args.outing.keeps_table refl
+  where
+    old : Shared
+    old = c.args.shared.now
+
+    there : slice_get old.rows.items c.args.outing.row ≡ Some c.in-Some.row.now
+    there =
+        let size : old.rows.len ≡ length old.rows.items = search rules in
+        slice_get_read old.rows.items old.rows.len c.args.outing.row c.in-Some.row.now size (c.in-Some.ensures.variant.0 refl) c.in-Some.ensures.value
+
+    calls : KeepsCalls old.rows.items (set old.rows.items c.args.outing.row (record c.in-Some.row.now { answer = Some c.answer_copied.result }))
+    calls = calls_set old.rows.items c.args.outing.row c.in-Some.row.now (record c.in-Some.row.now { answer = Some c.answer_copied.result }) there refl
+
+    by_keep : (b : Bool) → c.args.outing.keeps_table ≡ b → (k : ℕ) → c.free_table.new.table.holder ≡ Some k
+        → LeavesWanted k old.lock old.rows.items old.store old.wanted (set old.rows.items c.args.outing.row (record c.in-Some.row.now { answer = Some c.answer_copied.result })) c.end_turn-end.new.store old.wanted
+    by_keep true is k held =
+        let free : c.free_table.new.table.holder ≡ None = ap (λ (l : DetLock). l.holder) (c.free_table.ensures ∙ ap (λ (b : Bool). table_freed b (c.clock-now.result + 1) old.lock) is) in
+        absurd (none-some k (sym free ∙ held))
+    by_keep false is k held =
+        let same : c.free_table.new.table ≡ old.lock = c.free_table.ensures ∙ ap (λ (b : Bool). table_freed b (c.clock-now.result + 1) old.lock) is in
+        (ap (λ (l : DetLock). l.holder) (sym same) ∙ held, calls, c.end_turn-end.ensures.kept is, refl)

@@ -1,6 +1,7 @@
 use Rattle.std.proofs.Common.{◌≡◌, Bool, true, sym, ap, ◌∙◌}
 use Rattle.descriptor_table.specs.Changes.{is_refused}
 use Rattle.descriptor_table.specs.Plans.{planned}
+use Rattle.sequential_object.specs.Effects.{nothing_moved}
 use Rattle.descriptor_table.specs.declared.plan.Plan.{Plan}
 use Rattle.descriptor_table.proofs.BesideLemmas.{refused-as_step}
 use Rattle.descriptor_table.proofs.NumberLemmas.{numbers-unchanged}
@@ -13,12 +14,12 @@ refused_so p q b r is test same = ap (λ (x : Plan). is_refused x) (sym same) �
 
 pub returns-then-is_refused-clause-step : goal.returns-then-is_refused-clause-step
 returns-then-is_refused-clause-step c = λ same.
-    let no = refused_so c.args.plan.now (planned c.args.self.now c.args.call.now) true c.is_refused.result c.is_refused.ensures c.if-is_refused.true same in
+    let no = refused_so c.args.plan.now (planned c.args.self.now c.args.call.now nothing_moved) true c.is_refused.result c.is_refused.ensures c.if-is_refused.true same in
     (refused-as_step c.changes_keep_sound.ensures c.failed_calls_change_nothing.ensures c.args.self.now c.args.call.now _ c.known.ensures.table c.known.ensures.descriptions no).0
 
 pub returns-then-is_refused-clause-tells : goal.returns-then-is_refused-clause-tells
 returns-then-is_refused-clause-tells c = λ same.
-    let no = refused_so c.args.plan.now (planned c.args.self.now c.args.call.now) true c.is_refused.result c.is_refused.ensures c.if-is_refused.true same in
+    let no = refused_so c.args.plan.now (planned c.args.self.now c.args.call.now nothing_moved) true c.is_refused.result c.is_refused.ensures c.if-is_refused.true same in
     (refused-as_step c.changes_keep_sound.ensures c.failed_calls_change_nothing.ensures c.args.self.now c.args.call.now _ c.known.ensures.table c.known.ensures.descriptions no).1
 
 pub returns-then-is_refused-clause-numbers : goal.returns-then-is_refused-clause-numbers

@@ -35,7 +35,7 @@ ftruncate-requires-clause-fits c =
 pub returns-in-Read-clause-ends : goal.returns-in-Read-clause-ends
 returns-in-Read-clause-ends c =
     let h = c.args.self.now in
-    let planned : IsPlanned h c.args.call.now c.args.node (op.Read c.in-Read.from c.in-Read.count) = search rules in
+    let planned : IsPlanned h c.args.call.now c.args.node (op.Read c.in-Read.from c.in-Read.count) = (c.args.carried.moved, search rules) in
     let inside : c.args.node < length h.bodies = has_body h c.args.node (search rules) c.requires.inside in
     let has : HasRead c.in-Read.from.«end» h c.args.node c.in-Read.from c.in-Read.count c.read.result c.read.new.self =
     subst (λ (n : ℕ). HasRead c.in-Read.from.«end» h c.args.node c.in-Read.from n c.read.result c.read.new.self) c.taken.ensures c.read.ensures.read in
@@ -44,7 +44,7 @@ returns-in-Read-clause-ends c =
 pub returns-in-Pread-clause-ends : goal.returns-in-Pread-clause-ends
 returns-in-Pread-clause-ends c =
     let h = c.args.self.now in
-    let planned : IsPlanned h c.args.call.now c.args.node (op.Pread c.in-Pread.count c.in-Pread.position) = search rules in
+    let planned : IsPlanned h c.args.call.now c.args.node (op.Pread c.in-Pread.count c.in-Pread.position) = (c.args.carried.moved, search rules) in
     let answers : c.pread.result ≡ Data (bytes_at (body_at h c.args.node) c.in-Pread.position c.in-Pread.count) =
     c.pread.ensures ∙ ap (λ (n : ℕ). Data (bytes_at (body_at h c.args.node) c.in-Pread.position n)) c.taken-in-Pread.ensures in
     pread_ends c.table_follows_step.ensures.follows h c.args.call.now c.args.node c.in-Pread.count c.in-Pread.position c.pread.result planned answers c.args.carried
@@ -52,7 +52,7 @@ returns-in-Pread-clause-ends c =
 pub returns-in-Ftruncate-clause-ends : goal.returns-in-Ftruncate-clause-ends
 returns-in-Ftruncate-clause-ends c =
     let h = c.args.self.now in
-    let planned : IsPlanned h c.args.call.now c.args.node (op.Ftruncate c.in-Ftruncate.size) = search rules in
+    let planned : IsPlanned h c.args.call.now c.args.node (op.Ftruncate c.in-Ftruncate.size) = (c.args.carried.moved, search rules) in
     let inside : c.args.node < length h.bodies = has_body h c.args.node (search rules) c.requires.inside in
     replies_turn c.args.carried h c.args.call.now c.ftruncate.result c.ftruncate.new.self
     (ftruncate_makes c.table_follows_step.ensures.follows h c.ftruncate.new.self c.args.call.now c.args.node c.in-Ftruncate.size c.ftruncate.result planned inside c.ftruncate.ensures.reply c.ftruncate.ensures.rewritten)
@@ -60,13 +60,13 @@ returns-in-Ftruncate-clause-ends c =
 pub returns-in-Fstat-clause-ends : goal.returns-in-Fstat-clause-ends
 returns-in-Fstat-clause-ends c =
     let h = c.args.self.now in
-    let planned : IsPlanned h c.args.call.now c.args.node (op.Fstat c.in-Fstat.links) = search rules in
+    let planned : IsPlanned h c.args.call.now c.args.node (op.Fstat c.in-Fstat.links) = (c.args.carried.moved, search rules) in
     replies_turn c.args.carried h c.args.call.now c.fstat.result h (fstat_makes c.table_follows_step.ensures.follows h c.args.call.now c.args.node c.in-Fstat.links c.fstat.result planned c.fstat.ensures)
 
 pub returns-in-Shutdown-clause-ends : goal.returns-in-Shutdown-clause-ends
 returns-in-Shutdown-clause-ends c =
     let h = c.args.self.now in
-    let planned : IsPlanned h c.args.call.now c.args.node (op.Shutdown c.in-Shutdown.side c.in-Shutdown.how) = search rules in
+    let planned : IsPlanned h c.args.call.now c.args.node (op.Shutdown c.in-Shutdown.side c.in-Shutdown.how) = (c.args.carried.moved, search rules) in
     let inside : c.args.node < length h.bodies = has_body h c.args.node (search rules) c.requires.inside in
     replies_turn c.args.carried h c.args.call.now c.shutdown.result c.shutdown.new.self
     (shutdown_makes c.table_follows_step.ensures.follows h c.shutdown.new.self c.args.call.now c.args.node c.in-Shutdown.side c.in-Shutdown.how c.shutdown.result planned inside c.shutdown.ensures.reply c.shutdown.ensures.shut)

@@ -22,9 +22,9 @@ returns-in_default c =
     let call = c.args.call.now in
     let x = c.args.locking in
     let inside : acts_inside x.op ≡ true = search rules in
-    let alone : AsksNothing h call = act_alone c.table_follows_step.ensures.follows h call x.object x.op (decided_planned h call x c.requires.decided) inside in
+    let alone : AsksNothing h call c.args.carried = act_alone c.table_follows_step.ensures.follows h call c.args.carried x.object x.op (decided_planned h call c.args.carried.moved x c.requires.decided) inside in
     record {
-      opens = λ settings w r patience stands keeps asked fits. absurd (none-some r (sym (alone w c.args.carried stands) ∙ asked));
+      opens = λ settings w r patience stands keeps asked fits. absurd (none-some r (sym (alone w stands) ∙ asked));
       few = refl;
       births = (omega arith, omega arith);
     }
@@ -36,8 +36,8 @@ returns-then-not-is_at_port-clause-opens c =
     let x = c.args.locking in
     let errand = c.in-Ask.errand in
     let its : x.op ≡ op.Ask errand = search rules in
-    let (keep, planned_is) = decided_planned h call x c.requires.decided in
-    let is : planned h.table call ≡ plan.Node x.object (op.Ask errand) keep = subst (λ (act : Op). planned h.table call ≡ plan.Node x.object act keep) its planned_is in
+    let (keep, planned_is) = decided_planned h call c.args.carried.moved x c.requires.decided in
+    let is : planned h.table call c.args.carried.moved ≡ plan.Node x.object (op.Ask errand) keep = subst (λ (act : Op). planned h.table call c.args.carried.moved ≡ plan.Node x.object act keep) its planned_is in
     let off : at_port call c.args.outcome.now ≡ false = search rules in
     off_port c.table_follows_step.ensures.follows h h call x.object errand keep c.args.outcome.now (end.Reply (Fail EIO)) c.args.patience c.args.carried is off
 
@@ -49,16 +49,16 @@ returns-clause-opens c =
     let x = c.args.locking in
     let errand = c.in-Ask.errand in
     let its : x.op ≡ op.Ask errand = search rules in
-    let (keep, planned_is) = decided_planned h call x c.requires.decided in
-    let is : planned h.table call ≡ plan.Node x.object (op.Ask errand) keep = subst (λ (act : Op). planned h.table call ≡ plan.Node x.object act keep) its planned_is in
+    let (keep, planned_is) = decided_planned h call c.args.carried.moved x c.requires.decided in
+    let is : planned h.table call c.args.carried.moved ≡ plan.Node x.object (op.Ask errand) keep = subst (λ (act : Op). planned h.table call c.args.carried.moved ≡ plan.Node x.object act keep) its planned_is in
     let made : TableMade h call (Some c.args.outcome.now) new.table = search rules in
     let tells : TellsAsStep h.table call (Some c.args.outcome.now) c.change-given.result = search rules in
     let bodies : new.bodies ≡ h.bodies = search rules in
-    door_opens c.table_follows_step.ensures.follows c.failed_calls_change_nothing.ensures c.blocked_calls_change_nothing.ensures h new call x.object errand keep c.args.outcome.now c.change-given.result c.end_opening.result c.args.patience c.args.carried is made tells bodies c.end_opening.ensures.ends
+    door_opens c.table_follows_step.ensures.follows c.failed_calls_change_nothing.ensures c.moved_bytes_are_told.ensures.again h new call x.object errand keep c.args.outcome.now c.change-given.result c.end_opening.result c.args.patience c.args.carried is made tells bodies c.end_opening.ensures.ends
 
 pub change-given-requires-clause-change : goal.change-given-requires-clause-change
 change-given-requires-clause-change c =
     let h = c.args.self.now in
     let sound : IsSound h.table = search rules in
     let all : AreSound h.table.descriptions = search rules in
-    decided_change c.table_follows_step.ensures.follows h c.args.call.now c.args.locking sound all c.requires.decided
+    decided_change c.table_follows_step.ensures.follows h c.args.call.now c.args.carried.moved c.args.locking sound all c.requires.decided

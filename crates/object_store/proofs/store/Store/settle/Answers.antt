@@ -10,4 +10,4 @@ returns-clause-reply c =
     let call = c.args.call.now in
     let new = c.change.new.self in
     subst (λ (z : Stored). Replies c.args.carried h call c.args.reply z) (changed_is h new c.change.ensures.bodies)
-    (reply_makes c.change.ensures.follows h call c.args.reply new.table c.requires.planned c.change.ensures.made c.args.carried)
+    (reply_makes c.change.ensures.follows h call c.args.reply new.table c.args.carried c.requires.planned c.change.ensures.made)
