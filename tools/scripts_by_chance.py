@@ -40,8 +40,13 @@ class Chance:
 
     def octets(self):
         if self.is_odd(0.04):
-            return self.one("b0", "b1", "x", "x" + "5a" * 32767, "x" + "5a" * 9000)
+            return self.one("b0", "b1", "x", "x" + "5a" * 32767, self.long_octets())
         return "x" + self.draw.randbytes(self.draw.randrange(1, 12)).hex()
+
+    def long_octets(self):
+        """More than a write of a pipe moves whole. They are numbers of two bytes, so that each byte shows its place."""
+        count, first = self.one(513, 4096, 4097, *(self.draw.randrange(513, 9001) for _ in range(5))), self.draw.randrange(65536)
+        return "x" + b"".join((at % 65536).to_bytes(2, "big") for at in range(first, first + 4501))[:count].hex()
 
     def place(self):
         if self.is_odd(0.1):
@@ -127,10 +132,31 @@ def crowd(chance):
         ["set r2 -33", "label full", "open /a rw create", "add r2 1", "jzero r2 filled", "jump full", "label filled"],
         [f"mkdir /n{at}" for at in range(66)],
         [line for at in range(50) for line in (f"open /o{at} rw create", "close r0")],
-        ["pipe", "set r9 r1", f"write r9 x{'5a' * 32767}", "write r9 x5a", "write r9 x5a"],
+        ["pipe", "set r9 r1", f"write r9 x{'5a' * 4095}", "write r9 x5a", "write r9 x5a"],
         [f"socketpair\nset r9 r1\nwrite r9 x{'5a' * 32767}\nwrite r9 x5a5a"],
     ]
     return chance.draw.choice(fills)
+
+
+TAKES = ["close 1", "close 0", "dup2 3 1", "dup2 1 3", "dup2 4 1", "open /a rw create", "pipe", "socketpair", "setfl 1 nonblock",
+         "setfl 3 nonblock", "setfl 1", "fstat 1", "getfl 3", "dup 1\nset r9 r0\nclose 1\ndup2 r9 1", "dup 1\ndup2 r0 1",
+         "pipe\ndup2 r1 1", "close 1\nopen /b rw create", "close 1\npipe"]
+
+
+def piped_lines(chance, at, has_doors):
+    """A thread beside others that share a pipe or two, whose ends have few numbers: it writes much, or makes room, or closes these
+    numbers and gives them to something else while a write waits there. None of them is that of a stream."""
+    draw, lines = chance.draw, ["pipe"] if at == 0 or chance.is_odd(0.1) else [f"work {chance.one(0, 2, 9)}"]
+    role = "writes" if at == 0 and draw.random() < 0.7 else chance.one("writes", "reads", "reads", "takes")
+    takes = TAKES + ["host_open h0 rw create\ndup2 r0 1", "close 1\nhost_open h1 rw create"] * (2 * has_doors)
+    for _ in range(draw.randrange(1, 7)):
+        is_long, writer, reader = draw.random() < 0.7, chance.one("1", "1", "1", "3", "4"), chance.one("0", "0", "0", "2")
+        octets = chance.long_octets() if is_long else "x" + draw.randbytes(chance.one(1, 9, 100, 511, 512)).hex()
+        count = chance.one("1", "100", "504", "600", "4000", "4096", "9000", str(draw.randrange(1, 5000)))
+        lines += [f"work {chance.one(1, 4, 9, 20, 60)}"] if draw.random() < (0.2 if role == "writes" else 0.5) else []
+        lines += {"writes": f"write {writer} {octets}", "reads": f"read {reader} {count}", "takes": chance.one(*takes)}[role].split("\n")
+        lines += [chance.call(chance.one("read", "write", "dup", "close", "setfl"))] if chance.is_odd(0.1) else []
+    return lines
 
 
 def own_lines(chance, tcp):
@@ -176,9 +202,12 @@ def numbered(lines):
 
 
 def scripts(draw):
-    """The scripts of a run, of 1 to 16 threads; some have doors, and some streams."""
+    """The scripts of a run, of 1 to 16 threads; some have doors, some streams, and some long writes to pipes."""
     threads, style = draw.choice([1, 2, 2, 3, 4, 8, 16, draw.randrange(1, 17)]), draw.random()
     if style < 0.2:
         return ["\n".join(numbered(own_lines(Chance(draw, own=True), tcp=draw.random() < 0.7))) + "\n" for _ in range(threads)]
-    weights = IN_MEMORY if style < 0.55 else WITH_DOORS
+    if style < 0.45:
+        has_doors = draw.random() < 0.4
+        return ["\n".join(piped_lines(Chance(draw), at, has_doors)) + "\n" for at in range(max(threads, 2))]
+    weights = IN_MEMORY if style < 0.7 else WITH_DOORS
     return ["\n".join(wild_lines(Chance(draw), weights)) + "\n" for _ in range(threads)]
