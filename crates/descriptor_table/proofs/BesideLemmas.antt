@@ -719,7 +719,7 @@ module _ (t : TableState) (s : State) (settings : Settings) (outcome made_with :
   agrees c = agree c refl (sure-call t sound c)
 
 -- what is decided of a call changes the same, whatever it moved before
-same_change : (t : TableState) (c : Call) (so_far : Moved) → (decided_with t c so_far).change ≡ change_of t c
+pub same_change : (t : TableState) (c : Call) (so_far : Moved) → (decided_with t c so_far).change ≡ change_of t c
 same_change t (call.Write descriptor bytes) so_far = by_moved (so_far.bytes == 0)
   where
     by_plan : (r : Result Plan Errno) → change.Nothing ≡ (answered (leaves r)).change
@@ -800,12 +800,13 @@ planned_alike t (call.Write descriptor bytes) one other plain = absurd (false≢
 planned_alike t c one other plain = refl
 
 -- a call that the table refuses leaves it as it is, and tells no number
-pub refused-as_step : ChangesKeepSound → FailChangesNothing → (t : TableState) (c : Call) (made_with : Option Outcome) → IsSound t → AreSound t.descriptions → is_refused (planned t c nothing_moved) ≡ true
+pub refused-as_step : ChangesKeepSound → FailChangesNothing → (t : TableState) (c : Call) (made_with : Option Outcome) → IsSound t → AreSound t.descriptions 
+    → (so_far : Moved) → is_refused (planned t c so_far) ≡ true
     → ChangesAsStep t c made_with t × TellsAsStep t c made_with numbers.None
-refused-as_step keep fails t c made_with sound all refused = by_write (is_write c) refl
+refused-as_step keep fails t c made_with sound all so_far refused = by_write (is_write c) refl
   where
     again : (carried : Carried) → is_write c ≡ false → is_refused (planned t c carried.moved) ≡ true
-    again carried plain = ap (λ (p : Plan). is_refused p) (planned_alike t c carried.moved nothing_moved plain) ∙ refused
+    again carried plain = ap (λ (p : Plan). is_refused p) (planned_alike t c carried.moved so_far plain) ∙ refused
 
     by_plan : (r : Result Plan Errno) → change.Nothing ≡ (answered (leaves r)).change
     by_plan (Ok p) = refl

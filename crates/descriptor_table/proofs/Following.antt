@@ -9,7 +9,7 @@ use Rattle.descriptor_table.specs.Laws.{FollowsStep, OffsetIsFree, TableFollows}
 use Rattle.descriptor_table.specs.Plans.{change_of}
 use Rattle.descriptor_table.specs.Table.{IsSound, TableState}
 use Rattle.descriptor_table.proofs.ChangeLemmas.{shows-set_offset}
-use Rattle.descriptor_table.proofs.BesideLemmas.{acts-as_step, changes-as_step, plans-as_step, stays-as_step}
+use Rattle.descriptor_table.proofs.BesideLemmas.{acts-as_step, changes-as_step, plans-as_step, same_change, stays-as_step}
 use Rattle.descriptor_table.proofs.EndLemmas.{one_door}
 use Rattle.descriptor_table.proofs.KnownLemmas.{known-change, known-planned}
 use Rattle.descriptor_table.proofs.ShownLemmas.{found_both, shows-empty}
@@ -19,6 +19,7 @@ follows-step : ChangesKeepSound → (t : TableState) (c : Call) (so_far : Moved)
 follows-step keep t c so_far sound all =
     record {
       known = known-planned t c so_far sound;
+      same = same_change t c so_far;
       can = known-change t c sound;
       plans = plans-as_step keep t c sound all so_far;
       acts = acts-as_step keep t c sound all so_far;

@@ -201,7 +201,7 @@ acted t node (op.Write to) (call.Write descriptor bytes) before o given content 
     write_acted t node to bytes before content offset
 acted t node (op.Pread count position) c before o given (File file) offset =
     replied (reply.Data (bytes_at file position count)) (File file) offset
-acted t node (op.Pwrite start) (call.Pwrite descriptor bytes position) before o given (File file) offset =
+acted t node (op.Pwrite start) (call.Pwrite _ bytes position) before o given (File file) offset =
     if length bytes == 0 then replied (reply.Count 0) (File file) offset else wrote (written file start bytes) file offset (λ count. offset)
 acted t node (op.Lseek at) (call.Lseek descriptor to whence) before o given (File file) offset =
     sought (offset_of (pos (base_of whence offset (length file)) +ℤ to)) file offset

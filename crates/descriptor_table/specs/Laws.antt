@@ -14,13 +14,15 @@ use Rattle.file_descriptions.specs.declared.description.Description.{Description
 use Rattle.descriptor_table.specs.Acts.{ActsAsStep, StaysAsStep}
 use Rattle.descriptor_table.specs.Agreement.{ChangesAsStep, PlansAsStep}
 use Rattle.descriptor_table.specs.Changes.{CanChange, Changes}
-use Rattle.descriptor_table.specs.Plans.{LocksKnown, change_of, planned, read_count}
+use Rattle.descriptor_table.specs.Plans.{LocksKnown, change_of, decided_with, planned, read_count}
 use Rattle.descriptor_table.specs.Shows.{Shows, same_door, shown}
 use Rattle.descriptor_table.specs.Table.{IsSound, TableState, described, empty_table, is_used, key_at}
 
 -- what is planned of a call that moved so much before is what its step does
 pub record FollowsStep (t : TableState) (c : Call) (so_far : Moved) : Type 0 where
   pub known : LocksKnown t (read_count c) (planned t c so_far)
+  -- its change is that of the call, whatever it moved before
+  pub same : (decided_with t c so_far).change ≡ change_of t c
   -- and what was looked up for its change is so
   pub can : CanChange t c (change_of t c)
   pub plans : PlansAsStep t c so_far (planned t c so_far)

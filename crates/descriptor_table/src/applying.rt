@@ -1,4 +1,3 @@
-ghost use Rattle.sequential_object.specs.Effects.{nothing_moved};
 ghost use Rattle.std.specs.Prelude.{◌≡◌, ◌<◌, ◌^◌, pos, IsTrue, true, false, option_copied};
 ghost use Rattle.descriptor_table.specs.Agreement.{ChangesAsStep, NumbersStay, OffsetsStay, TellsAsStep};
 ghost use Rattle.descriptor_table.specs.Changes.{AreOpened, CanChange, Changed, Changes, IsAtPort, IsFreeNumber, IsNextObject, IsOpened, IsPortOf, OpensDoor, Refers, closed, door_given, door_of, given, is_refused, numbers_given, old_path_of, path_of};
@@ -14,9 +13,9 @@ use posix_terms::{Access, Call, Door, End, Limits, Moved, Outcome, Side};
 use sequential_object::failed_calls_change_nothing;
 
 impl Table {
-    /// Makes the change of a call that was planned, and moved nothing before: of descriptors,
-    /// descriptions, names and objects. After a refusal there is none. It gives the numbers of new
-    /// descriptors where the plan has not told them.
+    /// Makes the change of a call that was planned, whatever the call moved before: of
+    /// descriptors, descriptions, names and objects. After a refusal there is none. It returns the
+    /// numbers of new descriptors that the plan does not have.
     /// So the table goes on showing the sequential object after the call (`step`), and the numbers are those
     /// of its answer (`tells`). An object keeps its number while it is there, and a new one gets the next that
     /// is free (`numbers`). A description stands where it stood, and a new one at 0 (`offsets`).
@@ -29,11 +28,11 @@ impl Table {
         ensures refused { IsTrue (is_refused plan.now) → (self.new ≡ self.old) × (result ≡ numbers.None) }
         ensures changes { is_refused plan.now ≡ false → Changes self.old call.now (option_copied outcome.entry) self.new }
         ensures number { is_refused plan.now ≡ false → result ≡ numbers_given self.old call.now (option_copied outcome.entry) }
-        ensures step { plan.now ≡ planned self.old call.now nothing_moved
+        ensures step { (so_far : Moved) → plan.now ≡ planned self.old call.now so_far
             → ChangesAsStep self.old call.now (option_copied outcome.entry) self.new }
         ensures numbers { NumbersStay self.old self.new }
         ensures offsets { OffsetsStay self.old self.new }
-        ensures tells { plan.now ≡ planned self.old call.now nothing_moved
+        ensures tells { (so_far : Moved) → plan.now ≡ planned self.old call.now so_far
             → TellsAsStep self.old call.now (option_copied outcome.entry) result }
     {
         self.known();

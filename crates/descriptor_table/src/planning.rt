@@ -37,11 +37,11 @@ use posix_terms::{
 };
 
 impl Table {
-    /// What the table makes of a call that moved so much before: its reply, exactly where the call takes
-    /// no object's lock. So it is for a write that moved bytes, where its descriptor is closed or names
-    /// another description than the one by which the first byte went (docs/profile.md). Otherwise
-    /// the object, and what the call does there with the description, its end, its flags and the number of
-    /// names as they are now. That object is there, or it is the one that the call makes, and a description
+    /// What the table makes of a call that moved so much before: its reply, exactly where the call
+    /// takes no object's lock. So it is for a write that moved bytes, where its descriptor is closed
+    /// or names another description than the one by which the first byte went (docs/profile.md).
+    /// Otherwise the object, and what the call does there with the description, its end, its flags
+    /// and the number of names as they are now. That object is there, or it is the one that the call makes, and a description
     /// whose offset the call reads or moves is there, and so is an object whose door is taken along; and no
     /// more bytes are read, nor in the reply, than the `read_count` of the call (`object`). The reply, the
     /// object, what is asked outside and whether the call keeps the table are those of the sequential object,

@@ -86,10 +86,10 @@ to r1, and so does the number of names of fstat; data go to b0.
 A thread also ends once it has executed 10000 lines. Nothing is printed of that, and the status is 0: the
 last row of such a thread is not that of its script's last line.
 
-Limits: 16 scripts of 1000 lines; 32 descriptors, 48 objects (files, pipes, pairs and doors), 64 names; 65536
-bytes in a file, 4096 in a pipe, 32768 in each direction of a pair; 32767 bytes in a call, 255 in a path.
-A write to a pipe of at most 512 bytes is made whole. A longer one moves what fits, also at later turns, and
-its count may be less than its bytes.
+Limits: 16 scripts of 1000 lines; 32 descriptors, 48 objects (files, pipes, pairs and doors), 64
+names; 65536 bytes in a file, 4096 in a pipe, 32768 in each direction of a pair; 32767 bytes in a
+call, 255 in a path. A write to a pipe of at most 512 bytes is made whole. A longer one moves what
+fits, also at later turns, and its count may be less than its bytes.
 
 The last line is end. host_open, the tcp calls and the calls on what they open go outside the run, where
 nothing comes from under plain: the run stops once the thread that has the turn is at such a call, and

@@ -80,23 +80,9 @@ locking_is (plan.Reply r) by x is = absurd (none-some x is)
 pub decided_planned : (h : Stored) (c : Call) (so_far : Moved) (x : Locking) → IsDecided h c so_far x → IsPlannedWith h c so_far x.object x.op
 decided_planned h c so_far x is = (locking_is (planned h.table c so_far) (let d = decided_with h.table c so_far in d.change) x is).0
 
--- what is decided of a call changes the same, whatever it moved before
-same_change : (t : TableState) (c : Call) (so_far : Moved) → (let d = decided_with t c so_far in d.change) ≡ change_of t c
-same_change t (call.Write descriptor bytes) so_far = by_moved (so_far.bytes == 0)
-  where
-    by_plan : (r : Result Plan Errno) → change.Nothing ≡ (answered (leaves r)).change
-    by_plan (Ok p) = refl
-    by_plan (Err e) = refl
-
-    by_moved : (b : Bool) → (let d : Decided = if b then answered (decided_of t (call.Write descriptor bytes)) else record { plan = resumed_plan t descriptor so_far; change = change.Nothing } in d.change)
-        ≡ change_of t (call.Write descriptor bytes)
-    by_moved true = refl
-    by_moved false = by_plan (write_plan t descriptor (length bytes))
-same_change t c so_far = refl
-
 pub decided_change : TableFollows → (h : Stored) (c : Call) (so_far : Moved) (x : Locking) → IsSound h.table → AreSound h.table.descriptions → IsDecided h c so_far x → IsChange h c x.change
 decided_change law h c so_far x sound all is =
-    let its : change_of h.table c ≡ x.change = sym (same_change h.table c so_far) ∙ (locking_is (planned h.table c so_far) (let d = decided_with h.table c so_far in d.change) x is).1 in
+    let its : change_of h.table c ≡ x.change = sym (law.calls h.table c so_far sound all).same ∙ (locking_is (planned h.table c so_far) (let d = decided_with h.table c so_far in d.change) x is).1 in
     (sym its, subst (CanChange h.table c) its (law.calls h.table c so_far sound all).can)
 
 -- so its object has a number, and what its act moves is there

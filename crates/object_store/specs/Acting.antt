@@ -1,6 +1,7 @@
 -- Internal: no contract of the headline or of a command stands on it.
 -- What the acts of calls make of the table and the bodies.
-use Rattle.std.specs.Prelude.{◌≡◌, ℕ, ◌+◌, ◌==◌, List, [], take, length, slice_set, pos, Bool, true, false, Result, Ok, Err, if◌then◌else◌}
+use Rattle.std.specs.Prelude.{◌≡◌, ℕ, ◌+◌, ◌==◌, List, [], take, length, slice_set, pos}
+use Rattle.std.specs.Prelude.{Bool, true, false, Result, Ok, Err, if◌then◌else◌}
 use Rattle.posix_terms.specs.Calls.{Call}
 use Rattle.sequential_object.specs.declared.turn_end.ActEnd.{ActEnd}
 use Rattle.sequential_object.specs.declared.turn_end.ActEnd.TheVariants as act_end
@@ -106,7 +107,8 @@ HasWritten (part.Door door) old node to bytes before e new =
     (e ≡ act_end.Reply reply.Done) × (new ≡ old)
 HasWritten which old node to bytes before e new =
     let content = held_by which (kept_at old node) in
-    ActsOn (write_acted old.table node to bytes before content (offset_of_key old to.key)) old node e new
+    let offset = offset_of_key old to.key in
+    ActsOn (write_acted old.table node to bytes before content offset) old node e new
 
 -- ## Streams, by what their bodies answer
 

@@ -10,7 +10,7 @@ use crate::patience::{Locking, fail_outside};
 use crate::store::Store;
 use descriptor_table::{Change, Errand, NewNumbers, Op, table_follows_step};
 use posix_terms::{Call, Carried, Errno, Outcome, Reply};
-use sequential_object::{TurnEnd, failed_calls_change_nothing, moved_bytes_are_told};
+use sequential_object::{TurnEnd, failed_calls_change_nothing, moved_bytes_are_reported};
 
 // Calls that go outside.
 impl Store {
@@ -50,7 +50,7 @@ impl Store {
     {
         table_follows_step();
         failed_calls_change_nothing();
-        moved_bytes_are_told();
+        moved_bytes_are_reported();
         // What holds of every table holds of this one.
         let _ = self.table.made();
         let Op::Ask(errand) = locking.op else {

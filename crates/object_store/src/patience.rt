@@ -39,7 +39,8 @@ pub enum TurnStart {
     GoesOut(Errand),
 }
 
-// The end of an act that cannot go on and moved nothing: it waits, or fails where its description is not to block.
+// The end of an act that cannot go on and moved nothing: it waits, or fails where its description
+// is not to block.
 pub(crate) fn stopped(nonblock: bool) -> ActEnd
     ensures shown { result ≡ stopped_ending nonblock }
     ensures few { act_bytes result ≡ 0 }

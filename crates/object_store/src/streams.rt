@@ -70,7 +70,8 @@ impl Store {
     pub(crate) fn write(&mut self, node: usize, to: Opened, bytes: &[u8], moved: Moved) -> ActEnd
         requires inside { node < limit.OBJECTS }
         requires known { ContainsKey self.old.table.descriptions to.key }
-        ensures written { HasWritten to.«end» self.old node to bytes.now moved.bytes result self.new }
+        ensures written { HasWritten to.«end» self.old node to bytes.now moved.bytes result
+            self.new }
         ensures few { act_bytes result ≡ 0 }
     {
         match to.end {

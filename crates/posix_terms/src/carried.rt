@@ -12,8 +12,8 @@ pub struct Carried {
 pub struct Moved {
     /// How many of its bytes.
     pub bytes: u64,
-    /// The open file description at the turn that moved the first of them, by a number that no two
-    /// descriptions ever made share. There is none where no byte was moved.
+    /// The open file description by which the first of them went, by its birth: that number is
+    /// never given to another one. `None` where no byte was moved.
     pub from: Option<u128>,
 }
 

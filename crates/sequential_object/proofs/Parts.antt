@@ -1,7 +1,7 @@
--- A write at one of its turns: what it leaves where it waits or fails, and that it tells what it moved.
-use Rattle.std.proofs.Common.{◌∷◌, [], ap, sym, ◌≡◌, ◌≤◌, ◌+◌, ◌-◌, ◌==◌, ◌++◌, inl, inr, ℕ, ℤ, List, length, take, drop, Bool, true, false, Result, Ok, Err, arith, refl, sym, subst}
+-- A write at one of its turns: what it leaves where it waits or fails, and that it reports what it moved.
+use Rattle.std.proofs.Common.{◌∷◌, [], ap, sym, ◌∙◌, ◌≡◌, ◌≤◌, ◌+◌, ◌-◌, ◌==◌, ◌++◌, inl, inr, ℕ, ℤ, List, length, take, drop, Bool, true, false, Result, Ok, Err, arith, refl, sym, subst}
 use Rattle.std.proofs.lemmas.Bool.Decides.{nat_tests}
-use Rattle.std.proofs.lemmas.List.{length-drop, length-take}
+use Rattle.std.proofs.lemmas.List.{length-drop, length-take, take_min}
 use Rattle.std.specs.Prelude.{if◌then◌else◌, nat_le, zero, suc}
 use Rattle.posix_terms.specs.declared.call.Call.TheVariants as call
 use Rattle.posix_terms.specs.declared.errno.Errno.{Errno}
@@ -18,13 +18,13 @@ use Rattle.sequential_object.specs.Transfers.{blocked, moved_by, pauses, pipe_tu
 use Rattle.sequential_object.specs.Waiting.{WaitsInParts}
 
 -- a count of so many bytes at least
-abbrev pub TellsCount : ℕ → Reply → Type 0
-TellsCount before (reply.Count count) = before ≤ count
-TellsCount before r = ⊥
+abbrev pub ReportsCount : ℕ → Reply → Type 0
+ReportsCount before (reply.Count count) = before ≤ count
+ReportsCount before r = ⊥
 
--- a turn of a write that moved so many bytes before: it tells them, and adds to the pipe alone
+-- a turn of a write that moved so many bytes before: it reports them, and adds to the pipe alone
 abbrev pub IsTurn : State → ℤ → List ℕ → ℕ → Result Effect Errno → Type 0
-IsTurn s descriptor bytes before (Ok (Completes after r)) = TellsCount before r
+IsTurn s descriptor bytes before (Ok (Completes after r)) = ReportsCount before r
 IsTurn s descriptor bytes before (Ok (Blocks after moved)) =
     (moved.bytes ≡ 0 → after ≡ s) × WaitsInParts s (call.Write descriptor bytes) before after moved.bytes × (before ≤ moved.bytes)
 IsTurn s descriptor bytes before (Ok (Asks a)) = ⊥
@@ -32,9 +32,7 @@ IsTurn s descriptor bytes before (Err e) = before ≡ 0
 
 -- the first bytes that are taken are the first of all, as many as they are
 taken_next : (n : ℕ) (l : List ℕ) → take n l ≡ take (length (take n l)) l
-taken_next zero l = refl
-taken_next (suc n) [] = refl
-taken_next (suc n) (x ∷ l) = ap (λ (more : List ℕ). x ∷ more) (taken_next n l)
+taken_next n l = sym (ap (λ (m : ℕ). take m l) (length-take n l) ∙ take_min n l)
 
 module _ (s : State) (key : ℕ) (d : Description) (descriptor : ℤ) (bytes waiting : List ℕ) where
   pauses_turn : (after : State) (before total : ℕ) → before ≤ total → (total ≡ 0 → after ≡ s)

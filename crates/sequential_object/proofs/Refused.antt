@@ -10,7 +10,7 @@ use Rattle.sequential_object.specs.Effects.{Blocks, Asks, Completes, Decision, E
 use Rattle.sequential_object.specs.Names.{link_result, unlink_result, rename_result, mkdir_result, rmdir_result}
 use Rattle.sequential_object.specs.Object.{State, Description, Content, DoorTo, File, Pair, Pipe, content_of}
 use Rattle.sequential_object.specs.Refusals.{◌>>=◌, refuse_if}
-use Rattle.sequential_object.specs.Waiting.{AgainMovesInParts, MovedBytesAreTold, TellsMoved, WaitsInParts}
+use Rattle.sequential_object.specs.Waiting.{AgainMovesInParts, MovedBytesAreReported, ReportsMoved, WaitsInParts}
 use Rattle.sequential_object.proofs.Binds.{gave, same_ok}
 use Rattle.sequential_object.proofs.Parts.{IsTurn, turn}
 use Rattle.posix_terms.specs.Calls.{can_write}
@@ -398,18 +398,18 @@ resumed_is s descriptor bytes moved some = by_moved (moved.bytes == 0) refl
     by_moved false is = resumed_turn s descriptor bytes moved (described s descriptor) refl
 
 -- a write that moved bytes tells them
-pub moved_is_told : MovedBytesAreTold
-moved_is_told settings s descriptor bytes outcome carried some = by_effect (does_of (write_result s descriptor bytes carried.moved)) (resumed_is s descriptor bytes carried.moved some)
+pub moved_is_reported : MovedBytesAreReported
+moved_is_reported settings s descriptor bytes outcome carried some = by_effect (does_of (write_result s descriptor bytes carried.moved)) (resumed_is s descriptor bytes carried.moved some)
   where
-    by_patience : (b : Bool) (after : State) (moved : Moved) → carried.moved.bytes ≤ moved.bytes → let stepped = held_up b after moved carried in TellsMoved carried.moved.bytes stepped.answer stepped.carried.moved
+    by_patience : (b : Bool) (after : State) (moved : Moved) → carried.moved.bytes ≤ moved.bytes → let stepped = held_up b after moved carried in ReportsMoved carried.moved.bytes stepped.answer stepped.carried.moved
     by_patience true after moved more = more
     by_patience false after moved more = by_bytes moved.bytes more
       where
-        by_bytes : (n : ℕ) → carried.moved.bytes ≤ n → TellsMoved carried.moved.bytes (answer.Reply (gave_up n)) nothing_moved
+        by_bytes : (n : ℕ) → carried.moved.bytes ≤ n → ReportsMoved carried.moved.bytes (answer.Reply (gave_up n)) nothing_moved
         by_bytes zero more = grind (arith, some, more)
         by_bytes (suc n) more = more
 
-    by_effect : (r : Result Effect Errno) → IsTurn s descriptor bytes carried.moved.bytes r → let stepped = concluded settings s outcome carried r in TellsMoved carried.moved.bytes stepped.answer stepped.carried.moved
+    by_effect : (r : Result Effect Errno) → IsTurn s descriptor bytes carried.moved.bytes r → let stepped = concluded settings s outcome carried r in ReportsMoved carried.moved.bytes stepped.answer stepped.carried.moved
     by_effect (Ok (Completes after (reply.Count n))) h = h
     by_effect (Ok (Completes after r)) h = absurd h
     by_effect (Ok (Blocks after moved)) h = by_patience (nat_lt (carried.turns + 1) settings.patience) after moved h.2

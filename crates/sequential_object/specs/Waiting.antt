@@ -1,5 +1,5 @@
 -- Internal: no contract of the headline or of a command stands on it.
--- What a call leaves that cannot go on, and that the bytes which it moved are told.
+-- What a call leaves that cannot go on, and that the bytes which it moved are reported.
 use Rattle.std.specs.Prelude.{◌≡◌, ◌⊎◌, ◌<◌, ◌≤◌, ◌+◌, ℕ, ℤ, List, ◌++◌, length, take, drop}
 use Rattle.std.specs.Prelude.{Option, Ok}
 use Rattle.sequential_object.specs.Descriptors.{described}
@@ -16,8 +16,8 @@ use Rattle.posix_terms.specs.declared.transcript.Settings.{Settings}
 
 -- the next bytes of a write wait in the pipe of its descriptor too, and all else is as it was; so
 -- many of its bytes went before, and so many with these
-pub record AddsToPipe
-    (s : State) (descriptor : ℤ) (bytes : List ℕ) (before : ℕ) (after : State) (moved : ℕ) : Type 0 where
+pub record AddsToPipe (s : State) (descriptor : ℤ) (bytes : List ℕ) (before : ℕ)
+    (after : State) (moved : ℕ) : Type 0 where
   pub key : ℕ
   pub description : Description
   pub waiting : List ℕ
@@ -43,17 +43,17 @@ AgainMovesInParts =
     → let stepped = step settings s c outcome carried in
     WaitsInParts s c carried.moved.bytes stepped.after stepped.carried.moved.bytes
 
--- an answer that tells so many bytes at least, or hands them on
-abbrev pub TellsMoved : ℕ → Answer → Moved → Type 0
-TellsMoved bytes answer.Again moved = bytes ≤ moved.bytes
-TellsMoved bytes (answer.Reply (reply.Count count)) moved = bytes ≤ count
-TellsMoved bytes a moved = ⊥
+-- an answer that reports so many bytes at least, or hands them on
+abbrev pub ReportsMoved : ℕ → Answer → Moved → Type 0
+ReportsMoved bytes answer.Again moved = bytes ≤ moved.bytes
+ReportsMoved bytes (answer.Reply (reply.Count count)) moved = bytes ≤ count
+ReportsMoved bytes a moved = ⊥
 
--- a write that moved bytes does not fail, and tells them
-abbrev pub MovedBytesAreTold : Type 0
-MovedBytesAreTold =
+-- a write that moved bytes does not fail, and reports them
+abbrev pub MovedBytesAreReported : Type 0
+MovedBytesAreReported =
     (settings : Settings) (s : State) (descriptor : ℤ) (bytes : List ℕ)
     (outcome : Option Outcome) (carried : Carried)
     → 0 < carried.moved.bytes
     → let stepped = step settings s (call.Write descriptor bytes) outcome carried in
-    TellsMoved carried.moved.bytes stepped.answer stepped.carried.moved
+    ReportsMoved carried.moved.bytes stepped.answer stepped.carried.moved

@@ -1,7 +1,7 @@
 ghost use Rattle.sequential_object.specs.Locked.{KeepsOutside, LeavesAlike, OutsideLocks};
 ghost use Rattle.sequential_object.specs.Step.{FailChangesNothing};
 ghost use Rattle.sequential_object.specs.Unused.{EndsAreOpen, StartsTidy, StepsKeepTidy};
-ghost use Rattle.sequential_object.specs.Waiting.{AgainMovesInParts, MovedBytesAreTold};
+ghost use Rattle.sequential_object.specs.Waiting.{AgainMovesInParts, MovedBytesAreReported};
 
 /// A law of the sequential object: a call that fails leaves the state as it was, but for a `close` of a door's
 /// last descriptor.
@@ -13,9 +13,9 @@ pub fn failed_calls_change_nothing()
 /// bytes to a pipe: it may have added its next bytes to the pipe. What a write hands on to its next
 /// turn counts all the bytes that it added (`again`). A write that moved bytes is never answered a
 /// failure: it is answered as many at least, or hands as many on (`told`).
-pub fn moved_bytes_are_told()
+pub fn moved_bytes_are_reported()
     ensures again { AgainMovesInParts }
-    ensures told { MovedBytesAreTold }
+    ensures reported { MovedBytesAreReported }
 {}
 
 /// A call that goes outside takes the lock of a door, or of the one that it would open (`locks`). The calls that

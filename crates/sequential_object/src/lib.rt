@@ -28,6 +28,6 @@ mod turn_end;
 
 pub use examples::{worked_door_examples, worked_examples};
 pub use laws::{
-    calls_outside, failed_calls_change_nothing, moved_bytes_are_told, nothing_unused_is_held,
+    calls_outside, failed_calls_change_nothing, moved_bytes_are_reported, nothing_unused_is_held,
 };
 pub use turn_end::{ActEnd, TurnEnd};

@@ -54,7 +54,7 @@ returns-clause-opens c =
     let made : TableMade h call (Some c.args.outcome.now) new.table = search rules in
     let tells : TellsAsStep h.table call (Some c.args.outcome.now) c.change-given.result = search rules in
     let bodies : new.bodies ≡ h.bodies = search rules in
-    door_opens c.table_follows_step.ensures.follows c.failed_calls_change_nothing.ensures c.moved_bytes_are_told.ensures.again h new call x.object errand keep c.args.outcome.now c.change-given.result c.end_opening.result c.args.patience c.args.carried is made tells bodies c.end_opening.ensures.ends
+    door_opens c.table_follows_step.ensures.follows c.failed_calls_change_nothing.ensures c.moved_bytes_are_reported.ensures.again h new call x.object errand keep c.args.outcome.now c.change-given.result c.end_opening.result c.args.patience c.args.carried is made tells bodies c.end_opening.ensures.ends
 
 pub change-given-requires-clause-change : goal.change-given-requires-clause-change
 change-given-requires-clause-change c =
