@@ -1,4 +1,6 @@
 -- Scripts play the threads of a run: what the machine's events make of both.
+use Rattle.posix_terms.specs.declared.transcript.HistoryRow.{HistoryRow}
+use Rattle.input_log.specs.declared.log.Record.{Record}
 use Rattle.std.proofs.Common.{◌≡◌, ◌⊎◌, ℕ, suc, ◌+◌, ◌<◌, ◌≤◌, List, [], ◌∷◌, ◌++◌, length, get_or, set, slice_get, Option, Some, None, Bool, true, false, is_some, not, if◌then◌else◌, inl, inr, sym, refl, ap, ap₂, ◌∙◌, subst, arith, ⊎_elim}
 use Rattle.std.proofs.lemmas.Bool.{cases_eq, false≢true, true≢false}
 use Rattle.std.proofs.lemmas.List.{get_or-set_other, get_or-set_same, length-append, length-set, set-get_or}
@@ -25,13 +27,13 @@ use Rattle.thread_scripts.specs.ScriptPrograms.{Reached, at_start, next_at, reac
 use Rattle.lock_model.specs.State as lock
 use Rattle.lock_model.specs.State.{Job, Row, State, thread_of}
 use Rattle.lock_model.specs.State.Phase.{Blocked, Ended, Granted, Outside, Recorded, ToOutside, WantsObject, WantsTable, Working}
-use Rattle.call_machine.specs.Logs.{Written, came_between, log_with, record_of}
+use Rattle.call_machine.specs.Logs.{Written, came_between, log_with, record_of, LogsMore}
 use Rattle.call_machine.specs.Playing as playing
 use Rattle.call_machine.specs.Playing.{Attempted, IsBetween, IsInCall, IsPlayed, Made, Makes, Pauses, Played, Plays, PlaysIn, heard, hears, no_player, player_at}
 use Rattle.lock_machine.specs.Conditions.{Conditions, setup_under}
 use Rattle.call_machine.specs.Setup.{Inputs, conditions_of, outcomes_of, script_of, setup_of}
 use Rattle.lock_machine.specs.Shows as shows
-use Rattle.lock_machine.specs.Shows.{Advanced, AdvancesQuietly, AsksFor, PhaseShows, Quietly, RecordsGiven, Shows, Tells, has_moved, has_diverged, replied}
+use Rattle.lock_machine.specs.Shows.{Advanced, as_it_comes, dated_by, row_outside, AdvancesQuietly, AsksFor, PhaseShows, Quietly, RecordsGiven, Shows, Tells, has_moved, has_diverged, replied}
 use Rattle.lock_machine.specs.Whole.{Whole, thread_at}
 use Rattle.lock_machine.specs.Diverging.{is_diverging, diverging_in}
 use Rattle.lock_machine.specs.Threads.{Thread}
@@ -605,12 +607,18 @@ awaits_made laws p i o inside is none input s at =
 with_log : (input : Inputs) (p : Played) (s : State) (l : Written) → IsPlayed input p s → IsPlayed input (record p { log = l }) s
 with_log input p s l h = record { shows = h.shows; outcomes = h.outcomes; count = h.count; plays = h.plays }
 
+-- the record of an outcome has none of its clock
+logs_dated : (records : List Record) (made : Progress) (old : Written) (i n : ℕ) (q : Option HistoryRow) (g : Given)
+    → LogsMore records old (log_with made (record_of i n (dated_by q g)) old) → LogsMore records old (log_with made (record_of i n g) old)
+logs_dated records made old i n (Some q) g h = h
+logs_dated records made old i n None g h = h
+
 pub records_made : EventLaws → (p : Played) (i : ℕ) (w : Whole) (o : Outing) (g : Given) (made : Progress) → i < length p.players → (thread_at p.whole i).phase ≡ phase.Outside o → next_given p i ≡ Some g → RecordsGiven made i g p.whole w
     → Makes made i p (record p { whole = w; log = log_with made (record_of i (thread_at p.whole i).came g) p.log })
 records_made laws p i w o g made inside is there h input s at =
     let l = log_with made (record_of i (thread_at p.whole i).came g) p.log in
     subst (λ (y : Played). Made made i p (record y { log = l }) input s) (same_players p i w)
-    (record { can = a.can; diverges = a.diverges; plays = with_log input (turned p i x w) (advance setup i s) l (plays_on input p i x w s (advance setup i s) turning (own (can_advance setup s i) refl)); log = logs_with i s (advance setup i s) made g (thread_at p.whole i).came p.log a.came (at.1.shows.threads i).came; falls = falls (has_moved made) refl })
+    (record { can = a.can; diverges = a.diverges; plays = with_log input (turned p i x w) (advance setup i s) l (plays_on input p i x w s (advance setup i s) turning (own (can_advance setup s i) refl)); log = logs_dated _ made p.log i (thread_at p.whole i).came (row_outside (thread_at p.whole i).phase p.whole.rows) g (logs_with i s (advance setup i s) made (as_it_comes p.whole i g) (thread_at p.whole i).came p.log a.came (at.1.shows.threads i).came); falls = falls (has_moved made) refl })
   where
     setup : Setup
     setup = setup_of input
@@ -621,7 +629,7 @@ records_made laws p i w o g made inside is there h input s at =
     u : lock.Thread
     u = thread_of s i
 
-    a : Advanced made i g w (conditions_of input) s
+    a : Advanced made i (as_it_comes p.whole i g) w (conditions_of input) s
     a = h (conditions_of input) s (at.0, at.1.shows) (given_next input p s i at.1 ∙ there)
 
     out : (job : Job) × (u.phase ≡ Outside job)

@@ -1,6 +1,6 @@
 -- Internal: no contract of the headline or of a command stands on it.
 -- A run at its start, and what it comes to.
-use Rattle.std.specs.Prelude.{ℕ, List, ◌++◌, get_or, length, map, Option, Some, None, Bool, true, false}
+use Rattle.std.specs.Prelude.{ℕ, List, ◌++◌, get_or, length, map, Option, Some, None, false}
 use Rattle.input_log.specs.Format.{closing, header_text}
 use Rattle.input_log.specs.declared.log.Header.{Header}
 use Rattle.thread_scripts.specs.Meaning.{start_of}

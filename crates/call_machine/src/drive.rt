@@ -19,7 +19,7 @@ use input_log::{Header, Record};
 use lock_machine::{LockMachine, Phase, Progress, Refused, machines_show};
 use lock_model::{arising_states, one_event};
 use logical_clocks::least_is_found;
-use posix_terms::Outcomes;
+use posix_terms::{Given, Outcomes};
 use std::alloc::{AllocError, Global};
 use thread_scripts::{Script, Step, runs_end};
 
@@ -163,7 +163,12 @@ impl Driver {
             outcome: given.outcome.try_clone()?,
         };
         self.log.append(alloc, &item)?;
-        let made = told(self.machine.record(i, item.into_given()))?;
+        let came = Given {
+            kind: given.kind,
+            clock: given.clock,
+            outcome: item.outcome,
+        };
+        let made = told(self.machine.record(i, came))?;
         Ok(made.unwrap_or(Progress::Stays))
     }
 

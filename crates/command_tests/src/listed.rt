@@ -20,6 +20,7 @@ pub(crate) fn success(alloc: Global, kind: OutKind, value: u64) -> Given {
     let bytes = Bytes::from_vec(Vec::new(alloc));
     Given {
         kind,
+        clock: None,
         outcome: Outcome::Ok { value, bytes },
     }
 }
@@ -31,6 +32,7 @@ fn short_write(alloc: Global) -> Result<Outcomes, AllocError> {
     list.push(success(alloc, OutKind::Write, 3))?;
     list.push(Given {
         kind: OutKind::Write,
+        clock: None,
         outcome: Outcome::Fail(Errno::EIO),
     })?;
     Ok(Outcomes::from_vec(list))

@@ -30,6 +30,7 @@ end
 fn one_byte(alloc: Global, byte: u8) -> Result<Given, AllocError> {
     Ok(Given {
         kind: OutKind::Read,
+        clock: None,
         outcome: Outcome::Ok {
             value: 1,
             bytes: Bytes::from_slice(alloc, &[byte])?,

@@ -21,7 +21,7 @@ use Rattle.sequential_object.specs.Refusals.{◌>>=◌, refuse_if, some_or}
 use Rattle.sequential_object.specs.Sockets as sockets
 use Rattle.sequential_object.specs.Sockets.{NewEnd, pipe_result, socketpair_result}
 use Rattle.sequential_object.specs.Status.{setfl_result, with_flags}
-use Rattle.sequential_object.specs.Step.{Carried, FailChangesNothing, Stepped, asks, closes_door, concluded, decided, effect_of, outside, request_of, step, held_up, nothing_moved}
+use Rattle.sequential_object.specs.Step.{Carried, FailChangesNothing, Stepped, asks, closes_door, concluded, decided, effect_of, outside, query_of, step, held_up, nothing_moved}
 use Rattle.sequential_object.specs.Streams.{new_pair}
 use Rattle.posix_terms.specs.Calls.{Call}
 use Rattle.posix_terms.specs.declared.call.Access.{Access}
@@ -575,7 +575,7 @@ module _ (t : TableState) (s : State) (settings : Settings) (outcome made_with :
   -- ## Opening both ends of a new object
 
   agree-two : (c : Call) (act : Op) (x : NewPair → Change) (content : Content) (one other : End × Access) → is_of one.0 content ≡ true → is_of other.0 content ≡ true
-      → keeps_table c ≡ false → agreement.request_of c act ≡ None
+      → keeps_table c ≡ false → agreement.query_of c act ≡ None
       → ((new : NewPair) → CanChange t c (x new) → CanChange t c (change.MakePipe new))
       → ((new : NewPair) (u : TableState) → Changed t c (x new) made_with u → AreOpened t one other new u)
       → ((new : NewPair) → given (x new) made_with ≡ numbers_told c (answer.Reply (reply.Pair (pos new.first) (pos new.second))))
@@ -735,7 +735,7 @@ same_change t c so_far = refl
 -- ## What follows for every call
 
 -- what has to wait, or goes outside, is not answered by the table
-concluded_agrees : (t : TableState) (settings : Settings) (s : State) (c : Call) (outcome : Option Outcome) (carried : Carried) (p : Plan) (object : Option ℕ) (does : Result Effect Errno) → AgreesOn t c p object (request_of c does) (answer_of does) → AgreesOn t c p object (request_of c does) (concluded settings s outcome carried does).answer
+concluded_agrees : (t : TableState) (settings : Settings) (s : State) (c : Call) (outcome : Option Outcome) (carried : Carried) (p : Plan) (object : Option ℕ) (does : Result Effect Errno) → AgreesOn t c p object (query_of c does) (answer_of does) → AgreesOn t c p object (query_of c does) (concluded settings s outcome carried does).answer
 concluded_agrees t settings s c outcome carried p object (Ok (Completes after r)) agrees = agrees
 concluded_agrees t settings s c outcome carried (plan.Reply r) object (Ok (Blocks after moved)) agrees = let never : answer.Again ≡ answer.Reply r = agrees.1.1 in cc
 concluded_agrees t settings s c outcome carried (plan.Node node act keep_table) object (Ok (Blocks after moved)) agrees = agrees
@@ -800,7 +800,7 @@ planned_alike t (call.Write descriptor bytes) one other plain = absurd (false≢
 planned_alike t c one other plain = refl
 
 -- a call that the table refuses leaves it as it is, and tells no number
-pub refused-as_step : ChangesKeepSound → FailChangesNothing → (t : TableState) (c : Call) (made_with : Option Outcome) → IsSound t → AreSound t.descriptions 
+pub refused-as_step : ChangesKeepSound → FailChangesNothing → (t : TableState) (c : Call) (made_with : Option Outcome) → IsSound t → AreSound t.descriptions
     → (so_far : Moved) → is_refused (planned t c so_far) ≡ true
     → ChangesAsStep t c made_with t × TellsAsStep t c made_with numbers.None
 refused-as_step keep fails t c made_with sound all so_far refused = by_write (is_write c) refl

@@ -2,7 +2,7 @@
 use Rattle.std.proofs.Common.{arith, ◌≡◌, Option, Result, Ok, Err, refl, sym, subst, ℕ, ◌&&◌, List, Some, None, Bool, true, false, if◌then◌else◌, ap}
 use Rattle.sequential_object.specs.Effects.{Asking, Decision, alone, does_of, locks_of}
 use Rattle.sequential_object.specs.Object.{State, Content, content_of}
-use Rattle.sequential_object.specs.Step.{held_up, Carried, Stepped, concluded, request_of, failed, is_again, outside, step, waited, nothing_moved}
+use Rattle.sequential_object.specs.Step.{held_up, Carried, Stepped, concluded, query_of, failed, is_again, outside, step, waited, nothing_moved}
 use Rattle.posix_terms.specs.Calls.{Call}
 use Rattle.std.specs.Prelude.{nat_lt, ◌+◌}
 use Rattle.sequential_object.specs.declared.turn_end.ActEnd.TheVariants as end
@@ -119,7 +119,7 @@ module _ (t : TableState) (s : State) (settings : Settings) (outcome made_with :
   stepped e = concluded settings s outcome carried (does_of e)
 
   pub record Agrees (c : Call) (d : Decided) (e : Result Decision Errno) : Type 0 where
-    pub ties : AgreesOn t c d.plan (locks_of e) (request_of c (does_of e)) (answer_of (does_of e))
+    pub ties : AgreesOn t c d.plan (locks_of e) (query_of c (does_of e)) (answer_of (does_of e))
     pub acts : ActsOn t s settings outcome carried c d.plan (stepped e)
     pub others : Others t s d.plan (does_of e)
     pub changes : (after : TableState) → IsMadeWith c made_with outcome → Changed t c d.change made_with after

@@ -16,7 +16,7 @@ use Rattle.sequential_object.specs.Object.{State, Content, File, Pipe, Pair, Doo
 use Rattle.sequential_object.specs.Refusals.{◌>>=◌, count_of, position_of, refuse_if}
 use Rattle.sequential_object.specs.Sockets.{shut_content, shuttable, shutdown_result}
 use Rattle.sequential_object.specs.Status.{fstat_result, getfl_result, stat_content}
-use Rattle.sequential_object.specs.Step.{Carried, Stepped, concluded, decided, outside, request_of}
+use Rattle.sequential_object.specs.Step.{Carried, Stepped, concluded, decided, outside, query_of}
 use Rattle.sequential_object.specs.Streams.{PairState, Reading, Reads, Ends, NothingYet, Writing, Writes, Breaks, NoRoom, pair_read, pair_write, shut, stream_read, with_waiting}
 use Rattle.sequential_object.specs.Transfers as transfers
 use Rattle.sequential_object.specs.Transfers.{with_offset, base_of, file_in, ftruncate_result, host_offset, lseek_result, offset_of, pread_result, pwrite_result, read_content, read_done, read_result, seek_content, size_of, start_of, write_at, write_content, write_done, write_file, write_result}
@@ -109,13 +109,13 @@ module _ (t : TableState) (s : State) (settings : Settings) (outcome made_with :
 
   -- what is decided there is what an act on the object does
   record Under (c : Call) (node : ℕ) (act : Op) (done : Acted) (does : Result Effect Errno) : Type 0 where
-    asks : request_of c does ≡ agreement.request_of c act
+    asks : query_of c does ≡ agreement.query_of c act
     acts : IsActed t node act done (ended settings s carried done.ending) (concluded settings s outcome carried does)
     others : Others t s (locks node act) does
     shown : Shows t (concluded settings s outcome carried does).after
 
   completes : {c : Call} {node : ℕ} {act : Op} {r : Reply} {content : Content} {offset : ℕ} {after : State}
-      → None ≡ agreement.request_of c act → Holds after (birth_at t node) content
+      → None ≡ agreement.query_of c act → Holds after (birth_at t node) content
       → StandsAt t after act offset → OthersStay t (locks node act) s after → Shows t after
       → Under c node act (replied r content offset) (Ok (Completes after r))
   completes inside holds stands others later = record {
@@ -126,13 +126,13 @@ module _ (t : TableState) (s : State) (settings : Settings) (outcome made_with :
   }
 
   -- all stays as it was
-  stays : {c : Call} {node : ℕ} {act : Op} {r : Reply} {content : Content} {offset : ℕ} → None ≡ agreement.request_of c act
+  stays : {c : Call} {node : ℕ} {act : Op} {r : Reply} {content : Content} {offset : ℕ} → None ≡ agreement.query_of c act
       → content_of s (birth_at t node) ≡ content
       → StandsAt t s act offset → Under c node act (replied r content offset) (Ok (Completes s r))
   stays {c} {node} {act} {r} {content} inside is stands =
       completes inside (same_content s (birth_at t node) content is) stands (fewer_others t (locks node act) s s (fewer_same s)) shows
 
-  refuses : {c : Call} {node : ℕ} {act : Op} {e : Errno} {content : Content} {offset : ℕ} → None ≡ agreement.request_of c act
+  refuses : {c : Call} {node : ℕ} {act : Op} {e : Errno} {content : Content} {offset : ℕ} → None ≡ agreement.query_of c act
       → content_of s (birth_at t node) ≡ content
       → StandsAt t s act offset → Under c node act (replied (reply.Fail e) content offset) (Err e)
   refuses {c} {node} {act} {e} {content} inside is stands = record {
@@ -143,7 +143,7 @@ module _ (t : TableState) (s : State) (settings : Settings) (outcome made_with :
   }
 
   -- a stream that cannot go on
-  stops : {c : Call} {node : ℕ} {act : Op} {content : Content} {offset : ℕ} (b : Bool) → None ≡ agreement.request_of c act
+  stops : {c : Call} {node : ℕ} {act : Op} {content : Content} {offset : ℕ} (b : Bool) → None ≡ agreement.query_of c act
       → content_of s (birth_at t node) ≡ content → StandsAt t s act offset
       → Under c node act (record { ending = if b then end.Reply (reply.Fail EAGAIN) else end.Waits nothing_moved; content = content; offset = offset })
       (if b then Err EAGAIN else Ok (Blocks s nothing_moved))
@@ -157,7 +157,7 @@ module _ (t : TableState) (s : State) (settings : Settings) (outcome made_with :
 
   -- the object holds something else, of the same ends
   puts : {c : Call} {act : Op} {r : Reply} {content : Content} {offset : ℕ} {d : Description} (key : ℕ)
-      → fin.get t.descriptions.by_key key ≡ Some d → None ≡ agreement.request_of c act
+      → fin.get t.descriptions.by_key key ≡ Some d → None ≡ agreement.query_of c act
       → HasEndsOf content (held d) → StandsAt t (with_content s (birth_at t d.node) content) act offset
       → Under c d.node act (replied r content offset) (Ok (Completes (with_content s (birth_at t d.node) content) r))
   puts {c} {act} {r} {content} {offset} {d} key got inside alike stands =
@@ -294,7 +294,7 @@ module _ (t : TableState) (s : State) (settings : Settings) (outcome made_with :
     open_at which has = has_end_shown t s d.node which sound all shows (sound.described_objects key d got) has
 
     -- nothing but the offset changes
-    moves_offset : {c : Call} {act : Op} {r : Reply} {content : Content} (to : ℕ) → None ≡ agreement.request_of c act
+    moves_offset : {c : Call} {act : Op} {r : Reply} {content : Content} (to : ℕ) → None ≡ agreement.query_of c act
         → held d ≡ content → (offset_at (moved to) (birth_of t key) ≡ Some to → StandsAt t (moved to) act to)
         → ((birth : ℕ) → IsUnmoved t act birth → birth ≢ birth_of t key)
         → Under c d.node act (replied r content to) (Ok (Completes (moved to) r))

@@ -13,7 +13,7 @@ use Rattle.posix_terms.specs.declared.outcome.Outcome.{Outcome}
 use Rattle.posix_terms.specs.declared.reply.Answer.{Answer}
 use Rattle.posix_terms.specs.declared.reply.Answer.TheVariants as answer
 use Rattle.posix_terms.specs.declared.reply.Reply.TheVariants as reply
-use Rattle.posix_terms.specs.declared.request.Request.{Request}
+use Rattle.posix_terms.specs.Queries.{Query}
 use Rattle.posix_terms.specs.declared.transcript.Settings.{Settings}
 use Rattle.descriptor_table.specs.Shows.{Shows, birth_at}
 use Rattle.descriptor_table.specs.Table.{TableState, free_object}
@@ -32,15 +32,17 @@ object_of (plan.Node node act keep_table) = Some node
 object_of (plan.Reply r) = None
 
 -- what an act asks of the outside
-abbrev pub request_of : Call → Op → Option Request
-request_of c (op.Ask errand) = Some (record { kind = errand.kind; asked = errand.asked; call = c })
-request_of c act = None
+abbrev pub query_of : Call → Op → Option Query
+query_of c (op.Ask errand) = Some (record { kind = errand.kind; asked = errand.asked; call = c })
+query_of c act = None
 
 -- where the table answers, that is the answer, no object's lock is taken and nothing is asked outside; else the lock of the plan's object is taken,
 -- what the act asks is asked, and the plan says whether the call keeps the table
-abbrev pub AgreesOn : TableState → Call → Plan → Option ℕ → Option Request → Answer → Type 0
-AgreesOn t c (plan.Reply r) object request answered = (object ≡ None) × ((request ≡ None) × (answered ≡ answer.Reply r))
-AgreesOn t c (plan.Node node act keep_table) object request answered = (object ≡ Some (birth_at t node)) × ((request ≡ request_of c act) × (keep_table ≡ keeps_table c))
+abbrev pub AgreesOn : TableState → Call → Plan → Option ℕ → Option Query → Answer → Type 0
+AgreesOn t c (plan.Reply r) object query answered =
+    (object ≡ None) × ((query ≡ None) × (answered ≡ answer.Reply r))
+AgreesOn t c (plan.Node node act keep_table) object query answered =
+    (object ≡ Some (birth_at t node)) × ((query ≡ query_of c act) × (keep_table ≡ keeps_table c))
 
 -- whatever the objects hold and wherever the offsets are; of a call that moved so much before
 abbrev pub PlansAsStep : TableState → Call → Moved → Plan → Type 0

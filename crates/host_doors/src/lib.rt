@@ -13,17 +13,18 @@
 //!
 //! ```rust
 //! use host_doors::{DoorStop, NoGate, Outside, ScriptDoor, ScriptDoors};
-//! use posix_terms::{Call, Errno, Given, OutKind, Outcome, Outcomes, Request};
+//! use posix_terms::{Call, Errno, Given, OutKind, Outcome, Outcomes, Request, Turn};
 //!
 //! let kind = OutKind::Read;
 //! let outcome = Outcome::Fail(Errno::EIO);
-//! let list = Outcomes::from_vec(vec![in alloc; Given { kind, outcome }]?);
+//! let list = Outcomes::from_vec(vec![in alloc; Given { kind, clock: None, outcome }]?);
 //! let mut doors = ScriptDoors::new(list, NoGate);
 //! let mut door = ScriptDoor;
 //! let request = Request {
 //!     kind,
 //!     asked: 5,
 //!     call: Call::Read { descriptor: 0, count: 5 },
+//!     turn: Turn { clock: 1, thread: 0 },
 //! };
 //! let first = doors.read(0, 0, &request, &mut door, true);
 //! assert!(rt; matches!(first, Ok(Outcome::Fail(Errno::EIO))));

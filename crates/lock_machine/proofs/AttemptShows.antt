@@ -8,7 +8,7 @@ use Rattle.sequential_object.specs.Locked.{OutsideLocks, keeps_table, locked_obj
 use Rattle.sequential_object.specs.Step.{Carried, asks, step}
 use Rattle.posix_terms.specs.Calls.{Call}
 use Rattle.posix_terms.specs.declared.limits.TheConstants.Limits as limit
-use Rattle.posix_terms.specs.declared.request.Request.{Request}
+use Rattle.posix_terms.specs.Queries.{Query}
 use Rattle.posix_terms.specs.declared.transcript.Settings.{Settings}
 use Rattle.posix_terms.specs.declared.transcript.HistoryRow.{HistoryRow}
 use Rattle.posix_terms.specs.declared.transcript.Turn.{Turn}
@@ -212,11 +212,11 @@ started_shows : (terms : Conditions) (w : Whole) (s : State) (turn : Turn) (call
     → IfSome object (λ n. n < limit.OBJECTS) → (thread_at w turn.thread).clock + cost ≤ 2 ^ 62 → way ≡ way_here s call carried → (object ≡ None → asks s.world.object call carried ≡ None)
     → StartsIn terms.settings s.world carried w.table call x new.table → new.thread ≡ turn_started (length w.rows) object call carried x (late_thread w turn.thread cost) → new.rows ≡ w.rows ++ granted_row turn call ∷ [] → Granted_now terms w s turn call carried way object cost new
 started_shows terms w s turn call carried way object cost new (start.Ended e) h few room way_is alone done thread rows =
-    let inside : way ≡ Inside = way_is ∙ ap (λ (o : Option Request). way_of (is_some o) (keeps_table call)) done.request in
+    let inside : way ≡ Inside = way_is ∙ ap (λ (o : Option Query). way_of (is_some o) (keeps_table call)) done.request in
     let P : Way → Type 0 = λ y. Granted_now terms w s turn call carried y object cost new in
     subst P (sym inside) (ended_shows terms w s turn call carried object cost new e h few room done thread rows)
 started_shows terms w s turn call carried way (Some n) cost new (start.GoesOut errand) h few room way_is alone done thread rows =
-    let out : way ≡ way_of true (keeps_table call) = way_is ∙ ap (λ (o : Option Request). way_of (is_some o) (keeps_table call)) done.request in
+    let out : way ≡ way_of true (keeps_table call) = way_is ∙ ap (λ (o : Option Query). way_of (is_some o) (keeps_table call)) done.request in
     let P : Way → Type 0 = λ y. Granted_now terms w s turn call carried y (Some n) cost new in
     subst P (sym out) (out_shows terms w s turn call carried n cost new errand h few room done thread rows)
 started_shows terms w s turn call carried way None cost new (start.GoesOut errand) h few room way_is alone done thread rows = absurd (none-some _ (sym (alone refl) ∙ done.request))
@@ -307,7 +307,7 @@ attempt_fails terms w s i call carried a room shut =
 asks_none : OutsideLocks → LocksAsStep → (h : Stored) (w : World) (call : Call) (carried : Carried) → Stands h w → number_locked h call carried ≡ None → asks w.object call carried ≡ None
 asks_none outside numbers h w call carried stands none = none_asked (locked_object w.object call carried) (asks w.object call carried) (sym (numbers h w call carried stands) ∙ none) (outside w.object call carried)
   where
-    none_asked : (o : Option ℕ) (r : Option Request) → numbered w o ≡ None → (is_some r ≡ true → locks_door w.object (keeps_table call) o ≡ true) → r ≡ None
+    none_asked : (o : Option ℕ) (r : Option Query) → numbered w o ≡ None → (is_some r ≡ true → locks_door w.object (keeps_table call) o ≡ true) → r ≡ None
     none_asked o None e locks = refl
     none_asked None (Some r) e locks = absurd (false≢true (locks refl))
     none_asked (Some n) (Some r) e locks = absurd (none-some _ (sym e))
@@ -322,7 +322,7 @@ attempt_takes outside numbers terms w s i call carried new a room free none g =
     let y : lock.Thread = granted u (u.clock + 1) job false in
     let z : State = planned (real_calls terms.settings) s i u call carried (turn_of s i) No_object s.world in
     let asks_no = asks_none outside numbers w.table s.world call carried a.shows.world none in
-    let inside : Inside ≡ way_here s call carried = sym (ap (λ (o : Option Request). way_of (is_some o) (keeps_table call)) asks_no) in
+    let inside : Inside ≡ way_here s call carried = sym (ap (λ (o : Option Query). way_of (is_some o) (keeps_table call)) asks_no) in
     let now = grant_shows terms w s (turn_of s i) call carried Inside None 1 (held i w.lock) new a.shows tt room inside (λ e. asks_no) g in
     attempted_yes terms s z i (table_tried w i new) (ap wants a.phase) a.turn (planned_by terms s i call carried None a.phase free (sym (numbers w.table s.world call carried a.shows.world) ∙ none))
     (subst (λ (c : ℕ). c ≤ 2 ^ 62) (sym (clock_set terms w s i y a.inside a.shows)) (clock_fits terms w s i 1 a.shows room))

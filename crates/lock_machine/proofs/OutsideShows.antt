@@ -1,6 +1,6 @@
 -- A call that goes outside does what the lock machine's does.
 use Rattle.std.proofs.Common.{◌≡◌, ℕ, zero, suc, ◌+◌, ◌<◌, ◌≤◌, ◌^◌, List, [], ◌∷◌, length, map, get_or, set, slice_get, Option, Some, None, Bool, true, false, ◌==◌, ◌&&◌, ◌||◌, not, sym, refl, ap, ap₂, ◌∙◌, subst, arith}
-use Rattle.std.proofs.lemmas.Bool.{cond-true, cond-false, eq-eqb, leb-true, leb-false, le-leb, ne_eqb, and_parts}
+use Rattle.std.proofs.lemmas.Bool.{cond-true, cond-false, false≢true, eq-eqb, leb-true, leb-false, le-leb, ne_eqb, and_parts}
 use Rattle.std.proofs.lemmas.Bool.Decides.{nat_tests}
 use Rattle.std.proofs.lemmas.List.{get_or-set_same, map-set, length-append, set-get_or}
 use Rattle.std.proofs.lemmas.Option.{same_Some, none-some, slice_get-map}
@@ -14,7 +14,7 @@ use Rattle.lock_model.specs.Machine as machine
 use Rattle.lock_model.specs.Machine.{Effect, Moved, advance, answered, begin_outside, can_advance, filled_by, first_of, fits_job, is_number, late_change, lock_after, moves, moves_in, one_if, quietly, record_outcome, row_after, with_outcome, within, world_after}
 use Rattle.sequential_object.specs.Numbers.{world_with}
 use Rattle.lock_model.specs.RealCalls.{real_calls, real_limits, way_of}
-use Rattle.sequential_object.specs.Answers.{answer_in, answers_request, outcome_in}
+use Rattle.sequential_object.specs.Answers.{answer_in, answers_query, outcome_in}
 use Rattle.lock_model.specs.Rows.{shown}
 use Rattle.lock_model.specs.State as lock
 use Rattle.lock_model.specs.State.{Job, Row, State, nobody, thread_of}
@@ -25,10 +25,10 @@ use Rattle.object_store.specs.Store.{Stands, Stored}
 use Rattle.sequential_object.specs.declared.turn_end.TurnEnd.{TurnEnd}
 use Rattle.sequential_object.specs.declared.turn_end.TurnEnd.TheVariants as end
 use Rattle.descriptor_table.specs.Acts as acts
-use Rattle.descriptor_table.specs.Agreement.{request_of}
+use Rattle.descriptor_table.specs.Agreement.{query_of}
 use Rattle.descriptor_table.specs.declared.plan.NewNumbers.TheVariants as numbers
 use Rattle.descriptor_table.specs.declared.plan.Op.TheVariants as op
-use Rattle.posix_terms.specs.Outcomes.{fits, is_kind}
+use Rattle.posix_terms.specs.Outcomes.{dated, fits, is_at, is_kind, suits, undated}
 use Rattle.sequential_object.specs.Locked as posix_locked
 use Rattle.sequential_object.specs.Object as posix_state
 use Rattle.sequential_object.specs.Step.{Carried, Stepped, asks, step}
@@ -38,12 +38,12 @@ use Rattle.posix_terms.specs.declared.limits.TheConstants.Limits as limit
 use Rattle.posix_terms.specs.declared.outcome.Given.{Given}
 use Rattle.posix_terms.specs.declared.outcome.Outcome.{Outcome}
 use Rattle.posix_terms.specs.declared.reply.Answer as posix_answer
-use Rattle.posix_terms.specs.declared.request.Request as posix
+use Rattle.posix_terms.specs.Queries.{Query}
 use Rattle.posix_terms.specs.declared.transcript.HistoryRow.{HistoryRow}
 use Rattle.lock_machine.specs.Held.{told_as}
-use Rattle.lock_machine.specs.Outings.{AnswersOutside, Begins, BeginsIf, ConcludesHeld, ConcludesIf, ConcludesRow, ConcludesWith, EndsTurn, OutsideParts, RecordedParts, Records, RecordsIf, RecordsRow, answer_cost, answers_errand, can_count, can_count, recorded_parts, outside_parts, row_concluded, row_recorded, table_freed, went_on}
+use Rattle.lock_machine.specs.Outings.{AnswersOutside, Begins, BeginsIf, ConcludesHeld, ConcludesIf, ConcludesRow, ConcludesWith, EndsTurn, OutsideParts, RecordedParts, Records, RecordsIf, RecordsRow, answer_cost, answers_errand, can_count, recorded_parts, outside_parts, row_concluded, row_recorded, table_freed, went_on}
 use Rattle.lock_machine.specs.Conditions.{Conditions, setup_under}
-use Rattle.lock_machine.specs.Shows.{Advanced, IsOut, PhaseShows, Shows, ThreadShows, replied}
+use Rattle.lock_machine.specs.Shows.{as_it_comes, dated_by, row_outside, Advanced, IsOut, PhaseShows, Shows, ThreadShows, replied}
 use Rattle.lock_machine.specs.Whole.{Whole, thread_at}
 use Rattle.lock_machine.specs.Diverging.{is_diverging, diverging_in}
 use Rattle.lock_machine.specs.Threads.{Thread}
@@ -123,12 +123,12 @@ begin_moves terms i rows moved t v u o is h begins =
 
 -- ## `record`
 
-errand_fits : (terms : Conditions) (s : State) (i : ℕ) (o : Outing) (job : Job) (g : Given) → IsOut terms i s.rows o job → answers_errand o.errand g ≡ fits_job (real_calls terms.settings) job g
+errand_fits : (terms : Conditions) (s : State) (i : ℕ) (o : Outing) (job : Job) (g : Given) → IsOut terms i s.rows o job → answers_errand o.errand job.turn g ≡ fits_job (real_calls terms.settings) job g
 errand_fits terms s i o job g out =
-    let little : Little (request_of job.call (op.Ask o.errand)) = subst Little out.asks_is (asked_little job.found.object job.call job.carried) in
-    ap (λ (b : Bool). is_kind g.kind o.errand.kind && (fits o.errand.kind o.errand.asked g.outcome && b)) (le-leb o.errand.asked 65535 (within_a_record o.errand.kind o.errand.asked little))
-    ∙ last_true (is_kind g.kind o.errand.kind) (fits o.errand.kind o.errand.asked g.outcome)
-    ∙ ap (λ (r : Option posix.Request). answers_request r g) (sym out.asks_is)
+    let little : Little (query_of job.call (op.Ask o.errand)) = subst Little out.asks_is (asked_little job.found.object job.call job.carried) in
+    ap (λ (b : Bool). suits o.errand.kind o.errand.asked g && (is_at job.turn g.clock && b)) (le-leb o.errand.asked 65535 (within_a_record o.errand.kind o.errand.asked little))
+    ∙ last_true (suits o.errand.kind o.errand.asked g) (is_at job.turn g.clock)
+    ∙ ap (λ (r : Option Query). answers_query r (undated g) && is_at job.turn g.clock) (sym out.asks_is)
   where
     last_true : (a b : Bool) → (a && (b && true)) ≡ (a && b)
     last_true true true = refl
@@ -175,13 +175,13 @@ Recording terms w s i made g p = Advanced made i g (recorded_whole w i p) terms 
 
 -- an outcome that does not answer
 recorded_no : (terms : Conditions) (w : Whole) (s : State) (i : ℕ) (o : Outing) (job : Job) (g : Given) (new : RecordedParts) → Waiting terms w s i o job → slice_get (terms.supply.outcomes i) (length (thread_of s i).came) ≡ Some g
-    → fits_job (real_calls terms.settings) job g ≡ false → new ≡ recorded_at w i → Recording terms w s i progress.Diverges g new
+    → fits_job (real_calls terms.settings) job g ≡ false → new ≡ recorded_at w i → Recording terms w s i progress.Diverges (dated job.turn g) new
 recorded_no terms w s i o job g new a given_is misfit new_is =
     let u = thread_of s i in
     let calls = real_calls terms.settings in
     let none : record_outcome calls u job (Some g) ≡ None = cond-false (fits_job calls job g) _ None misfit in
     let is : moves (setup_under terms) i u ≡ None = moves_record terms i u job a.phase ∙ ap (within (2 ^ 62)) (ap (record_outcome calls u job) given_is ∙ none) in
-    let P : RecordedParts → Type 0 = λ p. Recording terms w s i progress.Diverges g p in
+    let P : RecordedParts → Type 0 = λ p. Recording terms w s i progress.Diverges (dated job.turn g) p in
     let held = whole_still terms w s i (thread_at w i) a.inside a.shows is (a.shows.threads i) in
     subst P (sym new_is) (record {
       can = held.0;
@@ -191,7 +191,7 @@ recorded_no terms w s i o job g new a given_is misfit new_is =
     })
 
 recorded_yes : (terms : Conditions) (w : Whole) (s : State) (i : ℕ) (o : Outing) (job : Job) (g : Given) → Waiting terms w s i o job → slice_get (terms.supply.outcomes i) (length (thread_of s i).came) ≡ Some g → fits_job (real_calls terms.settings) job g ≡ true
-    → Recording terms w s i progress.Moves g (row_recorded o g (shown (row_of job)) (recorded_at w i))
+    → Recording terms w s i progress.Moves (dated job.turn g) (row_recorded o g (shown (row_of job)) (recorded_at w i))
 recorded_yes terms w s i o job g a given_is good =
     let u = thread_of s i in
     let t = thread_at w i in
@@ -205,9 +205,9 @@ recorded_yes terms w s i o job g a given_is good =
     let within_s : i < length s.threads = subst (λ (n : ℕ). i < n) (sym a.shows.count) a.inside in
     let mine : thread_of (advance (setup_under terms) i s) i ≡ m.thread = ap (λ (z : State). thread_of z i) (advance_by terms s i (Some m) is) ∙ get_or-set_same s.threads i m.thread nobody within_s in
     let moved = whole_moved terms w s i new.thread m w.lock w.objects new.rows a.inside a.shows is
-    (record { clock = h.clock; in_time = h.in_time; asked = h.asked; came = length-append u.came (g ∷ []) ∙ ap (λ (n : ℕ). n + 1) h.came; phase = (record job { outcome = Some g }, (refl, out_recorded m)) })
+    (record { clock = h.clock; in_time = h.in_time; asked = h.asked; came = length-append u.came (dated job.turn g ∷ []) ∙ ap (λ (n : ℕ). n + 1) h.came; phase = (record job { outcome = Some (dated job.turn g) }, (refl, out_recorded m)) })
     (lock_quiet i s.table ∙ a.shows.table) (locks_quiet i s.objects ∙ a.shows.objects) refl
-    (rows_recorded i s w.rows o.row job m.effect g a.rows a.shows.rows a.out.thread a.out.row a.none refl refl) in
+    (rows_recorded i s w.rows o.row job m.effect (dated job.turn g) a.rows a.shows.rows a.out.thread a.out.row a.none refl refl) in
     record {
       can = moved.0;
       diverges = divergence_is terms s i job a.phase ∙ ap (diverging_in (setup_under terms) (Outside job)) given_is ∙ ap not good;
@@ -220,12 +220,12 @@ recorded_yes terms w s i o job g a given_is good =
     slice_get_set (r ∷ rs) zero x y e = refl
     slice_get_set (r ∷ rs) (suc k) x y e = slice_get_set rs k x y e
 
-    out_recorded : (m : Moved) → IsOut terms i (map (row_after i (with_outcome (thread_of s i) job g).effect) s.rows) o (record job { outcome = Some g })
+    out_recorded : (m : Moved) → IsOut terms i (map (row_after i (with_outcome (thread_of s i) job g).effect) s.rows) o (record job { outcome = Some (dated job.turn g) })
     out_recorded m =
         let e = (with_outcome (thread_of s i) job g).effect in
         let open_is = open_row i job a.out.thread in
         let filled : map (row_after i e) s.rows ≡ set s.rows o.row (filled_by e (row_of job)) = fill_one i e s.rows o.row (row_of job) a.out.row open_is (λ j q there x. a.rows.one i j o.row q (row_of job) there a.out.row x open_is) in
-        let same : filled_by e (row_of job) ≡ row_of (record job { outcome = Some g }) = λ k. record { turn = job.turn; call = job.call; outcome = ap (λ (x : Option Given). first_of x (Some g)) a.none k; answer = None } in
+        let same : filled_by e (row_of job) ≡ row_of (record job { outcome = Some (dated job.turn g) }) = λ k. record { turn = job.turn; call = job.call; outcome = ap (λ (x : Option Given). first_of x (Some (dated job.turn g))) a.none k; answer = None } in
         record {
           object = a.out.object;
           object_is = a.out.object_is;
@@ -245,26 +245,28 @@ room_for : (n : ℕ) → n < limit.OUTCOMES → nat_lt (n + 1) (2 ^ 32) ≡ true
 room_for n few = grind (arith, nat_tests)
 
 recorded_by : (terms : Conditions) (w : Whole) (s : State) (i : ℕ) (o : Outing) (job : Job) (made : Progress) (new : RecordedParts) (g : Given) → Waiting terms w s i o job → slice_get (terms.supply.outcomes i) (length (thread_of s i).came) ≡ Some g
-    → (b : Bool) → answers_errand o.errand g ≡ b → RecordsIf b made o g (recorded_at w i) new → Recording terms w s i made g new
-recorded_by terms w s i o job made new g a at false e (made_is, new_is) =
-    let P : Progress → Type 0 = λ p. Recording terms w s i p g new in
+    → (b room : Bool) → answers_errand o.errand job.turn g ≡ b → room ≡ true → RecordsIf b room made o g (shown (row_of job)) (recorded_at w i) new → Recording terms w s i made (dated job.turn g) new
+recorded_by terms w s i o job made new g a at false room e few (made_is, new_is) =
+    let P : Progress → Type 0 = λ p. Recording terms w s i p (dated job.turn g) new in
     subst P (sym made_is) (recorded_no terms w s i o job g new a at (sym (errand_fits terms s i o job g a.out) ∙ e) new_is)
-recorded_by terms w s i o job made new g a at true e h =
-    let there : slice_get w.rows o.row ≡ Some (shown (row_of job)) = ap (λ (rs : List HistoryRow). slice_get rs o.row) (sym a.shows.rows) ∙ slice_get-map shown s.rows o.row ∙ ap (option_map shown) a.out.row in
-    let R : Option HistoryRow → Type 0 = λ q. RecordsRow q (can_count (thread_at w i)) made o g (recorded_at w i) new in
-    let S : Bool → Type 0 = λ b. RecordsRow (Some (shown (row_of job))) b made o g (recorded_at w i) new in
-    let k : (made ≡ progress.Moves) × (new ≡ row_recorded o g (shown (row_of job)) (recorded_at w i)) = subst S (room_for (thread_at w i).came a.few) (subst R there h) in
-    let P : Progress → Type 0 = λ p. Recording terms w s i p g new in
-    let Q : RecordedParts → Type 0 = λ p. Recording terms w s i progress.Moves g p in
-    subst P (sym k.0) (subst Q (sym k.1) (recorded_yes terms w s i o job g a at (sym (errand_fits terms s i o job g a.out) ∙ e)))
+recorded_by terms w s i o job made new g a at true false e few h = absurd (false≢true few)
+recorded_by terms w s i o job made new g a at true true e few (made_is, new_is) =
+    let P : Progress → Type 0 = λ p. Recording terms w s i p (dated job.turn g) new in
+    let Q : RecordedParts → Type 0 = λ p. Recording terms w s i progress.Moves (dated job.turn g) p in
+    subst P (sym made_is) (subst Q (sym new_is) (recorded_yes terms w s i o job g a at (sym (errand_fits terms s i o job g a.out) ∙ e)))
 
 pub record_whole : (terms : Conditions) (w : Whole) (s : State) (i : ℕ) (o : Outing) (g : Given) (made : Progress) (new : RecordedParts) → i < length w.threads → Shows terms w s → HaveRows s → HavePlans (real_calls terms.settings) s → (thread_at w i).phase ≡ phase.Outside o
-    → slice_get (terms.supply.outcomes i) (length (thread_of s i).came) ≡ Some g → Records made o g (recorded_at w i) new → Recording terms w s i made g new
+    → slice_get (terms.supply.outcomes i) (length (thread_of s i).came) ≡ Some g → Records made o g (recorded_at w i) new → Recording terms w s i made (as_it_comes w i g) new
 record_whole terms w s i o given made new inside h own plans is at records =
     let P : Phase → Type 0 = λ p. PhaseShows terms i s.rows (thread_at w i) (thread_of s i) p in
     let g = subst P is (h.threads i).phase in
-    let a : Waiting terms w s i o g.0 = record { inside = inside; shows = h; rows = own; phase = g.1.0; out = g.1.1; few = g.1.2; none = plans.waits i g.0 g.1.0 } in
-    recorded_by terms w s i o g.0 made new given a at (answers_errand o.errand given) refl records
+    let job : Job = g.0 in
+    let a : Waiting terms w s i o job = record { inside = inside; shows = h; rows = own; phase = g.1.0; out = g.1.1; few = g.1.2; none = plans.waits i g.0 g.1.0 } in
+    let there : slice_get w.rows o.row ≡ Some (shown (row_of job)) = ap (λ (rs : List HistoryRow). slice_get rs o.row) (sym h.rows) ∙ slice_get-map shown s.rows o.row ∙ ap (option_map shown) a.out.row in
+    let R : Option HistoryRow → Type 0 = λ q. RecordsRow q made o given (recorded_at w i) new in
+    let comes : as_it_comes w i given ≡ dated job.turn given = ap (λ (p : Phase). dated_by (row_outside p w.rows) given) is ∙ ap (λ (q : Option HistoryRow). dated_by q given) there in
+    subst (λ (x : Given). Recording terms w s i made x new) (sym comes)
+    (recorded_by terms w s i o job made new given a at (answers_errand o.errand job.turn given) (can_count (thread_at w i)) refl (room_for (thread_at w i).came a.few) (subst R there records))
 
 -- ## `answer`
 
@@ -374,7 +376,7 @@ module _ (terms : Conditions) (w : Whole) (s : State) (i : ℕ) (o : Outing) (jo
       let found = c.found keeps in
       let stands : Stands w.table job.found = subst (Stands w.table) (sym found) c.shows.world in
       let keeps_call : posix_locked.keeps_table job.call ≡ true = sym c.out.keeps ∙ keeps in
-      let asked : asks job.found.object job.call o.carried ≡ Some (record { kind = o.errand.kind; asked = o.errand.asked; call = job.call }) = subst (λ (k : Carried). asks job.found.object job.call k ≡ request_of job.call (op.Ask o.errand)) c.out.carried c.out.asks_is in
+      let asked : asks job.found.object job.call o.carried ≡ Some (record { kind = o.errand.kind; asked = o.errand.asked; call = job.call }) = subst (λ (k : Carried). asks job.found.object job.call k ≡ query_of job.call (op.Ask o.errand)) c.out.carried c.out.asks_is in
       let made = opens terms.settings job.found (record { kind = o.errand.kind; asked = o.errand.asked; call = job.call }) refl stands keeps_call asked c.good in
       let after : late_change (real_calls terms.settings) job job.outcome o.keeps_table ≡ Some (world_with job.found stepped.after) = ap₂ (late_change (real_calls terms.settings) job) c.came keeps in
       let P : Carried → Type 0 = λ k. let y = step terms.settings job.found.object job.call (Some g.outcome) k in (answer_in y ≡ x) × Stands table (world_with job.found y.after) in
@@ -472,7 +474,7 @@ conclude_whole terms w s i n o told new inside h held own plans is object_is ans
     let (job, (at, out)) = (subst P is (h.threads i).phase) in
     let (g, came, good) = (plans.came i job at) in
     let same : out.object ≡ n = same_Some out.object n (sym out.object_is ∙ object_is) in
-    let fits_errand : (is_kind g.kind o.errand.kind && fits o.errand.kind o.errand.asked g.outcome) ≡ true = ap (λ (r : Option posix.Request). answers_request r g) (sym out.asks_is) ∙ good in
+    let fits_errand : suits o.errand.kind o.errand.asked g ≡ true = ap (λ (r : Option Query). answers_query r (undated g)) (sym out.asks_is) ∙ (and_parts _ _ good).0 in
     let c : Concluding terms w s i o job g =
     record {
       inside = inside;

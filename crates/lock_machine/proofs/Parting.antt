@@ -1,20 +1,18 @@
 -- What the events of a call say of its parts, by what was found there.
-use Rattle.std.proofs.Common.{◌≡◌, ℕ, ◌+◌, ◌^◌, List, Option, Some, None, Bool, true, false, ◌&&◌, ◌||◌, not, sym, refl, ap, ap₂, ◌∙◌, subst}
+use Rattle.std.proofs.Common.{◌≡◌, ℕ, ◌+◌, ◌^◌, List, Option, Some, None, Bool, true, ◌&&◌, ◌||◌, not, sym, refl, ap, ap₂, ◌∙◌, subst}
 use Rattle.std.proofs.lemmas.Bool.{and_parts, eqb-true}
 use Rattle.std.proofs.lemmas.List.{set-get_or}
 use Rattle.std.proofs.lemmas.Option.{get_or_from_slice_get}
 use Rattle.std.proofs.Math.ListN.{set}
-use Rattle.std.specs.Prelude.{nat_le, nat_lt, slice_get}
+use Rattle.std.specs.Prelude.{nat_le, slice_get}
 use Rattle.lock_model.specs.Machine.{is_number}
 use Rattle.sequential_object.specs.declared.turn_end.TurnEnd.{TurnEnd}
-use Rattle.posix_terms.specs.declared.outcome.Given.{Given}
 use Rattle.posix_terms.specs.declared.outcome.Outcome.{Outcome}
 use Rattle.posix_terms.specs.declared.reply.Answer.{Answer}
 use Rattle.posix_terms.specs.declared.transcript.HistoryRow.{HistoryRow}
 use Rattle.lock_machine.specs.Events.{Answers, AnswersIn, AnswersWith, Parts, in_time, row_answered}
 use Rattle.lock_machine.specs.Held.{end_held, told_as}
-use Rattle.lock_machine.specs.Outings.{AnswersOutside, ConcludesHeld, ConcludesIf, ConcludesRow, ConcludesWith, EndsTurn, OutsideParts, RecordedParts, Records, RecordsIf, RecordsRow, answer_cost, answers_errand, row_concluded, row_recorded}
-use Rattle.lock_machine.specs.declared.outside.Progress.TheVariants as progress
+use Rattle.lock_machine.specs.Outings.{AnswersOutside, ConcludesHeld, ConcludesIf, ConcludesRow, ConcludesWith, EndsTurn, OutsideParts, answer_cost, row_concluded}
 use Rattle.lock_machine.specs.declared.thread.Outing.{Outing}
 
 -- an element that is written back
@@ -36,23 +34,6 @@ answers_made i row told old new e q held room ends there told_is is =
     let Q : Option TurnEnd → Type 0 = λ x. AnswersWith told row x (slice_get old.rows row) old new in
     let R : Option HistoryRow → Type 0 = λ x. AnswersWith told row (Some e) x old new in
     subst P (sym (ap₂ (λ (a b : Bool). a && b) held room)) (subst Q (sym ends) (subst R (sym there) (told_is, is)))
-
--- ## `record`
-
-pub records_made : (o : Outing) (old new : RecordedParts) (g : Given) (q : HistoryRow) → answers_errand o.errand g ≡ true → slice_get old.rows o.row ≡ Some q → nat_lt (old.thread.came + 1) (2 ^ 32) ≡ true → new ≡ row_recorded o g q old
-    → Records progress.Moves o g old new
-records_made o old new g q good there room is =
-    let Q : Bool → Type 0 = λ b. RecordsIf b progress.Moves o g old new in
-    let R : Option HistoryRow → Type 0 = λ x. RecordsRow x (nat_lt (old.thread.came + 1) (2 ^ 32)) progress.Moves o g old new in
-    let S : Bool → Type 0 = λ b. RecordsRow (Some q) b progress.Moves o g old new in
-    subst Q (sym good) (subst R (sym there) (subst S (sym room) (refl, is)))
-
-pub records_full : (o : Outing) (old : RecordedParts) (g : Given) (q : HistoryRow) → answers_errand o.errand g ≡ true → slice_get old.rows o.row ≡ Some q → nat_lt (old.thread.came + 1) (2 ^ 32) ≡ false → Records progress.Stays o g old old
-records_full o old g q good there room =
-    let Q : Bool → Type 0 = λ b. RecordsIf b progress.Stays o g old old in
-    let R : Option HistoryRow → Type 0 = λ x. RecordsRow x (nat_lt (old.thread.came + 1) (2 ^ 32)) progress.Stays o g old old in
-    let S : Bool → Type 0 = λ b. RecordsRow (Some q) b progress.Stays o g old old in
-    subst Q (sym good) (subst R (sym there) (subst S (sym room) (refl, refl)))
 
 -- ## `answer` of a call that went outside
 

@@ -1,7 +1,7 @@
 -- No request asks for more than a record of its outcome can hold.
 use Rattle.std.proofs.Common.{refl, ◌≤◌, ◌&&◌, ℕ, ℤ, List, Bool, true, false, not, Option, Result, Ok, Err, arith, lit≤}
 use Rattle.std.proofs.lemmas.Bool.Decides.{nat_tests}
-use Rattle.sequential_object.specs.Step.{Carried, asks, request_of}
+use Rattle.sequential_object.specs.Step.{Carried, asks, query_of}
 use Rattle.sequential_object.specs.Object as object
 use Rattle.sequential_object.specs.Refusals.{◌>>=◌, refuse_if}
 use Rattle.posix_terms.specs.declared.errno.Errno.TheVariants.{EBADF, EBUSY}
@@ -9,7 +9,7 @@ use Rattle.posix_terms.specs.declared.outcome.OutKind.{OutKind}
 use Rattle.posix_terms.specs.declared.outcome.OutKind.TheVariants as kind
 use Rattle.posix_terms.specs.declared.reply.Reply.TheVariants as reply
 use Rattle.std.specs.Ordering.{int_eq}
-use Rattle.posix_terms.specs.declared.request.Request.{Request}
+use Rattle.posix_terms.specs.Queries.{Query}
 use Rattle.std.specs.Prelude.{if◌then◌else◌}
 use Rattle.sequential_object.specs.Descriptors.{open_result, close_result, described, ends_door, freed, released}
 use Rattle.sequential_object.specs.Doors.{host_open_result, tcp_accept_result, tcp_connect_result, tcp_listen_result}
@@ -30,7 +30,7 @@ use Rattle.posix_terms.specs.declared.errno.Errno.{Errno}
 use Rattle.lock_machine.specs.Requests.{AskLittle, AskTheirKind, IsOfKind, Little, kind_asked, most_asked}
 
 -- a request is one that this call may make
-abbrev Suits : Call → Option Request → Type 0
+abbrev Suits : Call → Option Query → Type 0
 Suits c r = IsOfKind (kind_asked c) r × Little r
 
 pub within_a_record : (k : OutKind) (asked : ℕ) → asked ≤ most_asked k → asked ≤ 65535
@@ -44,8 +44,8 @@ within_a_record kind.Accept asked h = h
 within_a_record kind.Shutdown asked h = h
 within_a_record kind.Close asked h = h
 
-through : (c : Call) {A : Type 0} (r : Result A Errno) (f : A → Result Decision Errno) → ((x : A) → Suits c (request_of c (does_of (f x))))
-    → Suits c (request_of c (does_of (r >>= f)))
+through : (c : Call) {A : Type 0} (r : Result A Errno) (f : A → Result Decision Errno) → ((x : A) → Suits c (query_of c (does_of (f x))))
+    → Suits c (query_of c (does_of (r >>= f)))
 through c (Ok x) f each = each x
 through c (Err e) f each = (tt, tt)
 
@@ -58,7 +58,7 @@ unfolding close_result
 suits-close s carried descriptor = through (call.Close descriptor) (described s descriptor) _ (λ found. by_test found (ends_door s descriptor found))
   where
     by_test : (found : ℕ × object.Description) (b : Bool)
-        → Suits (call.Close descriptor) (request_of (call.Close descriptor) (Ok (if b then asks_of (released (freed s descriptor) found.0 found.1) kind.Close 0 false (λ value bytes. reply.Done) else Completes (released (freed s descriptor) found.0 found.1) reply.Done)))
+        → Suits (call.Close descriptor) (query_of (call.Close descriptor) (Ok (if b then asks_of (released (freed s descriptor) found.0 found.1) kind.Close 0 false (λ value bytes. reply.Done) else Completes (released (freed s descriptor) found.0 found.1) reply.Done)))
     by_test found true = (refl, lit≤ tt)
     by_test found false = (tt, tt)
 
@@ -104,7 +104,7 @@ suits-dup2 s carried descriptor target =
     through (call.Dup2 descriptor target) (described s descriptor) _ (λ found. through (call.Dup2 descriptor target) (descriptor_number target EBADF) _ (λ n.
     through (call.Dup2 descriptor target) (refuse_if (not (int_eq descriptor target) && ends_a_door s target (described s target)) EBUSY) _ (λ _. by_same n found.0 (int_eq descriptor target))))
   where
-    by_same : (n key : ℕ) (b : Bool) → Suits (call.Dup2 descriptor target) (request_of (call.Dup2 descriptor target) (does_of (Ok (if b then alone s (reply.Number target) else replaced s target n key))))
+    by_same : (n key : ℕ) (b : Bool) → Suits (call.Dup2 descriptor target) (query_of (call.Dup2 descriptor target) (does_of (Ok (if b then alone s (reply.Number target) else replaced s target n key))))
     by_same n key true = (tt, tt)
     by_same n key false = (tt, tt)
 

@@ -23,14 +23,13 @@ use Rattle.posix_terms.specs.declared.step.Step.TheVariants as step
 use Rattle.lock_model.specs.Held.{has_end, last_call}
 use Rattle.lock_machine.specs.Asking.{Asks, EndsIf, GoesAgain, GoesAgainIn, GoesAgainWith}
 use Rattle.lock_machine.specs.Events.{Answers, AnswersIn, AnswersWith, ObjectInTime, Parts, Reaches, ReachesIn, Tries, TriesIn, TriesInTime, parts}
-use Rattle.lock_machine.specs.Outings.{AnswersOutside, Begins, BeginsIf, ConcludesHeld, ConcludesIf, ConcludesRow, ConcludesWith, OutsideParts, RecordedParts, Records, RecordsIf, RecordsRow, answers_errand, can_count, outside_parts, progress_by, recorded_parts}
+use Rattle.lock_machine.specs.Outings.{AnswersOutside, Begins, BeginsIf, ConcludesHeld, ConcludesIf, ConcludesRow, ConcludesWith, OutsideParts, RecordedParts, Records, RecordsIf, RecordsRow, answers_errand, can_count, outside_parts, progress_at, progress_by, recorded_parts}
 use Rattle.lock_machine.specs.Refusals.{Rests, outlook, outlook_in}
 use Rattle.lock_machine.specs.Shows.{RecordsGiven, has_moved}
 use Rattle.lock_machine.specs.Threads.{Thread, joined, timed}
 use Rattle.lock_machine.specs.Views.{no_thread}
 use Rattle.lock_machine.specs.Whole.{Whole, thread_at}
 use Rattle.lock_machine.specs.declared.outside.Progress.{Progress}
-use Rattle.lock_machine.specs.declared.outside.Progress.TheVariants as progress
 use Rattle.lock_machine.specs.declared.thread.Outing.{Outing}
 use Rattle.lock_machine.specs.declared.thread.Phase.{Phase}
 use Rattle.lock_machine.specs.declared.thread.Phase.TheVariants as phase
@@ -110,14 +109,14 @@ begin_rests w ts cs ds i o x v moved h begins =
 
 -- ## `record`
 
-records_row_rest : (q : Option HistoryRow) (room : Bool) (made : Progress) (o : Outing) (g : Given) (old new : RecordedParts) → RecordsRow q room made o g old new → has_moved made ≡ false → new ≡ old
-records_row_rest (Some q) true made o g old new h stays = absurd (true≢false (sym (ap has_moved h.0) ∙ stays))
-records_row_rest (Some q) false made o g old new h stays = h.1
-records_row_rest None room made o g old new h stays = h.1
+records_if_rest : (answers room : Bool) (made : Progress) (o : Outing) (g : Given) (q : HistoryRow) (old new : RecordedParts) → RecordsIf answers room made o g q old new → has_moved made ≡ false → new ≡ old
+records_if_rest true true made o g q old new h stays = absurd (true≢false (sym (ap has_moved h.0) ∙ stays))
+records_if_rest true false made o g q old new h stays = h.1
+records_if_rest false room made o g q old new h stays = h.1
 
-records_rest : (answers : Bool) (made : Progress) (o : Outing) (g : Given) (old new : RecordedParts) → RecordsIf answers made o g old new → has_moved made ≡ false → new ≡ old
-records_rest true made o g old new h stays = records_row_rest _ _ made o g old new h stays
-records_rest false made o g old new h stays = h.1
+records_rest : (x : Option HistoryRow) (made : Progress) (o : Outing) (g : Given) (old new : RecordedParts) → RecordsRow x made o g old new → has_moved made ≡ false → new ≡ old
+records_rest (Some q) made o g old new h stays = records_if_rest _ _ made o g q old new h stays
+records_rest None made o g old new h stays = h.1
 
 pub record_rests : (w : Whole) (ts : List declared.Thread) (cs : List ThreadClock) (i : ℕ) (o : Outing) (g : Given) (x v : declared.Thread) (rows : List HistoryRow) (made : Progress) → Item ts cs i x v cs
     → ((clock : ℕ) → Records made o g (recorded_parts (timed x clock) w.rows) (recorded_parts (timed v clock) rows))
@@ -132,17 +131,17 @@ record_rests w ts cs i o g x v rows made h records =
     ∙ ap (λ (p : RecordedParts). record w { threads = joined ts cs; rows = p.rows }) same)
 
 -- what comes of an outcome is what was to be seen before
-records_progress : (q : Option HistoryRow) (room : Bool) (made : Progress) (o : Outing) (g : Given) (old new : RecordedParts) → RecordsRow q room made o g old new → made ≡ progress_by true q room
-records_progress (Some q) true made o g old new h = h.0
-records_progress (Some q) false made o g old new h = h.0
-records_progress None room made o g old new h = h.0
+progress_if : (answers room : Bool) (made : Progress) (o : Outing) (g : Given) (q : HistoryRow) (old new : RecordedParts) → RecordsIf answers room made o g q old new → made ≡ progress_by answers room
+progress_if true true made o g q old new h = h.0
+progress_if true false made o g q old new h = h.0
+progress_if false room made o g q old new h = h.0
 
-progress_is : (answers : Bool) (made : Progress) (o : Outing) (g : Given) (old new : RecordedParts) → RecordsIf answers made o g old new → made ≡ progress_by answers (slice_get old.rows o.row) (can_count old.thread)
-progress_is true made o g old new h = records_progress _ _ made o g old new h
-progress_is false made o g old new h = h.0
+progress_is : (x : Option HistoryRow) (made : Progress) (o : Outing) (g : Given) (old new : RecordedParts) → RecordsRow x made o g old new → made ≡ progress_at x o g (can_count old.thread)
+progress_is (Some q) made o g old new h = progress_if _ _ made o g q old new h
+progress_is None made o g old new h = h.0
 
 -- the outlook of a thread that is outside
-pub outlook_at : (w : Whole) (i : ℕ) (o : Outing) (g : Given) → (thread_at w i).phase ≡ phase.Outside o → outlook w i g ≡ progress_by (answers_errand o.errand g) (slice_get w.rows o.row) (can_count (thread_at w i))
+pub outlook_at : (w : Whole) (i : ℕ) (o : Outing) (g : Given) → (thread_at w i).phase ≡ phase.Outside o → outlook w i g ≡ progress_at (slice_get w.rows o.row) o g (can_count (thread_at w i))
 outlook_at w i o g is = ap (λ (p : Phase). outlook_in p (thread_at w i) w.rows g) is
 
 pub outlook_is : (w : Whole) (ts : List declared.Thread) (cs : List ThreadClock) (i : ℕ) (o : Outing) (g : Given) (x v : declared.Thread) (rows : List HistoryRow) (made : Progress) → Item ts cs i x v cs → x.phase ≡ phase.Outside o
@@ -152,22 +151,24 @@ outlook_is w ts cs i o g x v rows made h is records =
     let clock = clock_at cs i in
     let own = item_thread ts cs i x h.inside h.item in
     progress_is _ made o g (recorded_parts (timed x clock) w.rows) (recorded_parts (timed v clock) rows) (records clock)
-    ∙ ap (λ (t : Thread). progress_by (answers_errand o.errand g) (slice_get w.rows o.row) (can_count t)) (sym own)
+    ∙ ap (λ (t : Thread). progress_at (slice_get w.rows o.row) o g (can_count t)) (sym own)
     ∙ sym (outlook_at z i o g (ap (λ (t : Thread). t.phase) own ∙ is))
 
 -- an outcome that would not be taken: the machine stays
-stays_recorded : (answers : Bool) (q : Option HistoryRow) (room : Bool) (o : Outing) (g : Given) (p : RecordedParts) → slice_get p.rows o.row ≡ q → can_count p.thread ≡ room → has_moved (progress_by answers q room) ≡ false → RecordsIf answers (progress_by answers q room) o g p p
-stays_recorded false q room o g p row count stays = (refl, refl)
-stays_recorded true (Some q) true o g p row count stays = absurd (true≢false stays)
-stays_recorded true (Some q) false o g p row count stays =
-    let R : Option HistoryRow → Bool → Type 0 = λ x b. RecordsRow x b progress.Stays o g p p in subst (λ (x : Option HistoryRow). R x (can_count p.thread)) (sym row) (subst (R (Some q)) (sym count) (refl, refl))
-stays_recorded true None room o g p row count stays = let R : Option HistoryRow → Type 0 = λ x. RecordsRow x (can_count p.thread) progress.Stays o g p p in subst R (sym row) (refl, refl)
+stays_recorded : (x : Option HistoryRow) (o : Outing) (g : Given) (p : RecordedParts) → has_moved (progress_at x o g (can_count p.thread)) ≡ false → RecordsRow x (progress_at x o g (can_count p.thread)) o g p p
+stays_recorded None o g p stays = (refl, refl)
+stays_recorded (Some q) o g p stays = by_tests (answers_errand o.errand q.turn g) (can_count p.thread) stays
+  where
+    by_tests : (answers room : Bool) → has_moved (progress_by answers room) ≡ false → RecordsIf answers room (progress_by answers room) o g q p p
+    by_tests true true stays = absurd (true≢false stays)
+    by_tests true false stays = (refl, refl)
+    by_tests false room stays = (refl, refl)
 
 pub outlook_event : RowsOfArisen → PlansOfArisen → (w : Whole) (i : ℕ) (o : Outing) (g : Given) → i < length w.threads → (thread_at w i).phase ≡ phase.Outside o → has_moved (outlook w i g) ≡ false → RecordsGiven (outlook w i g) i g w w
 outlook_event own plans w i o g inside is stays =
     let seen = outlook_at w i o g is in
-    let made = progress_by (answers_errand o.errand g) (slice_get w.rows o.row) (can_count (thread_at w i)) in
-    let records : Records made o g (recorded_at w i) (recorded_at w i) = stays_recorded (answers_errand o.errand g) (slice_get w.rows o.row) (can_count (thread_at w i)) o g (recorded_at w i) refl refl (ap has_moved (sym seen) ∙ stays) in
+    let made = progress_at (slice_get w.rows o.row) o g (can_count (thread_at w i)) in
+    let records : Records made o g (recorded_at w i) (recorded_at w i) = stays_recorded (slice_get w.rows o.row) o g (recorded_at w i) (ap has_moved (sym seen) ∙ stays) in
     let event = record_event own plans w i o g made (recorded_at w i) inside is records in
     let T : List Thread → Type 0 = λ l. RecordsGiven made i g w (record w { threads = l }) in
     let P : Progress → Type 0 = λ p. RecordsGiven p i g w w in

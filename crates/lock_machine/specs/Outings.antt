@@ -9,13 +9,14 @@ use Rattle.lock_model.specs.Machine.{is_number}
 use Rattle.object_store.specs.Patience.{EndsOutside}
 use Rattle.object_store.specs.Store.{Opens, Stored}
 use Rattle.sequential_object.specs.declared.turn_end.TurnEnd.{TurnEnd}
-use Rattle.posix_terms.specs.Outcomes.{fits, is_kind}
+use Rattle.posix_terms.specs.Outcomes.{fits, is_at, suits}
 use Rattle.posix_terms.specs.Calls.{Call}
 use Rattle.posix_terms.specs.declared.limits.TheConstants.Limits as limit
 use Rattle.posix_terms.specs.declared.outcome.Given.{Given}
 use Rattle.posix_terms.specs.declared.outcome.Outcome.{Outcome}
 use Rattle.posix_terms.specs.declared.reply.Answer as posix
 use Rattle.posix_terms.specs.declared.transcript.HistoryRow.{HistoryRow}
+use Rattle.posix_terms.specs.declared.transcript.Turn.{Turn}
 use Rattle.lock_machine.specs.Held.{phase_behind, told_as}
 use Rattle.lock_machine.specs.Threads.{Thread}
 use Rattle.lock_machine.specs.declared.outside.Progress.{Progress}
@@ -42,16 +43,21 @@ pub record RecordedParts : Type 0 where
 abbrev pub recorded_parts : Thread → List HistoryRow → RecordedParts
 recorded_parts thread rows = record { thread = thread; rows = rows }
 
--- what was given answers what was asked
-abbrev pub answers_errand : Errand → Given → Bool
-answers_errand e g = is_kind g.kind e.kind && (fits e.kind e.asked g.outcome && nat_le e.asked 65535)
+-- what was given answers what was asked at this turn
+abbrev pub answers_errand : Errand → Turn → Given → Bool
+answers_errand e turn g =
+    suits e.kind e.asked g && (is_at turn g.clock && nat_le e.asked 65535)
 
--- what comes of an outcome, by whether it answers, the call's row, and whether its thread can have one more
-abbrev pub progress_by : Bool → Option HistoryRow → Bool → Progress
-progress_by true (Some q) true = progress.Moves
-progress_by true (Some q) false = progress.Stays
-progress_by true None room = progress.Stays
-progress_by false q room = progress.Diverges
+-- what comes of an outcome, by whether it answers and whether its thread can have one more
+abbrev pub progress_by : Bool → Bool → Progress
+progress_by true true = progress.Moves
+progress_by true false = progress.Stays
+progress_by false room = progress.Diverges
+
+-- by the call's row
+abbrev pub progress_at : Option HistoryRow → Outing → Given → Bool → Progress
+progress_at (Some q) o g room = progress_by (answers_errand o.errand q.turn g) room
+progress_at None o g room = progress.Stays
 
 abbrev pub can_count : Thread → Bool
 can_count t = nat_lt (t.came + 1) (2 ^ 32)
@@ -63,18 +69,21 @@ row_recorded o g q p =
       rows = slice_set p.rows o.row (record q { outcome = Some g.outcome });
     }
 
-abbrev pub RecordsRow : Option HistoryRow → Bool → Progress → Outing → Given → RecordedParts → RecordedParts → Type 0
-RecordsRow (Some q) true made o g old new = (made ≡ progress.Moves) × (new ≡ row_recorded o g q old)
-RecordsRow (Some q) false made o g old new = (made ≡ progress.Stays) × (new ≡ old)
-RecordsRow None room made o g old new = (made ≡ progress.Stays) × (new ≡ old)
+-- by whether it answers and whether its thread can have one more: it goes into the row, or nothing changes
+abbrev pub RecordsIf : Bool → Bool → Progress → Outing → Given → HistoryRow
+    → RecordedParts → RecordedParts → Type 0
+RecordsIf true true made o g q old new = (made ≡ progress.Moves) × (new ≡ row_recorded o g q old)
+RecordsIf answers room made o g q old new = (made ≡ progress_by answers room) × (new ≡ old)
 
-abbrev pub RecordsIf : Bool → Progress → Outing → Given → RecordedParts → RecordedParts → Type 0
-RecordsIf true made o g old new = RecordsRow (slice_get old.rows o.row) (can_count old.thread) made o g old new
-RecordsIf false made o g old new = (made ≡ progress.Diverges) × (new ≡ old)
+abbrev pub RecordsRow : Option HistoryRow → Progress → Outing → Given
+    → RecordedParts → RecordedParts → Type 0
+RecordsRow (Some q) made o g old new =
+    RecordsIf (answers_errand o.errand q.turn g) (can_count old.thread) made o g q old new
+RecordsRow None made o g old new = (made ≡ progress.Stays) × (new ≡ old)
 
 -- this outcome comes, where it answers
 abbrev pub Records : Progress → Outing → Given → RecordedParts → RecordedParts → Type 0
-Records made o g old new = RecordsIf (answers_errand o.errand g) made o g old new
+Records made o g old new = RecordsRow (slice_get old.rows o.row) made o g old new
 
 -- ## `answer`
 

@@ -5,7 +5,7 @@ use Rattle.posix_terms.specs.declared.outcome.Given.{Given}
 use Rattle.posix_terms.specs.declared.transcript.HistoryRow.{HistoryRow}
 use Rattle.posix_terms.specs.declared.step.Step.{Step}
 use Rattle.posix_terms.specs.declared.step.Step.TheVariants as step
-use Rattle.lock_machine.specs.Outings.{answers_errand, can_count, progress_by}
+use Rattle.lock_machine.specs.Outings.{can_count, progress_at}
 use Rattle.lock_machine.specs.Threads.{Thread}
 use Rattle.lock_machine.specs.Whole.{Whole, thread_at}
 use Rattle.lock_machine.specs.declared.outside.Progress.{Progress}
@@ -96,7 +96,7 @@ WantsNone r = OnMemory r ⊥
 -- ## Outcomes
 
 abbrev pub outlook_in : Phase → Thread → List HistoryRow → Given → Progress
-outlook_in (phase.Outside o) t rows g = progress_by (answers_errand o.errand g) (slice_get rows o.row) (can_count t)
+outlook_in (phase.Outside o) t rows g = progress_at (slice_get rows o.row) o g (can_count t)
 outlook_in p t rows g = progress.Stays
 
 -- what would come of this outcome for thread i

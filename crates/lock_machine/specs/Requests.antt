@@ -8,7 +8,7 @@ use Rattle.posix_terms.specs.declared.call.Call.TheVariants as call
 use Rattle.posix_terms.specs.declared.limits.TheConstants.Limits as limit
 use Rattle.posix_terms.specs.declared.outcome.OutKind.{OutKind}
 use Rattle.posix_terms.specs.declared.outcome.OutKind.TheVariants as kind
-use Rattle.posix_terms.specs.declared.request.Request.{Request}
+use Rattle.posix_terms.specs.Queries.{Query}
 
 -- the most that a request of this kind asks
 abbrev pub most_asked : OutKind → ℕ
@@ -17,7 +17,7 @@ most_asked kind.Write = limit.COUNT
 most_asked other = 65535
 
 -- what is asked has a place in a record
-abbrev pub Little : Option Request → Type 0
+abbrev pub Little : Option Query → Type 0
 Little (Some r) = r.asked ≤ most_asked r.kind
 Little None = Unit {0}
 
@@ -38,7 +38,7 @@ kind_asked (call.Shutdown descriptor how) = Some kind.Shutdown
 kind_asked (call.Close descriptor) = Some kind.Close
 kind_asked c = None
 
-abbrev pub IsOfKind : Option OutKind → Option Request → Type 0
+abbrev pub IsOfKind : Option OutKind → Option Query → Type 0
 IsOfKind k (Some r) = Some r.kind ≡ k
 IsOfKind k None = Unit {0}
 

@@ -2,12 +2,13 @@
 -- How the data of a run stand for a state of the lock machine.
 use Rattle.std.specs.Prelude.{◌≡◌, ℕ, ◌<◌, ◌≤◌, ◌^◌, List, [], ◌∷◌, ◌++◌, length, map, slice_get, is_some, Option, Some, None, IfSome, Bool, true, false}
 use Rattle.descriptor_table.specs.Acts as acts
-use Rattle.descriptor_table.specs.Agreement.{request_of}
+use Rattle.descriptor_table.specs.Agreement.{query_of}
 use Rattle.descriptor_table.specs.declared.plan.NewNumbers.TheVariants as numbers
 use Rattle.descriptor_table.specs.declared.plan.Op.TheVariants as op
 use Rattle.sequential_object.specs.Locked.{keeps_table}
 use Rattle.sequential_object.specs.Step.{asks, step}
 use Rattle.posix_terms.specs.Calls.{Call}
+use Rattle.posix_terms.specs.Outcomes.{dated}
 use Rattle.posix_terms.specs.declared.outcome.Given.{Given}
 use Rattle.posix_terms.specs.declared.outcome.Outcome.{Outcome}
 use Rattle.posix_terms.specs.declared.limits.TheConstants.Limits as limit
@@ -15,6 +16,7 @@ use Rattle.posix_terms.specs.declared.reply.Answer as posix
 use Rattle.posix_terms.specs.declared.reply.Answer.TheVariants as answer
 use Rattle.posix_terms.specs.declared.reply.Reply.{Reply}
 use Rattle.posix_terms.specs.declared.step.Step.{Step}
+use Rattle.posix_terms.specs.declared.transcript.HistoryRow.{HistoryRow}
 use Rattle.lock_model.specs.CallTable.{Way}
 use Rattle.lock_model.specs.CallTable.Plan.{Object}
 use Rattle.lock_model.specs.CallTable.Way.{Inside}
@@ -59,7 +61,7 @@ pub record IsOut (terms : Conditions) (i : ℕ) (rows : List Row) (o : Outing) (
   pub plan : job.plan ≡ Object object (way_of true o.keeps_table)
   pub thread : job.turn.thread ≡ i
   pub carried : job.carried ≡ o.carried
-  pub asks_is : asks job.found.object job.call job.carried ≡ request_of job.call (op.Ask o.errand)
+  pub asks_is : asks job.found.object job.call job.carried ≡ query_of job.call (op.Ask o.errand)
   pub door : o.errand.door ≡ numbered job.found (door_taken job.found.object job.call job.carried)
   pub waits : o.errand.waits ≡ waits_outside job.found.object job.call job.carried
   pub keeps : o.keeps_table ≡ keeps_table job.call
@@ -150,6 +152,18 @@ abbrev pub came_with : Progress → Given → List Given → List Given
 came_with progress.Moves g came = came ++ g ∷ []
 came_with p g came = came
 
+-- this outcome, with the clock of the row of the call with which thread i is outside
+abbrev pub dated_by : Option HistoryRow → Given → Given
+dated_by (Some q) g = dated q.turn g
+dated_by None g = g
+
+abbrev pub row_outside : Phase → List HistoryRow → Option HistoryRow
+row_outside (phase.Outside o) rows = slice_get rows o.row
+row_outside p rows = None
+
+abbrev pub as_it_comes : Whole → ℕ → Given → Given
+as_it_comes w i g = dated_by (row_outside (thread_at w i).phase w.rows) g
+
 -- this outcome comes for thread i, just where it can, and it diverges just where the outcome does not answer
 pub record Advanced (made : Progress) (i : ℕ) (g : Given) (new : Whole) (terms : Conditions) (s : State) : Type 0 where
   pub can : can_advance (setup_under terms) s i ≡ has_moved made
@@ -196,10 +210,11 @@ Tells told i old new =
     (terms : Conditions) (s : State) → StandsAt old terms s
     → Quietly (is_some told) i new terms s × ((thread_of (advance (setup_under terms) i s) i).replies ≡ replied told (thread_of s i).replies)
 
--- this outcome comes
+-- this outcome comes, with the clock of its call's turn
 abbrev pub RecordsGiven : Progress → ℕ → Given → Whole → Whole → Type 0
 RecordsGiven made i g old new =
-    (terms : Conditions) (s : State) → StandsAt old terms s → slice_get (terms.supply.outcomes i) (length (thread_of s i).came) ≡ Some g → Advanced made i g new terms s
+    (terms : Conditions) (s : State) → StandsAt old terms s → slice_get (terms.supply.outcomes i) (length (thread_of s i).came) ≡ Some g
+    → Advanced made i (as_it_comes old i g) new terms s
 
 -- thread i makes its attempt, just where it can
 abbrev pub Attempts : Bool → ℕ → Whole → Whole → Type 0

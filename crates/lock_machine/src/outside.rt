@@ -6,7 +6,7 @@ ghost use Rattle.posix_terms.specs.declared.limits.TheConstants.Limits as limit;
 ghost use Rattle.lock_machine.specs.Births.{BearsInTime, BornWithin, time_of};
 ghost use Rattle.lock_machine.specs.Lives.{is_live};
 ghost use Rattle.lock_machine.specs.Wanted.{IsWanted, BringsNoCall, KeepsCalls, LeavesWanted, HasDecidedAt};
-ghost use Rattle.lock_machine.specs.Outings.{AnswersOutside, Begins, EndsTurn, Records, answer_cost, answers_errand, outside_parts, progress_by, recorded_parts, table_freed};
+ghost use Rattle.lock_machine.specs.Outings.{AnswersOutside, Begins, EndsTurn, Records, answer_cost, answers_errand, outside_parts, progress_at, recorded_parts, table_freed};
 ghost use Rattle.lock_machine.specs.Threads.{KeepsOthers, timed};
 ghost use Rattle.lock_machine.specs.declared.thread.Phase.TheVariants as phase;
 ghost use Rattle.descriptor_table.specs.Plans.{bytes_asked};
@@ -20,7 +20,7 @@ use descriptor_table::Errand;
 use det_mutex::DetLock;
 use logical_clocks::Clocks;
 use object_store::{Locking, Room, Store, TurnEnd};
-use posix_terms::{Answer, Call, Given, HistoryRow, Limits, Outcome};
+use posix_terms::{Answer, Call, Given, HistoryRow, Limits, Outcome, Turn};
 
 /// How far an event comes that needs no turn.
 #[derive(Clone, Copy)]
@@ -58,23 +58,25 @@ pub fn begin_outside(
     true
 }
 
-// Whether what was given answers what was asked. Nothing asks for more bytes than a record can have.
-fn answers(errand: Errand, given: &Given) -> bool
-    ensures { result ≡ answers_errand errand given.now }
+// Whether what was given answers what was asked at this turn. Nothing asks for more bytes than a
+// record can have.
+fn answers(errand: Errand, turn: Turn, given: &Given) -> bool
+    ensures { result ≡ answers_errand errand turn given.now }
 {
-    given.kind == errand.kind
-        && given.outcome.fits(errand.kind, errand.asked)
-        && errand.asked <= 65_535
+    given.suits(errand.kind, errand.asked) && given.is_at(turn) && errand.asked <= 65_535
 }
 
 // What comes of this outcome, for a thread that got so many.
 pub fn outlook(outing: Outing, given: &Given, came: u32, rows: &[HistoryRow]) -> Progress
-    ensures { result ≡ progress_by (answers_errand outing.errand given.now) (slice_get rows.now outing.row) (nat_lt (came + 1) (2 ^ 32)) }
+    ensures { result ≡ progress_at (slice_get rows.now outing.row) outing given.now
+        (nat_lt (came + 1) (2 ^ 32)) }
 {
-    if !answers(outing.errand, given) {
-        return Progress::Diverges;
-    }
-    if outing.row < rows.len() && came < u32::MAX {
+    let Some(row) = rows.get(outing.row) else {
+        return Progress::Stays;
+    };
+    if !answers(outing.errand, row.turn, given) {
+        Progress::Diverges
+    } else if came < u32::MAX {
         Progress::Moves
     } else {
         Progress::Stays
@@ -95,17 +97,12 @@ pub fn record(
     ensures brings { BringsNoCall thread.old.phase rows.old.items thread.new.phase rows.new.items }
     ensures calls { KeepsCalls rows.old.items rows.new.items }
 {
-    if !answers(outing.errand, &given) {
-        return Progress::Diverges;
+    match outlook(outing, &given, thread.came, rows.as_slice()) {
+        Progress::Moves => {}
+        stays => return stays,
     }
-    let Some(row) = rows.get_mut(outing.row) else {
-        return Progress::Stays;
-    };
-    let Some(came) = thread.came.checked_add(1) else {
-        return Progress::Stays;
-    };
-    row.outcome = Some(given.outcome);
-    thread.came = came;
+    rows[outing.row].outcome = Some(given.outcome);
+    thread.came += 1;
     thread.phase = Phase::Recorded(outing);
     Progress::Moves
 }

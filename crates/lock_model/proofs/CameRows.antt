@@ -17,6 +17,7 @@ use Rattle.lock_model.specs.State.Phase.{Working, Granted, ToOutside, Outside, R
 use Rattle.sequential_object.specs.Worlds.{World}
 use Rattle.lock_model.specs.Transcripts.{outcomes_of}
 use Rattle.posix_terms.specs.Calls.{Call}
+use Rattle.posix_terms.specs.Outcomes.{dated}
 use Rattle.posix_terms.specs.declared.outcome.Given.{Given}
 use Rattle.posix_terms.specs.declared.transcript.Turn.{Turn}
 use Rattle.sequential_object.specs.Step.{Carried}
@@ -198,8 +199,8 @@ came_mine setup w s i m e right came =
       steps = λ x q phase. step_came setup.calls t x ∙ (came ∙ sym (outcomes_quiet i i _ s.rows refl));
       begins = λ job phase. came ∙ sym (outcomes_quiet i i _ s.rows refl);
       records = λ job o q f phase.
-          ap (λ (l : List Given). l ++ o ∷ []) came
-          ∙ sym (outcomes_record setup.calls s i job o (with_outcome t job o).effect w (λ k. setup.calls.nothing_carried) (λ k. false) s.rows phase refl refl right);
+          ap (λ (l : List Given). l ++ dated job.turn o ∷ []) came
+          ∙ sym (outcomes_record setup.calls s i job (dated job.turn o) (with_outcome t job o).effect w (λ k. setup.calls.nothing_carried) (λ k. false) s.rows phase refl refl right);
       grants = λ job phase. answered_came t job.call _ (setup.calls.answer job.found job.call job.outcome job.carried) ∙ (came ∙ sym (outcomes_quiet i i (answer setup.calls t job).effect s.rows refl));
       answers = λ job phase. answered_came t job.call _ (setup.calls.answer job.found job.call job.outcome job.carried) ∙ (came ∙ sym (outcomes_quiet i i (answer setup.calls t job).effect s.rows refl));
       agains = λ c b phase. came ∙ sym (outcomes_quiet i i _ s.rows refl);

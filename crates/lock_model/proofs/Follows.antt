@@ -2,7 +2,7 @@
 use Rattle.std.proofs.Common.{◌≡◌, ℕ, zero, suc, ◌+◌, ◌<◌, ◌≤◌, List, [], ◌∷◌, ◌++◌, length, set, get_or, slice_get, Option, Some, Bool, true, false, sym, refl, ap, ap₂, ◌∙◌, subst, ⊎_elim, arith}
 use Rattle.std.proofs.lemmas.Bool.{false≢true, cases_eq, cases_lt}
 use Rattle.std.proofs.lemmas.List.{get_or-set_same, length-append}
-use Rattle.std.proofs.lemmas.Option.{none-some, slice_get_within}
+use Rattle.std.proofs.lemmas.Option.{none-some, slice_get_within, same_Some}
 use Rattle.lock_model.specs.CallTable.{CallTable, Plan, Way}
 use Rattle.sequential_object.specs.declared.turn_end.TurnEnd.{TurnEnd}
 use Rattle.sequential_object.specs.declared.turn_end.TurnEnd.TheVariants as turn_end
@@ -10,19 +10,21 @@ use Rattle.lock_model.specs.CallTable.Plan.{No_object, Object}
 use Rattle.lock_model.specs.CallTable.Way.{Inside, Door, Keeps_table}
 use Rattle.lock_model.specs.Events.{IsIn, Tried}
 use Rattle.lock_model.specs.History.{IsPrefixOf}
-use Rattle.lock_model.specs.Laws.{Begins}
+use Rattle.lock_model.specs.Laws.{Begins, PrefixLawOfCame}
 use Rattle.lock_model.specs.Machine.{Setup, Moved, Event, after_step, answered, moves, move, advance, granted_phase, granted, new_job, planned, reached, wants, can_attempt, attempt, is_allowed, happens}
 use Rattle.lock_model.specs.Machine.Event.{Advances, Attempts}
 use Rattle.lock_model.specs.Programs.{Supply}
 use Rattle.posix_terms.specs.declared.step.Step.{Step}
 use Rattle.posix_terms.specs.declared.step.Step.TheVariants as step
-use Rattle.lock_model.specs.Runs.{Arises, Follows, IsRun, run, supplied, own, with_came, calls_in}
+use Rattle.lock_model.specs.Runs.{Supplies, Arises, Follows, IsRun, run, supplied, own, with_came, calls_in}
 use Rattle.lock_model.specs.Schedule.{EndsIn}
 use Rattle.lock_model.specs.State.{Job, Phase, Thread, State, nobody, thread_of, start}
 use Rattle.lock_model.specs.State.Phase.{Working, WantsObject, Ended}
 use Rattle.sequential_object.specs.Worlds.{World}
 use Rattle.posix_terms.specs.Calls.{Call}
+use Rattle.posix_terms.specs.Outcomes.{dated}
 use Rattle.posix_terms.specs.declared.outcome.Given.{Given}
+use Rattle.lock_model.proofs.Dating.{supplies_kept, fitting_becomes, supplies_later}
 use Rattle.posix_terms.specs.declared.reply.Reply.{Reply}
 use Rattle.sequential_object.specs.Step.{Carried}
 use Rattle.posix_terms.specs.declared.transcript.Turn.{Turn}
@@ -207,12 +209,13 @@ next_follows given s z i x h g even q =
     let replies : take (calls_in (take (length t.asked) (thread_of s i).asked)) (thread_of s i).replies ≡ t.replies = ap (λ (n : ℕ). take n (thread_of s i).replies) count ∙ take_prefix t.replies (thread_of s i).replies g.replies in
     sym (ap₂ (λ (a : List Step) (r : List Reply). given.next i a r) asked replies) ∙ h.steps i (length t.asked) x q
 
-takes_followed : (given : Supply) (e : Event) (s z y : State) → Follows given s → Adds z s → AllEven z → TakesFrom (own s) given e z y
-takes_followed given (Attempts i) s z y h g even = tt
-takes_followed given (Advances i) s z y h g even =
+takes_followed : (calls : CallTable) (given : Supply) (e : Event) (s z y : State) → Follows given s → Adds z s → AllEven z → TakesFrom calls (own s) given e z y
+takes_followed calls given (Attempts i) s z y h g even = tt
+takes_followed calls given (Advances i) s z y h g even =
     record {
       next = λ x p q a. next_follows given s z i x h (g.threads i) (even_working (thread_of z i).phase (thread_of z i).asked (thread_of z i).replies p (even i)) q;
-      outcome = λ o q a. h.outcomes i (length (thread_of z i).came) o q;
+      outcome = λ job o out q fits a. supplies_later (given.outcomes i) (length (thread_of z i).came) o (dated job.turn o)
+          (h.outcomes i (length (thread_of z i).came) o q) (fitting_becomes calls job o fits);
     }
 
 adds_run : (setup : Setup) (events : List Event) (s : State) → IsRun setup events s → Adds s (run setup events s)
@@ -225,7 +228,7 @@ run_followed setup given s [] z h even allowed ends = record { allowed = tt; end
 run_followed setup given s (e ∷ es) z h even allowed ends =
     let y = happens (supplied setup (own s)) e z in
     let adds : Adds z s = subst (Adds z) ends (adds_run (supplied setup (own s)) (e ∷ es) z allowed) in
-    same_run-cons setup given e es z y s (same_event setup (own s) given e z allowed.0 (takes_followed given e s z y h adds even))
+    same_run-cons setup given e es z y s (same_event setup (own s) given e z allowed.0 (takes_followed setup.calls given e s z y h adds even))
     (run_followed setup given s es y h (even_event (supplied setup (own s)) z e allowed.0 even) allowed.1 ends)
 
 pub prefix_followed : (setup : Setup) (threads objects : ℕ) (w : World) (s last : State) (given : Supply) → Arises setup (start threads objects w) s → Follows given s
@@ -240,7 +243,7 @@ prefix_followed setup threads objects w s last given h g e =
 pub record FollowsOne (given : Supply) (i : ℕ) (t : Thread) : Type 0 where
   pub even : IsEven t.phase t.asked t.replies
   pub steps : (n : ℕ) (x : Step) → slice_get t.asked n ≡ Some x → given.next i (take n t.asked) (take (calls_in (take n t.asked)) t.replies) ≡ Some x
-  pub outcomes : (n : ℕ) (o : Given) → slice_get t.came n ≡ Some o → slice_get (given.outcomes i) n ≡ Some o
+  pub outcomes : (n : ℕ) (o : Given) → slice_get t.came n ≡ Some o → Supplies (given.outcomes i) n o
 
 take-append : {A : Type 0} (n : ℕ) (xs ys : List A) → n ≤ length xs → take n (xs ++ ys) ≡ take n xs
 take-append n xs ys l = take-append-le n xs ys l
@@ -281,8 +284,8 @@ steps_replied given i asked before c replies r is even h n y q =
     let few2 : calls_in (take n asked) ≤ length replies = subst (λ (a : List Step). calls_in a ≤ length replies) (sym same) (omega arith) in
     ap (given.next i (take n asked)) (take-append (calls_in (take n asked)) replies (r ∷ []) few2) ∙ h n y q
 
-outcomes_came : (given : List Given) (came : List Given) (o : Given) → slice_get given (length came) ≡ Some o → ((n : ℕ) (u : Given) → slice_get came n ≡ Some u → slice_get given n ≡ Some u)
-    → (n : ℕ) (u : Given) → slice_get (came ++ o ∷ []) n ≡ Some u → slice_get given n ≡ Some u
+outcomes_came : (given : List Given) (came : List Given) (o : Given) → Supplies given (length came) o → ((n : ℕ) (u : Given) → slice_get came n ≡ Some u → Supplies given n u)
+    → (n : ℕ) (u : Given) → slice_get (came ++ o ∷ []) n ≡ Some u → Supplies given n u
 outcomes_came given came o next h n u q =
     ⊎_elim
     (λ (l : n < length came). h n u (slice_get_before came (o ∷ []) n l u q))
@@ -290,7 +293,8 @@ outcomes_came given came o next h n u q =
     let inside = slice_get_within (came ++ o ∷ []) n u q in
     let count = length-append came (o ∷ []) in
     let at : n ≡ length came = omega arith in
-    ap (slice_get given) at ∙ (next ∙ (sym (slice_get-push came o) ∙ (ap (slice_get (came ++ o ∷ [])) (sym at) ∙ q))))
+    let same : o ≡ u = same_Some o u (sym (slice_get-push came o) ∙ (ap (slice_get (came ++ o ∷ [])) (sym at) ∙ q)) in
+    subst (λ (m : ℕ). Supplies given m u) (sym at) (subst (Supplies given (length came)) same next))
     (cases_lt n (length came))
 
 follows_step : (setup : Setup) (i : ℕ) (t : Thread) (x : Step) → setup.supply.next i t.asked t.replies ≡ Some x → length t.replies ≡ calls_in t.asked → FollowsOne setup.supply i t → FollowsOne setup.supply i (after_step setup.calls t x)
@@ -314,7 +318,7 @@ follows_move setup i t m h g =
     (record {
       steps = λ x q e. follows_step setup i t x q e g;
       begins = λ job e. record { even = e; steps = g.steps; outcomes = g.outcomes };
-      records = λ job o q f e. record { even = e; steps = g.steps; outcomes = outcomes_came (setup.supply.outcomes i) t.came o q g.outcomes };
+      records = λ job o q f e. record { even = e; steps = g.steps; outcomes = outcomes_came (setup.supply.outcomes i) t.came (dated job.turn o) (o, q, fitting_becomes setup.calls job o f) g.outcomes };
       grants = λ job e. follows_answered setup i t job.call _ (setup.calls.answer job.found job.call job.outcome job.carried) e g;
       answers = λ job e. follows_answered setup i t job.call _ (setup.calls.answer job.found job.call job.outcome job.carried) e g;
       agains = λ c b e. record { even = e; steps = g.steps; outcomes = g.outcomes };
@@ -327,7 +331,7 @@ follows_tried given i t u h g =
       even = even_tried t u h g.even;
       steps = subst (λ (a : List Step). (n : ℕ) (x : Step) → slice_get a n ≡ Some x → given.next i (take n a) (take (calls_in (take n a)) u.replies) ≡ Some x) (sym h.asked)
           (subst (λ (r : List Reply). (n : ℕ) (x : Step) → slice_get t.asked n ≡ Some x → given.next i (take n t.asked) (take (calls_in (take n t.asked)) r) ≡ Some x) (sym h.replies) g.steps);
-      outcomes = subst (λ (c : List Given). (n : ℕ) (o : Given) → slice_get c n ≡ Some o → slice_get (given.outcomes i) n ≡ Some o) (sym h.came) g.outcomes;
+      outcomes = subst (λ (c : List Given). (n : ℕ) (o : Given) → slice_get c n ≡ Some o → Supplies (given.outcomes i) n o) (sym h.came) g.outcomes;
     }
 
 follows_none : (given : Supply) (i : ℕ) (t : Thread) → t.asked ≡ [] → t.came ≡ [] → IsEven t.phase t.asked t.replies → FollowsOne given i t
@@ -353,10 +357,13 @@ run_follows setup threads objects w events =
     (follows_start setup.supply threads objects w) in
     record { steps = λ i n x q. (all i).steps n x q; outcomes = λ i n o q. (all i).outcomes n o q }
 
--- the outcomes that came are outcomes enough
-pub prefix_came : (setup : Setup) (threads objects : ℕ) (w : World) (events : List Event) (last : State)
-    → EndsIn (supplied setup (with_came setup.supply (run setup events (start threads objects w)))) (start threads objects w) last → Begins (run setup events (start threads objects w)) last
-prefix_came setup threads objects w events last h =
+-- what is kept of the outcomes that came is enough
+pub prefix_came : PrefixLawOfCame
+prefix_came kept setup threads objects w events last keeps h =
     let s = run setup events (start threads objects w) in
-    prefix_followed setup threads objects w s last (with_came setup.supply s) (arises_run setup threads objects w events)
-    (record { steps = (run_follows setup threads objects w events).steps; outcomes = λ i n o q. q }) h
+    prefix_followed setup threads objects w s last (with_came kept setup.supply s) (arises_run setup threads objects w events)
+    (record {
+      steps = (run_follows setup threads objects w events).steps;
+      outcomes = λ i n o q. supplies_kept kept keeps (thread_of s i).came n o q;
+    })
+    h

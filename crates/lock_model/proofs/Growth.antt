@@ -18,6 +18,7 @@ use Rattle.lock_model.specs.State.{Job, Phase, Thread, Row, State, nobody, threa
 use Rattle.lock_model.specs.State.Phase.{Working, WantsTable, WantsObject, Granted, ToOutside, Outside, Recorded, Blocked, Ended}
 use Rattle.sequential_object.specs.Worlds.{World}
 use Rattle.posix_terms.specs.Calls.{Call}
+use Rattle.posix_terms.specs.Outcomes.{dated}
 use Rattle.posix_terms.specs.declared.outcome.Given.{Given}
 use Rattle.sequential_object.specs.Step.{Carried}
 use Rattle.posix_terms.specs.declared.transcript.Turn.{Turn}
@@ -184,7 +185,7 @@ moves_grow setup i t m h =
     (record {
       steps = λ x q. grows_step setup.calls t x;
       begins = λ job. grows_same t (record t { phase = Outside job; clock = t.clock + setup.limits.door_cost }) refl refl refl;
-      records = λ job o q e. record { asked = prefix_refl t.asked; replies = prefix_refl t.replies; came = prefix_push t.came (o ∷ []) };
+      records = λ job o q e. record { asked = prefix_refl t.asked; replies = prefix_refl t.replies; came = prefix_push t.came (dated job.turn o ∷ []) };
       grants = λ job. grows_answered t job.call _ (setup.calls.answer job.found job.call job.outcome job.carried);
       answers = λ job. grows_answered t job.call _ (setup.calls.answer job.found job.call job.outcome job.carried);
       agains = λ c b. grows_same t (again t c b).thread refl refl refl;

@@ -20,7 +20,9 @@ use Rattle.lock_model.specs.State.{Job, Phase, Thread, Row, State, nobody, threa
 use Rattle.lock_model.specs.State.Phase.{Working, WantsTable, WantsObject, Granted, ToOutside, Outside, Recorded, Blocked, Ended}
 use Rattle.sequential_object.specs.Worlds.{World}
 use Rattle.posix_terms.specs.Calls.{Call}
+use Rattle.posix_terms.specs.Outcomes.{dated, undated}
 use Rattle.posix_terms.specs.declared.outcome.Given.{Given}
+use Rattle.lock_model.proofs.Dating.{dated_fits}
 use Rattle.sequential_object.specs.Step.{Carried}
 use Rattle.posix_terms.specs.declared.transcript.Turn.{Turn}
 use Rattle.lock_model.proofs.Commute.{row_open, row_closed, thread_move, world_mine, one_holder, advance_move}
@@ -174,19 +176,20 @@ open_record setup s i job o e phase fits v c busy r us mine none free p h =
     let same : p.job ≡ job = sym held.0 in
     let l = live_within s i (thread_of s i).clock (moves_live setup i (thread_of s i) m e) in
     let there : thread_of z i ≡ m.thread = thread_moved setup s i m e in
-    let new = record p.job { outcome = Some o } in (
+    let came = dated job.turn o in
+    let new = record p.job { outcome = Some came } in (
       free,
       record {
         job = new;
         holding =
             subst (λ (k : ℕ). Holding calls (thread_of z k).phase new) (sym mine)
-            (subst (λ (t : Thread). Holding calls t.phase new) (sym there) (ap (λ (j : Job). record j { outcome = Some o }) held.0, held.1, (o, refl, ap (λ (j : Job). fits_job calls j o) same ∙ fits)));
+            (subst (λ (t : Thread). Holding calls t.phase new) (sym there) (ap (λ (j : Job). record j { outcome = Some came }) held.0, held.1, (came, refl, ap (λ (j : Job). fits_job calls j came) same ∙ dated_fits calls job o fits, ap (λ (j : Job). Some j.turn.clock) (sym same))));
         call = p.call;
         turn = p.turn;
         found = p.found;
         carried = p.carried;
         plan = p.plan;
-        outcome = ap (λ (x : Option Given). first_of x (Some o)) (sym held.2 ∙ p.outcome);
+        outcome = ap (λ (x : Option Given). first_of x (Some came)) (sym held.2 ∙ p.outcome);
         keeps = λ q. let g = p.keeps q in (ap (map (row_after i m.effect)) g.0, subst (λ (t : DetLock). is_number t.holder r.turn.thread ≡ true) (sym (lock_quiet i s.table)) g.1);
       },
       walk_tail calls s z i m.effect (next_world calls v (c r.turn.thread) r None) (handed_on calls c r) (handed_on calls c n) (opened busy r) (opened busy n) (c i) true us
@@ -201,14 +204,14 @@ open_record setup s i job o e phase fits v c busy r us mine none free p h =
 -- a job that can be answered: it has an outcome exactly where it goes outside, and one that fits
 pub record Complete (calls : CallTable) (job : Job) : Type 0 where
   pub whole : is_some job.outcome ≡ goes_outside job.plan
-  pub fits : (o : Given) → job.outcome ≡ Some o → fits_job calls job o ≡ true
+  pub fits : (o : Given) → job.outcome ≡ Some o → (fits_job calls job o ≡ true) × (o.clock ≡ Some job.turn.clock)
 
 complete_granted : (calls : CallTable) (job : Job) → goes_outside job.plan ≡ false → job.outcome ≡ None → Complete calls job
 complete_granted calls job inside none = record { whole = ap is_some none ∙ sym inside; fits = λ o q. absurd (none-some o (sym none ∙ q)) }
 
-complete_recorded : (calls : CallTable) (job : Job) (o : Given) → goes_outside job.plan ≡ true → job.outcome ≡ Some o → fits_job calls job o ≡ true → Complete calls job
-complete_recorded calls job o outside some fits =
-    record { whole = ap is_some some ∙ sym outside; fits = λ u q. subst (λ (x : Given). fits_job calls job x ≡ true) (same_Some o u (sym some ∙ q)) fits }
+complete_recorded : (calls : CallTable) (job : Job) (o : Given) → goes_outside job.plan ≡ true → job.outcome ≡ Some o → fits_job calls job o ≡ true → o.clock ≡ Some job.turn.clock → Complete calls job
+complete_recorded calls job o outside some fits clock =
+    record { whole = ap is_some some ∙ sym outside; fits = λ u q. subst (λ (x : Given). (fits_job calls job x ≡ true) × (x.clock ≡ Some job.turn.clock)) (same_Some o u (sym some ∙ q)) (fits, clock) }
 
 right_row : (calls : CallTable) (v : World) (b : Carried) (s : State) (r : Row) (us : List Row) (p : Pending calls s v b r us) → Complete calls p.job
     → IsRight calls v b (record r { outcome = first_of r.outcome None; answer = Some (calls.answer p.job.found p.job.call p.job.outcome p.job.carried) })
@@ -221,7 +224,8 @@ right_row calls v b s r us p full =
       outcome = λ o q.
           let came : p.job.outcome ≡ Some o = sym out ∙ q in (
             sym (ap goes_outside p.plan) ∙ (sym full.whole ∙ ap is_some came),
-            sym (λ k. calls.fits (calls.asks (p.found k) (p.call k) (p.carried k)) o) ∙ full.fits o came,
+            sym (λ k. calls.fits (calls.asks (p.found k) (p.call k) (p.carried k)) (undated o)) ∙ (and_parts _ _ (full.fits o came).0).0,
+            (full.fits o came).1 ∙ ap (λ (t : Turn). Some t.clock) p.turn,
           );
       whole = λ q. ap is_some out ∙ (full.whole ∙ ap goes_outside p.plan);
     }
@@ -356,7 +360,7 @@ holds_granted : (calls : CallTable) (job j : Job) → Holding calls (Granted job
 holds_granted calls job j h = (sym h.0, subst (Complete calls) (sym h.0) (complete_granted calls j h.1 h.2))
 
 holds_recorded : (calls : CallTable) (job j : Job) → Holding calls (Recorded job) j → (j ≡ job) × Complete calls job
-holds_recorded calls job j h = (sym h.0, subst (Complete calls) (sym h.0) (complete_recorded calls j h.2.0 h.1 h.2.1 h.2.2))
+holds_recorded calls job j h = (sym h.0, subst (Complete calls) (sym h.0) (complete_recorded calls j h.2.0 h.1 h.2.1 h.2.2 h.2.3))
 
 -- ## All events that need no turn
 

@@ -1,6 +1,7 @@
 -- The history of a run is legal.
+use Rattle.lock_model.specs.Laws.{AreDated}
 use Rattle.std.proofs.Common.{◌≡◌, ℕ, suc, List, [], ◌∷◌, Option, Some, None, Bool, true, false, is_some, is_none, sym, refl, ap, ◌∙◌, subst, ⊎_elim}
-use Rattle.std.proofs.lemmas.Bool.{true≢false, false≢true, cases_Bool}
+use Rattle.std.proofs.lemmas.Bool.{true≢false, false≢true, and_parts, cases_Bool}
 use Rattle.std.proofs.lemmas.Option.{same_Some, none-some}
 use Rattle.lock_model.specs.CallTable.{CallTable, keeps_table, goes_outside}
 use Rattle.sequential_object.specs.declared.turn_end.TurnEnd.{TurnEnd}
@@ -11,7 +12,9 @@ use Rattle.lock_model.specs.State.{Job, Phase, Row, State, thread_of, start}
 use Rattle.lock_model.specs.State.Phase.{Working, WantsTable, WantsObject, Granted, ToOutside, Outside, Recorded, Blocked, Ended}
 use Rattle.sequential_object.specs.Worlds.{World}
 use Rattle.posix_terms.specs.Calls.{Call}
+use Rattle.posix_terms.specs.Outcomes.{undated}
 use Rattle.posix_terms.specs.declared.outcome.Given.{Given}
+use Rattle.posix_terms.specs.declared.transcript.Turn.{Turn}
 use Rattle.sequential_object.specs.Step.{Carried}
 use Rattle.lock_model.specs.Legal.{IsLegalHistory}
 use Rattle.lock_model.proofs.Walk.{Holding, Pending, Part, next_world, opened, Walk}
@@ -30,11 +33,13 @@ changed_either calls w c b (Some x) None false h = refl
 changed_either calls w c b (Some x) (Some y) false h = refl
 
 -- an open row with an outcome has one that fits
-pending_outcome : (calls : CallTable) (p : Phase) (job : Job) (o : Given) → Holding calls p job → job.outcome ≡ Some o → (goes_outside job.plan ≡ true) × (fits_job calls job o ≡ true)
+pending_outcome : (calls : CallTable) (p : Phase) (job : Job) (o : Given) → Holding calls p job → job.outcome ≡ Some o → (goes_outside job.plan ≡ true) × (fits_job calls job o ≡ true) × (o.clock ≡ Some job.turn.clock)
 pending_outcome calls (Granted j) job o h q = absurd (none-some o (sym h.2 ∙ q))
 pending_outcome calls (ToOutside j) job o h q = absurd (none-some o (sym h.2 ∙ q))
 pending_outcome calls (Outside j) job o h q = absurd (none-some o (sym h.2 ∙ q))
-pending_outcome calls (Recorded j) job o h q = (h.1, subst (λ (x : Given). fits_job calls job x ≡ true) (same_Some h.2.0 o (sym h.2.1 ∙ q)) h.2.2)
+pending_outcome calls (Recorded j) job o h q =
+    let same = same_Some h.2.0 o (sym h.2.1 ∙ q) in
+    (h.1, subst (λ (x : Given). fits_job calls job x ≡ true) same h.2.2, subst (λ (x : Given). x.clock ≡ Some job.turn.clock) same h.2.3)
 pending_outcome calls Working job o h q = absurd h
 pending_outcome calls (WantsTable d e) job o h q = absurd h
 pending_outcome calls (WantsObject d e k n way) job o h q = absurd h
@@ -46,8 +51,11 @@ right_open calls s v b r us none p =
     record {
       answer = λ a q. absurd (none-some a (sym none ∙ q));
       outcome = λ o q.
-          let g = pending_outcome calls (thread_of s r.turn.thread).phase p.job o p.holding (p.outcome ∙ q) in
-          (sym (ap goes_outside p.plan) ∙ g.0, sym (λ k. calls.fits (calls.asks (p.found k) (p.call k) (p.carried k)) o) ∙ g.1);
+          let g = pending_outcome calls (thread_of s r.turn.thread).phase p.job o p.holding (p.outcome ∙ q) in (
+            sym (ap goes_outside p.plan) ∙ g.0,
+            sym (λ k. calls.fits (calls.asks (p.found k) (p.call k) (p.carried k)) (undated o)) ∙ (and_parts _ _ g.1).0,
+            g.2 ∙ ap (λ (t : Turn). Some t.clock) p.turn,
+          );
       whole = λ q. absurd (true≢false (sym (ap is_none none) ∙ q));
     }
 
@@ -87,3 +95,8 @@ pub legal_law : (setup : Setup) (threads objects : ℕ) (w : World) (events : Li
 legal_law setup threads objects w events chosen =
     let s = run setup events (start threads objects w) in
     legal_from setup.calls s chosen 0 w (λ i. setup.calls.nothing_carried) (λ i. false) s.rows (right_run setup threads objects w events)
+
+-- each outcome of a legal history has the clock of its row's turn
+pub dated_rows : (calls : CallTable) (chosen : ℕ → Option Given) (k : ℕ) (w : World) (carried : ℕ → Carried) (rs : List Row) → IsLegal calls chosen k w carried rs → AreDated rs
+dated_rows calls chosen k w carried [] h = tt
+dated_rows calls chosen k w carried (r ∷ rs) h = (λ o is. (h.0.outcome o is).2, dated_rows calls chosen (suc k) _ _ rs h.1)

@@ -8,6 +8,7 @@ pub mod Walk
 pub mod Kept
 pub mod Legal
 pub mod Begins
+pub mod Dating
 pub mod Arising
 pub mod Ends
 pub mod Follows

@@ -77,7 +77,7 @@ none_came calls s i job is held = (let now : Holding calls (Outside job) job = s
 
 -- an outcome that came fits
 came_fits : (calls : CallTable) (s : State) (i : ℕ) (job : Job) → (thread_of s i).phase ≡ Recorded job → Holding calls (thread_of s i).phase job → (o : Given) × (job.outcome ≡ Some o) × (fits_job calls job o ≡ true)
-came_fits calls s i job is held = (let now : Holding calls (Recorded job) job = subst (λ (p : Phase). Holding calls p job) is held in now.2)
+came_fits calls s i job is held = (let now : Holding calls (Recorded job) job = subst (λ (p : Phase). Holding calls p job) is held in (now.2.0, now.2.1, now.2.2))
 
 pub plans_arisen : (setup : Setup) (threads objects : ℕ) (w : World) (s : State) → Arises setup (start threads objects w) s → HavePlans setup.calls s
 plans_arisen setup threads objects w s h =

@@ -1,19 +1,22 @@
 -- The plain run under the outcomes that came in it is the same run, and what came is only added to.
-use Rattle.std.proofs.Common.{◌≡◌, ℕ, zero, suc, ◌+◌, ◌-◌, ◌≤◌, List, length, slice_get, Option, Some, None, Bool, true, false, sym, refl, ap, ◌∙◌, subst, inl, inr, ⊎_elim, arith}
+use Rattle.std.proofs.lemmas.List.{length-map}
+use Rattle.std.proofs.Common.{◌≡◌, ℕ, zero, suc, ◌+◌, ◌-◌, ◌≤◌, List, length, slice_get, Option, Some, None, Bool, true, false, sym, refl, ap, ◌∙◌, subst, inl, inr, ⊎_elim, arith, map}
 use Rattle.std.proofs.lemmas.Bool.{false≢true, cases_eq}
-use Rattle.std.proofs.lemmas.Option.{none-some, slice_get_within}
+use Rattle.std.proofs.lemmas.Option.{none-some, slice_get_within, same_Some}
 use Rattle.lock_model.specs.Came.{under_came, SameUnderCame, OverUnderCame, PlainArises, PlainCount, PlainLeads, CameGrows, StaysOrFits, OutsideStays}
 use Rattle.lock_model.specs.History.{IsPrefixOf}
 use Rattle.lock_model.specs.Machine.{Setup, Moved, Event, fits_job, moves, move, can_advance, advance, wants, can_attempt, is_allowed, happens}
 use Rattle.lock_model.specs.Machine.Event.{Advances, Attempts}
 use Rattle.lock_model.specs.Programs.{Supply}
-use Rattle.lock_model.specs.Runs.{Arises, Follows, supplied, with_came}
+use Rattle.lock_model.specs.Runs.{Supplies, Arises, Follows, supplied, with_came, Keeps}
 use Rattle.lock_model.specs.Schedule.{next_event, attempt_by, advance_by, after_event, plain, plain_run}
 use Rattle.lock_model.specs.State.{Job, Phase, Thread, State, start, thread_of, live_clocks}
 use Rattle.lock_model.specs.State.Phase.{Outside}
 use Rattle.sequential_object.specs.Worlds.{World}
 use Rattle.logical_clocks.specs.TurnOrder.{first_or, first_below, turn_holder}
+use Rattle.posix_terms.specs.Outcomes.{dated}
 use Rattle.posix_terms.specs.declared.outcome.Given.{Given}
+use Rattle.lock_model.proofs.Dating.{dated_fits, fitting_becomes, kept_at, supplies_kept, supplies_later}
 use Rattle.lock_model.proofs.Commute.{thread_advance, advance_move}
 use Rattle.lock_model.proofs.Turn.{thread_moved}
 use Rattle.lock_model.proofs.Attempt.{move_of, can_out, attempt_other}
@@ -98,7 +101,7 @@ records_move setup i t m h =
     (record {
       steps = λ x q job e. absurd (false≢true (ap is_outside e));
       begins = λ j job e. absurd (false≢true (ap is_outside e));
-      records = λ j o q f job e. (o, slice_get-push t.came o, ap (λ (k : Job). fits_job setup.calls k o) (sym (same_job j job e)) ∙ f);
+      records = λ j o q f job e. (dated j.turn o, slice_get-push t.came (dated j.turn o), ap (λ (k : Job). fits_job setup.calls k (dated j.turn o)) (sym (same_job j job e)) ∙ dated_fits setup.calls j o f);
       grants = λ j job e. absurd (false≢true (ap is_outside e));
       answers = λ j job e. absurd (false≢true (ap is_outside e));
       agains = λ c b job e. absurd (false≢true (ap is_outside e));
@@ -192,59 +195,109 @@ next_same setup given s fewer first =
 
 -- ## The outcomes that came
 
--- a thread that can advance with the outcomes that came can advance
-advance_came : (setup : Setup) (s last : State) (i : ℕ) → ((o : Given) → slice_get (thread_of last i).came (length (thread_of s i).came) ≡ Some o → slice_get (setup.supply.outcomes i) (length (thread_of s i).came) ≡ Some o)
-    → can_advance (under_came setup last) s i ≡ true → can_advance setup s i ≡ true
-advance_came setup s last i from can =
-    (same_event setup (with_came setup.supply last) setup.supply (Advances i) s can (record { next = λ x p q a. q; outcome = λ o q a. from o q })).allowed
+-- what came next for a thread that is outside fits its call
+abbrev NextFits : Setup → State → State → Type 0
+NextFits setup s last =
+    (i : ℕ) (job : Job) (o : Given) → (thread_of s i).phase ≡ Outside job
+    → slice_get (thread_of last i).came (length (thread_of s i).came) ≡ Some o → fits_job setup.calls job o ≡ true
+
+-- a thread that can advance with what is kept of the outcomes that came can advance
+advance_came : (kept : Given → Given) → Keeps kept → (setup : Setup) (s last : State) (i : ℕ)
+    → ((o : Given) → slice_get (thread_of last i).came (length (thread_of s i).came) ≡ Some o → Supplies (setup.supply.outcomes i) (length (thread_of s i).came) o)
+    → NextFits setup s last
+    → can_advance (under_came kept setup last) s i ≡ true → can_advance setup s i ≡ true
+advance_came kept keeps setup s last i from fitting can =
+    (same_event setup (with_came kept setup.supply last) setup.supply (Advances i) s can
+    (record {
+      next = λ x p q a. q;
+      outcome = λ job o out q fits a.
+          let n = length (thread_of s i).came in
+          let (p, at, is) = kept_at kept (thread_of last i).came n o q in
+          let alike : dated job.turn p ≡ dated job.turn o = sym (ap (dated job.turn) (keeps p).same) ∙ ap (dated job.turn) is in
+          subst (Supplies (setup.supply.outcomes i) n) alike
+          (supplies_later (setup.supply.outcomes i) n p (dated job.turn p) (from p at) (fitting_becomes setup.calls job p (fitting i job p out at)));
+    })).allowed
 
 pub over_under_came : OverUnderCame
-over_under_came setup s over =
-    next_same setup (with_came setup.supply s) s
-    (λ i can. advance_came setup s s i (λ o q. absurd (none_past (thread_of s i) o q)) can)
+over_under_came kept setup s over =
+    next_same setup (with_came kept setup.supply s) s
+    (λ i can. over_can i can)
     (λ i h. absurd (none-some (Advances i) (sym over ∙ h)))
     ∙ over
   where
-    none_past : (t : Thread) (o : Given) → slice_get t.came (length t.came) ≡ Some o → ⊥
-    none_past t o q = let inside = slice_get_within t.came (length t.came) o q in absurd (omega arith)
+    none_past : (i : ℕ) (o : Given) → slice_get (map kept (thread_of s i).came) (length (thread_of s i).came) ≡ Some o → ⊥
+    none_past i o q =
+        let inside = slice_get_within (map kept (thread_of s i).came) (length (thread_of s i).came) o q in
+        let size = length-map (thread_of s i).came kept in
+        absurd (omega (arith, inside, size))
+
+    over_can : (i : ℕ) → can_advance (under_came kept setup s) s i ≡ true → can_advance setup s i ≡ true
+    over_can i can =
+        (same_event setup (with_came kept setup.supply s) setup.supply (Advances i) s can
+        (record { next = λ x p q a. q; outcome = λ job o out q fits a. absurd (none_past i o q) })).allowed
 
 -- an event takes what came by its end
-takes_came : (setup : Setup) (s last : State) (e : Event) → Adds (happens setup e s) last → TakesFrom setup.supply (with_came setup.supply last) e s (happens setup e s)
-takes_came setup s last (Attempts i) h = tt
-takes_came setup s last (Advances i) h =
+takes_came : (kept : Given → Given) → Keeps kept → (setup : Setup) (s last : State) (e : Event) → Adds (happens setup e s) last
+    → TakesFrom setup.calls setup.supply (with_came kept setup.supply last) e s (happens setup e s)
+takes_came kept keeps setup s last (Attempts i) h = tt
+takes_came kept keeps setup s last (Advances i) h =
     let t = thread_of s i in
     let u = thread_of (advance setup i s) i in
     record {
       next = λ x p q a. q;
-      outcome = λ o q a. slice_get-prefix u.came (thread_of last i).came (length t.came) o (h.threads i).came (ap (λ (l : List Given). slice_get l (length t.came)) a ∙ slice_get-push t.came o);
+      outcome = λ job o out q fits a.
+          let p = dated job.turn o in
+          supplies_kept kept keeps (thread_of last i).came (length t.came) p
+          (slice_get-prefix u.came (thread_of last i).came (length t.came) p (h.threads i).came (ap (λ (l : List Given). slice_get l (length t.came)) a ∙ slice_get-push t.came p));
     }
 
-event_came : (setup : Setup) (s last : State) (e : Event) → is_allowed setup e s ≡ true → Adds (happens setup e s) last → SameEvent setup (with_came setup.supply last) e s (happens setup e s)
-event_came setup s last e can h = same_event setup setup.supply (with_came setup.supply last) e s can (takes_came setup s last e h)
+event_came : (kept : Given → Given) → Keeps kept → (setup : Setup) (s last : State) (e : Event) → is_allowed setup e s ≡ true → Adds (happens setup e s) last
+    → SameEvent setup (with_came kept setup.supply last) e s (happens setup e s)
+event_came kept keeps setup s last e can h = same_event setup setup.supply (with_came kept setup.supply last) e s can (takes_came kept keeps setup s last e h)
 
-after_came : (setup : Setup) (s last : State) (o : Option Event) → next_event setup s ≡ o → Adds (after_event setup s o) last → after_event (under_came setup last) s o ≡ after_event setup s o
-after_came setup s last None q h = refl
-after_came setup s last (Some e) q h = (event_came setup s last e (next_allowed setup s e q) h).leads
+after_came : (kept : Given → Given) → Keeps kept → (setup : Setup) (s last : State) (o : Option Event) → next_event setup s ≡ o → Adds (after_event setup s o) last
+    → after_event (under_came kept setup last) s o ≡ after_event setup s o
+after_came kept keeps setup s last None q h = refl
+after_came kept keeps setup s last (Some e) q h = (event_came kept keeps setup s last e (next_allowed setup s e q) h).leads
 
--- where the plain event leads on the way to last, and what came in last is from the lists, the event is the same with what came in last
-plain_came : (setup : Setup) (s last : State) → Adds (plain setup s) last → Follows setup.supply last → plain (under_came setup last) s ≡ plain setup s
+-- where the plain event leads on the way to last, and what came in last is from the lists, the event is the same with what is kept of it
+plain_came : (kept : Given → Given) → Keeps kept → (setup : Setup) (s last : State) → Adds (plain setup s) last → Follows setup.supply last → NextFits setup s last
+    → plain (under_came kept setup last) s ≡ plain setup s
 unfolding plain
-plain_came setup s last h g =
+plain_came kept keeps setup s last h g fitting =
     let next =
-    next_same setup (with_came setup.supply last) s
-    (λ i can. advance_came setup s last i (λ o q. g.outcomes i (length (thread_of s i).came) o q) can)
-    (λ i q. (event_came setup s last (Advances i) (next_allowed setup s (Advances i) q) (subst (λ (z : State). Adds z last) (ap (after_event setup s) q) h)).allowed) in
-    ap (after_event (under_came setup last) s) next ∙ after_came setup s last (next_event setup s) refl h
+    next_same setup (with_came kept setup.supply last) s
+    (λ i can. advance_came kept keeps setup s last i (λ o q. g.outcomes i (length (thread_of s i).came) o q) fitting can)
+    (λ i q. (event_came kept keeps setup s last (Advances i) (next_allowed setup s (Advances i) q) (subst (λ (z : State). Adds z last) (ap (after_event setup s) q) h)).allowed) in
+    ap (after_event (under_came kept setup last) s) next ∙ after_came kept keeps setup s last (next_event setup s) refl h
 
-came_same : (setup : Setup) (first : State) (n k : ℕ) → Follows setup.supply (plain_run setup n first) → k ≤ n → plain_run (under_came setup (plain_run setup n first)) k first ≡ plain_run setup k first
-came_same setup first n zero g l = plain_run-none (under_came setup (plain_run setup n first)) first ∙ sym (plain_run-none setup first)
-came_same setup first n (suc k) g l =
+-- so many events later a thread that was outside has what fits its call, or is there still
+next_fits : (setup : Setup) (first : State) (n k : ℕ) → k ≤ n → NextFits setup (plain_run setup k first) (plain_run setup n first)
+next_fits setup first n k l i job o out at =
+    let s = plain_run setup k first in
+    let later : plain_run setup n first ≡ plain_run setup (n - k) s = ap (λ (m : ℕ). plain_run setup m first) (sum n k l) ∙ plain_run-sum setup k (n - k) first in
+    by_way s (subst (λ (z : State). StaysOrFits setup job (thread_of s i) (thread_of z i)) (sym later) (outside_run setup (n - k) s i job out))
+  where
+    sum : (a b : ℕ) → b ≤ a → a ≡ b + (a - b)
+    sum a b h = omega arith
+
+    by_way : (s : State) → StaysOrFits setup job (thread_of (plain_run setup k first) i) (thread_of (plain_run setup n first) i) → fits_job setup.calls job o ≡ true
+    by_way s (inl there) =
+        let came = (thread_of (plain_run setup k first) i).came in
+        let inside = slice_get_within came (length came) o (ap (λ (t : Thread). slice_get t.came (length came)) (sym there) ∙ at) in
+        absurd (omega arith)
+    by_way s (inr (p, there, fits)) = subst (λ (x : Given). fits_job setup.calls job x ≡ true) (same_Some p o (sym there ∙ at)) fits
+
+came_same : (kept : Given → Given) → Keeps kept → (setup : Setup) (first : State) (n k : ℕ) → Follows setup.supply (plain_run setup n first) → k ≤ n
+    → plain_run (under_came kept setup (plain_run setup n first)) k first ≡ plain_run setup k first
+came_same kept keeps setup first n zero g l = plain_run-none (under_came kept setup (plain_run setup n first)) first ∙ sym (plain_run-none setup first)
+came_same kept keeps setup first n (suc k) g l =
     let last = plain_run setup n first in
     let s = plain_run setup k first in
     let on : Adds (plain_run setup (suc k) first) last = subst (λ (j : ℕ). Adds (plain_run setup (suc k) first) (plain_run setup j first)) (rest n k l) (adds_later setup first (suc k) (n - suc k)) in
-    plain_run-suc (under_came setup last) k first
-    ∙ (ap (plain (under_came setup last)) (came_same setup first n k g (omega arith))
-    ∙ (plain_came setup s last (subst (λ (z : State). Adds z last) (plain_run-suc setup k first) on) g
+    plain_run-suc (under_came kept setup last) k first
+    ∙ (ap (plain (under_came kept setup last)) (came_same kept keeps setup first n k g (omega arith))
+    ∙ (plain_came kept keeps setup s last (subst (λ (z : State). Adds z last) (plain_run-suc setup k first) on) g (next_fits setup first n k (omega arith))
     ∙ sym (plain_run-suc setup k first)))
   where
     rest : (a b : ℕ) → suc b ≤ a → suc b + (a - suc b) ≡ a
@@ -256,4 +309,4 @@ plain_follows setup threads objects w n =
     subst (Follows setup.supply) r.ends (run_follows setup threads objects w r.events)
 
 pub same_under_came : SameUnderCame
-same_under_came setup threads objects w n k l = came_same setup (start threads objects w) n k (plain_follows setup threads objects w n) l
+same_under_came kept setup threads objects w n k keeps l = came_same kept keeps setup (start threads objects w) n k (plain_follows setup threads objects w n) l

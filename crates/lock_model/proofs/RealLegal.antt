@@ -9,6 +9,7 @@ use Rattle.sequential_object.specs.Object as posix_object
 use Rattle.sequential_object.specs.Step.{Carried, Stepped, asks, step}
 use Rattle.posix_terms.specs.Calls.{Call}
 use Rattle.posix_terms.specs.Outcomes.{fits, is_kind}
+use Rattle.posix_terms.specs.Outcomes.{undated}
 use Rattle.posix_terms.specs.declared.outcome.Given.{Given}
 use Rattle.posix_terms.specs.declared.outcome.Outcome.{Outcome}
 use Rattle.posix_terms.specs.declared.reply.Answer as posix
@@ -21,9 +22,10 @@ use Rattle.lock_model.specs.Legal as machine
 use Rattle.lock_model.specs.Machine.{first_of}
 use Rattle.sequential_object.specs.Numbers.{world_with}
 use Rattle.lock_model.specs.RealCalls.{plan_of, real_calls, way_of}
-use Rattle.sequential_object.specs.Answers.{answer_in, answered_with, answers_request, numbered, outcome_in}
+use Rattle.sequential_object.specs.Answers.{answer_in, answered_with, answers_query, numbered, outcome_in}
 use Rattle.lock_model.specs.State.{Row}
-use Rattle.sequential_object.specs.Worlds.{Request, World}
+use Rattle.posix_terms.specs.Queries.{Query}
+use Rattle.sequential_object.specs.Worlds.{World}
 use Rattle.lock_model.specs.Rows.{shown, shown_answer}
 
 shown_back : (a : posix.Answer) (b : Carried) → shown_answer (Some (answered_with a b)) ≡ Some a
@@ -84,8 +86,8 @@ some_outcome None = refl
 some_outcome (Some g) = refl
 
 -- a row that was answered had its outcome, if it needed one
-settled : (request : Request) (came : Option Given) (o : Option Outcome) → MayBe request (outcome_in came) o → is_some came ≡ is_some request → o ≡ outcome_in came
-settled request (Some g) o may whole = may
+settled : (query : Option Query) (came : Option Given) (o : Option Outcome) → MayBe query (outcome_in came) o → is_some came ≡ is_some query → o ≡ outcome_in came
+settled query (Some g) o may whole = may
 settled (Some r) None o may whole = absurd (false≢true whole)
 settled None None o may whole = may
 
@@ -116,7 +118,12 @@ second : (b c : Bool) → (b && c) ≡ true → c ≡ true
 second true c e = e
 second false c e = absurd (false≢true e)
 
-outcome_right : (request : Request) (came : Option Given) → ((g : Given) → came ≡ Some g → answers_request request g ≡ true) → Answers request (outcome_in came)
+-- a clock does not matter to a query
+at_any_clock : (query : Option Query) (g : Given) → answers_query query (undated g) ≡ answers_query query g
+at_any_clock (Some q) g = refl
+at_any_clock None g = refl
+
+outcome_right : (query : Option Query) (came : Option Given) → ((g : Given) → came ≡ Some g → answers_query query g ≡ true) → Answers query (outcome_in came)
 outcome_right (Some r) (Some g) right = second (is_kind g.kind r.kind) (fits r.kind r.asked g.outcome) (right g refl)
 outcome_right (Some r) None right = tt
 outcome_right None (Some g) right = absurd (false≢true (right g refl))
@@ -128,21 +135,21 @@ answer_some (Some a) given e = refl
 
 -- ## The state behind a row
 
--- an outcome that a row may have, as what comes for its request
-abbrev given_of : Request → Option Outcome → Option Given
-given_of (Some r) (Some x) = Some (record { kind = r.kind; outcome = x })
+-- an outcome that a row may have, as what comes for its query
+abbrev given_of : Option Query → Option Outcome → Option Given
+given_of (Some r) (Some x) = Some (record { kind = r.kind; clock = None; outcome = x })
 given_of (Some r) None = None
 given_of None o = None
 
 -- it completes the row
-completed_by : (request : Request) (came : Option Given) (o : Option Outcome) → MayBe request (outcome_in came) o → is_some request ≡ true → (g : Given) × ((first_of came (given_of request o) ≡ Some g) × (o ≡ Some g.outcome))
-completed_by request (Some g) o may asks = (g, (refl, may))
-completed_by (Some r) None (Some x) may asks = (record { kind = r.kind; outcome = x }, (refl, refl))
+completed_by : (query : Option Query) (came : Option Given) (o : Option Outcome) → MayBe query (outcome_in came) o → is_some query ≡ true → (g : Given) × ((first_of came (given_of query o) ≡ Some g) × (o ≡ Some g.outcome))
+completed_by query (Some g) o may asks = (g, (refl, may))
+completed_by (Some r) None (Some x) may asks = (record { kind = r.kind; clock = None; outcome = x }, (refl, refl))
 completed_by (Some r) None None may asks = absurd (false≢true may.0)
 completed_by None None o may asks = absurd (false≢true asks)
 
-no_outcome : (request : Request) (came : Option Given) (o : Option Outcome) → MayBe request (outcome_in came) o → is_some request ≡ false → ((g : Given) → came ≡ Some g → is_some request ≡ true) → o ≡ None
-no_outcome request (Some g) o may inside right = absurd (false≢true (sym inside ∙ right g refl))
+no_outcome : (query : Option Query) (came : Option Given) (o : Option Outcome) → MayBe query (outcome_in came) o → is_some query ≡ false → ((g : Given) → came ≡ Some g → is_some query ≡ true) → o ≡ None
+no_outcome query (Some g) o may inside right = absurd (false≢true (sym inside ∙ right g refl))
 no_outcome (Some r) None o may inside right = absurd (false≢true (sym inside))
 no_outcome None None o may inside right = may
 
@@ -210,7 +217,7 @@ legal_shown locks alike settings k w c d (r ∷ rows) same h = λ o may.
     (subst (L (at_place k chosen_here chosen)) (place_there k chosen_here chosen) (h (at_place k chosen_here chosen)).1)) in (
       record {
         answer_is = λ given is. answer_shown now r.answer given answers is;
-        outcome_is = outcome_right (asks w.object r.call (d i)) r.outcome (λ x is. (right.outcome x is).1);
+        outcome_is = outcome_right (asks w.object r.call (d i)) r.outcome (λ x is. sym (at_any_clock (asks w.object r.call (d i)) x) ∙ (right.outcome x is).1);
         outcome_came = λ given is. some_outcome r.outcome ∙ right.whole (answer_some r.answer given is) ∙ goes_is locks settings w r.call (d i);
       },
       subst Q behind

@@ -21,7 +21,7 @@ abbrev pub Holding : CallTable → Phase → Job → Type 0
 Holding calls (Granted j) job = (j ≡ job) × (goes_outside job.plan ≡ false) × (job.outcome ≡ None)
 Holding calls (ToOutside j) job = (j ≡ job) × (goes_outside job.plan ≡ true) × (job.outcome ≡ None)
 Holding calls (Outside j) job = (j ≡ job) × (goes_outside job.plan ≡ true) × (job.outcome ≡ None)
-Holding calls (Recorded j) job = (j ≡ job) × (goes_outside job.plan ≡ true) × ((o : Given) × (job.outcome ≡ Some o) × (fits_job calls job o ≡ true))
+Holding calls (Recorded j) job = (j ≡ job) × (goes_outside job.plan ≡ true) × ((o : Given) × (job.outcome ≡ Some o) × (fits_job calls job o ≡ true) × (o.clock ≡ Some job.turn.clock))
 Holding calls p job = ⊥
 
 -- an open row, where its call found this world and carried this: its thread has its job and, if the call keeps the table, holds that and has the last row

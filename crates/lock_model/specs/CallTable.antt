@@ -1,7 +1,8 @@
 -- Believed: a contract of the headline stands on it.
 -- What calls do: any functions of what the calls before have made.
 use Rattle.std.specs.Prelude.{ℕ, Option, Bool, true, false}
-use Rattle.sequential_object.specs.Worlds.{World, Request}
+use Rattle.posix_terms.specs.Queries.{Query}
+use Rattle.sequential_object.specs.Worlds.{World}
 use Rattle.sequential_object.specs.declared.turn_end.TurnEnd.{TurnEnd}
 use Rattle.posix_terms.specs.Calls.{Call}
 use Rattle.posix_terms.specs.declared.outcome.Given.{Given}
@@ -51,7 +52,7 @@ pub record CallTable : Type 0 where
   -- the world after a call that keeps the table
   pub kept_change : World → Call → Carried → Given → World
   -- what a call that goes outside asks there
-  pub asks : World → Call → Carried → Request
+  pub asks : World → Call → Carried → Option Query
   -- an outcome that this request can have
-  pub fits : Request → Given → Bool
+  pub fits : Option Query → Given → Bool
   pub answer : World → Call → Option Given → Carried → TurnEnd

@@ -1,10 +1,11 @@
 -- Internal: no contract of the headline or of a command stands on it.
 -- The plain run under the outcomes that came in it.
+use Rattle.lock_model.specs.CallTable.{CallTable}
 use Rattle.std.specs.Prelude.{◌≡◌, ℕ, ◌+◌, ◌≤◌, ◌⊎◌, length, Some, true, nat_lt, slice_get}
 use Rattle.lock_model.specs.History.{IsPrefixOf}
 use Rattle.lock_model.specs.Machine.{Event, Setup, fits_job, happens}
 use Rattle.lock_model.specs.Machine.Event.{Advances}
-use Rattle.lock_model.specs.Runs.{Arises, LeadsTo, supplied, with_came}
+use Rattle.lock_model.specs.Runs.{Arises, Becomes, Keeps, LeadsTo, supplied, with_came}
 use Rattle.lock_model.specs.Schedule.{IsOver, plain_run}
 use Rattle.lock_model.specs.State.{Job, State, Thread, start, thread_of}
 use Rattle.lock_model.specs.State.Phase.{Outside}
@@ -12,19 +13,29 @@ use Rattle.sequential_object.specs.Worlds.{World}
 use Rattle.lock_model.specs.Transcripts.{outcomes_of, replies_of}
 use Rattle.posix_terms.specs.declared.outcome.Given.{Given}
 
--- the same setup, with only the outcomes that came
-abbrev pub under_came : Setup → State → Setup
-under_came setup s = supplied setup (with_came setup.supply s)
+-- the same setup, with only what is kept of the outcomes that came
+abbrev pub under_came : (Given → Given) → Setup → State → Setup
+under_came kept setup s = supplied setup (with_came kept setup.supply s)
+
+-- what becomes an outcome fits where that does
+abbrev pub FitsAlike : Type 0
+FitsAlike =
+    (calls : CallTable) (job : Job) (given came : Given) → Becomes given came
+    → fits_job calls job came ≡ true → fits_job calls job given ≡ true
 
 -- up to there it is the same run
 abbrev pub SameUnderCame : Type 0
 SameUnderCame =
-    (setup : Setup) (threads objects : ℕ) (w : World) (n k : ℕ) → k ≤ n
-    → plain_run (under_came setup (plain_run setup n (start threads objects w))) k (start threads objects w) ≡ plain_run setup k (start threads objects w)
+    (kept : Given → Given) (setup : Setup) (threads objects : ℕ) (w : World) (n k : ℕ)
+    → Keeps kept → k ≤ n
+    → let first = start threads objects w in
+    plain_run (under_came kept setup (plain_run setup n first)) k first ≡ plain_run setup k first
 
 -- and where it is over, it is over
 abbrev pub OverUnderCame : Type 0
-OverUnderCame = (setup : Setup) (s : State) → IsOver setup s → IsOver (under_came setup s) s
+OverUnderCame =
+    (kept : Given → Given) (setup : Setup) (s : State)
+    → IsOver setup s → IsOver (under_came kept setup s) s
 
 -- so many events of the plain run are a run
 abbrev pub PlainLeads : Type 0

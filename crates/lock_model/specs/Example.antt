@@ -1,6 +1,6 @@
 -- Internal: no contract of the headline or of a command stands on it.
 -- Setups for runs worked out by hand. Whatever the world, all calls take the same locks and give the same answer.
-use Rattle.std.specs.Prelude.{ℕ, ◌^◌, List, [], ◌∷◌, map, true}
+use Rattle.std.specs.Prelude.{ℕ, ◌^◌, List, [], ◌∷◌, map, Option, true}
 use Rattle.lock_model.specs.CallTable.{CallTable, Plan}
 use Rattle.sequential_object.specs.declared.turn_end.TurnEnd.{TurnEnd}
 use Rattle.sequential_object.specs.declared.turn_end.TurnEnd.TheVariants as turn_end
@@ -11,8 +11,10 @@ use Rattle.lock_model.specs.Programs.{listed}
 use Rattle.posix_terms.specs.declared.step.Step.{Step}
 use Rattle.posix_terms.specs.declared.step.Step.TheVariants as step
 use Rattle.lock_model.specs.State.{State, Row, start}
-use Rattle.sequential_object.specs.Worlds.{World, Request}
+use Rattle.posix_terms.specs.Queries.{Query}
+use Rattle.sequential_object.specs.Worlds.{World}
 use Rattle.posix_terms.specs.Calls.{Call}
+use Rattle.posix_terms.specs.Outcomes.{undated}
 use Rattle.posix_terms.specs.declared.outcome.Given.{Given}
 use Rattle.posix_terms.specs.declared.reply.Reply.{Reply}
 use Rattle.sequential_object.specs.Step.{Carried}
@@ -26,7 +28,7 @@ pub record Words : Type 0 where
   pub outcome : Given
   pub reply : Reply
   pub carried : Carried
-  pub request : Request
+  pub query : Option Query
 
 abbrev pub alike : Words → Plan → TurnEnd → CallTable
 alike x plan a =
@@ -35,10 +37,14 @@ alike x plan a =
       plan = λ w c b. plan;
       change = λ w c b. w;
       kept_change = λ w c b o. w;
-      asks = λ w c b. x.request;
+      asks = λ w c b. x.query;
       fits = λ r o. true;
       answer = λ w c o b. a;
     }
+
+-- without a clock, so that it answers at any turn
+abbrev pub given : Words → Given
+given x = undated x.outcome
 
 -- each thread makes these steps, and three outcomes come for it
 abbrev pub setting : Words → Plan → TurnEnd → ℕ → List Step → Setup
@@ -46,7 +52,7 @@ setting x plan a limit steps =
     record {
       calls = alike x plan a;
       limits = record { door_cost = 100; clock_limit = limit; outcome_limit = 2 ^ 27 };
-      supply = record { next = λ i. listed steps; outcomes = λ i. x.outcome ∷ x.outcome ∷ x.outcome ∷ [] };
+      supply = record { next = λ i. listed steps; outcomes = λ i. given x ∷ given x ∷ given x ∷ [] };
     }
 
 -- each thread makes one call

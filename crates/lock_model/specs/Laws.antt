@@ -1,15 +1,16 @@
 -- Internal: no contract of the headline or of a command stands on it.
 -- The laws of the lock machine.
-use Rattle.std.specs.Prelude.{◌≡◌, ℕ, suc, ◌<◌, ◌⊎◌, ◌↔◌, List, get_or, Option, Some, None, true, false}
+use Rattle.posix_terms.specs.declared.outcome.Given.{Given}
+use Rattle.std.specs.Prelude.{◌≡◌, ℕ, suc, ◌<◌, ◌⊎◌, ◌↔◌, List, get_or, Option, Some, None, true, false, [], ◌∷◌}
 use Rattle.lock_model.specs.Held.{AreHeld, HaveAsked, HavePlans, HaveRows}
 use Rattle.lock_model.specs.History.{IsBeginning, IsPrefixOf, rows_of}
 use Rattle.lock_model.specs.Legal.{IsLegalHistory}
 use Rattle.lock_model.specs.Machine.{Setup, Event, is_allowed, happens}
 use Rattle.lock_model.specs.Programs.{Supply, Finite}
 use Rattle.lock_model.specs.Rising.{IsRising}
-use Rattle.lock_model.specs.Runs.{Arises, LeadsTo, Follows, run, supplied, own, with_came}
+use Rattle.lock_model.specs.Runs.{Arises, Keeps, LeadsTo, Follows, run, supplied, own, with_came}
 use Rattle.lock_model.specs.Schedule.{EndsIn, IsOver, next_event, plain_run}
-use Rattle.lock_model.specs.State.{State, thread_of, live_clocks, start}
+use Rattle.lock_model.specs.State.{State, thread_of, live_clocks, start, Row}
 use Rattle.lock_model.specs.State.Phase.{Ended}
 use Rattle.sequential_object.specs.Worlds.{World}
 use Rattle.lock_model.specs.Transcripts.{outcomes_of, answers_of, transcript}
@@ -41,11 +42,14 @@ PrefixLaw =
     → EndsIn setup (start threads objects w) last
     → Begins (run setup events (start threads objects w)) last
 
--- under the same programs and the outcomes that came in the run
+-- under the same programs and what is kept of the outcomes that came in the run
 abbrev pub PrefixLawOfCame : Type 0
 PrefixLawOfCame =
-    (setup : Setup) (threads objects : ℕ) (w : World) (events : List Event) (last : State)
-    → EndsIn (supplied setup (with_came setup.supply (run setup events (start threads objects w)))) (start threads objects w) last
+    (kept : Given → Given) (setup : Setup) (threads objects : ℕ) (w : World)
+    (events : List Event) (last : State)
+    → Keeps kept
+    → let first = start threads objects w in
+    EndsIn (supplied setup (with_came kept setup.supply (run setup events first))) first last
     → Begins (run setup events (start threads objects w)) last
 
 -- under the steps that were asked, as lists, and the outcomes that came
@@ -161,3 +165,16 @@ RowsOfArisen = (setup : Setup) (threads objects : ℕ) (w : World) (s : State) �
 
 abbrev pub StepsOfArisen : Type 0
 StepsOfArisen = (setup : Setup) (threads objects : ℕ) (w : World) (s : State) → Arises setup (start threads objects w) s → HaveAsked s
+
+-- the outcome of a row has the clock of its turn
+abbrev pub IsDated : Row → Type 0
+IsDated r = (o : Given) → r.outcome ≡ Some o → o.clock ≡ Some r.turn.clock
+
+abbrev pub AreDated : List Row → Type 0
+AreDated [] = Unit {0}
+AreDated (r ∷ rs) = IsDated r × AreDated rs
+
+abbrev pub DatedOfArisen : Type 0
+DatedOfArisen =
+    (setup : Setup) (threads objects : ℕ) (w : World) (s : State)
+    → Arises setup (start threads objects w) s → AreDated s.rows

@@ -8,6 +8,7 @@ use Rattle.lock_model.specs.Machine.{first_of}
 use Rattle.lock_model.specs.State.{Row}
 use Rattle.sequential_object.specs.Worlds.{World}
 use Rattle.posix_terms.specs.Calls.{Call}
+use Rattle.posix_terms.specs.Outcomes.{undated}
 use Rattle.posix_terms.specs.declared.outcome.Given.{Given}
 use Rattle.sequential_object.specs.Step.{Carried}
 
@@ -27,10 +28,14 @@ changed calls w c b o false = calls.change w c b
 changed calls w c b None true = w
 changed calls w c b (Some o) true = calls.kept_change w c b o
 
--- a row is right where its call found this world and carried this: its answer is the call's; it has an outcome only where the call goes outside, and one that fits; and once answered it has one wherever the call goes outside
+-- a row is right where its call found this world and carried this: its answer is the call's; it has
+-- an outcome only where the call goes outside, one that fits, with the clock of its turn; and once
+-- answered it has one wherever the call goes outside
 pub record IsRight (calls : CallTable) (w : World) (b : Carried) (r : Row) : Type 0 where
   pub answer : (a : TurnEnd) → r.answer ≡ Some a → a ≡ calls.answer w r.call r.outcome b
-  pub outcome : (o : Given) → r.outcome ≡ Some o → (goes_outside (calls.plan w r.call b) ≡ true) × (calls.fits (calls.asks w r.call b) o ≡ true)
+  pub outcome : (o : Given) → r.outcome ≡ Some o
+      → (goes_outside (calls.plan w r.call b) ≡ true)
+      × (calls.fits (calls.asks w r.call b) (undated o) ≡ true) × (o.clock ≡ Some r.turn.clock)
   pub whole : is_none r.answer ≡ false → is_some r.outcome ≡ goes_outside (calls.plan w r.call b)
 
 -- the outcome of a call, chosen where it needs one and has none

@@ -15,6 +15,7 @@ use Rattle.lock_model.specs.State.{Job, Phase, Thread, Row, State, thread_of, ob
 use Rattle.lock_model.specs.State.Phase.{Working, WantsTable, WantsObject, Granted, ToOutside, Outside, Recorded, Blocked, Ended}
 use Rattle.sequential_object.specs.Worlds.{World}
 use Rattle.posix_terms.specs.Calls.{Call}
+use Rattle.posix_terms.specs.Outcomes.{dated, is_at, undated}
 use Rattle.posix_terms.specs.declared.outcome.Given.{Given}
 use Rattle.sequential_object.specs.Step.{Carried}
 use Rattle.logical_clocks.specs.TurnOrder.{has_turn}
@@ -71,15 +72,19 @@ begin_outside limits t job =
     then Some (quietly (record t { phase = Outside job; clock = t.clock + limits.door_cost }))
     else None
 
--- an outcome that the request of a granted call can have
+-- an outcome that a granted call can have, at its turn
 abbrev pub fits_job : CallTable → Job → Given → Bool
-fits_job calls job o = calls.fits (calls.asks job.found job.call job.carried) o
+fits_job calls job o =
+    calls.fits (calls.asks job.found job.call job.carried) (undated o) && is_at job.turn o.clock
 
+-- it comes with the clock of that turn, whether what was given has it or none
 abbrev pub with_outcome : Thread → Job → Given → Moved
 with_outcome t job o =
+    let came = dated job.turn o in
+    let recorded = Recorded (record job { outcome = Some came }) in
     record {
-      thread = record t { phase = Recorded (record job { outcome = Some o }); came = t.came ++ o ∷ [] };
-      effect = record quiet { outcome = Some o };
+      thread = record t { phase = recorded; came = t.came ++ came ∷ [] };
+      effect = record quiet { outcome = Some came };
     }
 
 -- `record`: an outcome that does not fit is as good as none

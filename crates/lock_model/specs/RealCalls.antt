@@ -2,7 +2,7 @@
 -- The call table of the sequential object.
 use Rattle.std.specs.Prelude.{ℕ, ◌^◌, Bool, true, false, Option, Some, None, is_some}
 use Rattle.posix_terms.specs.declared.transcript.Settings.{Settings}
-use Rattle.sequential_object.specs.Answers.{answer_in, answers_request, numbered, outcome_in}
+use Rattle.sequential_object.specs.Answers.{answer_in, answers_query, numbered, outcome_in}
 use Rattle.sequential_object.specs.Locked as locked
 use Rattle.sequential_object.specs.Locked.{locked_object}
 use Rattle.sequential_object.specs.Numbers.{world_with}
@@ -32,7 +32,7 @@ real_calls settings =
       change = λ w c b. world_with w (step settings w.object c None b).after;
       kept_change = λ w c b o. world_with w (step settings w.object c (Some o.outcome) b).after;
       asks = λ w c b. asks w.object c b;
-      fits = λ r o. answers_request r o;
+      fits = λ r o. answers_query r o;
       answer = λ w c o b. answer_in (step settings w.object c (outcome_in o) b);
     }
 

@@ -1,11 +1,12 @@
 -- Believed: a contract of the headline stands on it.
 -- Runs: events in any order that the machine allows.
-use Rattle.std.specs.Prelude.{◌≡◌, ℕ, suc, List, [], ◌∷◌, Some, true, slice_get, take}
+use Rattle.std.specs.Prelude.{◌≡◌, ◌⊎◌, ℕ, suc, List, [], ◌∷◌, Some, None, true, map, slice_get, take}
 use Rattle.lock_model.specs.Machine.{Setup, Event, is_allowed, happens}
 use Rattle.lock_model.specs.Programs.{Supply, listed}
 use Rattle.posix_terms.specs.declared.step.Step.{Step}
 use Rattle.posix_terms.specs.declared.step.Step.TheVariants as step
 use Rattle.lock_model.specs.State.{State, thread_of}
+use Rattle.posix_terms.specs.Outcomes.{undated}
 use Rattle.posix_terms.specs.declared.outcome.Given.{Given}
 
 -- the state after these events. One that is not allowed where it stands changes nothing
@@ -25,9 +26,19 @@ supplied setup given = record setup { supply = given }
 abbrev pub own : State → Supply
 own s = record { next = λ i. listed (thread_of s i).asked; outcomes = λ i. (thread_of s i).came }
 
--- the same programs, with the outcomes that came so far
-abbrev pub with_came : Supply → State → Supply
-with_came given s = record { next = given.next; outcomes = λ i. (thread_of s i).came }
+-- what is given becomes what comes: the same outcome, and where it has a clock, that one
+pub record Becomes (given came : Given) : Type 0 where
+  pub same : undated given ≡ undated came
+  pub clock : (given.clock ≡ None) ⊎ (given.clock ≡ came.clock)
+
+-- what is kept of each outcome that came becomes it again
+abbrev pub Keeps : (Given → Given) → Type 0
+Keeps kept = (came : Given) → Becomes (kept came) came
+
+-- the same programs, with what is kept of the outcomes that came so far
+abbrev pub with_came : (Given → Given) → Supply → State → Supply
+with_came kept given s =
+    record { next = given.next; outcomes = λ i. map kept (thread_of s i).came }
 
 -- a run leads from first to s
 pub record LeadsTo (setup : Setup) (first s : State) : Type 0 where
@@ -46,8 +57,14 @@ calls_in (step.Work n ∷ xs) = calls_in xs
 calls_in (step.Call c ∷ xs) = suc (calls_in xs)
 calls_in (step.End ∷ xs) = calls_in xs
 
--- each step that was asked is the one that its program gives after the steps before it and the replies to them, and each outcome that came is that of its place in its list
+-- what stands at this place of the list becomes this
+abbrev pub Supplies : List Given → ℕ → Given → Type 0
+Supplies list n came = (given : Given) × (slice_get list n ≡ Some given) × Becomes given came
+
+-- each step that was asked is the one that its program gives after the steps before it and the
+-- replies to them, and each outcome that came is what that of its place in its list becomes
 pub record Follows (given : Supply) (s : State) : Type 0 where
   pub steps : (i n : ℕ) (x : Step) → slice_get (thread_of s i).asked n ≡ Some x
       → let asked = take n (thread_of s i).asked in given.next i asked (take (calls_in asked) (thread_of s i).replies) ≡ Some x
-  pub outcomes : (i n : ℕ) (o : Given) → slice_get (thread_of s i).came n ≡ Some o → slice_get (given.outcomes i) n ≡ Some o
+  pub outcomes : (i n : ℕ) (o : Given) → slice_get (thread_of s i).came n ≡ Some o
+      → Supplies (given.outcomes i) n o

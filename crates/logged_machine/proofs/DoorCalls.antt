@@ -24,7 +24,7 @@ use Rattle.sequential_object.specs.Refusals.{◌>>=◌, count_of, refuse_if, som
 use Rattle.sequential_object.specs.Sockets.{shuttable, shutdown_result}
 use Rattle.posix_terms.specs.declared.carried.Moved.{Moved}
 use Rattle.sequential_object.specs.Transfers.{first_write, is_from, write_goes_on, write_resumed, lseek_result, moving, not_listener, read_content, read_result, readable, seekable, writable, write_content, write_result}
-use Rattle.sequential_object.specs.Step.{Carried, Stepped, asks, concluded, held_up, is_again, nothing_carried, nothing_moved, request_of, step}
+use Rattle.sequential_object.specs.Step.{Carried, Stepped, asks, concluded, held_up, is_again, nothing_carried, nothing_moved, query_of, step}
 use Rattle.posix_terms.specs.declared.call.Access.TheVariants.{ReadWrite}
 use Rattle.posix_terms.specs.declared.call.ShutdownHow.{ShutdownHow}
 use Rattle.posix_terms.specs.declared.call.Whence.{Whence}
@@ -42,7 +42,7 @@ use Rattle.posix_terms.specs.declared.outcome.Outcome.TheVariants as outcome
 use Rattle.posix_terms.specs.declared.reply.Answer.TheVariants as answer
 use Rattle.posix_terms.specs.declared.reply.Reply.TheVariants as reply
 use Rattle.posix_terms.specs.declared.reply.Reply.{Reply}
-use Rattle.posix_terms.specs.declared.request.Request.{Request}
+use Rattle.posix_terms.specs.Queries.{Query}
 use Rattle.posix_terms.specs.declared.transcript.Settings.{Settings}
 use Rattle.logged_machine.specs.Doors as doors
 use Rattle.logged_machine.specs.DoorsThere.{HaveOne}
@@ -152,7 +152,7 @@ closed_gone : (s : State) (descriptor : ℤ) (key : ℕ) (e : Description) (d : 
 closed_gone s (pos n) key e d plain one there at last = gone_with s (fin.remove s.descriptors n) key e d plain one there at last
 closed_gone s (negsuc n) key e d plain one there at last = gone_with s s.descriptors key e d plain one there at last
 
-pub close_leaves : (settings : Settings) (s : State) (descriptor : ℤ) (carried : Carried) (r : Request) (k : ℕ) (d : Door) → IsPlain s → HaveOne s → asks s (call.Close descriptor) carried ≡ Some r → door_taken s (call.Close descriptor) carried ≡ Some k → fin.get s.objects k ≡ Some (DoorTo d)
+pub close_leaves : (settings : Settings) (s : State) (descriptor : ℤ) (carried : Carried) (r : Query) (k : ℕ) (d : Door) → IsPlain s → HaveOne s → asks s (call.Close descriptor) carried ≡ Some r → door_taken s (call.Close descriptor) carried ≡ Some k → fin.get s.objects k ≡ Some (DoorTo d)
     → (let stepped : Stepped = step settings s (call.Close descriptor) None carried in fin.get stepped.after.objects k ≡ None)
 unfolding close_result locked_object
 close_leaves settings s descriptor carried r k d plain one asked taken at = by_found (described s descriptor) refl
@@ -170,7 +170,7 @@ close_leaves settings s descriptor carried r k d plain one asked taken at = by_f
     left x = let stepped : Stepped = concluded settings s None carried x in stepped.after
 
     by_found : (x : Result (ℕ × Description) Errno) → described s descriptor ≡ x → (let a : State = left (does_of (close_result s descriptor)) in fin.get a.objects k ≡ None)
-    by_found (Err e) is = absurd (none-some r (sym (ap (λ (y : Result (ℕ × Description) Errno). request_of (call.Close descriptor) (does_of (y >>= decision))) is) ∙ asked))
+    by_found (Err e) is = absurd (none-some r (sym (ap (λ (y : Result (ℕ × Description) Errno). query_of (call.Close descriptor) (does_of (y >>= decision))) is) ∙ asked))
     by_found (Ok found) is = by_test (ends_door s descriptor found) refl
       where
         e : Description
@@ -187,7 +187,7 @@ close_leaves settings s descriptor carried r k d plain one asked taken at = by_f
         by_descriptor false t = (t, same_Some e.object k (sym (ap (λ (b : Bool). if b then None else Some e.object) t) ∙ locked_is))
 
         by_test : (b : Bool) → ends_door s descriptor found ≡ b → (let a : State = left (does_of (close_result s descriptor)) in fin.get a.objects k ≡ None)
-        by_test false t = absurd (none-some r (sym (ap (request_of (call.Close descriptor)) (is_effect ∙ ap (by_last found) t)) ∙ asked))
+        by_test false t = absurd (none-some r (sym (ap (query_of (call.Close descriptor)) (is_effect ∙ ap (by_last found) t)) ∙ asked))
         by_test true t =
             let last = by_descriptor (has_descriptor (freed s descriptor) found.0) refl in
             let there = is_described s descriptor found is in
@@ -294,7 +294,7 @@ shutdown_no_listener s descriptor how carried k port taken at =
     refused_at s d.object k port shuttable refl two.1.0 (locks_own _ it.0 d.object k refl two.1.1 it.1.1) at
 
 -- an accept is on a listener
-pub accepts_at : (s : State) (descriptor : ℤ) (carried : Carried) (r : Request) (k : ℕ) → asks s (call.TcpAccept descriptor) carried ≡ Some r → object_found (described s descriptor) ≡ Some k → (port : ℕ) × (fin.get s.objects k ≡ Some (DoorTo (door.Listener port)))
+pub accepts_at : (s : State) (descriptor : ℤ) (carried : Carried) (r : Query) (k : ℕ) → asks s (call.TcpAccept descriptor) carried ≡ Some r → object_found (described s descriptor) ≡ Some k → (port : ℕ) × (fin.get s.objects k ≡ Some (DoorTo (door.Listener port)))
 unfolding tcp_accept_result
 accepts_at s descriptor carried r k asked taken = by_found (described s descriptor) refl
   where
@@ -313,8 +313,8 @@ accepts_at s descriptor carried r k asked taken = by_found (described s descript
     fine_by : (found : ℕ × Description) (x : Result (Unit {0}) Errno) → listener_in (content_of s (let d = found.1 in d.object)) ≡ x → described s descriptor ≡ Ok found → is_ok (listener_in (content_of s (let d = found.1 in d.object))) ≡ true
     fine_by found (Ok u) is at = ap is_ok is
     fine_by found (Err e) is at =
-        let none : request_of (call.TcpAccept descriptor) (does_of (tests found)) ≡ None = ap (λ (y : Result (Unit {0}) Errno). request_of (call.TcpAccept descriptor) (does_of (y >>= (λ (u : Unit {0}). opens s (record { kind = kind.Accept; asked = 0; door = λ value. door.Stream; access = ReadWrite; append = false; waits = not (let d = found.1 in d.nonblock) }))))) is in
-        absurd (none-some r (sym none ∙ sym (ap (λ (y : Result (ℕ × Description) Errno). request_of (call.TcpAccept descriptor) (does_of (y >>= tests))) at) ∙ asked))
+        let none : query_of (call.TcpAccept descriptor) (does_of (tests found)) ≡ None = ap (λ (y : Result (Unit {0}) Errno). query_of (call.TcpAccept descriptor) (does_of (y >>= (λ (u : Unit {0}). opens s (record { kind = kind.Accept; asked = 0; door = λ value. door.Stream; access = ReadWrite; append = false; waits = not (let d = found.1 in d.nonblock) }))))) is in
+        absurd (none-some r (sym none ∙ sym (ap (λ (y : Result (ℕ × Description) Errno). query_of (call.TcpAccept descriptor) (does_of (y >>= tests))) at) ∙ asked))
 
     by_found : (x : Result (ℕ × Description) Errno) → described s descriptor ≡ x → (port : ℕ) × (fin.get s.objects k ≡ Some (DoorTo (door.Listener port)))
     by_found (Err e) is = absurd (none-some k (sym (ap object_found is) ∙ taken))

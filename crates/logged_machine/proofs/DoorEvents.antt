@@ -1,4 +1,5 @@
 -- What an event does to the world and to the phase of its thread.
+use Rattle.posix_terms.specs.Outcomes.{dated}
 use Rattle.std.proofs.Common.{◌≡◌, ℕ, ◌+◌, ◌<◌, ◌&&◌, nat_le, nat_lt, length, get_or, set, slice_get, Option, Some, None, Bool, true, false, is_some, if◌then◌else◌, sym, refl, ap, ◌∙◌, subst}
 use Rattle.std.proofs.lemmas.Bool.{false≢true, true≢false}
 use Rattle.std.proofs.lemmas.List.{get_or-set_same}
@@ -149,11 +150,11 @@ outside_behind setup i t u job at (AnswersRecorded x there is) = absurd (true≢
 outside_behind setup i t u job at (MakesAgain c b there is) = absurd (true≢false (ap goes_out (sym at ∙ there)))
 
 -- and one that was there has its outcome
-pub recorded_behind : (setup : Setup) (i : ℕ) (t u : lock.Thread) (job : Job) (g : Given) → t.phase ≡ Outside job → slice_get (setup.supply.outcomes i) (length t.came) ≡ Some g → IsMoved setup i t u → u.phase ≡ Recorded (record job { outcome = Some g })
+pub recorded_behind : (setup : Setup) (i : ℕ) (t u : lock.Thread) (job : Job) (g : Given) → t.phase ≡ Outside job → slice_get (setup.supply.outcomes i) (length t.came) ≡ Some g → IsMoved setup i t u → u.phase ≡ Recorded (record job { outcome = Some (dated job.turn g) })
 recorded_behind setup i t u job g at given (GetsOutcome x o there next fits is) =
     let same : x ≡ job = same_Some x job (ap job_out (sym there ∙ at)) in
     let own : o ≡ g = same_Some o g (sym next ∙ given) in
-    ap (λ (v : lock.Thread). v.phase) is ∙ ap (λ (y : Job). Recorded (record y { outcome = Some o })) same ∙ ap (λ (y : Given). Recorded (record job { outcome = Some y })) own
+    ap (λ (v : lock.Thread). v.phase) is ∙ ap (λ (y : Job). Recorded (record y { outcome = Some (dated y.turn o) })) same ∙ ap (λ (y : Given). Recorded (record job { outcome = Some (dated job.turn y) })) own
 recorded_behind setup i t u job g at given (GoesOut x there is) = absurd (true≢false (ap is_outside (sym at ∙ there)))
 recorded_behind setup i t u job g at given (AsksStep x there next is) = absurd (true≢false (ap is_outside (sym at ∙ there)))
 recorded_behind setup i t u job g at given (AnswersGranted x there is) = absurd (true≢false (ap is_outside (sym at ∙ there)))

@@ -34,7 +34,7 @@ use Rattle.posix_terms.specs.declared.object.Door.{Door}
 use Rattle.posix_terms.specs.declared.object.Door.TheVariants as door
 use Rattle.posix_terms.specs.declared.outcome.OutKind.{OutKind}
 use Rattle.posix_terms.specs.declared.outcome.OutKind.TheVariants as kind
-use Rattle.posix_terms.specs.declared.request.Request.{Request}
+use Rattle.posix_terms.specs.Queries.{Query}
 use Rattle.posix_terms.specs.declared.transcript.Settings.{Settings}
 use Rattle.logged_machine.specs.Doors.{brings_back}
 use Rattle.logged_machine.specs.DoorsThere.{HaveOne, Names, door_of, is_listener, job_out}
@@ -51,7 +51,7 @@ pub record OutAt (s : lock.State) (i : ℕ) (job : Job) : Type 0 where
   pub within : number < limit.OBJECTS
   pub has : has_object job.plan ≡ true
   pub keeps : plan_keeps job.plan ≡ keeps_table job.call
-  pub request : Request
+  pub request : Query
   pub asked : asks job.found.object job.call job.carried ≡ Some request
   pub door : keeps_table job.call ≡ false → door_of job ≡ Some number
   pub held : object_held (thread_of s i).phase ≡ object_in job.plan
@@ -159,7 +159,7 @@ door_in s k (Some (Pair p)) is h = absurd (false≢true (sym (ap is_door (conten
 door_in s k None is h = absurd (false≢true (sym (ap (λ (o : Option Content). is_door (unwrap_or o (File []))) is) ∙ h))
 
 -- a call that frees the table takes along a door that is there
-pub frees_names : (w : World) (c : Call) (carried : Carried) (r : Request) (n : ℕ) → OutsideLocks → TakesLocked → IsNumbered w → keeps_table c ≡ false → asks w.object c carried ≡ Some r → numbered w (door_taken w.object c carried) ≡ Some n
+pub frees_names : (w : World) (c : Call) (carried : Carried) (r : Query) (n : ℕ) → OutsideLocks → TakesLocked → IsNumbered w → keeps_table c ≡ false → asks w.object c carried ≡ Some r → numbered w (door_taken w.object c carried) ≡ Some n
     → (k : ℕ) × (d : Door) × ((door_taken w.object c carried ≡ Some k) × ((number_of w k ≡ n) × (fin.get w.object.objects k ≡ Some (DoorTo d))))
 frees_names w c carried r n locks takes num frees asked at =
     let z = number_taken w (door_taken w.object c carried) n at in
@@ -169,7 +169,7 @@ frees_names w c carried r n locks takes num frees asked at =
     (z.0, d.0, (z.1.0, (z.1.1, d.1)))
 
 -- one that keeps it takes along a listener, or none
-pub keeps_names : (w : World) (c : Call) (carried : Carried) (r : Request) (n : ℕ) → IsNumbered w → keeps_table c ≡ true → asks w.object c carried ≡ Some r → numbered w (door_taken w.object c carried) ≡ Some n → (port : ℕ) × Names w n (door.Listener port)
+pub keeps_names : (w : World) (c : Call) (carried : Carried) (r : Query) (n : ℕ) → IsNumbered w → keeps_table c ≡ true → asks w.object c carried ≡ Some r → numbered w (door_taken w.object c carried) ≡ Some n → (port : ℕ) × Names w n (door.Listener port)
 keeps_names w (call.HostOpen path access flags) carried r n num keeps asked at = absurd (none-some n at)
 keeps_names w (call.TcpListen port) carried r n num keeps asked at = absurd (none-some n at)
 keeps_names w (call.TcpConnect port) carried r n num keeps asked at = absurd (none-some n at)
@@ -181,12 +181,12 @@ keeps_names w c carried r n num keeps asked at = absurd (false≢true keeps)
 
 -- ## A call that was granted
 
-of_kind : (s : State) (c : Call) (carried : Carried) (r : Request) (k : OutKind) → AskTheirKind → asks s c carried ≡ Some r → kind_asked c ≡ Some k → brings_back k ≡ true → brings_back r.kind ≡ true
+of_kind : (s : State) (c : Call) (carried : Carried) (r : Query) (k : OutKind) → AskTheirKind → asks s c carried ≡ Some r → kind_asked c ≡ Some k → brings_back k ≡ true → brings_back r.kind ≡ true
 of_kind s c carried r k kinds is named h =
     let of : Some r.kind ≡ kind_asked c = subst (IsOfKind (kind_asked c)) is (kinds s c carried) in
     ap brings_back (same_Some r.kind k (of ∙ named)) ∙ h
 
-asks_none : {A : Type 0} (s : State) (c : Call) (carried : Carried) (r : Request) → AskTheirKind → asks s c carried ≡ Some r → kind_asked c ≡ None → A
+asks_none : {A : Type 0} (s : State) (c : Call) (carried : Carried) (r : Query) → AskTheirKind → asks s c carried ≡ Some r → kind_asked c ≡ None → A
 asks_none s c carried r kinds is named =
     let of : Some r.kind ≡ kind_asked c = subst (IsOfKind (kind_asked c)) is (kinds s c carried) in
     absurd (none-some r.kind (sym (of ∙ named)))
@@ -197,7 +197,7 @@ no_listener door.HostFile h = refl
 no_listener door.Stream h = refl
 
 -- its door's number is that of no listener behind it, nor of any door where it closes
-pub granted_apart : (settings : Settings) (w : World) (c : Call) (carried : Carried) (r : Request) (n k : ℕ) (e d : Door) → AskTheirKind → IsNumbered w → HaveOne w.object → asks w.object c carried ≡ Some r → door_taken w.object c carried ≡ Some k → number_of w k ≡ n
+pub granted_apart : (settings : Settings) (w : World) (c : Call) (carried : Carried) (r : Query) (n k : ℕ) (e d : Door) → AskTheirKind → IsNumbered w → HaveOne w.object → asks w.object c carried ≡ Some r → door_taken w.object c carried ≡ Some k → number_of w k ≡ n
     → keeps_table c ≡ false → fin.get w.object.objects k ≡ Some (DoorTo e) → (let stepped : Stepped = step settings w.object c None carried in Names (world_with w stepped.after) n d) → (is_listener d ≡ false) × (brings_back r.kind ≡ true)
 granted_apart settings w c carried r n k e d kinds num one asked taken number frees at named = by_call c asked taken frees named
   where

@@ -1,4 +1,5 @@
 -- Each event keeps the doors where they belong.
+use Rattle.posix_terms.specs.Outcomes.{dated}
 use Rattle.std.proofs.Common.{◌≡◌, ◌⊎◌, ℕ, zero, suc, ◌<◌, ◌≤◌, List, [], ◌∷◌, ◌++◌, length, replicate, slice_get, get_or, set, Option, Some, None, Bool, true, false, is_some, inl, inr, sym, refl, ap, ap₂, ◌∙◌, subst, ⊎_elim}
 use Rattle.std.proofs.lemmas.Bool.{cases_eq, cases_lt, false≢true, true≢false}
 use Rattle.std.proofs.lemmas.List.{get_or-set_other, get_or-set_same, get_or_past, length-set}
@@ -35,7 +36,7 @@ use Rattle.posix_terms.specs.declared.object.Door.{Door}
 use Rattle.posix_terms.specs.declared.object.Door.TheVariants as door
 use Rattle.posix_terms.specs.declared.outcome.Given.{Given}
 use Rattle.posix_terms.specs.declared.outcome.OutKind.TheVariants as kind
-use Rattle.posix_terms.specs.declared.request.Request.{Request}
+use Rattle.posix_terms.specs.Queries.{Query}
 use Rattle.posix_terms.specs.declared.transcript.Settings.{Settings}
 use Rattle.lock_model.specs.RealLaws.{real_start}
 use Rattle.logged_machine.specs.Runs.Coming.{Brings}
@@ -317,7 +318,7 @@ put_count D doors None (Some d) = refl
 put_count D doors None None = refl
 
 -- a call that keeps the table and takes a door along brings it back
-accept_back : (s : State) (c : Call) (carried : Carried) (r : Request) → AskTheirKind → asks s c carried ≡ Some r → keeps_table c ≡ true → is_some (door_taken s c carried) ≡ true → comes_back_of (asks s c carried) ≡ true
+accept_back : (s : State) (c : Call) (carried : Carried) (r : Query) → AskTheirKind → asks s c carried ≡ Some r → keeps_table c ≡ true → is_some (door_taken s c carried) ≡ true → comes_back_of (asks s c carried) ≡ true
 accept_back s (call.TcpAccept descriptor) carried r kinds is keeps some =
     let of : Some r.kind ≡ Some kind.Accept = subst (IsOfKind (Some kind.Accept)) is (kinds s (call.TcpAccept descriptor) carried) in
     ap comes_back_of is ∙ ap brings_back (same_Some r.kind kind.Accept of)
@@ -628,7 +629,7 @@ past_own (y ∷ gs) x = past_own gs x
 
 pub recorded_doors : (D : Type 0) (old : Whole) (i n : ℕ) (job : Job) (g : Given) (s : lock.State) (doors : List (Option D)) (back opened : Option D) → DoorLaws → IsEnd old s → (let setup = setup_with old (Brings g) s in can_advance setup s i ≡ true) → (thread_of s i).phase ≡ Outside job → length doors ≡ limit.OBJECTS
     → object_in job.plan ≡ Some n → (comes_back job ≡ true → is_some back ≡ true) → (keeps_table job.call ≡ true → is_ok g.outcome ≡ true → is_some opened ≡ true) → DoorsThere D s doors → DoorsThere D (advance (setup_with old (Brings g) s) i s) (put (put doors (door_of job) back) (Some n) opened)
-recorded_doors D old i n job g s doors back opened laws before can is size own comes opens h = came_back D old s z i n job g doors back opened laws at others same is now size own comes opens h
+recorded_doors D old i n job g s doors back opened laws before can is size own comes opens h = came_back D old s z i n job (dated job.turn g) doors back opened laws at others same is now size own comes opens h
   where
     setup : Setup
     setup = setup_with old (Brings g) s
@@ -645,7 +646,7 @@ recorded_doors D old i n job g s doors back opened laws before can is size own c
     same : z.world ≡ s.world
     same = world_moved setup s i can ∙ ap (λ (p : lock.Phase). world_after i s.table (late_of setup p) s.world) is ∙ world_same i s.table s.world
 
-    now : (thread_of z i).phase ≡ Recorded (record job { outcome = Some g })
+    now : (thread_of z i).phase ≡ Recorded (record job { outcome = Some (dated job.turn g) })
     now = let e = laws.events in recorded_behind setup i (thread_of s i) (thread_of z i) job g is (past_own (let t = thread_of s i in t.came) g) (e.moved setup s i can)
 
 -- ## The start

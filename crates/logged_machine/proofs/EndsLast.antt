@@ -1,4 +1,5 @@
 -- The last step that a thread asked is its end just where it has ended.
+use Rattle.posix_terms.specs.Outcomes.{dated}
 use Rattle.std.proofs.Common.{◌≡◌, ℕ, zero, suc, ◌-◌, ◌<◌, List, [], ◌∷◌, ◌++◌, length, get_or, replicate, slice_get, Option, Some, None, Bool, true, false, sym, refl, ap, ◌∙◌, subst, ⊎_elim, arith}
 use Rattle.std.proofs.lemmas.Bool.{cases_eq, false≢true}
 use Rattle.std.proofs.lemmas.Option.{none-some}
@@ -71,7 +72,7 @@ step_last setup t u step.End is ended = ap (λ (v : lock.Thread). has_end v.aske
 moved_last : (setup : Setup) (i : ℕ) (t u : lock.Thread) → IsMoved setup i t u → u.phase ≡ Ended → has_end u.asked ≡ true
 moved_last setup i t u (AsksStep x there next is) ended = step_last setup t u x is ended
 moved_last setup i t u (GoesOut job there is) ended = not_over (Outside job) refl (ap (λ (v : lock.Thread). v.phase) (sym is) ∙ ended)
-moved_last setup i t u (GetsOutcome job o there next fits is) ended = not_over (Recorded (record job { outcome = Some o })) refl (ap (λ (v : lock.Thread). v.phase) (sym is) ∙ ended)
+moved_last setup i t u (GetsOutcome job o there next fits is) ended = not_over (Recorded (record job { outcome = Some (dated job.turn o) })) refl (ap (λ (v : lock.Thread). v.phase) (sym is) ∙ ended)
 moved_last setup i t u (AnswersGranted job there is) ended = not_over u.phase (ap (λ (v : lock.Thread). is_over v.phase) is ∙ answered_live t job.call _ _) ended
 moved_last setup i t u (AnswersRecorded job there is) ended = not_over u.phase (ap (λ (v : lock.Thread). is_over v.phase) is ∙ answered_live t job.call _ _) ended
 moved_last setup i t u (MakesAgain c b there is) ended = not_over (WantsTable c b) refl (ap (λ (v : lock.Thread). v.phase) (sym is) ∙ ended)

@@ -1,5 +1,6 @@
 -- What is true of each machine stays so by an event.
-use Rattle.std.proofs.Common.{◌≡◌, ℕ, length, List, Option, Bool, true, false, sym, refl, ap, ◌∙◌, subst}
+use Rattle.logged_machine.specs.Records.{as_logged}
+use Rattle.std.proofs.Common.{◌≡◌, ℕ, length, List, Option, Bool, true, false, sym, refl, ap, ◌∙◌, subst, map}
 use Rattle.std.proofs.lemmas.Bool.{false≢true, true≢false}
 use Rattle.lock_machine.specs.Refusals.{goes_outside, has_answer, is_blocked, is_outside, phase_at, works}
 use Rattle.lock_machine.specs.Conditions.{start_under}
@@ -164,7 +165,7 @@ kept_quietly D m w doors c e arises outside h count settings made quiet same_doo
       ends = behind;
       header = h.header ∙ sym (header_stays m.whole w count settings);
       sound = h.sound;
-      came = λ i. outside setup s e i (quiet s h.ends i) ∙ h.came i;
+      came = λ i. ap (map as_logged) (outside setup s e i (quiet s h.ends i)) ∙ h.came i;
       unclosed = h.unclosed;
       failed = h.failed;
       strayed = h.strayed;

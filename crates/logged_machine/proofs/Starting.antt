@@ -1,5 +1,6 @@
 -- A machine at its start.
-use Rattle.std.proofs.Common.{◌≡◌, ℕ, zero, suc, arith, ◌<◌, ◌≤◌, [], get_or, replicate, Option, None, true, sym, refl, ap, subst, ⊎_elim}
+use Rattle.logged_machine.specs.Records.{as_logged}
+use Rattle.std.proofs.Common.{◌≡◌, ℕ, zero, suc, arith, ◌<◌, ◌≤◌, [], get_or, replicate, Option, None, true, sym, refl, ap, subst, ⊎_elim, map}
 use Rattle.std.proofs.lemmas.Bool.{cases_lt}
 use Rattle.std.proofs.lemmas.List.{append-nil, get_or_past, length-replicate}
 use Rattle.input_log.specs.Format.{header_text}
@@ -59,7 +60,7 @@ first_kept D settings n arises shows range =
       ends = first_ends settings n arises shows;
       header = first_header settings n;
       sound = begun_sound (header_for settings n) range;
-      came = first_came n;
+      came = λ i. ap (map as_logged) (first_came n i);
       unclosed = refl;
       failed = refl;
       strayed = refl;

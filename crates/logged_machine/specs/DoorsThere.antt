@@ -18,7 +18,7 @@ use Rattle.sequential_object.specs.Step.{asks}
 use Rattle.posix_terms.specs.declared.object.Door.{Door}
 use Rattle.posix_terms.specs.declared.object.Door.TheVariants as door
 use Rattle.posix_terms.specs.declared.outcome.Outcome.{Outcome}
-use Rattle.posix_terms.specs.declared.request.Request.{Request}
+use Rattle.posix_terms.specs.Queries.{Query}
 use Rattle.logged_machine.specs.Doors.{brings_back, is_ok}
 
 -- the number of the door that a granted call takes along
@@ -48,7 +48,7 @@ job_out (Outside job) = Some job
 job_out (Recorded job) = Some job
 job_out p = None
 
-abbrev pub comes_back_of : Option Request → Bool
+abbrev pub comes_back_of : Option Query → Bool
 comes_back_of (Some r) = brings_back r.kind
 comes_back_of None = false
 

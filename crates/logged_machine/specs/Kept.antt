@@ -1,13 +1,13 @@
 -- Believed: a contract of the headline stands on it.
 -- What is true of each machine at any time.
-use Rattle.std.specs.Prelude.{◌≡◌, ℕ, Bool, true, false, length, Option, Some, if◌then◌else◌}
+use Rattle.std.specs.Prelude.{◌≡◌, ℕ, Bool, true, false, length, Option, Some, if◌then◌else◌, map}
 use Rattle.input_log.specs.Writing.{IsSound}
 use Rattle.input_log.specs.declared.log.Header.{Header}
 use Rattle.lock_machine.specs.Whole.{Whole}
 use Rattle.lock_model.specs.State.{State, thread_of}
 use Rattle.posix_terms.specs.declared.limits.TheConstants.Limits as limit
 use Rattle.logged_machine.specs.DoorsThere.{DoorsThere}
-use Rattle.logged_machine.specs.Records.{outcomes_of}
+use Rattle.logged_machine.specs.Records.{as_logged, outcomes_of}
 use Rattle.logged_machine.specs.Runs.{IsEnd}
 use Rattle.logged_machine.specs.Shown.{Shown}
 use Rattle.logged_machine.specs.declared.stop.Stop.{Stop}
@@ -29,14 +29,14 @@ pub record StopsFor (failures : ℕ) (stopped : Option Stop) : Type 0 where
   pub sink : failures ≡ (if is_sink stopped then 1 else 0)
   pub strayed : is_strayed stopped ≡ false
 
--- a run leads to it, whose outcomes are by thread those that its log has; the log's writer failed just where that was why the machine was
+-- a run leads to it, whose outcomes are by thread those that its log has, but for clocks; the log's writer failed just where that was why the machine was
 -- stopped, and no machine itself finds that threads strayed; and each door is where it belongs
 pub record IsKept (D : Type 0) (m : Shown D) : Type 0 where
   pub end : State
   pub ends : IsEnd m.whole end
   pub header : m.log.header ≡ header_of m.whole
   pub sound : IsSound m.log
-  pub came : (i : ℕ) → (thread_of end i).came ≡ outcomes_of i m.log.records
+  pub came : (i : ℕ) → map as_logged (thread_of end i).came ≡ outcomes_of i m.log.records
   pub unclosed : m.log.closed ≡ false
   pub failed : m.log.failed ≡ is_sink m.stop
   pub strayed : is_strayed m.stop ≡ false

@@ -2,13 +2,13 @@ ghost use Rattle.std.specs.Prelude.{◌≡◌, ◌<◌, IfOk, length};
 ghost use Rattle.lock_machine.specs.Refusals.{phase_at};
 ghost use Rattle.logged_machine.specs.Doors.{brings_back, is_answer, is_answer_to, is_ok, just_where};
 ghost use Rattle.object_store.specs.Store.{opens_door};
-ghost use Rattle.logged_machine.specs.Requests.{IsRequest, awaited, out_of};
+ghost use Rattle.logged_machine.specs.Requests.{IsOutsideTurn, IsRequest, awaited, out_of};
 
 use crate::machine::Machine;
 use descriptor_table::Errand;
 use input_log::LogSink;
 use lock_machine::{Outing, Phase};
-use posix_terms::{OutKind, Outcome, Request};
+use posix_terms::{OutKind, Outcome, Request, Turn};
 use std::alloc::AllocError;
 
 // What a driver asks before it goes outside, and when it comes back.
@@ -22,11 +22,23 @@ impl<S: LogSink, D: Drop> Machine<S, D> {
         let Some(outing) = out_of(self.calls.phase(i)) else {
             return Ok(None);
         };
+        let row = &self.calls.rows()[outing.row];
         Ok(Some(Request {
             kind: outing.errand.kind,
             asked: outing.errand.asked,
-            call: self.calls.rows()[outing.row].call.try_clone()?,
+            call: row.call.try_clone()?,
+            turn: row.turn,
         }))
+    }
+
+    /// The turn at which the call was granted with which thread i goes outside, or is there: what
+    /// [`Machine::request`] has of it, without a copy of the call.
+    pub fn outside_turn(&self, i: usize) -> Option<Turn>
+        requires { i < length self.now.whole.threads }
+        ensures { IsOutsideTurn self.now.whole i result }
+    {
+        let outing = out_of(self.calls.phase(i))?;
+        Some(self.calls.rows()[outing.row].turn)
     }
 
     /// What thread i asked outside, if it is there: its kind and how much.

@@ -35,7 +35,7 @@ use Rattle.posix_terms.specs.declared.reply.Answer.{Answer}
 use Rattle.posix_terms.specs.declared.reply.Reply.{Reply}
 use Rattle.posix_terms.specs.declared.reply.Reply.TheVariants as reply
 use Rattle.descriptor_table.specs.Acts.{Acted, acted, has_read, has_written, is_open, numbers_reply, read_acted, replied, write_acted}
-use Rattle.descriptor_table.specs.Agreement.{AgreesOn, TellsAsStep, request_of}
+use Rattle.descriptor_table.specs.Agreement.{AgreesOn, TellsAsStep, query_of}
 use Rattle.descriptor_table.specs.Changes.{CanChange, Changed, Changes}
 use Rattle.file_descriptions.specs.Descriptions.{AreSound}
 use Rattle.descriptor_table.specs.Laws.{TableFollows}
@@ -419,7 +419,7 @@ only_lseek h c node from planned other = by_act c (act_of h c node (op.Lseek fro
 -- ## A turn of a call that asks nothing outside
 
 -- what the plan says that the step asks
-pub plan_asks : (law : TableFollows) (h : Stored) (c : Call) (node : ℕ) (act : Op) (keep : Bool) (w : World) (carried : Carried) → planned h.table c carried.moved ≡ plan.Node node act keep → Stands h w → asks w.object c carried ≡ request_of c act
+pub plan_asks : (law : TableFollows) (h : Stored) (c : Call) (node : ℕ) (act : Op) (keep : Bool) (w : World) (carried : Carried) → planned h.table c carried.moved ≡ plan.Node node act keep → Stands h w → asks w.object c carried ≡ query_of c act
 plan_asks law h c node act keep w carried is st =
     let settings : Settings = record { patience = 1; door_cost = 1 } in
     let agrees : AgreesOn h.table c (plan.Node node act keep) (locked_object w.object c carried) (asks w.object c carried) (step settings w.object c None carried).answer =
@@ -441,7 +441,7 @@ reply_asks law h c r w carried is st =
     subst (λ (p : Plan). AgreesOn h.table c p (locked_object w.object c carried) (asks w.object c carried) (step settings w.object c None carried).answer) is ((law.calls h.table c carried.moved st.sound st.described).plans settings w.object None carried refl st.shows) in
     agrees.1.0
 
-pub inside_asks : (c : Call) (act : Op) → acts_inside act ≡ true → request_of c act ≡ None
+pub inside_asks : (c : Call) (act : Op) → acts_inside act ≡ true → query_of c act ≡ None
 inside_asks c (op.Ask errand) inside = absurd (true≢false (sym inside))
 inside_asks c (op.Open cut) inside = refl
 inside_asks c op.Release inside = refl

@@ -25,7 +25,7 @@ use Rattle.posix_terms.specs.declared.reply.Answer.{Answer}
 use Rattle.posix_terms.specs.declared.reply.Answer.TheVariants as answer
 use Rattle.posix_terms.specs.declared.reply.Reply.{Reply}
 use Rattle.posix_terms.specs.declared.reply.Reply.TheVariants as reply
-use Rattle.posix_terms.specs.declared.request.Request.{Request}
+use Rattle.posix_terms.specs.Queries.{Query}
 use Rattle.posix_terms.specs.declared.transcript.Settings.{Settings}
 use Rattle.descriptor_table.specs.Acts.{ActsAsStep, Holds, IsActed, acted, ended, held_after, outside_ending, told_outside}
 use Rattle.descriptor_table.specs.Agreement.{TellsAsStep, numbers_told}
@@ -155,7 +155,7 @@ told_waits settings s after carried false true same = absurd (waited_apart setti
 told_waits settings s after carried false false same = refl
 
 -- by what the call does
-effect_waits : (settings : Settings) (s : State) (c : Call) (carried : Carried) (r : Request) (b : Bool) (e : Result Effect Errno) → posix.request_of c e ≡ Some r
+effect_waits : (settings : Settings) (s : State) (c : Call) (carried : Carried) (r : Query) (b : Bool) (e : Result Effect Errno) → posix.query_of c e ≡ Some r
     → (let x : Stepped = concluded settings s (Some (outcome.Fail EAGAIN)) carried e in x.answer) ≡ (ended settings s carried (if b && true then act_end.Waits nothing_moved else act_end.Reply (reply.Fail EAGAIN))).0 → b ≡ waits_by e
 effect_waits settings s c carried r b (Ok (Asks a)) asked same = told_waits settings s a.otherwise carried a.waits b same
 effect_waits settings s c carried r b (Ok (Blocks after moved)) asked same = absurd (none-some r asked)
@@ -254,9 +254,9 @@ read_fits asked value bytes fit =
 -- nor does an outcome that does not fit
 pub off_port : (law : TableFollows) (h new : Stored) (c : Call) (node : ℕ) (errand : Errand) (keep : Bool) (o : Outcome) (e : TurnEnd) (patience : ℕ) (carried : Carried) → planned h.table c carried.moved ≡ plan.Node node (op.Ask errand) keep → at_port c o ≡ false → Opens patience carried h c o e new
 off_port law h new c node errand keep o e patience carried is off settings w r same st keeps asked fit =
-    let own : Request = record { kind = errand.kind; asked = errand.asked; call = c } in
+    let own : Query = record { kind = errand.kind; asked = errand.asked; call = c } in
     let its : own ≡ r = same_Some own r (sym (plan_asks law h c node (op.Ask errand) keep w carried is st) ∙ asked) in
-    let fit_own : fits errand.kind errand.asked o ≡ true = subst (λ (q : Request). fits q.kind q.asked o ≡ true) (sym its) fit in
+    let fit_own : fits errand.kind errand.asked o ≡ true = subst (λ (q : Query). fits q.kind q.asked o ≡ true) (sym its) fit in
     absurd (false≢true (sym off ∙ port_fits c errand o (planned_fits h.table c carried.moved node (op.Ask errand) keep is).0 fit_own))
 
 -- a new door is kept nowhere

@@ -10,7 +10,7 @@ use Rattle.sequential_object.specs.Step.{Carried, asks, step}
 use Rattle.posix_terms.specs.Calls.{Call}
 use Rattle.posix_terms.specs.declared.limits.TheConstants.Limits as limit
 use Rattle.posix_terms.specs.declared.reply.Answer.{Answer}
-use Rattle.posix_terms.specs.declared.request.Request.{Request}
+use Rattle.posix_terms.specs.Queries.{Query}
 use Rattle.posix_terms.specs.declared.transcript.Settings.{Settings}
 use Rattle.file_descriptions.specs.declared.description.Description.{Description}
 use Rattle.descriptor_table.specs.Agreement.{AgreesOn, object_of}
@@ -48,7 +48,7 @@ free_number h w node stands free =
 stands_number : (h : Stored) (w : World) (node : ℕ) → Stands h w → IsKnownNumber h.table node → number_of w (birth_at h.table node) ≡ node
 stands_number h w node stands known = ⊎_elim (λ used. used_number h w node stands used) (λ free. free_number h w node stands free) known.1
 
-planned_number : (h : Stored) (w : World) (c : Call) (p : Plan) (most : ℕ) (o : Option ℕ) (r : Option Request) (a : Answer) → Stands h w → LocksKnown h.table most p → AgreesOn h.table c p o r a → numbered w o ≡ object_of p
+planned_number : (h : Stored) (w : World) (c : Call) (p : Plan) (most : ℕ) (o : Option ℕ) (r : Option Query) (a : Answer) → Stands h w → LocksKnown h.table most p → AgreesOn h.table c p o r a → numbered w o ≡ object_of p
 planned_number h w c (plan.Reply r) most o q a stands known agrees = ap (numbered w) agrees.0
 planned_number h w c (plan.Node node act keep_table) most o q a stands known agrees = ap (numbered w) agrees.0 ∙ ap (λ n. Some n) (stands_number h w node stands known.0)
 

@@ -17,11 +17,12 @@ use Rattle.posix_terms.specs.declared.outcome.Outcome.{Outcome}
 use Rattle.posix_terms.specs.declared.outcome.Outcome.TheVariants as outcome
 use Rattle.posix_terms.specs.declared.reply.Answer.TheVariants as answer
 use Rattle.posix_terms.specs.declared.reply.Reply.{Reply}
-use Rattle.posix_terms.specs.declared.request.Request.{Request}
+use Rattle.posix_terms.specs.Queries.{Query}
 use Rattle.posix_terms.specs.declared.transcript.Settings.{Settings}
 use Rattle.file_descriptions.specs.Descriptions.{AreSound}
 use Rattle.file_descriptions.specs.declared.description.Description.{Description}
-use Rattle.descriptor_table.specs.Agreement.{ChangesAsStep, NumbersStay, OffsetsStay, object_of, request_of}
+use Rattle.descriptor_table.specs.Agreement.{ChangesAsStep, NumbersStay, OffsetsStay}
+use Rattle.descriptor_table.specs.Agreement.{object_of, query_of}
 use Rattle.descriptor_table.specs.Changes.{CanChange}
 use Rattle.descriptor_table.specs.Plans.{bytes_asked, change_of, decided_with, planned, read_count}
 use Rattle.descriptor_table.specs.Plans.{reply_bytes}
@@ -85,7 +86,7 @@ LocksAsStep =
 -- a turn that goes outside with this errand, in this world: it asks what the call asks, at the door that the call takes along, and EAGAIN makes it
 -- wait just where it makes the call wait. Unless it keeps the table, its change is made, whatever will come of it, and it will end as the errand has it
 pub record GoesOut (settings : Settings) (w : World) (carried : Carried) (old : Stored) (c : Call) (errand : Errand) (new : Stored) : Type 0 where
-  pub request : asks w.object c carried ≡ request_of c (op.Ask errand)
+  pub request : asks w.object c carried ≡ query_of c (op.Ask errand)
   pub door : errand.door ≡ numbered w (door_taken w.object c carried)
   pub waits : errand.waits ≡ waits_outside w.object c carried
   pub change : keeps_table c ≡ false → Stands new (world_with w (step settings w.object c None carried).after)
@@ -144,7 +145,7 @@ KeepsStore keep x old new = Unit {0}
 -- a turn of a call that kept the table while it was outside ended so, by an outcome that fits what it asked
 abbrev pub Opens : ℕ → Carried → Stored → Call → Outcome → TurnEnd → Stored → Type 0
 Opens patience carried old c o e new =
-    (settings : Settings) (w : World) (r : Request) → settings.patience ≡ patience → Stands old w → keeps_table c ≡ true → asks w.object c carried ≡ Some r → fits r.kind r.asked o ≡ true →
+    (settings : Settings) (w : World) (r : Query) → settings.patience ≡ patience → Stands old w → keeps_table c ≡ true → asks w.object c carried ≡ Some r → fits r.kind r.asked o ≡ true →
     (answer_in (step settings w.object c (Some o) carried) ≡ e) × Stands new (world_with w (step settings w.object c (Some o) carried).after)
 
 -- the act of a turn of a call that carries this was made, in whatever world they stood for: so it ended

@@ -4,3 +4,4 @@ pub mod Replies
 pub mod Text
 pub mod Ends
 pub mod Outcomes
+pub mod Queries

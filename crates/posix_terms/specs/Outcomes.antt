@@ -1,6 +1,7 @@
 -- Believed: a contract of the headline stands on it.
 -- Which outcomes answer a request.
 use Rattle.std.specs.Prelude.{ℕ, ◌-◌, ◌^◌, Bool, true, false, ◌&&◌, ◌||◌, ◌==◌, nat_le, length}
+use Rattle.std.specs.Prelude.{Option, Some, None}
 use Rattle.posix_terms.specs.declared.limits.TheConstants.Limits as limit
 use Rattle.posix_terms.specs.declared.outcome.Given.{Given}
 use Rattle.posix_terms.specs.declared.outcome.OutKind.{OutKind}
@@ -8,6 +9,7 @@ use Rattle.posix_terms.specs.declared.outcome.OutKind.TheVariants as kind
 use Rattle.posix_terms.specs.declared.outcome.Outcome.{Outcome}
 use Rattle.posix_terms.specs.declared.outcome.Outcome.TheVariants as outcome
 use Rattle.posix_terms.specs.declared.request.Request.{Request}
+use Rattle.posix_terms.specs.declared.transcript.Turn.{Turn}
 
 -- the value that a success of this kind may have: what was asked, the value and the number of bytes
 abbrev pub value_fits : OutKind → ℕ → ℕ → ℕ → Bool
@@ -43,6 +45,22 @@ is_kind kind.Shutdown kind.Shutdown = true
 is_kind kind.Close kind.Close = true
 is_kind k other = false
 
--- what was given answers a request of its own kind, where its outcome fits
+-- an outcome of this kind that fits what was asked
+abbrev pub suits : OutKind → ℕ → Given → Bool
+suits k asked given = is_kind given.kind k && fits k asked given.outcome
+
+-- what was given belongs to a turn of its clock, and to any where it has none
+abbrev pub is_at : Turn → Option ℕ → Bool
+is_at turn None = true
+is_at turn (Some clock) = clock == turn.clock
+
+-- what was given answers a request that it suits, at the turn that it belongs to
 abbrev pub answers : Request → Given → Bool
-answers request given = is_kind given.kind request.kind && fits request.kind request.asked given.outcome
+answers request given = suits request.kind request.asked given && is_at request.turn given.clock
+
+-- the same outcome with the clock of this turn, and with none
+abbrev pub dated : Turn → Given → Given
+dated turn given = record given { clock = Some turn.clock }
+
+abbrev pub undated : Given → Given
+undated given = record given { clock = None }

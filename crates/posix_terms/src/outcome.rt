@@ -1,11 +1,12 @@
 ghost use Rattle.std.specs.Prelude.{◌≡◌, List, IfOk};
-ghost use Rattle.posix_terms.specs.Outcomes.{answers, fits};
+ghost use Rattle.posix_terms.specs.Outcomes.{answers, fits, is_at, suits};
 ghost use Rattle.posix_terms.specs.declared.outcome.Given.{Given};
 
 use crate::bytes::Bytes;
 use crate::errno::Errno;
 use crate::limits::Limits;
 use crate::request::Request;
+use crate::transcript::Turn;
 use std::alloc::AllocError;
 use std::marker::Model;
 
@@ -78,15 +79,36 @@ impl Outcome {
 #[derive(Debug, PartialEq, Eq, Drop)]
 pub struct Given {
     pub kind: OutKind,
+    /// The logical clock of the granted turn that it belongs to, where that is known: it answers
+    /// no request of another clock then.
+    pub clock: Option<u64>,
     pub outcome: Outcome,
 }
 
 impl Given {
-    /// Whether this answers the request: it is of the request's kind, and its outcome fits what was asked.
+    /// Whether this answers the request: it is of the request's kind, its outcome fits what was
+    /// asked, and its clock, where it has one, is that of the request's turn.
     pub fn answers(&self, request: &Request) -> bool
         ensures { result ≡ answers request.now self.now }
     {
-        self.kind == request.kind && self.outcome.fits(request.kind, request.asked)
+        self.suits(request.kind, request.asked) && self.is_at(request.turn)
+    }
+
+    /// Whether this is an outcome of this kind that fits what was asked, at whatever turn.
+    pub fn suits(&self, kind: OutKind, asked: u64) -> bool
+        ensures { result ≡ suits kind asked self.now }
+    {
+        self.kind == kind && self.outcome.fits(kind, asked)
+    }
+
+    /// Whether it may belong to this turn: it has no clock, or this one.
+    pub fn is_at(&self, turn: Turn) -> bool
+        ensures { result ≡ is_at turn self.now.clock }
+    {
+        match self.clock {
+            Some(clock) => clock == turn.clock,
+            None => true,
+        }
     }
 }
 

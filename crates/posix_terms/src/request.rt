@@ -2,9 +2,10 @@ ghost use Rattle.std.specs.Prelude.{◌≡◌, IfOk};
 
 use crate::call::Call;
 use crate::outcome::OutKind;
+use crate::transcript::Turn;
 use std::alloc::AllocError;
 
-/// What a call asks of the outside.
+/// What a call asks of the outside, with the turn at which it was granted.
 #[derive(Debug, PartialEq, Eq, Drop)]
 pub struct Request {
     pub kind: OutKind,
@@ -13,6 +14,8 @@ pub struct Request {
     pub asked: u64,
     /// The call itself, which says the rest: a path, bytes or an offset.
     pub call: Call,
+    /// The call's granted turn. An outcome with a clock answers at this clock alone.
+    pub turn: Turn,
 }
 
 impl Request {
@@ -24,6 +27,7 @@ impl Request {
             kind: self.kind,
             asked: self.asked,
             call: self.call.try_clone()?,
+            turn: self.turn,
         })
     }
 }

@@ -12,7 +12,7 @@ use crate::outside::reach;
 use crate::shared::Shared;
 use host_doors::Outside;
 use input_log::LogSink;
-use posix_terms::Request;
+use posix_terms::{Request, Turn};
 use std::alloc::AllocError;
 use std::sync::Wait;
 use thread_scripts::Actor;
@@ -57,14 +57,14 @@ pub fn bring<O: Outside, S: LogSink, R: Wait>(
 ) -> Result<Brought, Leave>
     requires place { vec_len own.now.outcomes < vec_capacity own.now.outcomes }
     requires count { CanCount (O.given outside.old) (O.failures outside.old) }
-    ensures request { IfOk result (λ note. request_in (open_call own.now.steps.items) ≡ Some note.request) }
+    ensures request { IfOk result (λ note. request_in journey.turn (open_call own.now.steps.items) ≡ Some note.request) }
     ensures gives { IfOk result (λ note. O.gives outside.old number note.request note.outcome outside.new) }
     ensures given { O.given outside.new ≤ O.given outside.old + 1 }
     ensures failures { O.failures outside.new ≤ O.failures outside.old + 1 }
     ensures ahead { IsAhead O.gives (open_call own.now.steps.items) number outside.old outside.new }
 {
-    let Journey { door, waits } = journey;
-    let Some(request) = asked(own.steps.as_slice())? else {
+    let Journey { turn, door, waits } = journey;
+    let Some(request) = asked(turn, own.steps.as_slice())? else {
         // A machine sends no thread outside but with its call. It stands behind the lock, so this is not known here.
         return Err(Leave::Memory);
     };
@@ -74,12 +74,12 @@ pub fn bring<O: Outside, S: LogSink, R: Wait>(
     Ok(Brought { request, outcome })
 }
 
-// The request of the call in which the steps end.
-fn asked(steps: &[Noted]) -> Result<Option<Request>, AllocError>
-    ensures { IfOk result (λ request. request ≡ request_in (open_call steps.now)) }
+// The request of the call in which the steps end, that was granted at this turn.
+fn asked(turn: Turn, steps: &[Noted]) -> Result<Option<Request>, AllocError>
+    ensures { IfOk result (λ request. request ≡ request_in turn (open_call steps.now)) }
 {
     match open_call(steps) {
-        Some(call) => request_for(call),
+        Some(call) => request_for(turn, call),
         None => Ok(None),
     }
 }

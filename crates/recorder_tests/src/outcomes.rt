@@ -15,6 +15,7 @@ fn given(alloc: Global, came: Came) -> Result<Given, AllocError> {
     Ok(match came {
         Came::Ok(kind, value, data) => Given {
             kind,
+            clock: None,
             outcome: Outcome::Ok {
                 value,
                 bytes: Bytes::from_slice(alloc, data)?,
@@ -22,6 +23,7 @@ fn given(alloc: Global, came: Came) -> Result<Given, AllocError> {
         },
         Came::Fail(kind, error) => Given {
             kind,
+            clock: None,
             outcome: Outcome::Fail(error),
         },
     })

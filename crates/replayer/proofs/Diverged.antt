@@ -64,5 +64,6 @@ diverged_stays known setup threads objects w n m i diverges =
         subst (λ (p : Phase). diverging_in setup p (slice_get (setup.supply.outcomes i) (length came)) ≡ true) is (diverging_is setup (plain_run setup n (start threads objects w)) i diverges) in
         let lost = misfit setup job (slice_get (setup.supply.outcomes i) (length came)) wrong in
         let supplied = came_supplied known.plain setup threads objects w (n + m) i (length came) o next in
-        let same : o ≡ lost.0 = same_Some o lost.0 (sym supplied ∙ lost.1) in
-        absurd (true≢false (sym fits ∙ (ap (fits_job setup.calls job) same ∙ lost.2)))
+        let same : supplied.0 ≡ lost.0 = same_Some supplied.0 lost.0 (sym supplied.1 ∙ lost.1) in
+        let fits_too : fits_job setup.calls job supplied.0 ≡ true = known.plain.alike setup.calls job supplied.0 o supplied.2 fits in
+        absurd (true≢false (sym fits_too ∙ (ap (fits_job setup.calls job) same ∙ lost.2)))

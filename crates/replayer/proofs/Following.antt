@@ -3,7 +3,6 @@ use Rattle.std.proofs.Common.{◌≡◌, ℕ, zero, suc, ◌+◌, Bool, true, fa
 use Rattle.std.proofs.Math.Seq.{take-nil}
 use Rattle.std.proofs.lemmas.Option.{none-some, same_Some}
 use Rattle.call_machine.specs.Setup.{Inputs, first_state, outcomes_of, script_of, setup_of}
-use Rattle.input_log.specs.Outcomes as records
 use Rattle.lock_machine.specs.Conditions.{setup_under}
 use Rattle.lock_machine.specs.Whole.{settings_in, thread_at}
 use Rattle.lock_model.specs.History.{rows_of}
@@ -12,7 +11,7 @@ use Rattle.sequential_object.specs.Numbers.{first_world}
 use Rattle.lock_model.specs.Programs.{Supply}
 use Rattle.lock_model.specs.RealLaws.{real_setup, real_start}
 use Rattle.lock_model.specs.Rows.{shown, shown_answer}
-use Rattle.lock_model.specs.Runs.{Follows, calls_in, own}
+use Rattle.lock_model.specs.Runs.{Follows, calls_in, own, Supplies}
 use Rattle.lock_model.specs.Schedule.{EndsIn}
 use Rattle.thread_scripts.specs.ScriptPrograms.{next_at, reached_after, replies_behind, reply_to, scripted}
 use Rattle.lock_model.specs.State.{Row, State, thread_of}
@@ -125,16 +124,16 @@ steps_played state ahead from k j rows (xs ∷ asked) (a ∷ actors) [] scripts 
 -- ## The run
 
 -- the steps that the machine's threads asked are those of these scripts, under the replies of its rows; and what came for each is supplied
-pub record IsSupplied (D : Type 0) (m : Shown D) (input : Inputs) : Type 0 where
+pub record IsSupplied (D : Type 0) (m : Shown D) (s : State) (input : Inputs) : Type 0 where
   pub threads : length m.whole.threads ≡ length input.scripts
   pub settings : settings_in m.whole ≡ input.settings
   pub steps : (i : ℕ) → AreSteps (script_of input i) (let t = thread_at m.whole i in t.asked) (replies_in i m.whole.rows)
-  pub outcomes : (i n : ℕ) (o : Given) → slice_get (records.outcomes_of i m.log.records) n ≡ Some o → slice_get (outcomes_of input i) n ≡ Some o
+  pub outcomes : (i n : ℕ) (o : Given) → slice_get (thread_of s i).came n ≡ Some o → Supplies (outcomes_of input i) n o
 
 abbrev supply_of : Inputs → Supply
 supply_of input = record { next = λ i. scripted (script_of input i); outcomes = outcomes_of input }
 
-follows : KnownOfThreads → (D : Type 0) (m : Shown D) (kept : IsKept D m) (input : Inputs) → IsSupplied D m input → Follows (supply_of input) kept.end
+follows : KnownOfThreads → (D : Type 0) (m : Shown D) (kept : IsKept D m) (input : Inputs) → IsSupplied D m kept.end input → Follows (supply_of input) kept.end
 follows known D m kept input h =
     let s = kept.end in
     let shows = kept.ends.1 in
@@ -144,11 +143,11 @@ follows known D m kept input h =
       steps = λ i.
           subst (λ (rs : List Reply). AreSteps (script_of input i) (thread_of s i).asked rs) (replies i)
           (subst (λ (xs : List Step). AreSteps (script_of input i) xs (replies_in i m.whole.rows)) (sym (shows.threads i).asked) (h.steps i));
-      outcomes = λ i n o at. h.outcomes i n o (subst (λ (os : List Given). slice_get os n ≡ Some o) (kept.came i) at);
+      outcomes = h.outcomes;
     }
 
 -- it is a beginning of the plain run
-pub begins_plain : KnownOfThreads → (D : Type 0) (m : Shown D) (kept : IsKept D m) (input : Inputs) (last : State) → IsSupplied D m input → EndsIn (setup_of input) (first_state input) last → Begins kept.end last
+pub begins_plain : KnownOfThreads → (D : Type 0) (m : Shown D) (kept : IsKept D m) (input : Inputs) (last : State) → IsSupplied D m kept.end input → EndsIn (setup_of input) (first_state input) last → Begins kept.end last
 begins_plain known D m kept input last h ends =
     let w = m.whole in
     let under : EndsIn (real_setup (settings_in w) (supply_of input)) (real_start (length w.threads)) last =

@@ -1,4 +1,6 @@
 -- The laws of other crates that the law of a run's own log rests on.
+use Rattle.lock_model.specs.Runs.{Keeps}
+use Rattle.logged_machine.specs.Records.{as_logged}
 use Rattle.std.proofs.Common.{◌≡◌, ℕ, List}
 use Rattle.call_machine.specs.Covered.{HasSpelling, NoneDiverges, RecordsCame}
 use Rattle.logged_machine.specs.RecordLaws.{RecordLaws}
@@ -7,12 +9,14 @@ use Rattle.input_log.specs.Fronts.{IsFront}
 use Rattle.input_log.specs.Grammar.{Spells}
 use Rattle.input_log.specs.Writing.{IsSound, Writing, log_of}
 use Rattle.input_log.specs.declared.log.LogText.{LogText}
-use Rattle.lock_model.specs.Came.{CameIsRows, OutsideStays, OverUnderCame, PlainArises, PlainCount, PlainLeads, RepliesAreRows, SameUnderCame}
-use Rattle.lock_model.specs.Laws.{EndedOrTurn, HolderHasTurn, PrefixLawOfCame, PrefixLawOfFollowed, RunFollows, SomeEnd, UniqueEnd}
+use Rattle.lock_model.specs.Came.{CameIsRows, OutsideStays, OverUnderCame, PlainArises, PlainCount, PlainLeads, RepliesAreRows, SameUnderCame, FitsAlike}
+use Rattle.lock_model.specs.Laws.{EndedOrTurn, HolderHasTurn, PrefixLawOfCame, PrefixLawOfFollowed, RunFollows, SomeEnd, UniqueEnd, DatedOfArisen}
 use Rattle.thread_scripts.specs.ScriptPrograms.{ScriptsEnd}
 
 pub record Known : Type 0 where
-  -- plain runs, and those under the outcomes that came
+  -- plain runs, and those under what a log has of the outcomes that came
+  pub keeps : Keeps as_logged
+  pub alike : FitsAlike
   pub same : SameUnderCame
   pub over : OverUnderCame
   pub leads : PlainLeads
@@ -38,6 +42,7 @@ pub record KnownOfThreads : Type 0 where
   pub plain : Known
   pub followed : PrefixLawOfFollowed
   pub replies : RepliesAreRows
+  pub dated : DatedOfArisen
   pub some_end : SomeEnd
   pub scripts_end : ScriptsEnd
   pub holder : HolderHasTurn

@@ -53,7 +53,7 @@ retold known D state settings past own seen taken failures told actors later scr
     let threads : length m.whole.threads ≡ length scripts = ap (λ (h : Header). h.threads) fits.0 ∙ count in
     let log = took_log known D m kept taken failures run.stopped shows.finishes in
     let header : log.log.header ≡ header_of m.whole = log.header ∙ kept.header in
-    let supplied = supplied_by_own state (is_some told) D m kept log.log past actors later scripts threads header log.records shows.rows shows.asked meant played in
+    let supplied = supplied_by_own known.records state (is_some told) D m kept log.log past actors later scripts threads header log.records shows.rows shows.asked meant played in
     let back = back_by_own D m kept log.log scripts threads log.records in
     subst (λ n. IsRetold (transcripts_of n past.rows) past told result) (sym count)
     (retold_by known D m kept log.log scripts past told taken result log.front (ap (λ (h : Header). h.threads) header ∙ threads) log.records supplied back shows.rows shows.asked (λ e. let over = run.over e in over.ended) replays)
@@ -87,7 +87,7 @@ agree known {A} state text log actors e taken failures told scripts front thread
         let fits : Fits (header_for (settings_of log.header) (length actors)) m e.history e.own = unless_strayed run.stopped stopped unstrayed run.why in
         let here : length m.whole.threads ≡ length scripts = ap (λ (x : Header). x.threads) fits.0 ∙ count in
         let led = subst (λ n. AreLedFrom gives_logged 0 e.history.rows e.history.asked (doors_by n log.records) e.doors) count (not_so unstrayed h.calls) in
-        let supplied = supplied_by_log known.records state (is_some stopped) ScriptDoor m kept faithful.covered log e.history actors e.actors e.doors scripts here (sym (ap settings_of fits.0)) shows.rows shows.asked meant (not_so unstrayed h.steps) led in
+        let supplied = supplied_by_log known state (is_some stopped) ScriptDoor m kept faithful.covered log e.history actors e.actors e.doors scripts here (sym (ap settings_of fits.0)) shows.rows shows.asked meant (not_so unstrayed h.steps) led in
         let found = plain_end known (inputs_of log scripts) in
         let begins : (last : State) → EndsIn (setup_of (inputs_of log scripts)) (first_state (inputs_of log scripts)) last → AreBeginnings (transcripts_of (length scripts) e.history.rows) (seen_in last) =
         λ last ends. subst (λ rs. AreBeginnings (transcripts_of (length scripts) rs) (seen_in last)) (sym shows.rows) (seen_begins known ScriptDoor m kept (inputs_of log scripts) last supplied ends) in

@@ -1,7 +1,8 @@
 -- What the replay of a log gives of a run of real threads that wrote it, or that was made by it.
+use Rattle.logged_machine.specs.Records.{as_logged}
 use Rattle.std.proofs.Common.{◌≡◌, ℕ, zero, suc, ◌+◌, ◌<◌, ◌≤◌, true, false, List, [], ◌∷◌, ◌++◌, length, map, get_or, slice_get, Option, Some, None, Result, Ok, Err, refl, sym, ap, ap₂, ◌∙◌, subst, ⊎_elim, inl, inr, arith}
 use Rattle.std.proofs.lemmas.Bool.{false≢true, and_parts, cases_lt}
-use Rattle.std.proofs.lemmas.List.{get_or_past, length-append}
+use Rattle.std.proofs.lemmas.List.{get_or_past, length-append, length-map}
 use Rattle.std.proofs.lemmas.Option.{none-some, slice_get-get_or}
 use Rattle.call_machine.specs.Diverging.{diverging}
 use Rattle.call_machine.specs.History.{Past, transcripts_of}
@@ -23,7 +24,7 @@ use Rattle.lock_model.specs.History.{IsPrefixOf}
 use Rattle.lock_model.specs.Laws.{Begins, HaveEnded}
 use Rattle.sequential_object.specs.Numbers.{first_world}
 use Rattle.lock_model.specs.Rows.{shown}
-use Rattle.lock_model.specs.Runs.{own}
+use Rattle.lock_model.specs.Runs.{own, Supplies}
 use Rattle.lock_model.specs.Schedule.{EndsIn, IsOver, plain_run}
 use Rattle.lock_model.specs.State as lock
 use Rattle.lock_model.specs.State.{State, live_clock, live_clock_in, live_clocks, nobody, thread_of}
@@ -51,7 +52,7 @@ use Rattle.replayer.specs.declared.fault.ReplayFault.{ReplayFault}
 use Rattle.replayer.specs.declared.fault.ReplayFault.TheVariants as replay_fault
 use Rattle.replayer.specs.declared.replayed.Replayed.{Replayed}
 use Rattle.replayer.proofs.ByThread.{came_counted, none_unused, number_counted, transcripts_at, transcripts_length}
-use Rattle.replayer.proofs.CameAgain.{came_supplied, diverged_outside, none_behind, over_at, plain_count}
+use Rattle.replayer.proofs.CameAgain.{came_supplied, diverged_outside, over_at, plain_count}
 use Rattle.replayer.proofs.Diverged.{diverged_stays, diverging_is, misfit, plain_end}
 use Rattle.replayer.proofs.Following.{IsSupplied, begins_plain}
 use Rattle.replayer.proofs.Known.{KnownOfThreads}
@@ -60,7 +61,7 @@ use Rattle.replayer.proofs.OneFront.{IsToldBy, told_or_memory}
 use Rattle.replayer.proofs.OwnLog.{beginnings}
 
 abbrev no_given : Given
-no_given = record { kind = kind.Open; outcome = outcome.Fail errno.EIO }
+no_given = record { kind = kind.Open; clock = None; outcome = outcome.Fail errno.EIO }
 
 -- ## Prefixes
 
@@ -94,7 +95,7 @@ came_begins known D m kept input last ends begins i =
     subst (λ xs. IsPrefixOf xs (thread_of last i).came) (sym here) (subst (λ ys. IsPrefixOf (of_rows.outcomes_of i s.rows) ys) (sym (rows_came known input last ends i)) (begins.outcomes i))
 
 -- each was supplied
-supplied_last : KnownOfThreads → (input : Inputs) (last : State) → EndsIn (setup_of input) (first_state input) last → (i k : ℕ) (o : Given) → slice_get (thread_of last i).came k ≡ Some o → slice_get (outcomes_of input i) k ≡ Some o
+supplied_last : KnownOfThreads → (input : Inputs) (last : State) → EndsIn (setup_of input) (first_state input) last → (i k : ℕ) (o : Given) → slice_get (thread_of last i).came k ≡ Some o → Supplies (outcomes_of input i) k o
 supplied_last known input last ends i k o h =
     came_supplied known.plain (setup_of input) (length input.scripts) limit.OBJECTS first_world ends.count i k o (ap (λ (z : State). slice_get (thread_of z i).came k) ends.reached ∙ h)
 
@@ -192,7 +193,7 @@ nothing_begins known input last ends =
         (cases_lt i (length input.scripts))
 
 -- in the run it saw a beginning of what it sees in the plain run
-pub seen_begins : KnownOfThreads → (D : Type 0) (m : Shown D) (kept : IsKept D m) (input : Inputs) (last : State) → IsSupplied D m input → EndsIn (setup_of input) (first_state input) last
+pub seen_begins : KnownOfThreads → (D : Type 0) (m : Shown D) (kept : IsKept D m) (input : Inputs) (last : State) → IsSupplied D m kept.end input → EndsIn (setup_of input) (first_state input) last
     → AreBeginnings (transcripts_of (length input.scripts) m.whole.rows) (seen_in last)
 seen_begins known D m kept input last h ends =
     let s = kept.end in
@@ -252,10 +253,10 @@ told_all log scripts count last seen past stopped result (Some i) used begins te
 
 -- what it supplies came in the run
 abbrev pub IsBack : State → Inputs → Type 0
-IsBack s input = (i k : ℕ) (g : Given) → slice_get (outcomes_of input i) k ≡ Some g → slice_get (thread_of s i).came k ≡ Some g
+IsBack s input = (i k : ℕ) (g : Given) → slice_get (outcomes_of input i) k ≡ Some g → k < length (thread_of s i).came
 
 -- so its plain run diverges nowhere
-straight : KnownOfThreads → (D : Type 0) (m : Shown D) (kept : IsKept D m) (input : Inputs) → IsSupplied D m input → IsBack kept.end input → (k : ℕ) → diverging (setup_of input) (plain_run (setup_of input) k (first_state input)) ≡ None
+straight : KnownOfThreads → (D : Type 0) (m : Shown D) (kept : IsKept D m) (input : Inputs) → IsSupplied D m kept.end input → IsBack kept.end input → (k : ℕ) → diverging (setup_of input) (plain_run (setup_of input) k (first_state input)) ≡ None
 straight known D m kept input supplied back k = by (diverging (setup_of input) (plain_run (setup_of input) k (first_state input))) refl
   where
     by : (o : Option ℕ) → diverging (setup_of input) (plain_run (setup_of input) k (first_state input)) ≡ o → o ≡ None
@@ -267,14 +268,16 @@ straight known D m kept input supplied back k = by (diverging (setup_of input) (
         let lost = lost_at known input last ends k i h in
         let came = came_begins known D m kept input last ends (begins_plain known D m kept input last supplied ends) i in
         let n = length (thread_of last i).came in
-        absurd (none_behind (thread_of last i).came lost.next.0 (get_in_prefix (thread_of kept.end i).came (thread_of last i).came n lost.next.0 came (back i n lost.next.0 lost.next.1)))
+        let few = back i n lost.next.0 lost.next.1 in
+        let more = prefix_length (thread_of kept.end i).came (thread_of last i).came came in
+        absurd (omega (arith, few, more))
 
 -- and it uses each record
-all_used : KnownOfThreads → (D : Type 0) (m : Shown D) (kept : IsKept D m) (input : Inputs) (last : State) → IsSupplied D m input → IsBack kept.end input → EndsIn (setup_of input) (first_state input) last
+all_used : KnownOfThreads → (D : Type 0) (m : Shown D) (kept : IsKept D m) (input : Inputs) (last : State) → IsSupplied D m kept.end input → IsBack kept.end input → EndsIn (setup_of input) (first_state input) last
     → (threads : ℕ) → first_unused threads m.log.records (map shown last.rows) ≡ None
 all_used known D m kept input last supplied back ends threads =
     none_unused threads m.log.records (map shown last.rows)
-    (λ i. came_counted i last.rows ∙ (ap length (sym (came_last i)) ∙ (same_length i ∙ (ap length (kept.came i) ∙ sym (number_counted i m.log.records)))))
+    (λ i. came_counted i last.rows ∙ (ap length (sym (came_last i)) ∙ (same_length i ∙ (sym (length-map (thread_of kept.end i).came as_logged) ∙ (ap length (kept.came i) ∙ sym (number_counted i m.log.records))))))
   where
     came_last : (i : ℕ) → (thread_of last i).came ≡ of_rows.outcomes_of i last.rows
     came_last i = rows_came known input last ends i
@@ -287,7 +290,9 @@ all_used known D m kept input last supplied back ends threads =
         let xs = (thread_of last i).came in
         let n = length (thread_of kept.end i).came in
         let there : slice_get xs n ≡ Some (get_or xs n no_given) = slice_get-get_or xs n no_given l in
-        absurd (none_behind (thread_of kept.end i).came (get_or xs n no_given) (back i n (get_or xs n no_given) (supplied_last known input last ends i n (get_or xs n no_given) there))))
+        let supplied = supplied_last known input last ends i n (get_or xs n no_given) there in
+        let few = back i n supplied.0 supplied.1 in
+        absurd (omega (arith, few)))
         (λ (l : length (thread_of last i).came ≤ length (thread_of kept.end i).came). omega (arith, more, l))
         (cases_lt (length (thread_of kept.end i).came) (length (thread_of last i).came))
 
@@ -315,7 +320,7 @@ own_run log scripts result h none =
 
 -- a run that wrote this log, and its replay
 pub retold_by : KnownOfThreads → (D : Type 0) (m : Shown D) (kept : IsKept D m) (log : LogText) (scripts : List (List Line)) (past : Past) (told : Option Stop) (text : List ℕ) (result : Result Replayed ReplayFault)
-    → IsFront text log → log.header.threads ≡ length scripts → log.records ≡ m.log.records → IsSupplied D m (inputs_of log scripts) → IsBack kept.end (inputs_of log scripts)
+    → IsFront text log → log.header.threads ≡ length scripts → log.records ≡ m.log.records → IsSupplied D m kept.end (inputs_of log scripts) → IsBack kept.end (inputs_of log scripts)
     → past.rows ≡ m.whole.rows → past.asked ≡ map (λ (t : Thread). t.asked) m.whole.threads → (told ≡ None → have_ended m.whole.threads ≡ true)
     → Replays text scripts result → IsRetold (transcripts_of (length scripts) past.rows) past told result
 retold_by known D m kept log scripts past told text result front threads records supplied back rows asked over replays =
@@ -375,7 +380,7 @@ begun_by known log scripts seen text result front threads begins replays =
 
 -- where nothing stopped the run and each record was used, the replay comes to its end, with just that
 pub whole_by : KnownOfThreads → (D : Type 0) (m : Shown D) (kept : IsKept D m) (log : LogText) (scripts : List (List Line)) (past : Past) (text : List ℕ)
-    → IsFront text log → log.header.threads ≡ length scripts → IsLog log → IsSupplied D m (inputs_of log scripts)
+    → IsFront text log → log.header.threads ≡ length scripts → IsLog log → IsSupplied D m kept.end (inputs_of log scripts)
     → past.rows ≡ m.whole.rows → past.asked ≡ map (λ (t : Thread). t.asked) m.whole.threads → have_ended m.whole.threads ≡ true
     → first_unused log.header.threads log.records past.rows ≡ None
     → Replays text scripts (came_to_its_end (transcripts_of (length scripts) past.rows) past)

@@ -1,8 +1,24 @@
 -- What supplies a run of real threads: the scripts of its actors, and the log that it wrote or was made by.
-use Rattle.std.proofs.Common.{◌≡◌, ℕ, zero, suc, ◌+◌, ◌<◌, ◌≤◌, Bool, true, false, ◌&&◌, List, [], ◌∷◌, ◌++◌, length, map, take, get_or, slice_get, slice_index_or, Option, Some, None, is_none, if◌then◌else◌, ◌==◌, refl, sym, ap, ap₂, ◌∙◌, subst, ⊎_elim, inl, inr, arith}
-use Rattle.std.proofs.lemmas.Bool.{false≢true, and_parts, cases_lt}
-use Rattle.std.proofs.lemmas.List.{append-nil, append_assoc, get_or_past}
-use Rattle.std.proofs.lemmas.Option.{none-some, same_Some}
+use Rattle.lock_model.specs.Transcripts as seen
+use Rattle.lock_model.specs.History as lock
+use Rattle.posix_terms.specs.declared.limits.TheConstants.Limits as limit
+use Rattle.sequential_object.specs.Answers.{outcome_in}
+use Rattle.std.specs.Prelude.{filter_map}
+use Rattle.sequential_object.specs.Numbers.{first_world}
+use Rattle.lock_machine.specs.Conditions.{setup_under}
+use Rattle.logged_machine.specs.Runs.{terms_with}
+use Rattle.std.proofs.lemmas.Simd.{map-map}
+use Rattle.lock_model.specs.Rows.{shown}
+use Rattle.lock_model.specs.State.{Row, thread_of}
+use Rattle.lock_model.specs.Laws.{AreDated}
+use Rattle.posix_terms.specs.Queries.{requested_at}
+use Rattle.posix_terms.specs.declared.transcript.Turn.{Turn}
+use Rattle.lock_model.specs.Runs.{Supplies, own}
+use Rattle.logged_machine.specs.Records.{as_logged}
+use Rattle.std.proofs.Common.{◌≡◌, ℕ, zero, suc, ◌+◌, ◌<◌, ◌≤◌, Bool, true, false, ◌&&◌, List, [], ◌∷◌, ◌++◌, length, map, take, get_or, slice_get, slice_index_or, Option, Some, None, is_none, if◌then◌else◌, ◌==◌, refl, sym, ap, ap₂, ◌∙◌, subst, ⊎_elim, inl, inr, arith, option_map, ◌⊎◌}
+use Rattle.std.proofs.lemmas.Bool.{false≢true, and_parts, cases_lt, eqb-true}
+use Rattle.std.proofs.lemmas.List.{append-nil, append_assoc, get_or_past, length-map}
+use Rattle.std.proofs.lemmas.Option.{none-some, same_Some, slice_get-map, slice_get_within}
 use Rattle.call_machine.specs.History.{Past}
 use Rattle.host_doors.specs.OutcomeList.{IsListed}
 use Rattle.host_doors.specs.LogList.{LogList}
@@ -24,7 +40,7 @@ use Rattle.logged_machine.specs.Kept.{IsKept, header_of, is_sink}
 use Rattle.logged_machine.specs.RecordLaws.{RecordLaws}
 use Rattle.logged_machine.specs.Shown.{Shown}
 use Rattle.logged_machine.specs.declared.stop.Stop.{Stop}
-use Rattle.posix_terms.specs.Outcomes.{fits, is_kind}
+use Rattle.posix_terms.specs.Outcomes.{fits, is_kind, is_at, suits}
 use Rattle.posix_terms.specs.declared.outcome.Given.{Given}
 use Rattle.posix_terms.specs.declared.outcome.OutKind.{OutKind}
 use Rattle.posix_terms.specs.declared.outcome.Outcome.{Outcome}
@@ -37,7 +53,7 @@ use Rattle.thread_scripts.specs.declared.actor.ScriptState.{ScriptState}
 use Rattle.thread_scripts.specs.declared.line.Line.{Line}
 use Rattle.worker_notes.specs.Agrees.{before, brought, brought_by, brought_in, replies_in}
 use Rattle.worker_notes.specs.Leads.{Leads}
-use Rattle.worker_notes.specs.Requests.{amount_asked, request_for, request_of_kind}
+use Rattle.worker_notes.specs.Requests.{amount_asked, query_of_kind, request_for}
 use Rattle.worker_notes.specs.declared.own.Brought.{Brought}
 use Rattle.replayer.specs.Outcomes.{outcomes_by, settings_of}
 use Rattle.replayer.specs.Replay.{inputs_of}
@@ -65,7 +81,7 @@ steps_supplied state ahead D m past actors later scripts i rows asked meant play
 
 -- past the last thread nothing came
 nothing_past : (D : Type 0) (m : Shown D) (kept : IsKept D m) (n i : ℕ) → length m.whole.threads ≡ n → n ≤ i → records.outcomes_of i m.log.records ≡ []
-nothing_past D m kept n i threads l = sym (kept.came i) ∙ came_past kept.end i (let count = kept.ends.1.count in omega (arith, count, threads, l))
+nothing_past D m kept n i threads l = sym (kept.came i) ∙ ap (map as_logged) (came_past kept.end i (let count = kept.ends.1.count in omega (arith, count, threads, l)))
 
 -- ## By the log that it wrote
 
@@ -124,22 +140,30 @@ took_log known D m kept taken failures stopped h = by_end (is_none m.stop && hav
     by_end false e h = subst (TookLog D m) (sym h.1) (front_of known D m m.log kept.sound refl refl)
 
 -- so this log supplies it
-pub supplied_by_own : {A : Type 0} (state : A → ScriptState) (ahead : Bool) (D : Type 0) (m : Shown D) (kept : IsKept D m) (log : LogText) (past : Past) (actors later : List A) (scripts : List (List Line))
+pub supplied_by_own : RecordLaws → {A : Type 0} (state : A → ScriptState) (ahead : Bool) (D : Type 0) (m : Shown D) (kept : IsKept D m) (log : LogText) (past : Past) (actors later : List A) (scripts : List (List Line))
     → length m.whole.threads ≡ length scripts → log.header ≡ header_of m.whole → log.records ≡ m.log.records
     → past.rows ≡ m.whole.rows → past.asked ≡ map (λ (t : Thread). t.asked) m.whole.threads → map start_of scripts ≡ map state actors → ArePlayedFrom state ahead 0 past.rows past.asked actors later
-    → IsSupplied D m (inputs_of log scripts)
-supplied_by_own state ahead D m kept log past actors later scripts threads header same rows asked meant played =
+    → IsSupplied D m kept.end (inputs_of log scripts)
+supplied_by_own known state ahead D m kept log past actors later scripts threads header same rows asked meant played =
     record {
       threads = threads;
       settings = sym (ap settings_of header);
       steps = λ i. steps_supplied state ahead D m past actors later scripts i rows asked meant played;
-      outcomes = λ i n o at. subst (λ gs. slice_get gs n ≡ Some o) (sym (ap (λ rs. get_or (outcomes_by (length scripts) rs) i []) same ∙ own_outcomes D m kept (length scripts) i threads)) at;
+      outcomes = λ i n o at. (
+        as_logged o,
+        subst (λ gs. slice_get gs n ≡ Some (as_logged o)) (sym (ap (λ rs. get_or (outcomes_by (length scripts) rs) i []) same ∙ own_outcomes D m kept (length scripts) i threads))
+            (ap (λ gs. slice_get gs n) (sym (kept.came i)) ∙ slice_get-map as_logged (thread_of kept.end i).came n ∙ ap (option_map as_logged) at),
+        known.keeps o,
+      );
     }
 
 pub back_by_own : (D : Type 0) (m : Shown D) (kept : IsKept D m) (log : LogText) (scripts : List (List Line)) → length m.whole.threads ≡ length scripts → log.records ≡ m.log.records → IsBack kept.end (inputs_of log scripts)
 back_by_own D m kept log scripts threads same i k g at =
-    subst (λ gs. slice_get gs k ≡ Some g) (sym (kept.came i))
-    (subst (λ gs. slice_get gs k ≡ Some g) (ap (λ rs. get_or (outcomes_by (length scripts) rs) i []) same ∙ own_outcomes D m kept (length scripts) i threads) at)
+    let there : slice_get (records.outcomes_of i m.log.records) k ≡ Some g =
+    subst (λ gs. slice_get gs k ≡ Some g) (ap (λ rs. get_or (outcomes_by (length scripts) rs) i []) same ∙ own_outcomes D m kept (length scripts) i threads) at in
+    let inside = slice_get_within (records.outcomes_of i m.log.records) k g there in
+    let size : length (thread_of kept.end i).came ≡ length (records.outcomes_of i m.log.records) = sym (length-map (thread_of kept.end i).came as_logged) ∙ ap length (kept.came i) in
+    omega (arith, inside, size)
 
 -- ## By the log that it was made by
 
@@ -171,12 +195,28 @@ doors_at n i rs l = made_at (λ k. doors_by k rs) (λ k. doors_of k rs) (doors_o
 doors_length : (n : ℕ) (rs : List Record) → length (doors_by n rs) ≡ n
 doors_length n rs = made_length (λ k. doors_by k rs) (λ k. doors_of k rs) refl (λ k. refl) n
 
--- each outcome that came is what a row brought, with its kind
-abbrev IsBrought : List Brought → ℕ → Given → Type 0
-IsBrought bs k g = (b : Brought) × (slice_get bs k ≡ Some b) × (b.outcome ≡ g.outcome) × ((let r = b.request in r.kind) ≡ g.kind)
+-- the clock of a row's turn, if its outcome came, before those of the rows behind it
+abbrev clock_before : HistoryRow → Option Outcome → List (Option ℕ) → List (Option ℕ)
+clock_before row (Some o) clocks = Some row.turn.clock ∷ clocks
+clock_before row None clocks = clocks
 
-abbrev Come : List Outcome → List (Option OutKind) → List Brought → Type 0
-Come outcomes kinds bs = (came : List Given) (k : ℕ) (g : Given) → map (λ (x : Given). x.outcome) came ≡ outcomes → map (λ (x : Given). Some x.kind) came ≡ kinds → slice_get came k ≡ Some g → IsBrought bs k g
+-- the clocks of the turns of a thread's rows whose outcomes came, in order
+abbrev clocks_in : ℕ → List HistoryRow → List (Option ℕ)
+clocks_in thread [] = []
+clocks_in thread (row ∷ rows) = if row.turn.thread == thread then clock_before row row.outcome (clocks_in thread rows) else clocks_in thread rows
+
+-- each outcome that came is what a row brought, with its kind and the clock of its turn
+pub record IsBrought (bs : List Brought) (k : ℕ) (g : Given) : Type 0 where
+  brought : Brought
+  at : slice_get bs k ≡ Some brought
+  outcome : brought.outcome ≡ g.outcome
+  kind : (let r = brought.request in r.kind) ≡ g.kind
+  clock : (let r = brought.request in Some r.turn.clock) ≡ g.clock
+
+abbrev Come : List Outcome → List (Option OutKind) → List (Option ℕ) → List Brought → Type 0
+Come outcomes kinds clocks bs =
+    (came : List Given) (k : ℕ) (g : Given) → map (λ (x : Given). x.outcome) came ≡ outcomes → map (λ (x : Given). Some x.kind) came ≡ kinds
+    → map (λ (x : Given). x.clock) came ≡ clocks → slice_get came k ≡ Some g → IsBrought bs k g
 
 abbrev head_outcome : Outcome → List Outcome → Outcome
 head_outcome d [] = d
@@ -190,60 +230,117 @@ abbrev head_kind : List (Option OutKind) → Option OutKind
 head_kind [] = None
 head_kind (k ∷ ks) = k
 
-come_one : (row : HistoryRow) (o : Option Outcome) (k : Option OutKind) (r : Option Request) (os : List Outcome) (ks : List (Option OutKind)) (bs : List Brought)
-    → ((x : OutKind) → k ≡ Some x → (q : Request) × (r ≡ Some q) × (q.kind ≡ x)) → Come os ks bs → Come (outcome_before o os) (kind_before k o ks) (before (brought r o) bs)
-come_one row None k (Some q) os ks bs asks come came n g outcomes kinds at = come came n g outcomes kinds at
-come_one row None k None os ks bs asks come came n g outcomes kinds at = come came n g outcomes kinds at
-come_one row (Some o) k r os ks bs asks come [] n g outcomes kinds at = absurd (none-some g at)
-come_one row (Some o) k r os ks bs asks come (x ∷ came) n g outcomes kinds at = by_request (asks x.kind (sym (ap head_kind kinds))) n at
+abbrev head_clock : List (Option ℕ) → Option ℕ
+head_clock [] = None
+head_clock (c ∷ cs) = c
+
+-- the request of a row, of this kind
+abbrev AsksAt : HistoryRow → Option Request → OutKind → Type 0
+AsksAt row r x = (q : Request) × (r ≡ Some q) × (q.kind ≡ x) × (q.turn ≡ row.turn)
+
+come_one : (row : HistoryRow) (o : Option Outcome) (k : Option OutKind) (r : Option Request) (os : List Outcome) (ks : List (Option OutKind)) (cs : List (Option ℕ)) (bs : List Brought)
+    → ((x : OutKind) → k ≡ Some x → AsksAt row r x) → Come os ks cs bs → Come (outcome_before o os) (kind_before k o ks) (clock_before row o cs) (before (brought r o) bs)
+come_one row None k (Some q) os ks cs bs asks come came n g outcomes kinds clocks at = come came n g outcomes kinds clocks at
+come_one row None k None os ks cs bs asks come came n g outcomes kinds clocks at = come came n g outcomes kinds clocks at
+come_one row (Some o) k r os ks cs bs asks come [] n g outcomes kinds clocks at = absurd (none-some g at)
+come_one row (Some o) k r os ks cs bs asks come (x ∷ came) n g outcomes kinds clocks at = by_request (asks x.kind (sym (ap head_kind kinds))) n at
   where
-    by_request : (q : Request) × (r ≡ Some q) × (q.kind ≡ x.kind) → (n : ℕ) → slice_get (x ∷ came) n ≡ Some g → IsBrought (before (brought r (Some o)) bs) n g
-    by_request (q, is, same) n at =
-        let first : Brought = record { request = q; outcome = o } in
+    by_request : AsksAt row r x.kind → (n : ℕ) → slice_get (x ∷ came) n ≡ Some g → IsBrought (before (brought r (Some o)) bs) n g
+    by_request (q, is, same, turn) n at =
         subst (λ (z : Option Request). IsBrought (before (brought z (Some o)) bs) n g) (sym is) (by_number n at)
       where
         by_number : (n : ℕ) → slice_get (x ∷ came) n ≡ Some g → IsBrought (record { request = q; outcome = o } ∷ bs) n g
         by_number zero e =
             let is_g : x ≡ g = same_Some x g e in
-            (record { request = q; outcome = o }, refl, sym (ap (head_outcome o) outcomes) ∙ ap (λ (z : Given). z.outcome) is_g, same ∙ ap (λ (z : Given). z.kind) is_g)
-        by_number (suc n) e = come came n g (ap tail_of outcomes) (ap tail_of kinds) e
+            record {
+              brought = record { request = q; outcome = o };
+              at = refl;
+              outcome = sym (ap (head_outcome o) outcomes) ∙ ap (λ (z : Given). z.outcome) is_g;
+              kind = same ∙ ap (λ (z : Given). z.kind) is_g;
+              clock = ap (λ (t : Turn). Some t.clock) turn ∙ sym (ap head_clock clocks) ∙ ap (λ (z : Given). z.clock) is_g;
+            }
+        by_number (suc n) e =
+            let rest = come came n g (ap tail_of outcomes) (ap tail_of kinds) (ap tail_of clocks) e in
+            record { brought = rest.brought; at = rest.at; outcome = rest.outcome; kind = rest.kind; clock = rest.clock }
 
-asks_kind : (row : HistoryRow) (x : OutKind) → kind_asked row.call ≡ Some x → (q : Request) × (request_for row.call ≡ Some q) × (q.kind ≡ x)
-asks_kind row x h = (record { kind = x; asked = amount_asked row.call; call = row.call }, ap (request_of_kind row.call) h, refl)
+asks_kind : (row : HistoryRow) (x : OutKind) → kind_asked row.call ≡ Some x → AsksAt row (request_for row.turn row.call) x
+asks_kind row x h =
+    (record { kind = x; asked = amount_asked row.call; call = row.call; turn = row.turn }, ap (λ (k : Option OutKind). requested_at row.turn (query_of_kind row.call k)) h, refl, refl)
 
-all_come : (i : ℕ) (rows : List HistoryRow) → Come (outcomes_in i rows) (kinds_in i rows) (brought_in i rows)
-all_come i [] [] k g outcomes kinds at = absurd (none-some g at)
-all_come i [] (x ∷ came) k g outcomes kinds at = absurd (omega (arith, ap length outcomes))
-all_come i (row ∷ rows) came k g outcomes kinds at = by_test (row.turn.thread == i) (all_come i rows) came k g outcomes kinds at
+all_come : (i : ℕ) (rows : List HistoryRow) → Come (outcomes_in i rows) (kinds_in i rows) (clocks_in i rows) (brought_in i rows)
+all_come i [] [] k g outcomes kinds clocks at = absurd (none-some g at)
+all_come i [] (x ∷ came) k g outcomes kinds clocks at = absurd (omega (arith, ap length outcomes))
+all_come i (row ∷ rows) came k g outcomes kinds clocks at = by_test (row.turn.thread == i) (all_come i rows) came k g outcomes kinds clocks at
   where
-    by_test : (b : Bool) → Come (outcomes_in i rows) (kinds_in i rows) (brought_in i rows)
+    by_test : (b : Bool) → Come (outcomes_in i rows) (kinds_in i rows) (clocks_in i rows) (brought_in i rows)
         → Come (if b then outcome_before row.outcome (outcomes_in i rows) else outcomes_in i rows) (if b then kind_before (kind_asked row.call) row.outcome (kinds_in i rows) else kinds_in i rows)
+        (if b then clock_before row row.outcome (clocks_in i rows) else clocks_in i rows)
         (if b then before (brought_by row) (brought_in i rows) else brought_in i rows)
-    by_test true come = come_one row row.outcome (kind_asked row.call) (request_for row.call) (outcomes_in i rows) (kinds_in i rows) (brought_in i rows) (asks_kind row) come
+    by_test true come =
+        come_one row row.outcome (kind_asked row.call) (request_for row.turn row.call) (outcomes_in i rows) (kinds_in i rows) (clocks_in i rows) (brought_in i rows) (asks_kind row) come
     by_test false come = come
 
--- so each is what the log has of its number
-came_listed : RecordLaws → (D : Type 0) (m : Shown D) (covered : IsCovered D m) (past : Past) (rs : List Record) (n : ℕ) (ends : List LogList) (i k : ℕ) (g : Given)
-    → i < n → past.rows ≡ m.whole.rows → AreLedFrom gives_logged 0 past.rows past.asked (doors_by n rs) ends → slice_get (records.outcomes_of i m.log.records) k ≡ Some g → slice_get (records.outcomes_of i rs) k ≡ Some g
-came_listed known D m covered past rs n ends i k g l rows led at =
-    let brought_here = all_come i m.whole.rows (records.outcomes_of i m.log.records) k g (covered.outcomes i) (covered.kinds i) at in
-    let b : Brought = brought_here.0 in
+-- the clocks of what came are those of the turns
+clocks_shown : (i : ℕ) (rs : List Row) → AreDated rs → map (λ (g : Given). g.clock) (seen.outcomes_of i rs) ≡ clocks_in i (map shown rs)
+clocks_shown i [] dated = refl
+clocks_shown i (r ∷ rs) dated = by_test (r.turn.thread == i) r.outcome dated.0 (clocks_shown i rs dated.1)
+  where
+    by_outcome : (o : Option Given) → ((g : Given) → o ≡ Some g → g.clock ≡ Some r.turn.clock) → map (λ (g : Given). g.clock) (seen.outcomes_of i rs) ≡ clocks_in i (map shown rs)
+        → map (λ (g : Given). g.clock) (filter_map (λ (x : Row). x.outcome) (record r { outcome = o } ∷ lock.rows_of i rs)) ≡ clock_before (shown r) (outcome_in o) (clocks_in i (map shown rs))
+    by_outcome None own h = h
+    by_outcome (Some g) own h = ap₂ (λ (c : Option ℕ) (cs : List (Option ℕ)). c ∷ cs) (own g refl) h
+
+    by_test : (b : Bool) (o : Option Given) → ((g : Given) → o ≡ Some g → g.clock ≡ Some r.turn.clock) → map (λ (g : Given). g.clock) (seen.outcomes_of i rs) ≡ clocks_in i (map shown rs)
+        → map (λ (g : Given). g.clock) (filter_map (λ (x : Row). x.outcome) (if b then record r { outcome = o } ∷ lock.rows_of i rs else lock.rows_of i rs))
+        ≡ (if b then clock_before (shown r) (outcome_in o) (clocks_in i (map shown rs)) else clocks_in i (map shown rs))
+    by_test true o own h = by_outcome o own h
+    by_test false o own h = h
+
+-- so what the log has of its number becomes each
+came_listed : KnownOfThreads → (D : Type 0) (m : Shown D) (kept : IsKept D m) (covered : IsCovered D m) (past : Past) (rs : List Record) (n : ℕ) (ends : List LogList) (i k : ℕ) (g : Given)
+    → i < n → past.rows ≡ m.whole.rows → AreLedFrom gives_logged 0 past.rows past.asked (doors_by n rs) ends → slice_get (thread_of kept.end i).came k ≡ Some g → Supplies (records.outcomes_of i rs) k g
+came_listed known D m kept covered past rs n ends i k g l rows led at =
+    let s = kept.end in
+    let came = (thread_of s i).came in
+    let setup = setup_under (terms_with m.whole (own s)) in
+    let seen_came : came ≡ seen.outcomes_of i s.rows = known.plain.rows setup (length m.whole.threads) limit.OBJECTS first_world s kept.ends.0 i in
+    let dated : AreDated s.rows = known.dated setup (length m.whole.threads) limit.OBJECTS first_world s kept.ends.0 in
+    let outcomes : map (λ (x : Given). x.outcome) came ≡ outcomes_in i m.whole.rows =
+    sym (map-map (λ (x : Given). x.outcome) as_logged came) ∙ ap (map (λ (x : Given). x.outcome)) (kept.came i) ∙ covered.outcomes i in
+    let kinds : map (λ (x : Given). Some x.kind) came ≡ kinds_in i m.whole.rows =
+    sym (map-map (λ (x : Given). Some x.kind) as_logged came) ∙ ap (map (λ (x : Given). Some x.kind)) (kept.came i) ∙ covered.kinds i in
+    let clocks : map (λ (x : Given). x.clock) came ≡ clocks_in i m.whole.rows =
+    ap (map (λ (x : Given). x.clock)) seen_came ∙ clocks_shown i s.rows dated ∙ ap (clocks_in i) kept.ends.1.rows in
+    let here = all_come i m.whole.rows came k g outcomes kinds clocks at in
+    let b : Brought = here.brought in
     let leads = led_at 0 i i past.rows past.asked (doors_by n rs) ends (doors_of i rs) (omega arith) (let long = doors_length n rs in omega (arith, long, l)) led in
     let there : Leads gives_logged 0 (doors_of i rs) (brought_in i m.whole.rows) leads.0 =
     subst (λ (o : LogList). Leads gives_logged 0 o (brought_in i m.whole.rows) leads.0) (doors_at n i rs l)
     (subst (λ xs. Leads gives_logged 0 (get_or (doors_by n rs) i (doors_of i rs)) (brought_in i xs) leads.0) rows leads.1) in
-    let listed = leads_listed 0 (doors_of i rs) (brought_in i m.whole.rows) leads.0 there k k b (omega arith) brought_here.1 in
+    let listed = leads_listed 0 (doors_of i rs) (brought_in i m.whole.rows) leads.0 there k k b (omega arith) here.at in
     let entry : Given = listed.entry in
     let request : Request = b.request in
-    let kinds : entry.kind ≡ g.kind = known.kinds entry.kind request.kind (and_parts (is_kind entry.kind request.kind) (fits request.kind request.asked entry.outcome) listed.answer).0 ∙ brought_here.3 in
-    let outcomes : entry.outcome ≡ g.outcome = listed.outcome ∙ brought_here.2 in
-    listed.at ∙ ap Some (ap₂ (λ (x : OutKind) (o : Outcome). record { kind = x; outcome = o }) kinds outcomes)
+    let answers = and_parts (suits request.kind request.asked entry) (is_at request.turn entry.clock) listed.answer in
+    let suited = and_parts (is_kind entry.kind request.kind) (fits request.kind request.asked entry.outcome) answers.0 in
+    let kind : entry.kind ≡ g.kind = known.records.kinds entry.kind request.kind suited.0 ∙ here.kind in
+    let outcome : entry.outcome ≡ g.outcome = listed.outcome ∙ here.outcome in (
+      entry,
+      listed.at,
+      record {
+        same = λ j. record { kind = kind j; clock = None; outcome = outcome j };
+        clock = by_clock entry.clock request.turn g.clock here.clock answers.1;
+      },
+    )
+  where
+    by_clock : (clock : Option ℕ) (turn : Turn) (own : Option ℕ) → Some turn.clock ≡ own → is_at turn clock ≡ true → (clock ≡ None) ⊎ (clock ≡ own)
+    by_clock None turn own is at = inl refl
+    by_clock (Some c) turn own is at = inr (ap Some (eqb-true c turn.clock at) ∙ is)
 
-pub supplied_by_log : RecordLaws → {A : Type 0} (state : A → ScriptState) (ahead : Bool) (D : Type 0) (m : Shown D) (kept : IsKept D m) (covered : IsCovered D m) (log : LogText) (past : Past) (actors later : List A) (ends : List LogList) (scripts : List (List Line))
+pub supplied_by_log : KnownOfThreads → {A : Type 0} (state : A → ScriptState) (ahead : Bool) (D : Type 0) (m : Shown D) (kept : IsKept D m) (covered : IsCovered D m) (log : LogText) (past : Past) (actors later : List A) (ends : List LogList) (scripts : List (List Line))
     → length m.whole.threads ≡ length scripts → settings_of log.header ≡ settings_in m.whole
     → past.rows ≡ m.whole.rows → past.asked ≡ map (λ (t : Thread). t.asked) m.whole.threads → map start_of scripts ≡ map state actors → ArePlayedFrom state ahead 0 past.rows past.asked actors later
     → AreLedFrom gives_logged 0 past.rows past.asked (doors_by (length scripts) log.records) ends
-    → IsSupplied D m (inputs_of log scripts)
+    → IsSupplied D m kept.end (inputs_of log scripts)
 supplied_by_log known state ahead D m kept covered log past actors later ends scripts threads settings rows asked meant played led =
     record {
       threads = threads;
@@ -252,7 +349,7 @@ supplied_by_log known state ahead D m kept covered log past actors later ends sc
       outcomes = λ i k g at.
           ⊎_elim
           (λ (l : i < length scripts).
-          subst (λ gs. slice_get gs k ≡ Some g) (sym (outcomes_at (length scripts) i log.records l)) (came_listed known D m covered past log.records (length scripts) ends i k g l rows led at))
-          (λ (l : length scripts ≤ i). absurd (none-some g (subst (λ gs. slice_get gs k ≡ Some g) (nothing_past D m kept (length scripts) i threads l) at)))
+          subst (λ gs. Supplies gs k g) (sym (outcomes_at (length scripts) i log.records l)) (came_listed known D m kept covered past log.records (length scripts) ends i k g l rows led at))
+          (λ (l : length scripts ≤ i). absurd (none-some g (subst (λ gs. slice_get gs k ≡ Some g) (came_past kept.end i (let count = kept.ends.1.count in omega (arith, count, threads, l))) at)))
           (cases_lt i (length scripts));
     }

@@ -22,6 +22,7 @@ pub fn own_log()
     prefix_law();
     turn_order();
     logs_of_plain_runs();
+    outcomes_are_recorded();
     one_value();
     one_fault();
 }

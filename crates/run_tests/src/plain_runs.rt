@@ -51,7 +51,11 @@ fn given(alloc: Global, kind: OutKind, came: Result<u64, Errno>) -> Given {
         },
         Err(error) => Outcome::Fail(error),
     };
-    Given { kind, outcome }
+    Given {
+        kind,
+        clock: None,
+        outcome,
+    }
 }
 
 // What comes for a thread.

@@ -18,7 +18,7 @@ use Rattle.posix_terms.specs.declared.errno.Errno.TheVariants.{EBADF, EINVAL}
 use Rattle.posix_terms.specs.declared.limits.TheConstants.Limits as limit
 use Rattle.sequential_object.specs.Status.{fstat_result, getfl_result, setfl_result}
 use Rattle.sequential_object.specs.Sockets.{pipe_result, socketpair_result, shutdown_result}
-use Rattle.sequential_object.specs.Step.{step, Carried, closes_door, effect_of, concluded, failed, gave_up, held_up, is_again, nothing_moved, request_of, waited, Moved}
+use Rattle.sequential_object.specs.Step.{step, Carried, closes_door, effect_of, concluded, failed, gave_up, held_up, is_again, nothing_moved, query_of, waited, Moved}
 use Rattle.sequential_object.specs.Transfers.{first_write, is_from, not_listener, pipe_turn, writable, write_content, write_goes_on, write_resumed}
 use Rattle.sequential_object.specs.Transfers.{read_result, write_result, pread_result, pwrite_result, lseek_result, ftruncate_result}
 use Rattle.posix_terms.specs.declared.call.Access.{Access}
@@ -242,7 +242,7 @@ granted : (s : State) (c : Call) (carried : Carried) → is_write c ≡ false �
 granted s (call.Open path access flags) carried plain alone = granted-open s path access flags
 granted s (call.Close descriptor) carried plain alone = by_effect (does_of (close_result s descriptor)) (granted-close s descriptor) alone
   where
-    by_effect : (r : Result Effect Errno) → IfOk r (IsClosed s) → is_some (request_of (call.Close descriptor) r) ≡ false → IfOk r (IsGranted s)
+    by_effect : (r : Result Effect Errno) → IfOk r (IsClosed s) → is_some (query_of (call.Close descriptor) r) ≡ false → IfOk r (IsGranted s)
     by_effect (Ok (Completes after x)) closed alone = closed
     by_effect (Ok (Blocks after moved)) closed alone = closed
     by_effect (Ok (Asks a)) closed alone = absurd (false≢true (sym alone))

@@ -7,7 +7,7 @@ use Rattle.sequential_object.specs.Step.{Carried, Stepped, asks, nothing_carried
 use Rattle.posix_terms.specs.declared.outcome.Outcome.{Outcome}
 use Rattle.posix_terms.specs.declared.reply.Answer.{Answer}
 use Rattle.posix_terms.specs.declared.reply.Answer.TheVariants as answer
-use Rattle.posix_terms.specs.declared.request.Request.{Request}
+use Rattle.posix_terms.specs.Queries.{Query}
 use Rattle.posix_terms.specs.declared.transcript.HistoryRow.{HistoryRow}
 use Rattle.posix_terms.specs.declared.transcript.Settings.{Settings}
 
@@ -21,22 +21,23 @@ carried_after carried (Some (answer.Reply r)) stepped = nothing_carried
 abbrev pub carried_on : (ℕ → Carried) → HistoryRow → Stepped → ℕ → Carried
 carried_on carried row stepped thread = if row.turn.thread == thread then carried_after (carried thread) row.answer stepped else carried thread
 
--- an outcome answers a request that it fits; a call that asks for none has none
-abbrev pub Answers : Option Request → Option Outcome → Type 0
+-- an outcome answers a query that it fits; a call that asks for none has none
+abbrev pub Answers : Option Query → Option Outcome → Type 0
 Answers (Some r) (Some o) = fits r.kind r.asked o ≡ true
 Answers (Some r) None = Unit {0}
 Answers None o = o ≡ None
 
 -- a row is right where its answer, if it was given, is that of the step, and its outcome, if it came, answers what the call asks. It came before
 -- the answer
-pub record IsRight (request : Option Request) (stepped : Stepped) (row : HistoryRow) : Type 0 where
+pub record IsRight (query : Option Query) (stepped : Stepped) (row : HistoryRow) : Type 0 where
   pub answer_is : (given : Answer) → row.answer ≡ Some given → given ≡ stepped.answer
-  pub outcome_is : Answers request row.outcome
-  pub outcome_came : (given : Answer) → row.answer ≡ Some given → is_some row.outcome ≡ is_some request
+  pub outcome_is : Answers query row.outcome
+  pub outcome_came : (given : Answer) → row.answer ≡ Some given
+      → is_some row.outcome ≡ is_some query
 
 -- an outcome that came, or one that may still come: of a call that asks, any that fits
-abbrev pub MayBe : Option Request → Option Outcome → Option Outcome → Type 0
-MayBe request (Some came) o = o ≡ Some came
+abbrev pub MayBe : Option Query → Option Outcome → Option Outcome → Type 0
+MayBe query (Some came) o = o ≡ Some came
 MayBe (Some r) None o = (is_some o ≡ true) × Answers (Some r) o
 MayBe None None o = o ≡ None
 

@@ -20,7 +20,7 @@ use Rattle.posix_terms.specs.declared.errno.Errno.{Errno}
 use Rattle.posix_terms.specs.declared.errno.Errno.TheVariants.{EAGAIN, EINTR, EIO}
 use Rattle.posix_terms.specs.declared.outcome.Outcome.{Outcome}
 use Rattle.posix_terms.specs.declared.outcome.Outcome.TheVariants as outcome
-use Rattle.posix_terms.specs.declared.request.Request.{Request}
+use Rattle.posix_terms.specs.Queries.{Query}
 use Rattle.posix_terms.specs.declared.reply.Answer.{Answer}
 use Rattle.posix_terms.specs.declared.reply.Answer.TheVariants as answer
 use Rattle.posix_terms.specs.declared.reply.Reply.{Reply}
@@ -66,12 +66,12 @@ abbrev pub effect_of : State → Call → Carried → Result Effect Errno
 effect_of s c carried = does_of (decided s c carried)
 
 -- what a call asks of the outside, if it goes there
-abbrev pub request_of : Call → Result Effect Errno → Option Request
-request_of c (Ok (Asks a)) = Some (record { kind = a.kind; asked = a.asked; call = c })
-request_of c effect = None
+abbrev pub query_of : Call → Result Effect Errno → Option Query
+query_of c (Ok (Asks a)) = Some (record { kind = a.kind; asked = a.asked; call = c })
+query_of c effect = None
 
-abbrev pub asks : State → Call → Carried → Option Request
-asks s c carried = request_of c (effect_of s c carried)
+abbrev pub asks : State → Call → Carried → Option Query
+asks s c carried = query_of c (effect_of s c carried)
 
 -- the state after a turn of a call, how it was answered, and what the thread's next call turn carries
 pub record Stepped : Type 0 where

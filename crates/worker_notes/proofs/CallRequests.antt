@@ -10,7 +10,7 @@ use Rattle.sequential_object.specs.Object as object
 use Rattle.sequential_object.specs.Object.{State}
 use Rattle.sequential_object.specs.Refusals.{◌>>=◌}
 use Rattle.sequential_object.specs.Sockets.{shutdown_result}
-use Rattle.sequential_object.specs.Step.{Carried, asks, request_of}
+use Rattle.sequential_object.specs.Step.{Carried, asks, query_of}
 use Rattle.sequential_object.specs.Transfers.{first_write, lseek_result, read_result, write_result}
 use Rattle.posix_terms.specs.declared.call.Access.{Access}
 use Rattle.posix_terms.specs.Calls.{Call}
@@ -21,16 +21,16 @@ use Rattle.posix_terms.specs.declared.call.Whence.{Whence}
 use Rattle.posix_terms.specs.declared.errno.Errno.{Errno}
 use Rattle.posix_terms.specs.declared.outcome.OutKind.TheVariants as kind
 use Rattle.posix_terms.specs.declared.reply.Reply.TheVariants as reply
-use Rattle.posix_terms.specs.declared.request.Request.{Request}
-use Rattle.worker_notes.specs.Requests.{AskByTheirCall, request_for}
+use Rattle.posix_terms.specs.Queries.{Query}
+use Rattle.worker_notes.specs.Requests.{AskByTheirCall, query_for}
 
--- a request, if there is one, is that of this call
-abbrev IsOf : Call → Option Request → Type 0
-IsOf c (Some r) = request_for c ≡ Some r
+-- a query, if there is one, is that of this call
+abbrev IsOf : Call → Option Query → Type 0
+IsOf c (Some r) = query_for c ≡ Some r
 IsOf c None = Unit {0}
 
-through : (c : Call) {A : Type 0} (r : Result A Errno) (f : A → Result Decision Errno) → ((x : A) → IsOf c (request_of c (does_of (f x))))
-    → IsOf c (request_of c (does_of (r >>= f)))
+through : (c : Call) {A : Type 0} (r : Result A Errno) (f : A → Result Decision Errno) → ((x : A) → IsOf c (query_of c (does_of (f x))))
+    → IsOf c (query_of c (does_of (r >>= f)))
 through c (Ok x) f each = each x
 through c (Err e) f each = tt
 
@@ -39,7 +39,7 @@ unfolding close_result
 of_close s carried descriptor = through (call.Close descriptor) (described s descriptor) _ (λ found. by_test found (ends_door s descriptor found))
   where
     by_test : (found : ℕ × object.Description) (b : Bool)
-        → IsOf (call.Close descriptor) (request_of (call.Close descriptor) (Ok (if b then asks_of (released (freed s descriptor) found.0 found.1) kind.Close 0 false (λ value bytes. reply.Done) else Completes (released (freed s descriptor) found.0 found.1) reply.Done)))
+        → IsOf (call.Close descriptor) (query_of (call.Close descriptor) (Ok (if b then asks_of (released (freed s descriptor) found.0 found.1) kind.Close 0 false (λ value bytes. reply.Done) else Completes (released (freed s descriptor) found.0 found.1) reply.Done)))
     by_test found true = refl
     by_test found false = tt
 
@@ -76,7 +76,7 @@ unfolding tcp_accept_result
 of_accept s carried descriptor = grind (arith, nat_tests)
 
 -- of the calls that never go outside the kind says so
-of_no_kind : (c : Call) (o : Option Request) → kind_asked c ≡ None → IsOfKind (kind_asked c) o → IsOf c o
+of_no_kind : (c : Call) (o : Option Query) → kind_asked c ≡ None → IsOfKind (kind_asked c) o → IsOf c o
 of_no_kind c None none h = tt
 of_no_kind c (Some r) none h = absurd (none-some r.kind (sym none ∙ sym h))
 
@@ -92,7 +92,7 @@ of_call law s (call.TcpConnect port) carried = of_connect s carried port
 of_call law s (call.TcpAccept descriptor) carried = of_accept s carried descriptor
 of_call law s c carried = of_no_kind c (asks s c carried) refl (law s c carried)
 
-at : (c : Call) (o : Option Request) (r : Request) → IsOf c o → o ≡ Some r → request_for c ≡ Some r
+at : (c : Call) (o : Option Query) (r : Query) → IsOf c o → o ≡ Some r → query_for c ≡ Some r
 at c o r h e = rw e at h
 
 pub asked_by_call : AskTheirKind → AskByTheirCall

@@ -4,6 +4,7 @@ use Rattle.std.specs.Prelude.{◌≡◌, ◌⊎◌, ℕ, ◌+◌, List, [], ◌�
 use Rattle.posix_terms.specs.Calls.{Call}
 use Rattle.posix_terms.specs.declared.outcome.Outcome.{Outcome}
 use Rattle.posix_terms.specs.declared.request.Request.{Request}
+use Rattle.posix_terms.specs.declared.transcript.Turn.{Turn}
 use Rattle.worker_notes.specs.Requests.{request_for}
 use Rattle.worker_notes.specs.declared.own.Brought.{Brought}
 
@@ -16,10 +17,11 @@ abbrev pub Leads : {O : Type 0} → Giving O → ℕ → O → List Brought → 
 Leads gives number o [] p = p ≡ o
 Leads {O} gives number o (b ∷ brought) p = (q : O) × gives o number b.request b.outcome q × Leads gives (number + 1) q brought p
 
--- one more call outside: the request of this call, with the outcome of this number
+-- one more call outside: the request of this call at some turn, with the outcome of this number
 abbrev pub IsOneMore : {O : Type 0} → Giving O → Call → ℕ → O → O → Type 0
 IsOneMore gives c number q p =
-    (request : Request) × (outcome : Outcome) × (request_for c ≡ Some request) × gives q number request outcome p
+    (turn : Turn) × (request : Request) × (outcome : Outcome)
+    × (request_for turn c ≡ Some request) × gives q number request outcome p
 
 -- it gave no more; or, where the thread is in a call, at most one outcome more: of the request of that call
 abbrev pub IsAhead : {O : Type 0} → Giving O → Option Call → ℕ → O → O → Type 0

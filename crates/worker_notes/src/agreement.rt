@@ -115,7 +115,8 @@ fn is_brought_by(noted: &Brought, row: &HistoryRow) -> bool
 {
     match &row.outcome {
         Some(outcome) => {
-            is_request_of(&noted.request, &row.call) && same_outcome(&noted.outcome, outcome)
+            is_request_of(&noted.request, row.turn, &row.call)
+                && same_outcome(&noted.outcome, outcome)
         }
         None => false,
     }

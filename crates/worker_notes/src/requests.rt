@@ -3,12 +3,13 @@ ghost use Rattle.lock_machine.specs.Requests.{kind_asked};
 ghost use Rattle.worker_notes.specs.Requests.{amount_asked, counted, request_for};
 
 use crate::same::same_call;
-use posix_terms::{Call, OutKind, Request};
+use posix_terms::{Call, OutKind, Request, Turn};
 use std::alloc::AllocError;
 
-/// The request with which a call goes outside, with a copy of the call; none of a call that never goes there.
-pub fn request_for(call: &Call) -> Result<Option<Request>, AllocError>
-    ensures { IfOk result (λ request. request ≡ request_for call.now) }
+/// The request with which a call goes outside that was granted at this turn, with a copy of the call;
+/// none of a call that never goes there.
+pub fn request_for(turn: Turn, call: &Call) -> Result<Option<Request>, AllocError>
+    ensures { IfOk result (λ request. request ≡ request_for turn call.now) }
 {
     let Some(kind) = kind_asked(call) else {
         return Ok(None);
@@ -17,15 +18,18 @@ pub fn request_for(call: &Call) -> Result<Option<Request>, AllocError>
         kind,
         asked: amount_asked(call),
         call: call.try_clone()?,
+        turn,
     }))
 }
 
-/// Whether this is the request with which a call goes outside.
-pub fn is_request_of(request: &Request, call: &Call) -> bool
-    ensures { IsTrue result ↔ (request_for call.now ≡ Some request.now) }
+/// Whether this is the request with which a call goes outside that was granted at this turn.
+pub fn is_request_of(request: &Request, turn: Turn, call: &Call) -> bool
+    ensures { IsTrue result ↔ (request_for turn call.now ≡ Some request.now) }
 {
     kind_asked(call) == Some(request.kind)
-        && (amount_asked(call) == request.asked && same_call(&request.call, call))
+        && amount_asked(call) == request.asked
+        && request.turn == turn
+        && same_call(&request.call, call)
 }
 
 // The kind of the request, if the call may go outside.

@@ -1,5 +1,5 @@
 use host_doors::DoorStop;
-use posix_terms::{Bytes, Call, Errno, OutKind, Outcome, Request};
+use posix_terms::{Bytes, Call, Errno, OutKind, Outcome, Request, Turn};
 use std::alloc::{AllocError, Global};
 use std::test::Fail;
 
@@ -11,12 +11,19 @@ pub(crate) fn success(alloc: Global, value: u64, bytes: &[u8]) -> Result<Outcome
     })
 }
 
+/// The turn of each request in these tests.
+pub(crate) const FIRST_TURN: Turn = Turn {
+    clock: 1,
+    thread: 0,
+};
+
 /// A request whose call says nothing more.
 pub(crate) fn plain(kind: OutKind, asked: u64) -> Request {
     Request {
         kind,
         asked,
         call: Call::Close { descriptor: 3 },
+        turn: FIRST_TURN,
     }
 }
 

@@ -31,7 +31,11 @@ fn add(
     bytes: &[u8],
 ) -> Result<(), AllocError> {
     let outcome = success(alloc, value, bytes)?;
-    list.push(Given { kind, outcome })?;
+    list.push(Given {
+        kind,
+        clock: None,
+        outcome,
+    })?;
     Ok(())
 }
 

@@ -1,6 +1,6 @@
 ghost use Rattle.std.specs.Prelude.{◌≡◌};
 
-use crate::words::doors::{Came, is_so, plain};
+use crate::words::doors::{Came, FIRST_TURN, is_so, plain};
 use host_doors::{DoorStop, HostDoor, HostDoors, Opened, Outside};
 use posix_terms::{
     Access, Bytes, Call, Errno, OpenFlags, OutKind, Outcome, Request, ShutdownHow, Whence,
@@ -65,7 +65,12 @@ fn request_of(alloc: Global, ask: Ask) -> Result<Request, AllocError> {
         }
         Ask::Shut(how) => (OutKind::Shutdown, 0, Call::Shutdown { descriptor: 3, how }),
     };
-    Ok(Request { kind, asked, call })
+    Ok(Request {
+        kind,
+        asked,
+        call,
+        turn: FIRST_TURN,
+    })
 }
 
 /// What comes of a request at a door.
@@ -158,6 +163,7 @@ fn opening(alloc: Global, path: &[u8], access: Access) -> Result<Request, AllocE
         kind: OutKind::Open,
         asked: 0,
         call,
+        turn: FIRST_TURN,
     })
 }
 

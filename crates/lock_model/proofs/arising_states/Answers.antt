@@ -1,4 +1,4 @@
-use Rattle.lock_model.proofs.Arising.{arises_event, arises_run, arises_start, legal_arisen}
+use Rattle.lock_model.proofs.Arising.{arises_event, arises_run, arises_start, legal_arisen, dated_arisen}
 use Rattle.lock_model.proofs.Follows.{run_follows}
 use Rattle.lock_model.proofs.OwnPlans.{plans_arisen}
 use Rattle.lock_model.proofs.OwnRows.{held_arisen, rows_arisen}
@@ -23,6 +23,9 @@ returns-clause-legal c = legal_arisen
 
 pub returns-clause-rising : goal.returns-clause-rising
 returns-clause-rising c = rising_arisen
+
+pub returns-clause-dated : goal.returns-clause-dated
+returns-clause-dated c = dated_arisen
 
 pub returns-clause-locks : goal.returns-clause-locks
 returns-clause-locks c = held_arisen

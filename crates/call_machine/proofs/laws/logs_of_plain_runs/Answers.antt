@@ -10,4 +10,7 @@ returns-clause-spelled c =
     has_spelling (record { events = c.one_event.ensures; records = c.outcomes_are_recorded.ensures; little = c.requests_asked.ensures.little; arises = came.arises; count = came.count; room = came.room })
 
 pub returns-clause-straight : goal.returns-clause-straight
-returns-clause-straight c = let came = c.outcomes_that_came.ensures in none_diverges (record { same = came.same; stays = came.stays; grows = came.grows })
+returns-clause-straight c =
+    let came = c.outcomes_that_came.ensures in
+    let keeps = c.outcomes_are_recorded.ensures in
+    none_diverges (record { keeps = keeps.keeps; alike = came.alike; same = came.same; stays = came.stays; grows = came.grows })

@@ -1,4 +1,4 @@
-use Rattle.std.proofs.Common.{◌≡◌, ◌∙◌, arith, ap, length, subst, sym}
+use Rattle.std.proofs.Common.{◌≡◌, ◌∙◌, arith, subst}
 use Rattle.std.proofs.lemmas.List.{length-append}
 use Rattle.recorder.specs.Recorded.{AreBeginnings, transcripts_of}
 use Rattle.recorder.proofs.Seen.{begin_all, begin_more, whole_more}

@@ -7,6 +7,8 @@ returns c =
     let logs = c.logs_of_plain_runs.ensures in
     law.own_log
     (record {
+      keeps = c.outcomes_are_recorded.ensures.keeps;
+      alike = plain.alike;
       same = plain.same;
       over = plain.over;
       leads = plain.leads;

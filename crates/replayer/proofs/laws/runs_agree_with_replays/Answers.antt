@@ -10,6 +10,8 @@ returns g c =
     let known : KnownOfThreads =
     record {
       plain = record {
+        keeps = c.outcomes_are_recorded.ensures.keeps;
+        alike = plain.alike;
         same = plain.same;
         over = plain.over;
         leads = plain.leads;
@@ -30,6 +32,7 @@ returns g c =
       };
       followed = c.prefix_law.ensures.under_followed;
       replies = plain.replies;
+      dated = c.arising_states.ensures.dated;
       some_end = ends.ends;
       scripts_end = c.programs_of_scripts.ensures.end;
       holder = c.turn_order.ensures.holder;

@@ -57,7 +57,8 @@ append-requires c =
     let g : Given = c.in-Some-get.given.now in
     let out = outside_phase (phase_at d.machine i) c.requires.outside in
     let moves : outlook d.machine i g ≡ progress.Moves = sym c.outlook.ensures.value ∙ c.in-Moves.is in
-    little_data out.0.errand g c.in_ok-try_clone.field-0 (taken_answers d.machine i out.0 g out.1 moves) c.in_ok-try_clone.ensures
+    let (turn, answers) = taken_answers d.machine i out.0 g out.1 moves in
+    little_data out.0.errand turn g c.in_ok-try_clone.field-0 answers c.in_ok-try_clone.ensures
 
 pub returns-clause-event : goal.returns-clause-event
 returns-clause-event c =
@@ -72,10 +73,8 @@ returns-clause-event c =
     subst (λ (gs : List Given). slice_get gs c.came-number.result ≡ Some g) c.as_slice.ensures (got_at c.as_slice.result.now c.came-number.result g c.in-Some-get.ensures.lookup.0 c.in-Some-get.ensures.lookup.1) in
     let next = given_in d i c.came-number.result c.in-Some.outcomes.now (Some g) c.came-number.ensures there own got in
     let out = outside_phase (phase_at d.machine i) c.requires.outside in
-    let copy : Given = c.into_given.result in
-    let cloned : Given = record { kind = g.kind; outcome = c.in_ok-try_clone.field-0 } in
-    let same_clone : cloned ≡ g = λ k. record { kind = g.kind; outcome = c.in_ok-try_clone.ensures k } in
-    let same : copy ≡ g = c.into_given.ensures ∙ same_clone in
+    let copy : Given = record { kind = g.kind; clock = g.clock; outcome = c.in_ok-try_clone.field-0 } in
+    let same : copy ≡ g = λ k. record { kind = g.kind; clock = g.clock; outcome = c.in_ok-try_clone.ensures k } in
     let moves : outlook d.machine i g ≡ progress.Moves = sym c.outlook.ensures.value ∙ c.in-Moves.is in
     let taken : c.record.result ≡ Ok progress.Moves = c.record.ensures.value ∙ ap₂ recorded_as c.requires.outside (ap (outlook d.machine i) same ∙ moves) in
     let event : RecordsGiven progress.Moves i copy p.whole w = came_taken (is_outside (phase_at p.whole i)) c.record.result progress.Moves p.whole w (λ y. RecordsGiven (unwrap_or y progress.Stays) i copy p.whole w) taken c.record.ensures.event in

@@ -13,6 +13,6 @@ returns g c =
     let out = sym c.in-Some.ensures in
     let phase = c.phase.ensures in
     let at = c.index-rows-outing.is ∙ ap (λ (rows : List HistoryRow). get_or rows o.row row) c.rows.ensures in
-    let copy = c.in_ok-try_clone.ensures ∙ ap (λ (r : HistoryRow). r.call) (sym c.index-rows-outing.is) in
-    subst (λ (x : Shown g.row.D.Denot). IsRequest x.whole c.args.i (Some (record { kind = o.errand.kind; asked = o.errand.asked; call = c.in_ok-try_clone.field-0 }))) c.self.view_is
+    let copy = c.in_ok-try_clone.ensures in
+    subst (λ (x : Shown g.row.D.Denot). IsRequest x.whole c.args.i (Some (record { kind = o.errand.kind; asked = o.errand.asked; call = c.in_ok-try_clone.field-0; turn = row.turn }))) c.self.view_is
     (is_request m.calls c.args.i o row c.in_ok-try_clone.field-0 (sym (ap out_of phase) ∙ out) at copy)
