@@ -43,9 +43,14 @@ abbrev pub stop_of : State → Option ℕ → Option Stop
 stop_of s (Some i) = Some (stop.Diverged i (length (thread_of s i).came))
 stop_of s None = stop_by s (turn_holder (live_clocks s))
 
--- the header of a run's log: the number of its threads, and its settings
+-- the header of a run's log: version 1, the number of its threads, and its settings
 abbrev pub header_of : Inputs → Header
-header_of input = record { threads = length input.scripts; patience = input.settings.patience; door_cost = input.settings.door_cost }
+header_of input = record {
+  version = 1;
+  threads = length input.scripts;
+  patience = input.settings.patience;
+  door_cost = input.settings.door_cost;
+}
 
 -- the log of so many events of a plain run: its end stands where all threads ended
 abbrev pub log_of : Inputs → ℕ → List Bool → LogText

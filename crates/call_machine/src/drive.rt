@@ -159,6 +159,7 @@ impl Driver {
         let item = Record {
             thread: i as u16,
             number,
+            clock: None,
             kind: given.kind,
             outcome: given.outcome.try_clone()?,
         };

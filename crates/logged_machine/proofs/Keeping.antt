@@ -147,7 +147,7 @@ blocked_home i w h = inside_home i w (blocked_home_in (phase_at w i) h)
 
 -- as many threads with the same settings have the same header
 pub header_stays : (old new : Whole) → length new.threads ≡ length old.threads → settings_in new ≡ settings_in old → header_of new ≡ header_of old
-header_stays old new count same = λ k. let settings = same k in record { threads = count k; patience = settings.patience; door_cost = settings.door_cost }
+header_stays old new count same = λ k. let settings = same k in record { version = 1; threads = count k; patience = settings.patience; door_cost = settings.door_cost }
 
 -- ## The event
 

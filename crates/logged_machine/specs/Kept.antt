@@ -13,8 +13,14 @@ use Rattle.logged_machine.specs.Shown.{Shown}
 use Rattle.logged_machine.specs.declared.stop.Stop.{Stop}
 use Rattle.logged_machine.specs.declared.stop.Stop.TheVariants as stop
 
+-- a machine's log has version 1
 abbrev pub header_of : Whole → Header
-header_of w = record { threads = length w.threads; patience = w.patience; door_cost = w.door_cost }
+header_of w = record {
+  version = 1;
+  threads = length w.threads;
+  patience = w.patience;
+  door_cost = w.door_cost;
+}
 
 abbrev pub is_sink : Option Stop → Bool
 is_sink (Some stop.Sink) = true

@@ -95,8 +95,9 @@ fn agrees<S: LogSink>(header: Header, finished: &Finished<S>, own: &[Own]) -> bo
 fn same_header(one: Header, other: Header) -> bool
     ensures { IsTrue result ↔ (one ≡ other) }
 {
-    one.threads == other.threads
-        && (one.patience == other.patience && one.door_cost == other.door_cost)
+    one.version == other.version
+        && (one.threads == other.threads
+            && (one.patience == other.patience && one.door_cost == other.door_cost))
 }
 
 // Why the run stopped. Where the notes do not agree it is that the threads strayed; else, where what they saw is not

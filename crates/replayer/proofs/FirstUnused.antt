@@ -1,4 +1,5 @@
 -- The first record that was not used.
+use Rattle.input_log.specs.declared.fixed.Due.{Due}
 use Rattle.std.proofs.Common.{◌≡◌, ℕ, zero, suc, ◌+◌, ◌-◌, ◌<◌, ◌≤◌, Bool, true, false, cond, List, [], ◌∷◌, ◌++◌, Option, Some, None, refl, sym, ap, ◌∙◌, subst, append_assoc, arith}
 use Rattle.std.proofs.lemmas.Bool.{eqb-true}
 use Rattle.std.proofs.lemmas.List.{append-nil}
@@ -6,7 +7,7 @@ use Rattle.std.proofs.lemmas.List.Sums.{sum_by-append}
 use Rattle.std.specs.Prelude.{nat_lt, ◌&&◌, ◌==◌}
 use Rattle.posix_terms.specs.declared.limits.TheConstants.Limits as limit
 use Rattle.input_log.specs.Format.{fixed_of}
-use Rattle.input_log.specs.Grammar.{AreGood, good, number_of}
+use Rattle.input_log.specs.Grammar.{AreGood, good, number_of, due_of}
 use Rattle.input_log.specs.declared.log.Header.{Header}
 use Rattle.input_log.specs.declared.log.Record.{Record}
 use Rattle.posix_terms.specs.declared.transcript.HistoryRow.{HistoryRow}
@@ -53,14 +54,14 @@ below (suc n) records rows t m is = split (below n records rows t m) (first_unus
         let one = one_below n (came_for n rows) (number_of n records) t m (nat_lt (came_for n rows) (number_of n records)) refl is in
         subst (λ (k : ℕ). m < number_of k records) one.0 one.1
 
-second_and_third : (a b c d e f g : Bool) → (a && b && c && d && e && f && g) ≡ true → (b ≡ true) × (c ≡ true)
-second_and_third a b c d e f g h = (grind (arith, h), grind (arith, h))
+second_and_third : (a b c d e f g i : Bool) → (a && b && c && d && e && f && g && i) ≡ true → (b ≡ true) × (c ≡ true)
+second_and_third a b c d e f g i h = (grind (arith, h), grind (arith, h))
 
 -- a good record has the number that is due, and that is small
-good_due : (header : Header) (due : ℕ) (r : Record) → good header due (fixed_of r) ≡ true → due < 134217728
+good_due : (header : Header) (due : Due) (r : Record) → good header due (fixed_of r) ≡ true → due.number < 134217728
 unfolding good
 good_due header due r ok =
-    let h = second_and_third (nat_lt r.thread header.threads) (r.number == due) (nat_lt r.number limit.OUTCOMES) _ _ _ _ ok in
+    let h = second_and_third (nat_lt r.thread header.threads) (r.number == due.number) (nat_lt r.number limit.OUTCOMES) _ _ _ _ _ ok in
     grind (arith, h.0, h.1)
 
 -- so each thread of a log has few records
@@ -73,7 +74,7 @@ few header t before (r ∷ rs) low all =
   where
     by_thread : (b : Bool) → (r.thread == t) ≡ b → number_of t before + cond b 1 0 ≤ 134217728
     by_thread true e =
-        let due : number_of t before < 134217728 = subst (λ (u : ℕ). number_of u before < 134217728) (eqb-true r.thread t e) (good_due header (number_of r.thread before) r all.0) in
+        let due : number_of t before < 134217728 = subst (λ (u : ℕ). number_of u before < 134217728) (eqb-true r.thread t e) (good_due header (due_of r.thread before) r all.0) in
         omega (arith, due)
     by_thread false e = omega (arith, low)
 

@@ -37,6 +37,7 @@ pub(crate) fn machine(
         return Err(AllocError);
     }
     let header = Header {
+        version: 1,
         threads: threads as u16,
         patience: settings.patience,
         door_cost: settings.door_cost,

@@ -150,6 +150,7 @@ fn feed_is_whole_or_wants_memory(rt: HostRuntime) {
 // ## The machine
 
 const HEADER: Header = Header {
+    version: 1,
     threads: 2,
     patience: 1000,
     door_cost: 100,

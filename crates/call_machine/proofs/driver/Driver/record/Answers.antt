@@ -81,8 +81,8 @@ returns-clause-event c =
     let h = subst (λ (x : Given). RecordsGiven progress.Moves i x p.whole w) same event in
     let log : c.append.new.self ≡ logged p.log (record_of i (thread_at p.whole i).came g) =
     c.in_ok-append.ensures
-    ∙ ap (λ x. logged p.log (record { thread = i; number = c.came-number.result; kind = g.kind; outcome = x })) c.in_ok-try_clone.ensures
-    ∙ ap (λ n. logged p.log (record { thread = i; number = n; kind = g.kind; outcome = g.outcome })) c.came-number.ensures in
+    ∙ ap (λ x. logged p.log (record { thread = i; number = c.came-number.result; clock = None; kind = g.kind; outcome = x })) c.in_ok-try_clone.ensures
+    ∙ ap (λ n. logged p.log (record { thread = i; number = n; clock = None; kind = g.kind; outcome = g.outcome })) c.came-number.ensures in
     let made : c.unwrap_or.result ≡ progress.Moves = c.unwrap_or.ensures ∙ ap (λ y. unwrap_or y progress.Stays) (told_taken c.record.result c.in_ok-made.made progress.Moves taken c.in_ok-made.ensures) in
     let Q : Progress → Type 0 = λ m. Makes m i p (record p { whole = w; log = c.append.new.self }) in
     let L : Written → Type 0 = λ l. Makes progress.Moves i p (record p { whole = w; log = l }) in
