@@ -198,8 +198,9 @@ The last line is end where all threads came to their end and every record was us
 
 At the end of the log, the thread that has the turn wants a record that is not there; all others went on
 as far as they could. The replay diverged where the record of this thread and number is of another kind
-than the call asks, or does not fit what it asks, or where no call asked for it. Then a script is not the
-one that was run, or the log is not of that run. The lines before are what each thread saw until then.
+than the call asks, or does not fit what it asks, or has a clock that is not that of the call's turn, or
+where no call asked for it. Then a script is not the one that was run, or the log is not of that run. The
+lines before are what each thread saw until then.
 
 With --threads each script runs in a thread of its own, as under detio record. A replay that comes to its
 end prints the same lines. One that stops does so at once, wherever the other threads are: so how much each
@@ -273,10 +274,11 @@ const SHOW_ABOUT: &str = "Prints a log";
 
 const SHOW_LONG_ABOUT: &str = "Prints a log.
 
-The first line says what the log was written under. A line for each record follows, in order: thread,
-number among the records of that thread, kind of the request and outcome. The outcome is ok, a value and
-the bytes that were read in hexadecimal, - for none, or fail and the name of the error. The last line is
-end and the number of records, or open and that number where the log is not closed.
+The first line says which version the log has, and what it was written under. A line for each record
+follows, in order: thread, number among the records of that thread, in a log of version 2 the clock of the
+turn that it belongs to, kind of the request and outcome. The outcome is ok, a value and the bytes that
+were read in hexadecimal, - for none, or fail and the name of the error. The last line is end and the
+number of records, or open and that number where the log is not closed.
 
 What is not a log has one line on standard error, for its first fault:
   log: bad magic
