@@ -1,6 +1,7 @@
 -- Believed: a contract of the headline stands on it.
 -- The plain run of scripts, by the lock machine.
-use Rattle.std.specs.Prelude.{◌≡◌, ◌<◌, ℕ, List, length, map, Option, Some, None, Bool, true, false, ◌&&◌, ◌==◌, nat_le, Result, Ok, Err}
+use Rattle.std.specs.Prelude.{◌≡◌, ◌<◌, ℕ, List, length, map, Option, Some, None, Bool, true, false}
+use Rattle.std.specs.Prelude.{◌&&◌, ◌==◌, nat_le, Result, Ok, Err}
 use Rattle.posix_terms.specs.declared.limits.TheConstants.Limits as limit
 use Rattle.input_log.specs.Format.{text_of}
 use Rattle.input_log.specs.declared.log.Header.{Header}

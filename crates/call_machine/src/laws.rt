@@ -5,9 +5,10 @@ use lock_machine::requests_asked;
 use lock_model::{one_event, outcomes_that_came};
 use logged_machine::outcomes_are_recorded;
 
-/// The log of a plain run, after any number of events. By thread the outcomes of its records are those that came, in
-/// order, without their clocks (`came`); it is a log, which has a spelling (`spelled`); and a plain run under just
-/// those outcomes never diverges (`straight`). So the log of a run leads to that run again. The contract is the law.
+/// The log of a plain run, after any number of events. By thread the outcomes of its records are
+/// those that came, in order, without their clocks (`came`); it is a log, which has a spelling
+/// (`spelled`); and a plain run under just those outcomes never diverges (`straight`). So the log
+/// of a run leads to that run again. The contract is the law.
 pub fn logs_of_plain_runs()
     ensures came { RecordsCame }
     ensures spelled { HasSpelling }

@@ -38,16 +38,17 @@ use posix_terms::{
 
 impl Table {
     /// What the table makes of a call that moved so much before: its reply, exactly where the call
-    /// takes no object's lock. So it is for a write that moved bytes, where its descriptor is closed
-    /// or names another description than the one by which the first byte went (docs/profile.md).
-    /// Otherwise the object, and what the call does there with the description, its end, its flags
-    /// and the number of names as they are now. That object is there, or it is the one that the call makes, and a description
-    /// whose offset the call reads or moves is there, and so is an object whose door is taken along; and no
-    /// more bytes are read, nor in the reply, than the `read_count` of the call (`object`). The reply, the
-    /// object, what is asked outside and whether the call keeps the table are those of the sequential object,
-    /// of which the table shows all but contents and offsets (`step`). What the call does with the object's
-    /// content and the offset, and whether it has to wait, is what the step does (`acts`), and the step leaves
-    /// other objects and other offsets as they are (`others`).
+    /// takes no object's lock. So it is for a write that moved bytes, where its descriptor is
+    /// closed or names another description than the one by which the first byte went
+    /// (docs/profile.md). Otherwise the object, and what the call does there with the description,
+    /// its end, its flags and the number of names as they are now. That object is there, or it is
+    /// the one that the call makes, and a description whose offset the call reads or moves is
+    /// there, and so is an object whose door is taken along; and no more bytes are read, nor in the
+    /// reply, than the `read_count` of the call (`object`). The reply, the object, what is asked
+    /// outside and whether the call keeps the table are those of the sequential object, of which
+    /// the table shows all but contents and offsets (`step`). What the call does with the object's
+    /// content and the offset, and whether it has to wait, is what the step does (`acts`), and the
+    /// step leaves other objects and other offsets as they are (`others`).
     pub fn plan(&self, call: &Call, so_far: Moved) -> Plan
         ensures plan { result ≡ planned self.now call.now so_far }
         ensures object { LocksKnown self.now (read_count call.now) result }

@@ -69,7 +69,8 @@ row_recorded o g q p =
       rows = slice_set p.rows o.row (record q { outcome = Some g.outcome });
     }
 
--- by whether it answers and whether its thread can have one more: it goes into the row, or nothing changes
+-- by whether it answers and whether its thread can have one more: it goes into the row, or nothing
+-- changes
 abbrev pub RecordsIf : Bool → Bool → Progress → Outing → Given → HistoryRow
     → RecordedParts → RecordedParts → Type 0
 RecordsIf true true made o g q old new = (made ≡ progress.Moves) × (new ≡ row_recorded o g q old)

@@ -213,7 +213,8 @@ Tells told i old new =
 -- this outcome comes, with the clock of its call's turn
 abbrev pub RecordsGiven : Progress → ℕ → Given → Whole → Whole → Type 0
 RecordsGiven made i g old new =
-    (terms : Conditions) (s : State) → StandsAt old terms s → slice_get (terms.supply.outcomes i) (length (thread_of s i).came) ≡ Some g
+    (terms : Conditions) (s : State) → StandsAt old terms s
+    → slice_get (terms.supply.outcomes i) (length (thread_of s i).came) ≡ Some g
     → Advanced made i (as_it_comes old i g) new terms s
 
 -- thread i makes its attempt, just where it can

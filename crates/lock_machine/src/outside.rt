@@ -1,4 +1,5 @@
-ghost use Rattle.std.specs.Prelude.{◌≡◌, ◌+◌, ◌*◌, ◌<◌, ◌≤◌, ◌^◌, ◌&&◌, ◌||◌, not, ℕ, List, true, false, Some, length, nat_lt, slice_get};
+ghost use Rattle.std.specs.Prelude.{◌≡◌, ◌+◌, ◌*◌, ◌<◌, ◌≤◌, ◌^◌, ◌&&◌, ◌||◌, not, ℕ, List, true};
+ghost use Rattle.std.specs.Prelude.{false, Some, length, nat_lt, slice_get};
 ghost use Rattle.lock_model.specs.Machine.{is_number};
 ghost use Rattle.posix_terms.specs.declared.transcript.HistoryRow.{HistoryRow as SeenRow};
 ghost use Rattle.logical_clocks.specs.ThreadClocks.{clock_at};
@@ -6,7 +7,9 @@ ghost use Rattle.posix_terms.specs.declared.limits.TheConstants.Limits as limit;
 ghost use Rattle.lock_machine.specs.Births.{BearsInTime, BornWithin, time_of};
 ghost use Rattle.lock_machine.specs.Lives.{is_live};
 ghost use Rattle.lock_machine.specs.Wanted.{IsWanted, BringsNoCall, KeepsCalls, LeavesWanted, HasDecidedAt};
-ghost use Rattle.lock_machine.specs.Outings.{AnswersOutside, Begins, EndsTurn, Records, answer_cost, answers_errand, outside_parts, progress_at, recorded_parts, table_freed};
+ghost use Rattle.lock_machine.specs.Outings.{AnswersOutside, Begins, EndsTurn, Records};
+ghost use Rattle.lock_machine.specs.Outings.{answer_cost, answers_errand, outside_parts};
+ghost use Rattle.lock_machine.specs.Outings.{progress_at, recorded_parts, table_freed};
 ghost use Rattle.lock_machine.specs.Threads.{KeepsOthers, timed};
 ghost use Rattle.lock_machine.specs.declared.thread.Phase.TheVariants as phase;
 ghost use Rattle.descriptor_table.specs.Plans.{bytes_asked};

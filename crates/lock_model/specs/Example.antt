@@ -52,7 +52,10 @@ setting x plan a limit steps =
     record {
       calls = alike x plan a;
       limits = record { door_cost = 100; clock_limit = limit; outcome_limit = 2 ^ 27 };
-      supply = record { next = λ i. listed steps; outcomes = λ i. given x ∷ given x ∷ given x ∷ [] };
+      supply = record {
+        next = λ i. listed steps;
+        outcomes = λ i. given x ∷ given x ∷ given x ∷ [];
+      };
     }
 
 -- each thread makes one call

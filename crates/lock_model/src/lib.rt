@@ -28,12 +28,21 @@
 #![tactic(auto)]
 
 ghost use Rattle.std.specs.Prelude.{◌≡◌, ◌∷◌, []};
-ghost use Rattle.lock_model.specs.Came.{CameGrows, CameIsRows, CameOutside, FitsAlike, OutsideStays, OverUnderCame, PlainArises, PlainCount, PlainLeads, RepliesAreRows, RoomOutside, SameUnderCame};
+ghost use Rattle.lock_model.specs.Came.{CameGrows, CameIsRows, CameOutside, FitsAlike};
+ghost use Rattle.lock_model.specs.Came.{OutsideStays, OverUnderCame, PlainArises, PlainCount};
+ghost use Rattle.lock_model.specs.Came.{PlainLeads, RepliesAreRows, RoomOutside, SameUnderCame};
 ghost use Rattle.lock_model.specs.CallTable.Plan.{No_object, Object};
 ghost use Rattle.lock_model.specs.CallTable.Way.{Door, Inside, Keeps_table};
 ghost use Rattle.lock_model.specs.Events.{EventLaws};
 ghost use Rattle.lock_model.specs.Example.{Words, alone, blocked_call, one_call, replied_at, three_calls, turn, turns, two};
-ghost use Rattle.lock_model.specs.Laws.{ArisesAtStart, ArisesByEvent, ArisesByRun, DatedOfArisen, EachEventLowers, EndedOrTurn, EndsHere, EndsNext, HolderHasTurn, LegalLaw, LegalOfArisen, LocksOfArisen, OneEventMore, OneTurn, OverLaw, OwnFinite, PlainIsRun, PlansOfArisen, PrefixLaw, PrefixLawOfCame, PrefixLawOfFollowed, PrefixLawOfOwn, RisingLaw, RisingOfArisen, RowsOfArisen, RunFollows, SomeEnd, SomeTurn, StepsOfArisen, StuckLaw, UniqueEnd};
+ghost use Rattle.lock_model.specs.Laws.{ArisesAtStart, ArisesByEvent, ArisesByRun, DatedOfArisen};
+ghost use Rattle.lock_model.specs.Laws.{EachEventLowers, EndedOrTurn, EndsHere, EndsNext};
+ghost use Rattle.lock_model.specs.Laws.{HolderHasTurn, LegalLaw, LegalOfArisen, LocksOfArisen};
+ghost use Rattle.lock_model.specs.Laws.{OneEventMore, OneTurn, OverLaw, OwnFinite, PlainIsRun};
+ghost use Rattle.lock_model.specs.Laws.{PlansOfArisen, PrefixLaw, PrefixLawOfCame};
+ghost use Rattle.lock_model.specs.Laws.{PrefixLawOfFollowed, PrefixLawOfOwn, RisingLaw};
+ghost use Rattle.lock_model.specs.Laws.{RisingOfArisen, RowsOfArisen, RunFollows, SomeEnd};
+ghost use Rattle.lock_model.specs.Laws.{SomeTurn, StepsOfArisen, StuckLaw, UniqueEnd};
 ghost use Rattle.lock_model.specs.RealLaws.{RealEnd, RealLegal, RealLegalOfArisen, RealPrefix, RealRising};
 ghost use Rattle.lock_model.specs.Schedule.{IsOver, plain_run};
 ghost use Rattle.lock_model.specs.Transcripts.{transcript};
@@ -46,10 +55,12 @@ use sequential_object::calls_outside;
 /// transcript are prefixes of those of the plain run. Where all threads have ended, the whole state is the plain
 /// run's last.
 ///
-/// `under_supply`: the plain run is that of the same programs and the same lists of outcomes, which may be longer
-/// than what the run took. `under_came`: of the same programs and just the outcomes that came, with their clocks or
-/// without. `under_own`: of the steps that were asked, as lists, and the outcomes that came. `under_followed`: of any
-/// programs that the steps follow, and any lists whose outcomes become those that came. `stuck`: a run that cannot go on, ended or not, has come to where the plain run ends.
+/// `under_supply`: the plain run is that of the same programs and the same lists of outcomes, which
+/// may be longer than what the run took. `under_came`: of the same programs and just the outcomes
+/// that came, with their clocks or without. `under_own`: of the steps that were asked, as lists,
+/// and the outcomes that came. `under_followed`: of any programs that the steps follow, and any
+/// lists whose outcomes become those that came. `stuck`: a run that cannot go on, ended or not, has
+/// come to where the plain run ends.
 pub fn prefix_law()
     ensures under_supply { PrefixLaw }
     ensures under_came { PrefixLawOfCame }
@@ -99,14 +110,15 @@ pub fn legal_history()
     ensures rising { RisingLaw }
 {}
 
-/// A state arises from a first one where it is the end of a run in which just the steps and outcomes came that it
-/// has itself. The start arises; each event leads from a state that arises to one that arises, whatever the setup
-/// supplies; so each run's state arises, and its threads follow their programs. The history of a state that arises
-/// is legal, its turns rise, and the outcome of a row has the clock of its turn (`dated`). In it each lock is held by
-/// just the thread whose phase says so, and a thread in a call has one row without an answer, that of its call. It was
-/// planned in the world that it found, which stays as it is while the call keeps the table, and an outcome that came
-/// answers what it asks (`plans`). The last step that such a thread asked is that call, and that of a thread that works
-/// is not its end (`steps`).
+/// A state arises from a first one where it is the end of a run in which just the steps and
+/// outcomes came that it has itself. The start arises; each event leads from a state that arises to
+/// one that arises, whatever the setup supplies; so each run's state arises, and its threads follow
+/// their programs. The history of a state that arises is legal, its turns rise, and the outcome of
+/// a row has the clock of its turn (`dated`). In it each lock is held by just the thread whose
+/// phase says so, and a thread in a call has one row without an answer, that of its call. It was
+/// planned in the world that it found, which stays as it is while the call keeps the table, and an
+/// outcome that came answers what it asks (`plans`). The last step that such a thread asked is that
+/// call, and that of a thread that works is not its end (`steps`).
 pub fn arising_states()
     ensures at_start { ArisesAtStart }
     ensures by_event { ArisesByEvent }
@@ -155,14 +167,16 @@ pub fn worked_runs()
     ensures blocked_over { (x : Words) → IsOver (blocked_call x) (plain_run (blocked_call x) 10 (alone x)) }
 {}
 
-/// The plain run and the outcomes that came in it. Each came with the clock of its call's turn, and what has that clock
-/// or none fits where it does (`alike`). With just those that came in so many events, with their clocks or without, it
-/// is the same run so far (`same`), and over where it was over (`over`): so it can be made again from its own outcomes.
-/// What so many events make is a run (`leads`), to a state that arises (`arises`), of as many threads (`count`), which only adds to what came (`grows`).
-/// A thread that went outside is there still, or the next outcome that came for it answers what it asked (`stays`); outside it has room for
-/// one (`room`). In a state that arises, what came for a thread are the outcomes of its rows, in order (`rows`), and the replies that it got
-/// are theirs too (`replies`). An outcome comes in the event
-/// of a thread that is outside alone, and for it alone (`outside`).
+/// The plain run and the outcomes that came in it. Each came with the clock of its call's turn, and
+/// what has that clock or none fits where it does (`alike`). With just those that came in so many
+/// events, with their clocks or without, it is the same run so far (`same`), and over where it was
+/// over (`over`): so it can be made again from its own outcomes. What so many events make is a run
+/// (`leads`), to a state that arises (`arises`), of as many threads (`count`), which only adds to
+/// what came (`grows`). A thread that went outside is there still, or the next outcome that came
+/// for it answers what it asked (`stays`); outside it has room for one (`room`). In a state that
+/// arises, what came for a thread are the outcomes of its rows, in order (`rows`), and the replies
+/// that it got are theirs too (`replies`). An outcome comes in the event of a thread that is
+/// outside alone, and for it alone (`outside`).
 pub fn outcomes_that_came()
     ensures alike { FitsAlike }
     ensures same { SameUnderCame }

@@ -82,15 +82,19 @@ IsOutsideAt (Err (refused.Stopped cause)) m i = m.stop ≡ Some cause
 IsOutsideAt (Err refused.WrongPhase) m i = (m.stop ≡ None) × (is_outside (phase_at m.whole i) ≡ false)
 IsOutsideAt (Err e) m i = ⊥
 
--- the record of an outcome of thread i, behind those that it has
+-- an outcome of what was asked there
+abbrev pub given_for : Outing → Outcome → Given
+given_for o outcome = record { kind = o.errand.kind; clock = None; outcome = outcome }
+
+-- the record of an outcome of thread i, after those that it has
 abbrev pub record_for : Whole → ℕ → Outing → Outcome → Record
-record_for w i o outcome = let t : Thread = thread_at w i in record_of i t.came (record { kind = o.errand.kind; clock = None; outcome = outcome })
+record_for w i o outcome = let t : Thread = thread_at w i in record_of i t.came (given_for o outcome)
 
 -- the record was taken whole, the run grows by the outcome, and the doors are where they belong
 pub record IsRecorded (D : Type 0) (i : ℕ) (o : Outing) (outcome : Outcome) (back opened : Option D) (old new : Shown D) : Type 0 where
   pub running : old.stop ≡ None
   pub outside : phase_at old.whole i ≡ phase.Outside o
-  pub grows : Grows (Brings (record { kind = o.errand.kind; clock = None; outcome = outcome })) (Advances i) old.whole new.whole
+  pub grows : Grows (Brings (given_for o outcome)) (Advances i) old.whole new.whole
   pub rest : new ≡ record old { whole = new.whole; log = with_record old.log (record_for old.whole i o outcome); doors = doors_after old.doors o back opened }
 
 -- the log's writer failed inside the record, and for this the machine is stopped

@@ -35,8 +35,9 @@ pub record StopsFor (failures : ℕ) (stopped : Option Stop) : Type 0 where
   pub sink : failures ≡ (if is_sink stopped then 1 else 0)
   pub strayed : is_strayed stopped ≡ false
 
--- a run leads to it, whose outcomes are by thread those that its log has, but for clocks; the log's writer failed just where that was why the machine was
--- stopped, and no machine itself finds that threads strayed; and each door is where it belongs
+-- a run leads to it, whose outcomes are by thread those that its log has, but for clocks; the log's
+-- writer failed just where that was why the machine was stopped, and no machine itself finds that
+-- threads strayed; and each door is where it belongs
 pub record IsKept (D : Type 0) (m : Shown D) : Type 0 where
   pub end : State
   pub ends : IsEnd m.whole end

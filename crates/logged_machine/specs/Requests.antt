@@ -25,8 +25,8 @@ abbrev pub awaited : Phase → Option Errand
 awaited (phase.Outside o) = Some o.errand
 awaited p = None
 
--- thread i goes outside, or is there, and this is what its call asks by the definition of the calls, at
--- its turn, whichever run leads to the machine; or it goes nowhere
+-- thread i goes outside, or is there, and this is what its call asks by the definition of the
+-- calls, at its turn, whichever run leads to the machine; or it goes nowhere
 abbrev pub IsRequest : Whole → ℕ → Option Request → Type 0
 IsRequest w i None = out_of (phase_at w i) ≡ None
 IsRequest w i (Some r) =

@@ -145,8 +145,11 @@ KeepsStore keep x old new = Unit {0}
 -- a turn of a call that kept the table while it was outside ended so, by an outcome that fits what it asked
 abbrev pub Opens : ℕ → Carried → Stored → Call → Outcome → TurnEnd → Stored → Type 0
 Opens patience carried old c o e new =
-    (settings : Settings) (w : World) (r : Query) → settings.patience ≡ patience → Stands old w → keeps_table c ≡ true → asks w.object c carried ≡ Some r → fits r.kind r.asked o ≡ true →
-    (answer_in (step settings w.object c (Some o) carried) ≡ e) × Stands new (world_with w (step settings w.object c (Some o) carried).after)
+    (settings : Settings) (w : World) (r : Query)
+    → settings.patience ≡ patience → Stands old w → keeps_table c ≡ true
+    → asks w.object c carried ≡ Some r → fits r.kind r.asked o ≡ true
+    → let stepped = step settings w.object c (Some o) carried in
+    (answer_in stepped ≡ e) × Stands new (world_with w stepped.after)
 
 -- the act of a turn of a call that carries this was made, in whatever world they stood for: so it ended
 abbrev pub EndsTurn : Carried → Stored → Call → ActEnd → Stored → Type 0

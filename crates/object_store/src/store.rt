@@ -82,13 +82,13 @@ impl Store {
     }
 
     /// Makes one turn of a call that carries this from its blocked turns, and took the lock of its
-    /// object: as it was decided by `settle_or_lock`, while the table was kept. A call that cannot go
-    /// on is blocked until it was for as many turns as its patience, and then fails with EINTR; where
-    /// its description has O_NONBLOCK it fails at once with EAGAIN. A write that moved bytes of a
-    /// pipe returns their count in place of either. A call that goes outside gets its errand, with
-    /// the number of the object whose door it takes along; unless it keeps the table, its change is
-    /// made, and `end_outside` ends its turn. Where it keeps the table nothing has changed (`kept`),
-    /// and `open_door` ends its turn.
+    /// object: as it was decided by `settle_or_lock`, while the table was kept. A call that cannot
+    /// go on is blocked until it was for as many turns as its patience, and then fails with EINTR;
+    /// where its description has O_NONBLOCK it fails at once with EAGAIN. A write that moved bytes
+    /// of a pipe returns their count in place of either. A call that goes outside gets its errand,
+    /// with the number of the object whose door it takes along; unless it keeps the table, its
+    /// change is made, and `end_outside` ends its turn. Where it keeps the table nothing has
+    /// changed (`kept`), and `open_door` ends its turn.
     ///
     /// The room is for a read's bytes, and has at least as many as `read_count` says, whatever they are. A read that
     /// is made here takes it, even where it has to wait, so its next turn needs another, and no reply brings more

@@ -3,7 +3,7 @@ ghost use Rattle.host_doors.specs.Giving.{CanCount};
 ghost use Rattle.thread_scripts.specs.Meaning.{next_of};
 ghost use Rattle.worker_notes.specs.Leads.{IsAhead};
 ghost use Rattle.worker_notes.specs.Plays.{last_reply, open_call};
-ghost use Rattle.worker_notes.specs.Requests.{request_in};
+ghost use Rattle.worker_notes.specs.Requests.{open_request};
 
 use crate::asked::copied;
 use crate::events::{Journey, ask, record};
@@ -57,7 +57,7 @@ pub fn bring<O: Outside, S: LogSink, R: Wait>(
 ) -> Result<Brought, Leave>
     requires place { vec_len own.now.outcomes < vec_capacity own.now.outcomes }
     requires count { CanCount (O.given outside.old) (O.failures outside.old) }
-    ensures request { IfOk result (λ note. request_in journey.turn (open_call own.now.steps.items) ≡ Some note.request) }
+    ensures request { IfOk result (λ note. open_request journey.turn own.now.steps.items ≡ Some note.request) }
     ensures gives { IfOk result (λ note. O.gives outside.old number note.request note.outcome outside.new) }
     ensures given { O.given outside.new ≤ O.given outside.old + 1 }
     ensures failures { O.failures outside.new ≤ O.failures outside.old + 1 }
@@ -76,7 +76,7 @@ pub fn bring<O: Outside, S: LogSink, R: Wait>(
 
 // The request of the call in which the steps end, that was granted at this turn.
 fn asked(turn: Turn, steps: &[Noted]) -> Result<Option<Request>, AllocError>
-    ensures { IfOk result (λ request. request ≡ request_in turn (open_call steps.now)) }
+    ensures { IfOk result (λ request. request ≡ open_request turn steps.now) }
 {
     match open_call(steps) {
         Some(call) => request_for(turn, call),

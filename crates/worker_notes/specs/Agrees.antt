@@ -47,8 +47,8 @@ brought None o = None
 abbrev pub brought_by : HistoryRow → Option Brought
 brought_by row = brought (request_for row.turn row.call) row.outcome
 
--- what the rows of a thread brought from outside, in order: the requests of their calls at their turns,
--- with the outcomes
+-- what the rows of a thread brought from outside, in order: the requests of their calls at their
+-- turns, with the outcomes
 abbrev pub brought_in : ℕ → List HistoryRow → List Brought
 brought_in thread [] = []
 brought_in thread (row ∷ rows) = if row.turn.thread == thread then before (brought_by row) (brought_in thread rows) else brought_in thread rows

@@ -1,6 +1,7 @@
 -- Believed: a contract of the headline stands on it.
--- The request with which a call goes outside, if it goes there: it is known of the call and its turn alone.
-use Rattle.std.specs.Prelude.{◌≡◌, ℕ, ℤ, pos, negsuc, length, Option, Some, None}
+-- The request with which a call goes outside, if it goes there: it is known of the call and its turn
+-- alone.
+use Rattle.std.specs.Prelude.{◌≡◌, ℕ, ℤ, pos, negsuc, length, List, Option, Some, None}
 use Rattle.lock_machine.specs.Requests.{kind_asked}
 use Rattle.sequential_object.specs.Object.{State}
 use Rattle.sequential_object.specs.Step.{Carried, asks}
@@ -10,6 +11,8 @@ use Rattle.posix_terms.specs.declared.outcome.OutKind.{OutKind}
 use Rattle.posix_terms.specs.Queries.{Query, requested_at}
 use Rattle.posix_terms.specs.declared.request.Request.{Request}
 use Rattle.posix_terms.specs.declared.transcript.Turn.{Turn}
+use Rattle.worker_notes.specs.Plays.{open_call}
+use Rattle.worker_notes.specs.declared.own.Noted.{Noted}
 
 -- a number, or 0 where it is below that, which no call asks for
 abbrev pub counted : ℤ → ℕ
@@ -39,6 +42,10 @@ request_for turn c = requested_at turn (query_for c)
 abbrev pub request_in : Turn → Option Call → Option Request
 request_in turn (Some c) = request_for turn c
 request_in turn None = None
+
+-- of the call in which its notes end
+abbrev pub open_request : Turn → List Noted → Option Request
+open_request turn notes = request_in turn (open_call notes)
 
 -- whatever a call asks by its definition is that
 abbrev pub AskByTheirCall : Type 0

@@ -6,8 +6,8 @@ use crate::same::same_call;
 use posix_terms::{Call, OutKind, Request, Turn};
 use std::alloc::AllocError;
 
-/// The request with which a call goes outside that was granted at this turn, with a copy of the call;
-/// none of a call that never goes there.
+/// The request with which a call goes outside that was granted at this turn, with a copy of the
+/// call; none of a call that never goes there.
 pub fn request_for(turn: Turn, call: &Call) -> Result<Option<Request>, AllocError>
     ensures { IfOk result (λ request. request ≡ request_for turn call.now) }
 {
