@@ -35,14 +35,14 @@ no_event setup first n (suc k) over =
     let last = plain_run setup n first in
     ap (λ (m : ℕ). plain_run setup m first) (one_more k n) ∙ run_next setup (k + n) first ∙ ap (λ (s : State). after_event setup s (next_event setup s)) (no_event setup first n k over) ∙ ap (after_event setup last) over
 
-no_record : (setup : Setup) (first : State) (n k : ℕ) → IsOver setup (plain_run setup n first) → plain_records setup (k + n) first ≡ plain_records setup n first
+no_record : (version : ℕ) (setup : Setup) (first : State) (n k : ℕ) → IsOver setup (plain_run setup n first) → plain_records version setup (k + n) first ≡ plain_records version setup n first
 unfolding plain_records
-no_record setup first n zero over = ap (λ (m : ℕ). plain_records setup m first) (none_more n)
-no_record setup first n (suc k) over =
+no_record version setup first n zero over = ap (λ (m : ℕ). plain_records version setup m first) (none_more n)
+no_record version setup first n (suc k) over =
     let s = plain_run setup (k + n) first in
-    let so_far = plain_records setup (k + n) first in
+    let so_far = plain_records version setup (k + n) first in
     let none : next_event setup s ≡ None = ap (next_event setup) (no_event setup first n k over) ∙ over in
-    ap (λ (m : ℕ). plain_records setup m first) (one_more k n) ∙ ap (λ (e : Option Event). so_far ++ recorded_next setup s e) none ∙ append-nil so_far ∙ no_record setup first n k over
+    ap (λ (m : ℕ). plain_records version setup m first) (one_more k n) ∙ ap (λ (e : Option Event). so_far ++ recorded_next version setup s e) none ∙ append-nil so_far ∙ no_record version setup first n k over
 
 -- ## What is shown
 
@@ -56,10 +56,10 @@ shown_with input last records =
       stop = stop_of last (diverging (setup_of input) last);
     }
 
-same_shown : (input : Inputs) (m n : ℕ) (s t : State) → s ≡ t → plain_records (setup_of input) m (first_state input) ≡ plain_records (setup_of input) n (first_state input) → plain_of input m s ≡ plain_of input n t
+same_shown : (input : Inputs) (m n : ℕ) (s t : State) → s ≡ t → plain_records input.settings.version (setup_of input) m (first_state input) ≡ plain_records input.settings.version (setup_of input) n (first_state input) → plain_of input m s ≡ plain_of input n t
 unfolding shown_with
 same_shown input m n s t states records =
-    ap (shown_with input s) records ∙ ap (λ (z : State). shown_with input z (plain_records (setup_of input) n (first_state input))) states
+    ap (shown_with input s) records ∙ ap (λ (z : State). shown_with input z (plain_records input.settings.version (setup_of input) n (first_state input))) states
 
 -- ## Two runs
 
@@ -69,7 +69,7 @@ later input one other p q zero counts =
     let setup = setup_of input in
     let first = first_state input in
     p.shows
-    ∙ same_shown input p.count q.count p.last q.last (sym p.goes.reached ∙ ap (λ (n : ℕ). plain_run setup n first) (sym same) ∙ q.goes.reached) (ap (λ (n : ℕ). plain_records setup n first) (sym same))
+    ∙ same_shown input p.count q.count p.last q.last (sym p.goes.reached ∙ ap (λ (n : ℕ). plain_run setup n first) (sym same) ∙ q.goes.reached) (ap (λ (n : ℕ). plain_records input.settings.version setup n first) (sym same))
     ∙ sym q.shows
 later input one other p q (suc k) counts =
     let setup = setup_of input in
@@ -77,7 +77,7 @@ later input one other p q (suc k) counts =
     let straight : diverging setup p.last ≡ None = ap (diverging setup) (sym p.goes.reached) ∙ q.goes.straight p.count (fewer p.count q.count k counts) in
     let over : IsOver setup (plain_run setup p.count first) = ap (next_event setup) p.goes.reached ∙ p.ends straight in
     let states = sym p.goes.reached ∙ sym (no_event setup first p.count (suc k) over) ∙ ap (λ (n : ℕ). plain_run setup n first) (sym counts) ∙ q.goes.reached in
-    let records = sym (no_record setup first p.count (suc k) over) ∙ ap (λ (n : ℕ). plain_records setup n first) (sym counts) in
+    let records = sym (no_record input.settings.version setup first p.count (suc k) over) ∙ ap (λ (n : ℕ). plain_records input.settings.version setup n first) (sym counts) in
     p.shows ∙ same_shown input p.count q.count p.last q.last states records ∙ sym q.shows
   where
     fewer : (m n k : ℕ) → n ≡ suc k + m → m < n

@@ -6,7 +6,7 @@ use Rattle.sequential_object.specs.Legal.{IsLegal}
 use Rattle.posix_terms.specs.declared.limits.TheConstants.Limits as limit
 use Rattle.lock_machine.specs.Shows.{ClocksShown}
 use Rattle.lock_machine.specs.Starting.{ShowsAtStart}
-use Rattle.lock_model.specs.Laws.{RisingOfArisen}
+use Rattle.lock_model.specs.Laws.{DatedOfArisen, RisingOfArisen}
 use Rattle.sequential_object.specs.Numbers.{first_world}
 use Rattle.lock_model.specs.RealLaws.{RealLegalOfArisen}
 use Rattle.lock_model.specs.Came.{CameIsRows}
@@ -14,6 +14,7 @@ use Rattle.call_machine.specs.Covered.{HasSpelling, IsCovered, RecordsCame}
 use Rattle.call_machine.specs.Driven.{Begins, Ends}
 use Rattle.call_machine.specs.History.{AreRising}
 use Rattle.call_machine.specs.Plain.{IsPlainRun, are_threads, header_of, plain_of}
+use Rattle.logged_machine.specs.RecordLaws.{RecordLaws}
 use Rattle.logged_machine.specs.Starting.{are_settings}
 use Rattle.call_machine.specs.Playing.{Played}
 use Rattle.call_machine.specs.Setup.{Inputs, setup_of}
@@ -38,10 +39,10 @@ pub plain_run_is : ClocksShown → (input : Inputs) (diverged : Option ℕ) (p :
 plain_run_is clocks input diverged p plain e is threads settings =
     record { threads = threads; settings = settings; count = e.count; last = e.last; goes = e.goes; ends = λ none. e.over (sym e.diverges ∙ none); shows = plain_is clocks input diverged p plain e is }
 
-pub plain_covered : ClocksShown → RecordsCame → HasSpelling → CameIsRows → (input : Inputs) (diverged : Option ℕ) (p : Played) (plain : Plain) → Ends input diverged p → plain ≡ told diverged p.whole p.log → are_threads input ≡ true → are_settings input.settings ≡ true
+pub plain_covered : ClocksShown → RecordLaws → RecordsCame → HasSpelling → CameIsRows → DatedOfArisen → (input : Inputs) (diverged : Option ℕ) (p : Played) (plain : Plain) → Ends input diverged p → plain ≡ told diverged p.whole p.log → are_threads input ≡ true → are_settings input.settings ≡ true
     → IsCovered (header_of input) plain.history.rows plain.log
 unfolding plain_run_is
-plain_covered clocks came spelled rows input diverged p plain e is threads settings = is_covered came spelled rows input plain (plain_run_is clocks input diverged p plain e is threads settings) e.arises
+plain_covered clocks records came spelled rows dated input diverged p plain e is threads settings = is_covered records came spelled rows dated input plain (plain_run_is clocks input diverged p plain e is threads settings) e.arises
 
 pub plain_legal : ClocksShown → RealLegalOfArisen → (input : Inputs) (diverged : Option ℕ) (p : Played) (plain : Plain) → Ends input diverged p → plain ≡ told diverged p.whole p.log → IsLegal input.settings plain.history.rows
 plain_legal clocks legal input diverged p plain e is =

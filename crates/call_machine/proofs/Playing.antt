@@ -1,4 +1,5 @@
 -- Scripts play the threads of a run: what the machine's events make of both.
+use Rattle.posix_terms.specs.declared.transcript.Settings.{Settings}
 use Rattle.posix_terms.specs.declared.transcript.HistoryRow.{HistoryRow}
 use Rattle.input_log.specs.declared.log.Record.{Record}
 use Rattle.std.proofs.Common.{◌≡◌, ◌⊎◌, ℕ, suc, ◌+◌, ◌<◌, ◌≤◌, List, [], ◌∷◌, ◌++◌, length, get_or, set, slice_get, Option, Some, None, Bool, true, false, is_some, not, if◌then◌else◌, inl, inr, sym, refl, ap, ap₂, ◌∙◌, subst, arith, ⊎_elim}
@@ -27,7 +28,7 @@ use Rattle.thread_scripts.specs.ScriptPrograms.{Reached, at_start, next_at, reac
 use Rattle.lock_model.specs.State as lock
 use Rattle.lock_model.specs.State.{Job, Row, State, thread_of}
 use Rattle.lock_model.specs.State.Phase.{Blocked, Ended, Granted, Outside, Recorded, ToOutside, WantsObject, WantsTable, Working}
-use Rattle.call_machine.specs.Logs.{Written, came_between, log_with, record_of, LogsMore}
+use Rattle.call_machine.specs.Logs.{Written, came_between, log_with, record_of, LogsMore, logged_as}
 use Rattle.call_machine.specs.Playing as playing
 use Rattle.call_machine.specs.Playing.{Attempted, IsBetween, IsInCall, IsPlayed, Made, Makes, Pauses, Played, Plays, PlaysIn, heard, hears, no_player, player_at}
 use Rattle.lock_machine.specs.Conditions.{Conditions, setup_under}
@@ -286,7 +287,7 @@ quiet_made laws input s i p new moved h same quiet played falls =
       can = h.can ∙ sym (moved_by moved);
       diverges = quiet_diverges setup s i quiet ∙ sym (diverges_by moved);
       plays = played;
-      log = logs_none (came_between i s (advance setup i s)) p.log new.log (none_between i s (advance setup i s) (quiet_came laws setup s (Advances i) quiet)) same;
+      log = logs_none (came_between input.settings.version i s (advance setup i s)) p.log new.log (none_between input.settings.version i s (advance setup i s) (quiet_came laws setup s (Advances i) quiet)) same;
       falls = subst (λ (b : Bool). Falls b p.whole.threads p.players new.whole.threads new.players) (sym (moved_by moved)) falls;
     }
   where
@@ -430,7 +431,7 @@ stays_made laws input p s i q w inside played none quiet h own less =
       can = off;
       diverges = quiet;
       plays = subst P (sym same) (plays_on input p i q w s s turning own);
-      log = logs_none (came_between i s (advance setup i s)) p.log p.log (none_between i s (advance setup i s) (ap (λ (z : State). (thread_of z i).came) same)) refl;
+      log = logs_none (came_between input.settings.version i s (advance setup i s)) p.log p.log (none_between input.settings.version i s (advance setup i s) (ap (λ (z : State). (thread_of z i).came) same)) refl;
       falls = stays_on input p i q w s s turning less;
     }
 
@@ -607,18 +608,12 @@ awaits_made laws p i o inside is none input s at =
 with_log : (input : Inputs) (p : Played) (s : State) (l : Written) → IsPlayed input p s → IsPlayed input (record p { log = l }) s
 with_log input p s l h = record { shows = h.shows; outcomes = h.outcomes; count = h.count; plays = h.plays }
 
--- the record of an outcome has none of its clock
-logs_dated : (records : List Record) (made : Progress) (old : Written) (i n : ℕ) (q : Option HistoryRow) (g : Given)
-    → LogsMore records old (log_with made (record_of i n (dated_by q g)) old) → LogsMore records old (log_with made (record_of i n g) old)
-logs_dated records made old i n (Some q) g h = h
-logs_dated records made old i n None g h = h
-
 pub records_made : EventLaws → (p : Played) (i : ℕ) (w : Whole) (o : Outing) (g : Given) (made : Progress) → i < length p.players → (thread_at p.whole i).phase ≡ phase.Outside o → next_given p i ≡ Some g → RecordsGiven made i g p.whole w
-    → Makes made i p (record p { whole = w; log = log_with made (record_of i (thread_at p.whole i).came g) p.log })
+    → Makes made i p (record p { whole = w; log = log_with made (logged_as p.whole.settings.version i (thread_at p.whole i).came (as_it_comes p.whole i g)) p.log })
 records_made laws p i w o g made inside is there h input s at =
-    let l = log_with made (record_of i (thread_at p.whole i).came g) p.log in
+    let l = log_with made (logged_as p.whole.settings.version i (thread_at p.whole i).came (as_it_comes p.whole i g)) p.log in
     subst (λ (y : Played). Made made i p (record y { log = l }) input s) (same_players p i w)
-    (record { can = a.can; diverges = a.diverges; plays = with_log input (turned p i x w) (advance setup i s) l (plays_on input p i x w s (advance setup i s) turning (own (can_advance setup s i) refl)); log = logs_dated _ made p.log i (thread_at p.whole i).came (row_outside (thread_at p.whole i).phase p.whole.rows) g (logs_with i s (advance setup i s) made (as_it_comes p.whole i g) (thread_at p.whole i).came p.log a.came (at.1.shows.threads i).came); falls = falls (has_moved made) refl })
+    (record { can = a.can; diverges = a.diverges; plays = with_log input (turned p i x w) (advance setup i s) l (plays_on input p i x w s (advance setup i s) turning (own (can_advance setup s i) refl)); log = log_more; falls = falls (has_moved made) refl })
   where
     setup : Setup
     setup = setup_of input
@@ -631,6 +626,11 @@ records_made laws p i w o g made inside is there h input s at =
 
     a : Advanced made i (as_it_comes p.whole i g) w (conditions_of input) s
     a = h (conditions_of input) s (at.0, at.1.shows) (given_next input p s i at.1 ∙ there)
+
+    log_more : LogsMore (came_between input.settings.version i s (advance setup i s)) p.log (log_with made (logged_as p.whole.settings.version i (thread_at p.whole i).came (as_it_comes p.whole i g)) p.log)
+    log_more =
+        let L : Settings → Type 0 = λ y. LogsMore (came_between input.settings.version i s (advance setup i s)) p.log (log_with made (logged_as y.version i (thread_at p.whole i).came (as_it_comes p.whole i g)) p.log) in
+        subst L at.1.shows.settings (logs_with input.settings.version i s (advance setup i s) made (as_it_comes p.whole i g) (thread_at p.whole i).came p.log a.came (at.1.shows.threads i).came)
 
     out : (job : Job) × (u.phase ≡ Outside job)
     out = outside_at input p s i o at.1.shows is

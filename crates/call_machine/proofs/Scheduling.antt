@@ -69,10 +69,10 @@ unfolding first_below
 none_at_first p = record { count = refl; holds = λ input s at. record { none = refl; plays = at.1; log = refl; falls = omega arith } }
 
 -- the log of an event that was not made is as it was
-unlogged : EventLaws → (input : Inputs) (s : State) (i : ℕ) (now new : Played) → can_advance (setup_of input) s i ≡ false → LogsMore (came_between i s (advance (setup_of input) i s)) now.log new.log → new.log ≡ now.log
+unlogged : EventLaws → (input : Inputs) (s : State) (i : ℕ) (now new : Played) → can_advance (setup_of input) s i ≡ false → LogsMore (came_between input.settings.version i s (advance (setup_of input) i s)) now.log new.log → new.log ≡ now.log
 unlogged laws input s i now new stays log =
     let same : advance (setup_of input) i s ≡ s = laws.not_allowed (setup_of input) (Advances i) s stays in
-    let none : came_between i s (advance (setup_of input) i s) ≡ [] = none_between i s (advance (setup_of input) i s) (ap (λ (z : State). (thread_of z i).came) same) in
+    let none : came_between input.settings.version i s (advance (setup_of input) i s) ≡ [] = none_between input.settings.version i s (advance (setup_of input) i s) (ap (λ (z : State). (thread_of z i).came) same) in
     let P : List Record → Type 0 = λ rs. LogsMore rs now.log new.log in
     let h : LogsMore [] now.log new.log = subst P none log in
     λ k. record { text = (h.0 ∙ append-nil now.log.text) k; records = (h.1 ∙ no_more now.log.records) k }
@@ -126,7 +126,7 @@ advanced_next found i old now new inside h moved input s at =
       event = Advances i;
       next = ap (advance_by (setup_of input) s) (found (length s.threads) i (can_advance (setup_of input) s) within (none_of_both i (can_advance (setup_of input) s) (is_diverging (setup_of input) s) so_far.none) next.can);
       plays = next.plays;
-      log = relogged (came_between i s (advance (setup_of input) i s)) old.log now.log new.log so_far.log next.log;
+      log = relogged (came_between input.settings.version i s (advance (setup_of input) i s)) old.log now.log new.log so_far.log next.log;
       falls = lower (total new.whole.threads new.players) (total now.whole.threads now.players) (total old.whole.threads old.players) next.falls so_far.falls;
     }
 
@@ -178,13 +178,13 @@ pub attempted_next : EventLaws → ClocksShown → (n i : ℕ) (old now new : Pl
 attempted_next laws clocks n i old now new whole h holder made input s at =
     let q = none_advances n old now whole h input s at in
     let tried = made input s (at.0, q.plays) in
-    let none : came_between i s (attempt (setup_of input) i s) ≡ [] = none_between i s (attempt (setup_of input) i s) (attempt_came laws (setup_of input) s i) in
+    let none : came_between input.settings.version i s (attempt (setup_of input) i s) ≡ [] = none_between input.settings.version i s (attempt (setup_of input) i s) (attempt_came laws (setup_of input) s i) in
     record {
       straight = q.straight;
       event = Attempts i;
       next = q.next ∙ holder_is clocks input now s (Some i) q.plays holder ∙ cond-true (can_attempt (setup_of input) s i) (Some (Attempts i)) None tried.can;
       plays = tried.plays;
-      log = logs_none (came_between i s (attempt (setup_of input) i s)) old.log new.log none (tried.log ∙ q.log);
+      log = logs_none (came_between input.settings.version i s (attempt (setup_of input) i s)) old.log new.log none (tried.log ∙ q.log);
       falls = lower (total new.whole.threads new.players) (total now.whole.threads now.players) (total old.whole.threads old.players) tried.falls q.falls;
     }
 
@@ -238,14 +238,15 @@ goes_on_by input count s e goes straight next =
     by_place k less (inl same) = ap (λ (n : ℕ). diverging (setup_of input) (plain_run (setup_of input) n (first_state input))) same ∙ ap (diverging (setup_of input)) goes.reached ∙ straight
     by_place k less (inr apart) = goes.straight k (fewer k count less apart)
 
-logged_on : (input : Inputs) (count : ℕ) (s : State) (e : Event) (old new : Written) → plain_run (setup_of input) count (first_state input) ≡ s → next_event (setup_of input) s ≡ Some e → IsLogged input count old → LogsMore (recorded_by (setup_of input) s e) old new → IsLogged input (suc count) new
+logged_on : (input : Inputs) (count : ℕ) (s : State) (e : Event) (old new : Written) → plain_run (setup_of input) count (first_state input) ≡ s → next_event (setup_of input) s ≡ Some e → IsLogged input count old → LogsMore (recorded_by input.settings.version (setup_of input) s e) old new → IsLogged input (suc count) new
 unfolding plain_records
 logged_on input count s e old new reached next before more =
     let setup = setup_of input in
-    let so_far = plain_records setup count (first_state input) in
-    let last : (let z = plain_run setup count (first_state input) in recorded_next setup z (next_event setup z)) ≡ recorded_by setup s e =
-    ap (λ (z : State). recorded_next setup z (next_event setup z)) reached ∙ ap (recorded_next setup s) next in
-    let added = recorded_by setup s e in (
+    let version = input.settings.version in
+    let so_far = plain_records version setup count (first_state input) in
+    let last : (let z = plain_run setup count (first_state input) in recorded_next version setup z (next_event setup z)) ≡ recorded_by version setup s e =
+    ap (λ (z : State). recorded_next version setup z (next_event setup z)) reached ∙ ap (recorded_next version setup s) next in
+    let added = recorded_by version setup s e in (
       more.0 ∙ ap (λ (bs : List ℕ). bs ++ records_text added) before.0 ∙ append_assoc (first_log input).text (records_text so_far) (records_text added)
           ∙ ap (λ (bs : List ℕ). (first_log input).text ++ bs) (sym (flat_map-append record_text so_far added)) ∙ ap (λ (rs : List Record). (first_log input).text ++ records_text (so_far ++ rs)) (sym last),
       more.1 ∙ ap (λ (n : ℕ). n + length added) before.1 ∙ sums (length so_far) (length added) ∙ ap (λ (n : ℕ). 0 + n) (sym (length-append so_far added)) ∙ ap (λ (rs : List Record). 0 + length (so_far ++ rs)) (sym last),

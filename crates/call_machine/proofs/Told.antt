@@ -99,7 +99,7 @@ stop_shown clocks terms w last None h = by_turn (turn_holder (clocks_of w.thread
 -- the text of the log
 log_shown : (input : Inputs) (count : ℕ) (log : Written) (ended : List Bool) → IsLogged input count log → log.text ++ closing (all_true ended) log.records ≡ text_of (log_of input count ended)
 log_shown input count log ended logged =
-    let records = plain_records (setup_of input) count (first_state input) in
+    let records = plain_records input.settings.version (setup_of input) count (first_state input) in
     let whole : log.text ≡ header_text (header_of input) ++ records_text records = logged.0 in
     let count_is : log.records ≡ length records = logged.1 ∙ zero_plus (length records) in
     ap₂ (λ (text : List ℕ) (n : ℕ). text ++ closing (all_true ended) n) whole count_is

@@ -23,7 +23,7 @@ pub record GoesOn (input : Inputs) (s : State) (old new : Played) : Type 0 where
   pub event : Event
   pub next : next_event (setup_of input) s ≡ Some event
   pub plays : IsPlayed input new (happens (setup_of input) event s)
-  pub log : LogsMore (recorded_by (setup_of input) s event) old.log new.log
+  pub log : LogsMore (recorded_by input.settings.version (setup_of input) s event) old.log new.log
   pub falls : Falls true old.whole.threads old.players new.whole.threads new.players
 
 -- the run stays where it is: it diverges at this thread, or no event is next
@@ -46,7 +46,7 @@ abbrev pub first_log : Inputs → Written
 first_log input = record { text = header_text (header_of input); records = 0 }
 
 abbrev pub IsLogged : Inputs → ℕ → Written → Type 0
-IsLogged input count log = LogsMore (plain_records (setup_of input) count (first_state input)) (first_log input) log
+IsLogged input count log = LogsMore (plain_records input.settings.version (setup_of input) count (first_state input)) (first_log input) log
 
 -- so many events of the plain run lead to a state that the run shows
 pub record ComesTo (input : Inputs) (p : Played) : Type 0 where

@@ -1,5 +1,6 @@
 -- Believed: a contract of the headline stands on it.
 -- The plain run of scripts, by the lock machine.
+use Rattle.input_log.specs.Headers.{header_for}
 use Rattle.std.specs.Prelude.{◌≡◌, ◌<◌, ℕ, List, length, map, Option, Some, None, Bool, true, false}
 use Rattle.std.specs.Prelude.{◌&&◌, ◌==◌, nat_le, Result, Ok, Err}
 use Rattle.posix_terms.specs.declared.limits.TheConstants.Limits as limit
@@ -46,16 +47,11 @@ stop_of s None = stop_by s (turn_holder (live_clocks s))
 
 -- the header of a run's log: version 1, the number of its threads, and its settings
 abbrev pub header_of : Inputs → Header
-header_of input = record {
-  version = 1;
-  threads = length input.scripts;
-  patience = input.settings.patience;
-  door_cost = input.settings.door_cost;
-}
+header_of input = header_for input.settings (length input.scripts)
 
 -- the log of so many events of a plain run: its end stands where all threads ended
 abbrev pub log_of : Inputs → ℕ → List Bool → LogText
-log_of input count ended = record { header = header_of input; records = plain_records (setup_of input) count (first_state input); closed = all_true ended }
+log_of input count ended = record { header = header_of input; records = plain_records input.settings.version (setup_of input) count (first_state input); closed = all_true ended }
 
 -- what a plain run shows that came to this state after so many events
 abbrev pub plain_of : Inputs → ℕ → State → Plain

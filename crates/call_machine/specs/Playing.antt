@@ -94,7 +94,7 @@ pub record Made (made : Progress) (i : ℕ) (old new : Played) (input : Inputs) 
   pub can : can_advance (setup_of input) s i ≡ has_moved made
   pub diverges : is_diverging (setup_of input) s i ≡ has_diverged made
   pub plays : IsPlayed input new (advance (setup_of input) i s)
-  pub log : LogsMore (came_between i s (advance (setup_of input) i s)) old.log new.log
+  pub log : LogsMore (came_between input.settings.version i s (advance (setup_of input) i s)) old.log new.log
   pub falls : Falls (has_moved made) old.whole.threads old.players new.whole.threads new.players
 
 abbrev pub Makes : Progress → ℕ → Played → Played → Type 0

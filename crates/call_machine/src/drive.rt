@@ -159,7 +159,7 @@ impl Driver {
         let item = Record {
             thread: i as u16,
             number,
-            clock: None,
+            clock: self.machine.logged_clock(i),
             kind: given.kind,
             outcome: given.outcome.try_clone()?,
         };

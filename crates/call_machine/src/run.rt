@@ -3,11 +3,12 @@ ghost use Rattle.sequential_object.specs.Legal.{IsLegal};
 ghost use Rattle.lock_machine.specs.Shows.{ClocksShown};
 ghost use Rattle.lock_machine.specs.Starting.{ShowsAtStart};
 ghost use Rattle.lock_model.specs.Came.{CameIsRows};
-ghost use Rattle.lock_model.specs.Laws.{RisingOfArisen};
+ghost use Rattle.lock_model.specs.Laws.{DatedOfArisen, RisingOfArisen};
 ghost use Rattle.lock_model.specs.RealLaws.{RealLegalOfArisen};
 ghost use Rattle.call_machine.specs.Covered.{HasSpelling, IsCovered, RecordsCame};
 ghost use Rattle.call_machine.specs.History.{AreRising};
 ghost use Rattle.call_machine.specs.Plain.{Runs, counts_fit, header_of};
+ghost use Rattle.logged_machine.specs.RecordLaws.{RecordLaws};
 
 use crate::driver::Driver;
 use crate::fault::PlainFault;
@@ -16,7 +17,7 @@ use crate::plain::Plain;
 use input_log::Header;
 use lock_machine::machines_show;
 use lock_model::{arising_states, outcomes_that_came, real_runs};
-use logged_machine::are_in_range;
+use logged_machine::{are_in_range, outcomes_are_recorded};
 use posix_terms::{Limits, Outcomes, Settings};
 use std::alloc::Global;
 use thread_scripts::Script;
@@ -72,6 +73,8 @@ fn laws()
     ensures legal { RealLegalOfArisen }
     ensures rising { RisingOfArisen }
     ensures rows { CameIsRows }
+    ensures dated { DatedOfArisen }
+    ensures records { RecordLaws }
     ensures came { RecordsCame }
     ensures spelled { HasSpelling }
 {
@@ -79,5 +82,6 @@ fn laws()
     real_runs();
     arising_states();
     outcomes_that_came();
+    outcomes_are_recorded();
     logs_of_plain_runs();
 }

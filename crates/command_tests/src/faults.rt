@@ -54,6 +54,7 @@ fn faults_of_settings(rt: HostRuntime) -> Result<(), Fail> {
         let settings = Settings {
             patience: *patience,
             door_cost: *door_cost,
+            version: 1,
         };
         assert!(rt;
             refuses_all(rt.alloc(), settings, REFUSED)?,

@@ -41,6 +41,7 @@ const LINES: &[&str] = &[
 const SHORT_PATIENCE: Settings = Settings {
     patience: 4,
     door_cost: 100,
+    version: 1,
 };
 
 // The next number of a sequence.

@@ -49,6 +49,7 @@ fn later_faults_leave_the_log_as_it_was(rt: HostRuntime) -> Result<(), Fail> {
 const NO_PATIENCE: Settings = Settings {
     patience: 0,
     door_cost: 100,
+    version: 1,
 };
 
 #[test]

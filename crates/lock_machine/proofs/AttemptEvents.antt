@@ -38,13 +38,13 @@ use Rattle.lock_machine.proofs.Turning.{clocks_shown}
 -- ## On the threads with their clocks
 
 table_event : OutsideLocks → LocksAsStep → (w : Whole) (i : ℕ) (call : Call) (carried : Carried) (made : Bool) (new : Parts) → i < length w.threads → has_turn (clocks_of w.threads) i ≡ true → (thread_at w i).phase ≡ phase.WantsTable call carried
-    → Tries w.patience made i (table_parts w i) new → Attempts made i w (table_tried w i new)
+    → Tries w.settings.patience made i (table_parts w i) new → Attempts made i w (table_tried w i new)
 table_event outside numbers w i call carried made new inside turn is tries terms s (arises, h) =
     let a = attempt_whole outside numbers terms w s i call carried made new inside h (ap (λ cs. has_turn cs i) (clocks_shown terms w s h) ∙ turn) is tries in (a.0, a.1)
 
 object_event : KeepsOutside → PlansOfArisen → (w : Whole) (i n clock : ℕ) (call : Call) (carried : Carried) (made : Bool) (now : DetLock) (new : Parts) → i < length w.threads → has_turn (clocks_of w.threads) i ≡ true
     → (thread_at w i).phase ≡ phase.WantsObject call carried clock n
-    → Reaches w.patience made i (lock_at w n) now (table_parts w i) new → Attempts made i w (object_tried w i n now new)
+    → Reaches w.settings.patience made i (lock_at w n) now (table_parts w i) new → Attempts made i w (object_tried w i n now new)
 object_event outside law w i n clock call carried made now new inside turn is tries terms s (arises, h) =
     let plans = law (setup_under terms) terms.threads limit.OBJECTS first_world s arises in
     let a = reach_whole outside terms w s i n clock call carried made now new inside h plans (ap (λ cs. has_turn cs i) (clocks_shown terms w s h) ∙ turn) is tries in (a.0, a.1)
@@ -93,15 +93,15 @@ idle_event w i idles terms s (arises, h) =
 
 pub try_done : OutsideLocks → LocksAsStep → (w : Whole) (ts : List declared.Thread) (cs ds : List ThreadClock) (i : ℕ) (call : Call) (carried : Carried) (x v : declared.Thread) (l : DetLock) (later : Stored) (rows : List HistoryRow) (r : Result Bool AllocError)
     → Item ts cs i x v ds → Agree ts cs → has_turn (live_clocks cs) i ≡ true → x.phase ≡ phase.WantsTable call carried
-    → IfOk r (λ made. Tries w.patience made i (parts (timed x (clock_at cs i)) w.lock w.table w.rows) (parts (timed v (clock_at ds i)) l later rows))
+    → IfOk r (λ made. Tries w.settings.patience made i (parts (timed x (clock_at cs i)) w.lock w.table w.rows) (parts (timed v (clock_at ds i)) l later rows))
     → IfOk r (λ made. Attempts made i (run_at w ts cs) (record w { threads = joined (set ts i v) ds; lock = l; table = later; rows = rows }))
 try_done outside numbers w ts cs ds i call carried x v l later rows r h agree turn is tried =
     let z = run_at w ts cs in
     let new = parts (timed v (clock_at ds i)) l later rows in
-    let P : Bool → Type 0 = λ made. Tries w.patience made i (parts (timed x (clock_at cs i)) w.lock w.table w.rows) new in
+    let P : Bool → Type 0 = λ made. Tries w.settings.patience made i (parts (timed x (clock_at cs i)) w.lock w.table w.rows) new in
     let Q : Bool → Type 0 = λ made. Attempts made i z (record w { threads = joined (set ts i v) ds; lock = l; table = later; rows = rows }) in
     IfOk-weaker r P Q (λ made a.
-    let R : Thread → Type 0 = λ t. Tries w.patience made i (parts t w.lock w.table w.rows) new in
+    let R : Thread → Type 0 = λ t. Tries w.settings.patience made i (parts t w.lock w.table w.rows) new in
     let T : List Thread → Type 0 = λ us. Attempts made i z (record w { threads = us; lock = l; table = later; rows = rows }) in
     subst T (sym (joined-kept ts cs ds i x v h.clocked h.kept))
     (table_event outside numbers z i call carried made new (joined_inside ts cs i h.inside) (turn_shown ts cs i true agree turn) (item_phase ts cs i x (phase.WantsTable call carried) h.inside h.item is)
@@ -123,17 +123,17 @@ wants_phase phase.Ended n h = absurd h
 
 pub reach_done : KeepsOutside → PlansOfArisen → (w : Whole) (ts : List declared.Thread) (cs ds : List ThreadClock) (i n : ℕ) (x v : declared.Thread) (l before own : DetLock) (later : Stored) (rows : List HistoryRow) (r : Result Bool AllocError)
     → Item ts cs i x v ds → Agree ts cs → has_turn (live_clocks cs) i ≡ true → WantsIn x.phase n → before ≡ get_or w.objects n new_lock
-    → IfOk r (λ made. Reaches w.patience made i before own (parts (timed x (clock_at cs i)) w.lock w.table w.rows) (parts (timed v (clock_at ds i)) l later rows))
+    → IfOk r (λ made. Reaches w.settings.patience made i before own (parts (timed x (clock_at cs i)) w.lock w.table w.rows) (parts (timed v (clock_at ds i)) l later rows))
     → IfOk r (λ made. Attempts made i (run_at w ts cs) (record w { threads = joined (set ts i v) ds; lock = l; objects = set w.objects n own; table = later; rows = rows }))
 reach_done outside plans w ts cs ds i n x v l before own later rows r h agree turn wanting before_is tried =
     let z = run_at w ts cs in
     let new = parts (timed v (clock_at ds i)) l later rows in
     let found = wants_phase x.phase n wanting in
-    let P : Bool → Type 0 = λ made. Reaches w.patience made i before own (parts (timed x (clock_at cs i)) w.lock w.table w.rows) new in
+    let P : Bool → Type 0 = λ made. Reaches w.settings.patience made i before own (parts (timed x (clock_at cs i)) w.lock w.table w.rows) new in
     let Q : Bool → Type 0 = λ made. Attempts made i z (record w { threads = joined (set ts i v) ds; lock = l; objects = set w.objects n own; table = later; rows = rows }) in
     IfOk-weaker r P Q (λ made a.
-    let R : Thread → Type 0 = λ t. Reaches w.patience made i (get_or w.objects n new_lock) own (parts t w.lock w.table w.rows) new in
-    let K : DetLock → Type 0 = λ k. Reaches w.patience made i k own (parts (timed x (clock_at cs i)) w.lock w.table w.rows) new in
+    let R : Thread → Type 0 = λ t. Reaches w.settings.patience made i (get_or w.objects n new_lock) own (parts t w.lock w.table w.rows) new in
+    let K : DetLock → Type 0 = λ k. Reaches w.settings.patience made i k own (parts (timed x (clock_at cs i)) w.lock w.table w.rows) new in
     let T : List Thread → Type 0 = λ us. Attempts made i z (record w { threads = us; lock = l; objects = set w.objects n own; table = later; rows = rows }) in
     subst T (sym (joined-kept ts cs ds i x v h.clocked h.kept))
     (object_event outside plans z i n found.2 found.0 found.1 made own new (joined_inside ts cs i h.inside) (turn_shown ts cs i true agree turn) (item_phase ts cs i x (phase.WantsObject found.0 found.1 found.2 n) h.inside h.item found.3)

@@ -224,9 +224,9 @@ started_shows terms w s turn call carried way None cost new (start.GoesOut erran
 -- of a call that takes its object's lock in this way, or none and asks nothing outside
 pub grant_shows : (terms : Conditions) (w : Whole) (s : State) (turn : Turn) (call : Call) (carried : Carried) (way : Way) (object : Option ℕ) (cost : ℕ) (l : DetLock) (new : Parts) → Shows terms w s
     → IfSome object (λ n. n < limit.OBJECTS) → (thread_at w turn.thread).clock + cost ≤ 2 ^ 62 → way ≡ way_here s call carried → (object ≡ None → asks s.world.object call carried ≡ None)
-    → Grants w.patience turn call carried object (record (later (table_parts w turn.thread) cost) { lock = l }) new → Granted_now terms w s turn call carried way object cost new
+    → Grants w.settings.patience turn call carried object (record (later (table_parts w turn.thread) cost) { lock = l }) new → Granted_now terms w s turn call carried way object cost new
 grant_shows terms w s turn call carried way object cost l new h few room way_is alone g =
-    started_shows terms w s turn call carried way object cost new g.start h few room way_is alone (g.makes terms.settings s.world h.patience h.world) g.thread g.rows
+    started_shows terms w s turn call carried way object cost new g.start h few room way_is alone (g.makes terms.settings s.world (ap (λ (x : Settings). x.patience) h.settings) h.world) g.thread g.rows
 
 -- the other threads see only that there is a row more
 pub others_granted : (terms : Conditions) (w : Whole) (s : State) (i : ℕ) (job : Job) (t : Thread) (u : lock.Thread) → i < length w.threads → Shows terms w s → ThreadShows terms i (rows_with s job) t u
@@ -273,8 +273,7 @@ fail_shows terms w s i inside h room phase_on =
     let y : lock.Thread = record u { clock = u.clock + 1 } in
     let now : ThreadShows terms i s.rows x y = record { clock = ap (λ (c : ℕ). c + 1) (h.threads i).clock; in_time = room; asked = (h.threads i).asked; came = (h.threads i).came; phase = phase_on s.rows (h.threads i).phase } in
     record {
-      patience = h.patience;
-      door_cost = h.door_cost;
+      settings = h.settings;
       count = length-set s.threads i y ∙ h.count ∙ sym (length-set w.threads i x);
       threads = threads_set terms s.rows w.threads s.threads i x y inside h.count now (λ k apart. h.threads k);
       table = h.table;
@@ -314,7 +313,7 @@ asks_none outside numbers h w call carried stands none = none_asked (locked_obje
 
 -- the call is granted at once
 attempt_takes : OutsideLocks → LocksAsStep → (terms : Conditions) (w : Whole) (s : State) (i : ℕ) (call : Call) (carried : Carried) (new : Parts) → Trying terms w s i call carried → (thread_at w i).clock + 1 ≤ 2 ^ 62 → takes s.table (thread_of s i).clock ≡ true → number_locked w.table call carried ≡ None
-    → Grants w.patience (turn_of s i) call carried None (record (later (table_parts w i) 1) { lock = held i w.lock }) new → Attempted terms s i true (table_tried w i new)
+    → Grants w.settings.patience (turn_of s i) call carried None (record (later (table_parts w i) 1) { lock = held i w.lock }) new → Attempted terms s i true (table_tried w i new)
 unfolding job_of
 attempt_takes outside numbers terms w s i call carried new a room free none g =
     let u = thread_of s i in
@@ -327,8 +326,7 @@ attempt_takes outside numbers terms w s i call carried new a room free none g =
     attempted_yes terms s z i (table_tried w i new) (ap wants a.phase) a.turn (planned_by terms s i call carried None a.phase free (sym (numbers w.table s.world call carried a.shows.world) ∙ none))
     (subst (λ (c : ℕ). c ≤ 2 ^ 62) (sym (clock_set terms w s i y a.inside a.shows)) (clock_fits terms w s i 1 a.shows room))
     (record {
-      patience = a.shows.patience;
-      door_cost = a.shows.door_cost;
+      settings = a.shows.settings;
       count = length-set s.threads i y ∙ a.shows.count ∙ sym (length-set w.threads i new.thread);
       threads = others_granted terms w s i job new.thread y a.inside a.shows now.thread;
       table = ap (held i) a.shows.table ∙ sym g.lock;
@@ -356,8 +354,7 @@ attempt_plans numbers terms w s i n call carried a room free is few =
     (planned_by terms s i call carried (Some n) a.phase free (sym (numbers w.table s.world call carried h.world) ∙ is))
     (subst (λ (c : ℕ). c ≤ 2 ^ 62) (sym (clock_set terms w s i y a.inside h)) (clock_fits terms w s i 1 h room))
     (record {
-      patience = h.patience;
-      door_cost = h.door_cost;
+      settings = h.settings;
       count = length-set s.threads i y ∙ h.count ∙ sym (length-set w.threads i x);
       threads = threads_set terms s.rows w.threads s.threads i x y a.inside h.count now (λ k apart. h.threads k);
       table = ap (held i) h.table;
@@ -389,15 +386,15 @@ attempt_full terms w s i call carried a full =
     past
 
 plan_tried : OutsideLocks → LocksAsStep → (terms : Conditions) (w : Whole) (s : State) (i : ℕ) (call : Call) (carried : Carried) (new : Parts) (o : Option ℕ) → Trying terms w s i call carried → (thread_at w i).clock + 1 ≤ 2 ^ 62 → takes s.table (thread_of s i).clock ≡ true → number_locked w.table call carried ≡ o
-    → PlansTo w.patience o (turn_of s i) call carried (record (later (table_parts w i) 1) { lock = held i w.lock }) new → Attempted terms s i true (table_tried w i new)
+    → PlansTo w.settings.patience o (turn_of s i) call carried (record (later (table_parts w i) 1) { lock = held i w.lock }) new → Attempted terms s i true (table_tried w i new)
 plan_tried outside numbers terms w s i call carried new None a room free is g = attempt_takes outside numbers terms w s i call carried new a room free is g
 plan_tried outside numbers terms w s i call carried new (Some n) a room free is (few, e) =
     let P : Parts → Type 0 = λ p. Attempted terms s i true (table_tried w i p) in subst P (sym e) (attempt_plans numbers terms w s i n call carried a room free is few)
 
 lock_tried : OutsideLocks → LocksAsStep → (terms : Conditions) (w : Whole) (s : State) (i : ℕ) (call : Call) (carried : Carried) (new : Parts) (b : Bool) → Trying terms w s i call carried → (thread_at w i).clock + 1 ≤ 2 ^ 62 → takes w.lock (thread_at w i).clock ≡ b
-    → TriesLock w.patience b i call carried (table_parts w i) new → Attempted terms s i true (table_tried w i new)
+    → TriesLock w.settings.patience b i call carried (table_parts w i) new → Attempted terms s i true (table_tried w i new)
 lock_tried outside numbers terms w s i call carried new true a room free g =
-    let P : ℕ → Type 0 = λ clock. PlansTo w.patience (number_locked w.table call carried) (record { clock = clock; thread = i }) call carried (record (later (table_parts w i) 1) { lock = held i w.lock }) new in
+    let P : ℕ → Type 0 = λ clock. PlansTo w.settings.patience (number_locked w.table call carried) (record { clock = clock; thread = i }) call carried (record (later (table_parts w i) 1) { lock = held i w.lock }) new in
     plan_tried outside numbers terms w s i call carried new (number_locked w.table call carried) a room (ap₂ takes a.shows.table (a.shows.threads i).clock ∙ free) refl (subst P (sym (a.shows.threads i).clock) g)
 lock_tried outside numbers terms w s i call carried new false a room shut g =
     let P : Parts → Type 0 = λ p. Attempted terms s i true (table_tried w i p) in
@@ -411,7 +408,7 @@ not_made terms w s i made new h off g =
     subst P (sym g.0) (subst Q (sym g.1) (attempted_no terms w s i h off))
 
 time_tried : OutsideLocks → LocksAsStep → (terms : Conditions) (w : Whole) (s : State) (i : ℕ) (call : Call) (carried : Carried) (made : Bool) (new : Parts) (b : Bool) → Trying terms w s i call carried → in_time (table_parts w i) 1 ≡ b
-    → TriesInTime w.patience b made i call carried (table_parts w i) new → Attempted terms s i made (table_tried w i new)
+    → TriesInTime w.settings.patience b made i call carried (table_parts w i) new → Attempted terms s i made (table_tried w i new)
 time_tried outside numbers terms w s i call carried made new true a room h =
     let P : Bool → Type 0 = λ b. Attempted terms s i b (table_tried w i new) in
     subst P (sym h.0) (lock_tried outside numbers terms w s i call carried new (takes w.lock (thread_at w i).clock) a (leb-true ((thread_at w i).clock + 1) (2 ^ 62) room) refl h.1)
@@ -419,10 +416,10 @@ time_tried outside numbers terms w s i call carried made new false a full h = no
 
 -- only a thread that wants the table makes this attempt
 pub attempt_whole : OutsideLocks → LocksAsStep → (terms : Conditions) (w : Whole) (s : State) (i : ℕ) (call : Call) (carried : Carried) (made : Bool) (new : Parts) → i < length w.threads → Shows terms w s → has_turn (live_clocks s) i ≡ true → (thread_at w i).phase ≡ phase.WantsTable call carried
-    → Tries w.patience made i (table_parts w i) new → Attempted terms s i made (table_tried w i new)
+    → Tries w.settings.patience made i (table_parts w i) new → Attempted terms s i made (table_tried w i new)
 attempt_whole outside numbers terms w s i call carried made new inside h turn is tries =
     let P : Phase → Type 0 = λ p. PhaseShows terms i s.rows (thread_at w i) (thread_of s i) p in
-    let Q : Phase → Type 0 = λ p. TriesIn w.patience p made i (table_parts w i) new in
+    let Q : Phase → Type 0 = λ p. TriesIn w.settings.patience p made i (table_parts w i) new in
     let g = subst P is (h.threads i).phase in
     time_tried outside numbers terms w s i call carried made new (in_time (table_parts w i) 1) (record { inside = inside; shows = h; turn = turn; wanting = is; phase = g }) refl (subst Q is tries)
 

@@ -38,8 +38,7 @@ first_threads terms n k =
 pub shows_at_start : Stands first_stored first_world → ShowsAtStart
 shows_at_start stands terms =
     record {
-      patience = refl;
-      door_cost = refl;
+      settings = refl;
       count = length-replicate terms.threads new_thread ∙ sym (length-replicate terms.threads first_thread);
       threads = first_threads terms terms.threads;
       table = refl;

@@ -1,4 +1,5 @@
 -- The events of a run, by what they make of one thread.
+use Rattle.posix_terms.specs.declared.transcript.Settings.{Settings}
 use Rattle.std.proofs.Common.{◌≡◌, ℕ, zero, suc, ◌<◌, ◌≤◌, List, length, set, get_or, Option, Some, None, Bool, true, false, sym, refl, ap, ap₂, ◌∙◌, subst, arith}
 use Rattle.std.proofs.lemmas.List.{length-map}
 use Rattle.std.proofs.lemmas.Option.{none-some, same_Some}
@@ -55,10 +56,10 @@ again_event w i carried moved v law inside is goes terms s (arises, h) =
     let asked = law (setup_under terms) terms.threads limit.OBJECTS first_world s arises i in
     let a = whole_quiet terms w s i moved v inside h (again_moves terms i s.rows moved (thread_at w i) v (thread_of s i) carried is (h.threads i) asked goes) in record { can = a.0; shows = a.1 }
 
-pub begin_event : (w : Whole) (i : ℕ) (o : Outing) (moved : Bool) (v : Thread) → i < length w.threads → (thread_at w i).phase ≡ phase.ToOutside o → Begins w.door_cost o moved (thread_at w i) v → AdvancesQuietly moved i w (record w { threads = set w.threads i v })
+pub begin_event : (w : Whole) (i : ℕ) (o : Outing) (moved : Bool) (v : Thread) → i < length w.threads → (thread_at w i).phase ≡ phase.ToOutside o → Begins w.settings.door_cost o moved (thread_at w i) v → AdvancesQuietly moved i w (record w { threads = set w.threads i v })
 begin_event w i o moved v inside is begins terms s (arises, h) =
     let R : ℕ → Type 0 = λ cost. Begins cost o moved (thread_at w i) v in
-    let a = whole_quiet terms w s i moved v inside h (begin_moves terms i s.rows moved (thread_at w i) v (thread_of s i) o is (h.threads i) (subst R (sym h.door_cost) begins)) in record { can = a.0; shows = a.1 }
+    let a = whole_quiet terms w s i moved v inside h (begin_moves terms i s.rows moved (thread_at w i) v (thread_of s i) o is (h.threads i) (subst R (sym (ap (λ (x : Settings). x.door_cost) h.settings)) begins)) in record { can = a.0; shows = a.1 }
 
 pub record_event : RowsOfArisen → PlansOfArisen → (w : Whole) (i : ℕ) (o : Outing) (g : Given) (made : Progress) (new : RecordedParts) → i < length w.threads → (thread_at w i).phase ≡ phase.Outside o → Records made o g (recorded_at w i) new → RecordsGiven made i g w (recorded_whole w i new)
 record_event own plans w i o g made new inside is records terms s (arises, h) next =
@@ -66,7 +67,7 @@ record_event own plans w i o g made new inside is records terms s (arises, h) ne
     (own (setup_under terms) terms.threads limit.OBJECTS first_world s arises)
     (plans (setup_under terms) terms.threads limit.OBJECTS first_world s arises) is next records
 
-pub conclude_event : LocksOfArisen → RowsOfArisen → PlansOfArisen → (w : Whole) (i n : ℕ) (o : Outing) (told : Option posix.Answer) (new : OutsideParts) → i < length w.threads → (thread_at w i).phase ≡ phase.Recorded o → o.object ≡ Some n → AnswersOutside w.patience told i o (outside_at w i n) new → Tells told i w (concluded_whole w i n new)
+pub conclude_event : LocksOfArisen → RowsOfArisen → PlansOfArisen → (w : Whole) (i n : ℕ) (o : Outing) (told : Option posix.Answer) (new : OutsideParts) → i < length w.threads → (thread_at w i).phase ≡ phase.Recorded o → o.object ≡ Some n → AnswersOutside w.settings.patience told i o (outside_at w i n) new → Tells told i w (concluded_whole w i n new)
 conclude_event held own plans w i n o told new inside is object_is answers terms s (arises, h) =
     let a =
     conclude_whole terms w s i n o told new inside h
@@ -204,11 +205,11 @@ again_done w ts cs i x v r law h is went =
     (again_event z i carried moved (timed v clock) law (joined_inside ts cs i h.inside) (item_phase ts cs i x (phase.Blocked carried) h.inside h.item at) (subst R (sym (item_thread ts cs i x h.inside h.item)) (goes clock)))) went
 
 pub begin_done : (w : Whole) (ts : List declared.Thread) (cs ds : List ThreadClock) (i : ℕ) (o : Outing) (x v : declared.Thread) (moved : Bool)
-    → Item ts cs i x v ds → x.phase ≡ phase.ToOutside o → Begins w.door_cost o moved (timed x (clock_at cs i)) (timed v (clock_at ds i))
+    → Item ts cs i x v ds → x.phase ≡ phase.ToOutside o → Begins w.settings.door_cost o moved (timed x (clock_at cs i)) (timed v (clock_at ds i))
     → AdvancesQuietly moved i (run_at w ts cs) (run_at w (set ts i v) ds)
 begin_done w ts cs ds i o x v moved h is begins =
     let z = run_at w ts cs in
-    let R : Thread → Type 0 = λ t. Begins w.door_cost o moved t (timed v (clock_at ds i)) in
+    let R : Thread → Type 0 = λ t. Begins w.settings.door_cost o moved t (timed v (clock_at ds i)) in
     let T : List Thread → Type 0 = λ l. AdvancesQuietly moved i z (record w { threads = l }) in
     subst T (sym (joined-kept ts cs ds i x v h.clocked h.kept))
     (begin_event z i o moved (timed v (clock_at ds i)) (joined_inside ts cs i h.inside) (item_phase ts cs i x (phase.ToOutside o) h.inside h.item is) (subst R (sym (item_thread ts cs i x h.inside h.item)) begins))
@@ -229,13 +230,13 @@ record_done own plans w ts cs i o g x v rows made h is records =
 
 pub conclude_done : LocksOfArisen → RowsOfArisen → PlansOfArisen → (w : Whole) (ts : List declared.Thread) (cs ds : List ThreadClock) (i n : ℕ) (o : Outing) (x v : declared.Thread) (before own l : DetLock) (later : Stored) (rows : List HistoryRow) (told : Option posix.Answer)
     → Item ts cs i x v ds → x.phase ≡ phase.Recorded o → o.object ≡ Some n → before ≡ get_or w.objects n new_lock
-    → AnswersOutside w.patience told i o (outside_parts (timed x (clock_at cs i)) before w.lock w.table w.rows) (outside_parts (timed v (clock_at ds i)) own l later rows)
+    → AnswersOutside w.settings.patience told i o (outside_parts (timed x (clock_at cs i)) before w.lock w.table w.rows) (outside_parts (timed v (clock_at ds i)) own l later rows)
     → Tells told i (run_at w ts cs) (record w { threads = joined (set ts i v) ds; lock = l; objects = set w.objects n own; table = later; rows = rows })
 conclude_done held open_rows plans w ts cs ds i n o x v before own l later rows told h is object_is before_is answered =
     let z = run_at w ts cs in
     let new = outside_parts (timed v (clock_at ds i)) own l later rows in
-    let K : DetLock → Type 0 = λ k. AnswersOutside w.patience told i o (outside_parts (timed x (clock_at cs i)) k w.lock w.table w.rows) new in
-    let R : Thread → Type 0 = λ t. AnswersOutside w.patience told i o (outside_parts t (get_or w.objects n new_lock) w.lock w.table w.rows) new in
+    let K : DetLock → Type 0 = λ k. AnswersOutside w.settings.patience told i o (outside_parts (timed x (clock_at cs i)) k w.lock w.table w.rows) new in
+    let R : Thread → Type 0 = λ t. AnswersOutside w.settings.patience told i o (outside_parts t (get_or w.objects n new_lock) w.lock w.table w.rows) new in
     let T : List Thread → Type 0 = λ us. Tells told i z (record w { threads = us; lock = l; objects = set w.objects n own; table = later; rows = rows }) in
     subst T (sym (joined-kept ts cs ds i x v h.clocked h.kept))
     (conclude_event held open_rows plans z i n o told new (joined_inside ts cs i h.inside) (item_phase ts cs i x (phase.Recorded o) h.inside h.item is) object_is (subst R (sym (item_thread ts cs i x h.inside h.item)) (subst K before_is answered)))

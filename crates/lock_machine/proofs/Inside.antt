@@ -1,4 +1,5 @@
 -- What contracts see of a lock machine, by its fields.
+use Rattle.posix_terms.specs.declared.transcript.Settings.{Settings}
 use Rattle.std.proofs.Common.{◌≡◌, ℕ, ◌<◌, List, length, get_or, Option, true, sym, refl, ap, ◌∙◌, subst}
 use Rattle.std.proofs.lemmas.List.{get_or_default}
 use Rattle.det_mutex.specs.declared.lock.DetLock.{DetLock}
@@ -17,8 +18,8 @@ use Rattle.lock_machine.specs.declared.thread.Phase.TheVariants as phase
 use Rattle.lock_machine.specs.declared.thread.Thread as declared
 use Rattle.lock_machine.proofs.Joining.{agree_length, get-joined, length-joined, live-joined}
 
-abbrev pub whole_by : ℕ → ℕ → List declared.Thread → List ThreadClock → DetLock → List DetLock → Stored → List HistoryRow → Whole
-whole_by patience cost ts cs lock objects table rows = record { patience = patience; door_cost = cost; threads = joined ts cs; lock = lock; objects = objects; table = table; rows = rows }
+abbrev pub whole_by : Settings → List declared.Thread → List ThreadClock → DetLock → List DetLock → Stored → List HistoryRow → Whole
+whole_by settings ts cs lock objects table rows = record { settings = settings; threads = joined ts cs; lock = lock; objects = objects; table = table; rows = rows }
 
 pub inside_of : (ts : List declared.Thread) (cs : List ThreadClock) (v w : Whole) (i : ℕ) → v.threads ≡ joined ts cs → v ≡ w → i < length w.threads → i < length ts
 inside_of ts cs v w i is view inside = subst (λ (n : ℕ). i < n) (ap (λ (x : Whole). length x.threads) (sym view) ∙ ap length is ∙ length-joined ts cs) inside

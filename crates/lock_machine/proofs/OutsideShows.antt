@@ -467,7 +467,7 @@ module _ (terms : Conditions) (w : Whole) (s : State) (i : ℕ) (o : Outing) (jo
 
 -- a call that goes outside has its answer, by what came for it
 pub conclude_whole : (terms : Conditions) (w : Whole) (s : State) (i n : ℕ) (o : Outing) (told : Option posix_answer.Answer) (new : OutsideParts) → i < length w.threads → Shows terms w s → AreHeld s → HaveRows s → HavePlans (real_calls terms.settings) s
-    → (thread_at w i).phase ≡ phase.Recorded o → o.object ≡ Some n → AnswersOutside w.patience told i o (outside_at w i n) new
+    → (thread_at w i).phase ≡ phase.Recorded o → o.object ≡ Some n → AnswersOutside w.settings.patience told i o (outside_at w i n) new
     → (can_advance (setup_under terms) s i ≡ is_some told) × Shows terms (concluded_whole w i n new) (advance (setup_under terms) i s) × ((thread_of (advance (setup_under terms) i s) i).replies ≡ replied told (thread_of s i).replies)
 conclude_whole terms w s i n o told new inside h held own plans is object_is answers =
     let P : Phase → Type 0 = λ p. PhaseShows terms i s.rows (thread_at w i) (thread_of s i) p in
@@ -487,8 +487,8 @@ conclude_whole terms w s i n o told new inside h held own plans is object_is ans
       came = came;
       good = (and_parts (is_kind g.kind o.errand.kind) (fits o.errand.kind o.errand.asked g.outcome) fits_errand).1;
     } in
-    let Q : ℕ → Type 0 = λ k. AnswersOutside w.patience told i o (outside_at w i k) new in
+    let Q : ℕ → Type 0 = λ k. AnswersOutside w.settings.patience told i o (outside_at w i k) new in
     let R : ℕ → Type 0 = λ k. AnswersOutside k told i o (outside_at w i out.object) new in
     let T : ℕ → Type 0 = λ k. (can_advance (setup_under terms) s i ≡ is_some told) × Shows terms (concluded_whole w i k new) (advance (setup_under terms) i s) × ((thread_of (advance (setup_under terms) i s) i).replies ≡ replied told (thread_of s i).replies) in
-    let made = concluded_whole_is terms w s i o job g c told new (subst R (sym h.patience) (subst Q (sym same) answers)) in
+    let made = concluded_whole_is terms w s i o job g c told new (subst R (sym (ap (λ (x : Settings). x.patience) h.settings)) (subst Q (sym same) answers)) in
     subst T same (made.0.0, made.0.1, made.1)

@@ -91,7 +91,7 @@ reach_fails terms w s i n clock call carried way a room shut =
 
 -- as the grant leaves it
 reach_shows : (terms : Conditions) (w : Whole) (s : State) (i n clock : ℕ) (call : Call) (carried : Carried) (way : Way) (cost : ℕ) (l table : DetLock) (new : Parts) → Reaching terms w s i n clock call carried way → (thread_at w i).clock + cost ≤ 2 ^ 62 → table ≡ l
-    → Grants w.patience (turn_at i clock) call carried (Some n) (record (later (table_parts w i) cost) { lock = l }) new
+    → Grants w.settings.patience (turn_at i clock) call carried (Some n) (record (later (table_parts w i) cost) { lock = l }) new
     → Shows terms (object_tried w i n (held i (lock_at w n)) new)
     (record {
       threads = set s.threads i (granted (thread_of s i) ((thread_of s i).clock + cost) (job_of s (turn_at i clock) call carried way (Some n)) (way_goes way));
@@ -107,8 +107,7 @@ reach_shows terms w s i n clock call carried way cost l table new a room table_i
     let y : lock.Thread = granted u (u.clock + cost) job (way_goes way) in
     let now = grant_shows terms w s turn call carried way (Some n) cost l new a.shows a.in_range room a.way_is (λ e. absurd (none-some n (sym e))) g in
     record {
-      patience = a.shows.patience;
-      door_cost = a.shows.door_cost;
+      settings = a.shows.settings;
       count = length-set s.threads i y ∙ a.shows.count ∙ sym (length-set w.threads i new.thread);
       threads = others_granted terms w s i job new.thread y a.inside a.shows now.thread;
       table = table_is ∙ sym g.lock;
@@ -121,7 +120,7 @@ reach_shows terms w s i n clock call carried way cost l table new a room table_i
 -- where the call frees the table
 reach_frees : (terms : Conditions) (w : Whole) (s : State) (i n clock : ℕ) (call : Call) (carried : Carried) (way : Way) (new : Parts) → Reaching terms w s i n clock call carried way → (thread_at w i).clock + 2 ≤ 2 ^ 62
     → tried (setup_under terms) s i ≡ reached_freeing (real_calls terms.settings) s i (thread_of s i) call n (new_job call carried (turn_at i clock) (Object n way) s.world) (way_goes way) → way_keeps way ≡ false
-    → Grants w.patience (turn_at i clock) call carried (Some n) (record (later (table_parts w i) 2) { lock = freed ((thread_at w i).clock + 1) }) new → Attempted terms s i true (object_tried w i n (held i (lock_at w n)) new)
+    → Grants w.settings.patience (turn_at i clock) call carried (Some n) (record (later (table_parts w i) 2) { lock = freed ((thread_at w i).clock + 1) }) new → Attempted terms s i true (object_tried w i n (held i (lock_at w n)) new)
 unfolding job_of
 reach_frees terms w s i n clock call carried way new a room is frees g =
     let u = thread_of s i in
@@ -135,7 +134,7 @@ reach_frees terms w s i n clock call carried way new a room is frees g =
 
 -- by its way
 reach_takes : (terms : Conditions) (w : Whole) (s : State) (i n clock : ℕ) (call : Call) (carried : Carried) (way : Way) (new : Parts) → Reaching terms w s i n clock call carried way → (thread_at w i).clock + object_cost true (way_keeps way) ≤ 2 ^ 62 → taken_in s i n ≡ true
-    → Grants w.patience (turn_at i clock) call carried (Some n) (object_reached (way_keeps way) (table_parts w i)) new → Attempted terms s i true (object_tried w i n (held i (lock_at w n)) new)
+    → Grants w.settings.patience (turn_at i clock) call carried (Some n) (object_reached (way_keeps way) (table_parts w i)) new → Attempted terms s i true (object_tried w i n (held i (lock_at w n)) new)
 unfolding job_of
 reach_takes terms w s i n clock call carried Inside new a room free g = reach_frees terms w s i n clock call carried Inside new a room (tried_reached terms s i n clock call carried Inside a.phase free) refl g
 reach_takes terms w s i n clock call carried Door new a room free g = reach_frees terms w s i n clock call carried Door new a room (tried_reached terms s i n clock call carried Door a.phase free) refl g
@@ -172,10 +171,10 @@ reach_full terms w s i n clock call carried way taken a is full =
     attempted_full terms s i ((thread_of s i).clock + object_cost taken (keeps_table call)) (cost_in terms w s i n clock call carried way taken a is) (subst (λ (c : ℕ). 2 ^ 62 < c + object_cost taken (keeps_table call)) (sym (a.shows.threads i).clock) full)
 
 object_tried_by : (terms : Conditions) (w : Whole) (s : State) (i n clock : ℕ) (call : Call) (carried : Carried) (way : Way) (now : DetLock) (new : Parts) (taken : Bool) → Reaching terms w s i n clock call carried way → taken_in s i n ≡ taken → (thread_at w i).clock + object_cost taken (keeps_table call) ≤ 2 ^ 62
-    → TriesObject w.patience taken i (turn_at i clock) call carried n (lock_at w n) now (table_parts w i) new → Attempted terms s i true (object_tried w i n now new)
+    → TriesObject w.settings.patience taken i (turn_at i clock) call carried n (lock_at w n) now (table_parts w i) new → Attempted terms s i true (object_tried w i n now new)
 object_tried_by terms w s i n clock call carried way now new true a is room (held_now, g) =
     let P : DetLock → Type 0 = λ l. Attempted terms s i true (object_tried w i n l new) in
-    let Q : Bool → Type 0 = λ b. Grants w.patience (turn_at i clock) call carried (Some n) (object_reached b (table_parts w i)) new in
+    let Q : Bool → Type 0 = λ b. Grants w.settings.patience (turn_at i clock) call carried (Some n) (object_reached b (table_parts w i)) new in
     let R : Bool → Type 0 = λ b. (thread_at w i).clock + object_cost true b ≤ 2 ^ 62 in
     subst P (sym held_now) (reach_takes terms w s i n clock call carried way new a (subst R (sym a.keeps) room) is (subst Q (sym a.keeps) g))
 object_tried_by terms w s i n clock call carried way now new false a is room (still, e) =
@@ -185,7 +184,7 @@ object_tried_by terms w s i n clock call carried way now new false a is room (st
 
 object_in_time : (terms : Conditions) (w : Whole) (s : State) (i n clock : ℕ) (call : Call) (carried : Carried) (way : Way) (made : Bool) (now : DetLock) (new : Parts) (taken b : Bool) → Reaching terms w s i n clock call carried way → taken_in s i n ≡ taken
     → in_time (table_parts w i) (object_cost taken (keeps_table call)) ≡ b
-    → ObjectInTime w.patience b taken made i (turn_at i clock) call carried n (lock_at w n) now (table_parts w i) new → Attempted terms s i made (object_tried w i n now new)
+    → ObjectInTime w.settings.patience b taken made i (turn_at i clock) call carried n (lock_at w n) now (table_parts w i) new → Attempted terms s i made (object_tried w i n now new)
 object_in_time terms w s i n clock call carried way made now new taken true a is room (made_it, h) =
     let P : Bool → Type 0 = λ b. Attempted terms s i b (object_tried w i n now new) in
     subst P (sym made_it) (object_tried_by terms w s i n clock call carried way now new taken a is (leb-true ((thread_at w i).clock + object_cost taken (keeps_table call)) (2 ^ 62) room) h)
@@ -230,10 +229,10 @@ reaching law terms w s i n clock call carried way inside h plans turn wanting is
 -- only a thread that wants this object makes this attempt
 pub reach_whole : KeepsOutside → (terms : Conditions) (w : Whole) (s : State) (i n clock : ℕ) (call : Call) (carried : Carried) (made : Bool) (now : DetLock) (new : Parts) → i < length w.threads → Shows terms w s → HavePlans (real_calls terms.settings) s → has_turn (live_clocks s) i ≡ true
     → (thread_at w i).phase ≡ phase.WantsObject call carried clock n
-    → Reaches w.patience made i (lock_at w n) now (table_parts w i) new → Attempted terms s i made (object_tried w i n now new)
+    → Reaches w.settings.patience made i (lock_at w n) now (table_parts w i) new → Attempted terms s i made (object_tried w i n now new)
 reach_whole law terms w s i n clock call carried made now new inside h plans turn is tries =
     let P : Phase → Type 0 = λ p. PhaseShows terms i s.rows (thread_at w i) (thread_of s i) p in
-    let Q : Phase → Type 0 = λ p. ReachesIn w.patience p made i (lock_at w n) now (table_parts w i) new in
+    let Q : Phase → Type 0 = λ p. ReachesIn w.settings.patience p made i (lock_at w n) now (table_parts w i) new in
     let g = subst P is (h.threads i).phase in
     let taken = takes_object i (lock_at w n) (table_parts w i) in
     object_in_time terms w s i n clock call carried g.0 made now new taken (in_time (table_parts w i) (object_cost taken (keeps_table call)))

@@ -102,10 +102,10 @@ begins_rest : (room : Bool) (cost : ℕ) (o : Outing) (moved : Bool) (old new : 
 begins_rest true cost o moved old new h stays = absurd (true≢false (sym h.0 ∙ stays))
 begins_rest false cost o moved old new h stays = h.1
 
-pub begin_rests : (w : Whole) (ts : List declared.Thread) (cs ds : List ThreadClock) (i : ℕ) (o : Outing) (x v : declared.Thread) (moved : Bool) → Item ts cs i x v ds → Begins w.door_cost o moved (timed x (clock_at cs i)) (timed v (clock_at ds i))
+pub begin_rests : (w : Whole) (ts : List declared.Thread) (cs ds : List ThreadClock) (i : ℕ) (o : Outing) (x v : declared.Thread) (moved : Bool) → Item ts cs i x v ds → Begins w.settings.door_cost o moved (timed x (clock_at cs i)) (timed v (clock_at ds i))
     → Rests moved (run_at w ts cs) (run_at w (set ts i v) ds)
 begin_rests w ts cs ds i o x v moved h begins =
-    rests_by moved (run_at w ts cs) (run_at w (set ts i v) ds) (λ stays. same_run w ts cs ds i x v h (begins_rest _ w.door_cost o moved (timed x (clock_at cs i)) (timed v (clock_at ds i)) begins stays))
+    rests_by moved (run_at w ts cs) (run_at w (set ts i v) ds) (λ stays. same_run w ts cs ds i x v h (begins_rest _ w.settings.door_cost o moved (timed x (clock_at cs i)) (timed v (clock_at ds i)) begins stays))
 
 -- ## `record`
 
@@ -222,13 +222,13 @@ answer_rests w ts cs ds rows i place object x v own l told h own_is answered =
 
 pub conclude_rests : (w : Whole) (ts : List declared.Thread) (cs ds : List ThreadClock) (i n : ℕ) (o : Outing) (x v : declared.Thread) (before own l : DetLock) (later : Stored) (rows : List HistoryRow) (told : Option posix.Answer)
     → Item ts cs i x v ds → before ≡ get_or w.objects n new_lock
-    → AnswersOutside w.patience told i o (outside_parts (timed x (clock_at cs i)) before w.lock w.table w.rows) (outside_parts (timed v (clock_at ds i)) own l later rows)
+    → AnswersOutside w.settings.patience told i o (outside_parts (timed x (clock_at cs i)) before w.lock w.table w.rows) (outside_parts (timed v (clock_at ds i)) own l later rows)
     → Rests (is_some told) (run_at w ts cs) (record w { threads = joined (set ts i v) ds; lock = l; objects = set w.objects n own; table = later; rows = rows })
 conclude_rests w ts cs ds i n o x v before own l later rows told h before_is answered =
     let z = run_at w ts cs in
     let new : Whole = record w { threads = joined (set ts i v) ds; lock = l; objects = set w.objects n own; table = later; rows = rows } in
     rests_by (is_some told) z new (λ stays.
-    let same = concludes_rest _ w.patience told o (outside_parts (timed x (clock_at cs i)) before w.lock w.table w.rows) (outside_parts (timed v (clock_at ds i)) own l later rows) answered stays in
+    let same = concludes_rest _ w.settings.patience told o (outside_parts (timed x (clock_at cs i)) before w.lock w.table w.rows) (outside_parts (timed v (clock_at ds i)) own l later rows) answered stays in
     ap (λ (us : List Thread). record w { threads = us; lock = l; objects = set w.objects n own; table = later; rows = rows }) (same_threads ts cs ds i x v h (ap (λ (p : OutsideParts). p.thread) same))
     ∙ ap (λ (p : OutsideParts). record w { threads = joined ts cs; lock = p.lock; objects = set w.objects n p.object; table = p.table; rows = p.rows }) same
     ∙ ap (λ (ls : List DetLock). record w { threads = joined ts cs; objects = ls }) (ap (set w.objects n) before_is ∙ set-get_or w.objects n new_lock))
@@ -244,15 +244,15 @@ tries_rest (phase.WantsTable call carried) patience made i old new h stays = tri
 tries_rest p patience made i old new h stays = h.1
 
 pub try_rests : (w : Whole) (ts : List declared.Thread) (cs ds : List ThreadClock) (i : ℕ) (x v : declared.Thread) (l : DetLock) (later : Stored) (rows : List HistoryRow) (r : Result Bool AllocError) → Item ts cs i x v ds
-    → IfOk r (λ made. Tries w.patience made i (parts (timed x (clock_at cs i)) w.lock w.table w.rows) (parts (timed v (clock_at ds i)) l later rows))
+    → IfOk r (λ made. Tries w.settings.patience made i (parts (timed x (clock_at cs i)) w.lock w.table w.rows) (parts (timed v (clock_at ds i)) l later rows))
     → IfOk r (λ made. Rests made (run_at w ts cs) (record w { threads = joined (set ts i v) ds; lock = l; table = later; rows = rows }))
 try_rests w ts cs ds i x v l later rows r h tried =
     let z = run_at w ts cs in
     let new : Whole = record w { threads = joined (set ts i v) ds; lock = l; table = later; rows = rows } in
-    let P : Bool → Type 0 = λ made. Tries w.patience made i (parts (timed x (clock_at cs i)) w.lock w.table w.rows) (parts (timed v (clock_at ds i)) l later rows) in
+    let P : Bool → Type 0 = λ made. Tries w.settings.patience made i (parts (timed x (clock_at cs i)) w.lock w.table w.rows) (parts (timed v (clock_at ds i)) l later rows) in
     let Q : Bool → Type 0 = λ made. Rests made z new in
     IfOk-weaker r P Q (λ made a. rests_by made z new (λ stays.
-    let same = tries_rest x.phase w.patience made i (parts (timed x (clock_at cs i)) w.lock w.table w.rows) (parts (timed v (clock_at ds i)) l later rows) a stays in
+    let same = tries_rest x.phase w.settings.patience made i (parts (timed x (clock_at cs i)) w.lock w.table w.rows) (parts (timed v (clock_at ds i)) l later rows) a stays in
     ap (λ (us : List Thread). record w { threads = us; lock = l; table = later; rows = rows }) (same_threads ts cs ds i x v h (ap (λ (p : Parts). p.thread) same))
     ∙ ap (λ (p : Parts). record w { threads = joined ts cs; lock = p.lock; table = p.table; rows = p.rows }) same)) tried
 
@@ -267,15 +267,15 @@ reaches_rest p patience made i lock now old new h stays = (h.1, h.2)
 
 pub reach_rests : (w : Whole) (ts : List declared.Thread) (cs ds : List ThreadClock) (i n : ℕ) (x v : declared.Thread) (l before own : DetLock) (later : Stored) (rows : List HistoryRow) (r : Result Bool AllocError) → Item ts cs i x v ds
     → before ≡ get_or w.objects n new_lock
-    → IfOk r (λ made. Reaches w.patience made i before own (parts (timed x (clock_at cs i)) w.lock w.table w.rows) (parts (timed v (clock_at ds i)) l later rows))
+    → IfOk r (λ made. Reaches w.settings.patience made i before own (parts (timed x (clock_at cs i)) w.lock w.table w.rows) (parts (timed v (clock_at ds i)) l later rows))
     → IfOk r (λ made. Rests made (run_at w ts cs) (record w { threads = joined (set ts i v) ds; lock = l; objects = set w.objects n own; table = later; rows = rows }))
 reach_rests w ts cs ds i n x v l before own later rows r h before_is tried =
     let z = run_at w ts cs in
     let new : Whole = record w { threads = joined (set ts i v) ds; lock = l; objects = set w.objects n own; table = later; rows = rows } in
-    let P : Bool → Type 0 = λ made. Reaches w.patience made i before own (parts (timed x (clock_at cs i)) w.lock w.table w.rows) (parts (timed v (clock_at ds i)) l later rows) in
+    let P : Bool → Type 0 = λ made. Reaches w.settings.patience made i before own (parts (timed x (clock_at cs i)) w.lock w.table w.rows) (parts (timed v (clock_at ds i)) l later rows) in
     let Q : Bool → Type 0 = λ made. Rests made z new in
     IfOk-weaker r P Q (λ made a. rests_by made z new (λ stays.
-    let same = reaches_rest x.phase w.patience made i before own (parts (timed x (clock_at cs i)) w.lock w.table w.rows) (parts (timed v (clock_at ds i)) l later rows) a stays in
+    let same = reaches_rest x.phase w.settings.patience made i before own (parts (timed x (clock_at cs i)) w.lock w.table w.rows) (parts (timed v (clock_at ds i)) l later rows) a stays in
     ap (λ (us : List Thread). record w { threads = us; lock = l; objects = set w.objects n own; table = later; rows = rows }) (same_threads ts cs ds i x v h (ap (λ (p : Parts). p.thread) same.1))
     ∙ ap (λ (p : Parts). record w { threads = joined ts cs; lock = p.lock; objects = set w.objects n own; table = p.table; rows = p.rows }) same.1
     ∙ ap (λ (ls : List DetLock). record w { threads = joined ts cs; objects = ls }) (ap (set w.objects n) (same.0 ∙ before_is) ∙ set-get_or w.objects n new_lock))) tried

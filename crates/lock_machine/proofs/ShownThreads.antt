@@ -114,8 +114,7 @@ whole_changed terms w s i t m l ls table rows inside h is shows lock_is objects_
       ap is_some is,
       subst P (sym (advance_by terms s i (Some m) is))
           (record {
-            patience = h.patience;
-            door_cost = h.door_cost;
+            settings = h.settings;
             count = length-set s.threads i m.thread ∙ h.count ∙ sym (length-set w.threads i t);
             threads = threads_set terms (map (row_after i m.effect) s.rows) w.threads s.threads i t m.thread inside h.count shows
                 (λ k apart. thread_rows terms k s.rows (map (row_after i m.effect) s.rows) (get_or w.threads k no_thread) (thread_of s k) (keeps_other i k m.effect s.rows apart) (h.threads k));
@@ -180,8 +179,7 @@ whole_still terms w s i t inside h is shows =
       ap is_some is,
       subst P (sym (advance_by terms s i None is))
           (record {
-            patience = h.patience;
-            door_cost = h.door_cost;
+            settings = h.settings;
             count = h.count ∙ sym (length-set w.threads i t);
             threads = subst R (set-get_or s.threads i nobody) (threads_set terms s.rows w.threads s.threads i t (thread_of s i) inside h.count shows (λ k apart. h.threads k));
             table = h.table;

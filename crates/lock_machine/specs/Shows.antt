@@ -1,6 +1,6 @@
 -- Believed: a contract of the headline stands on it.
 -- How the data of a run stand for a state of the lock machine.
-use Rattle.std.specs.Prelude.{◌≡◌, ℕ, ◌<◌, ◌≤◌, ◌^◌, List, [], ◌∷◌, ◌++◌, length, map, slice_get, is_some, Option, Some, None, IfSome, Bool, true, false}
+use Rattle.std.specs.Prelude.{◌≡◌, ℕ, ◌<◌, ◌≤◌, ◌^◌, List, [], ◌∷◌, ◌++◌, length, map, slice_get, is_some, Option, Some, None, IfSome, Bool, true, false, ◌==◌, if◌then◌else◌}
 use Rattle.descriptor_table.specs.Acts as acts
 use Rattle.descriptor_table.specs.Agreement.{query_of}
 use Rattle.descriptor_table.specs.declared.plan.NewNumbers.TheVariants as numbers
@@ -91,8 +91,7 @@ pub record ThreadShows (terms : Conditions) (i : ℕ) (rows : List Row) (t : Thr
 -- ## The whole
 
 pub record Shows (terms : Conditions) (w : Whole) (s : State) : Type 0 where
-  pub patience : terms.settings.patience ≡ w.patience
-  pub door_cost : terms.settings.door_cost ≡ w.door_cost
+  pub settings : terms.settings ≡ w.settings
   pub count : length s.threads ≡ length w.threads
   pub threads : (k : ℕ) → ThreadShows terms k s.rows (thread_at w k) (thread_of s k)
   pub table : s.table ≡ w.lock
@@ -163,6 +162,15 @@ row_outside p rows = None
 
 abbrev pub as_it_comes : Whole → ℕ → Given → Given
 as_it_comes w i g = dated_by (row_outside (thread_at w i).phase w.rows) g
+
+-- the clock that a log of the version of these settings has of the next outcome of thread i
+abbrev pub clock_in_row : Option HistoryRow → Option ℕ
+clock_in_row (Some q) = Some q.turn.clock
+clock_in_row None = None
+
+abbrev pub logged_clock : Whole → ℕ → Option ℕ
+logged_clock w i =
+    if w.settings.version == 2 then clock_in_row (row_outside (thread_at w i).phase w.rows) else None
 
 -- this outcome comes for thread i, just where it can, and it diverges just where the outcome does not answer
 pub record Advanced (made : Progress) (i : ℕ) (g : Given) (new : Whole) (terms : Conditions) (s : State) : Type 0 where

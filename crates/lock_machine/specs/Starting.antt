@@ -24,8 +24,7 @@ first_thread = record { phase = phase.Working; clock = 1; asked = []; came = 0 }
 abbrev pub first_whole : Settings → ℕ → Whole
 first_whole settings threads =
     record {
-      patience = settings.patience;
-      door_cost = settings.door_cost;
+      settings = settings;
       threads = replicate threads first_thread;
       lock = new_lock;
       objects = replicate limit.OBJECTS new_lock;

@@ -8,11 +8,10 @@ use Rattle.posix_terms.specs.declared.transcript.Settings.{Settings}
 use Rattle.lock_machine.specs.Threads.{Thread}
 use Rattle.lock_machine.specs.Views.{no_thread}
 
--- the patience of a run's calls and the cost of going outside, the threads, the locks of the table and of the object numbers, what the table holds,
--- and the rows
+-- the settings of the run, the threads, the locks of the table and of the object numbers, what the
+-- table holds, and the rows
 pub record Whole : Type 0 where
-  pub patience : ℕ
-  pub door_cost : ℕ
+  pub settings : Settings
   pub threads : List Thread
   pub lock : DetLock
   pub objects : List DetLock
@@ -23,4 +22,4 @@ abbrev pub thread_at : Whole → ℕ → Thread
 thread_at w k = get_or w.threads k no_thread
 
 abbrev pub settings_in : Whole → Settings
-settings_in w = record { patience = w.patience; door_cost = w.door_cost }
+settings_in w = w.settings

@@ -15,7 +15,7 @@
 //! use posix_terms::{Answer, Call, Reply, Settings};
 //! use posix_terms::Step;
 //!
-//! let settings = Settings { patience: 1000, door_cost: 100 };
+//! let settings = Settings { patience: 1000, door_cost: 100, version: 1 };
 //! let mut machine = LockMachine::new(alloc, 2, settings)?;
 //! assert!(rt; machine.ask(0, Step::Call(Call::Pipe)).is_ok());
 //! // Thread 1 would have the turn behind the first attempt of thread 0, if it had not ended.

@@ -7,6 +7,7 @@ ghost use Rattle.lock_machine.specs.Threads.{Thread as Seen, have_ended};
 ghost use Rattle.lock_machine.specs.Views.{clocks_of};
 ghost use Rattle.lock_machine.specs.Wanted.{AllHaveDecided};
 ghost use Rattle.lock_machine.specs.Waiting.{HasRoom, waiting};
+ghost use Rattle.lock_machine.specs.Shows.{logged_clock};
 ghost use Rattle.lock_machine.specs.Whole.{settings_in, thread_at};
 
 use crate::asked::Asked;
@@ -31,10 +32,7 @@ pub struct Shared {
 /// knows no actor: it is handed each step and each outcome. Contracts see the threads with their clocks, the locks, the table and the rows.
 #[derive(Drop)]
 pub struct LockMachine {
-    // a call that is blocked for so many turns is not made again
-    pub(crate) patience: u32,
-    // what a call that goes outside adds to its thread's clock
-    pub(crate) door_cost: u32,
+    pub(crate) settings: Settings,
     pub(crate) threads: Vec<Thread>,
     pub(crate) clocks: Clocks,
     pub(crate) shared: Shared,
@@ -62,7 +60,7 @@ impl Model for LockMachine {
 
     ghost coded = { Prim.hlevel (codes, stored_code) };
 
-    ghost view = { λ m. record { patience = m.patience; door_cost = m.door_cost; threads = joined m.threads.items m.clocks; lock = m.shared.lock; objects = m.objects.items; table = m.shared.store; rows = m.shared.rows.items } };
+    ghost view = { λ m. record { settings = m.settings; threads = joined m.threads.items m.clocks; lock = m.shared.lock; objects = m.objects.items; table = m.shared.store; rows = m.shared.rows.items } };
 }
 
 /// What a machine leaves that is over: the rows of its history, and the steps that each thread asked.
@@ -125,14 +123,27 @@ impl LockMachine {
         true
     }
 
-    /// The patience of its calls, and the cost of going outside.
+    /// The settings that it was made with.
     pub fn settings(&self) -> Settings
         ensures { result ≡ settings_in self.now }
     {
-        Settings {
-            patience: self.patience,
-            door_cost: self.door_cost,
+        self.settings
+    }
+
+    /// The clock that a log of the version of these settings has of the next outcome of thread i, which is
+    /// outside: that of its call's turn in version 2, and none in version 1.
+    pub fn logged_clock(&self, i: usize) -> Option<u64>
+        requires { i < length self.now.threads }
+        ensures { result ≡ logged_clock self.now i }
+    {
+        if self.settings.version != 2 {
+            return None;
         }
+        let Phase::Outside(outing) = self.phase(i) else {
+            return None;
+        };
+        let row = self.shared.rows.get(outing.row)?;
+        Some(row.turn.clock)
     }
 
     /// The rows of what was granted so far.

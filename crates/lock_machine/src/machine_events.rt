@@ -62,7 +62,7 @@ impl LockMachine {
         begin_outside(
             i,
             outing,
-            self.door_cost,
+            self.settings.door_cost,
             &mut self.threads[i],
             &mut self.clocks,
         )
@@ -117,7 +117,7 @@ impl LockMachine {
         answer_outside(
             i,
             outing,
-            self.patience,
+            self.settings.patience,
             &mut self.threads[i],
             &mut self.clocks,
             lock,
@@ -179,7 +179,7 @@ impl LockMachine {
         calls_outside();
         locks_and_doors();
         try_table(
-            self.patience,
+            self.settings.patience,
             i,
             &mut self.threads[i],
             &mut self.clocks,
@@ -203,7 +203,7 @@ impl LockMachine {
             return false;
         };
         try_object(
-            self.patience,
+            self.settings.patience,
             i,
             &mut self.threads[i],
             &mut self.clocks,

@@ -20,8 +20,7 @@ impl LockMachine {
     {
         let clocks = Clocks::new(alloc, threads)?;
         Ok(LockMachine {
-            patience: settings.patience,
-            door_cost: settings.door_cost,
+            settings,
             threads: first_threads(alloc, threads)?,
             clocks,
             shared: Shared {

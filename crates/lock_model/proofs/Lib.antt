@@ -26,3 +26,4 @@ pub mod CameRows
 pub mod RepliesRows
 pub mod PlainCame
 pub mod CameOutside
+pub mod Times

@@ -16,3 +16,4 @@ pub mod RealCalls
 pub mod Rows
 pub mod RealLaws
 pub mod Example
+pub mod Times

@@ -45,6 +45,7 @@ ghost use Rattle.lock_model.specs.Laws.{RisingOfArisen, RowsOfArisen, RunFollows
 ghost use Rattle.lock_model.specs.Laws.{SomeTurn, StepsOfArisen, StuckLaw, UniqueEnd};
 ghost use Rattle.lock_model.specs.RealLaws.{RealEnd, RealLegal, RealLegalOfArisen, RealPrefix, RealRising};
 ghost use Rattle.lock_model.specs.Schedule.{IsOver, plain_run};
+ghost use Rattle.lock_model.specs.Times.{TimesOfArisen};
 ghost use Rattle.lock_model.specs.Transcripts.{transcript};
 
 use sequential_object::calls_outside;
@@ -114,11 +115,12 @@ pub fn legal_history()
 /// outcomes came that it has itself. The start arises; each event leads from a state that arises to
 /// one that arises, whatever the setup supplies; so each run's state arises, and its threads follow
 /// their programs. The history of a state that arises is legal, its turns rise, and the outcome of
-/// a row has the clock of its turn (`dated`). In it each lock is held by just the thread whose
-/// phase says so, and a thread in a call has one row without an answer, that of its call. It was
-/// planned in the world that it found, which stays as it is while the call keeps the table, and an
-/// outcome that came answers what it asks (`plans`). The last step that such a thread asked is that
-/// call, and that of a thread that works is not its end (`steps`).
+/// a row has the clock of its turn (`dated`); that of a thread that is outside comes after those of
+/// all that came for it (`times`). In it each lock is held by just the thread whose phase says so,
+/// and a thread in a call has one row without an answer, that of its call. It was planned in the
+/// world that it found, which stays as it is while the call keeps the table, and an outcome that
+/// came answers what it asks (`plans`). The last step that such a thread asked is that call, and
+/// that of a thread that works is not its end (`steps`).
 pub fn arising_states()
     ensures at_start { ArisesAtStart }
     ensures by_event { ArisesByEvent }
@@ -127,6 +129,7 @@ pub fn arising_states()
     ensures legal { LegalOfArisen }
     ensures rising { RisingOfArisen }
     ensures dated { DatedOfArisen }
+    ensures times { TimesOfArisen }
     ensures locks { LocksOfArisen }
     ensures rows { RowsOfArisen }
     ensures plans { PlansOfArisen }

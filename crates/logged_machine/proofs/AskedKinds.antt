@@ -80,7 +80,7 @@ kinds_shown law settings i k w carried (r ∷ rs) legal =
 pub kinds_covered : (D : Type 0) (m : Shown D) → IsKept D m → CameIsRows → LegalOfArisen → AskTheirKind → (i : ℕ) → map kind_of (outcomes_of i m.log.records) ≡ kinds_in i m.whole.rows
 kinds_covered D m h came legal law i =
     let setup = setup_under (terms_with m.whole (own h.end)) in
-    ap (map kind_of) (sym (h.came i)) ∙ map-map kind_of as_logged (thread_of h.end i).came
+    ap (map kind_of) (sym (h.came i)) ∙ map-map kind_of (as_logged m.whole.settings.version) (thread_of h.end i).came
     ∙ ap (map kind_of) (came setup (length m.whole.threads) limit.OBJECTS first_world h.end h.ends.0 i)
     ∙ kinds_shown law (settings_in m.whole) i 0 first_world _ h.end.rows (legal setup (length m.whole.threads) limit.OBJECTS first_world h.end h.ends.0 (λ n. None))
     ∙ ap (kinds_in i) h.ends.1.rows

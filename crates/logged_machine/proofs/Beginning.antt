@@ -1,4 +1,5 @@
 -- What a machine shows is a beginning of what the plain run has.
+use Rattle.logged_machine.proofs.Recording.{record_laws}
 use Rattle.std.proofs.lemmas.Option.{slice_get-map}
 use Rattle.logged_machine.specs.Records.{as_logged, outcomes_of}
 use Rattle.std.proofs.Common.{◌≡◌, ℕ, ◌<◌, ◌≤◌, List, [], ◌∷◌, length, map, filter_map, Option, Some, None, Bool, true, false, is_none, ◌==◌, if◌then◌else◌, sym, refl, ap, ◌∙◌, subst, ⊎_elim, inl, slice_get, option_map}
@@ -18,7 +19,7 @@ use Rattle.lock_model.specs.Programs.{Supply, listed}
 use Rattle.sequential_object.specs.Answers.{outcome_in}
 use Rattle.lock_model.specs.Rising as rising
 use Rattle.lock_model.specs.Rows.{shown, shown_answer}
-use Rattle.lock_model.specs.Runs.{own, Becomes, Follows, supplied}
+use Rattle.lock_model.specs.Runs.{own, Becomes, Follows, supplied, Keeps}
 use Rattle.lock_model.specs.Schedule.{EndsIn}
 use Rattle.lock_model.specs.State.{Row, State, nobody, thread_of}
 use Rattle.lock_model.specs.State.Phase.{Ended}
@@ -163,13 +164,9 @@ all_of D m s last rows asked same =
 abbrev steps_and_own_records : {D : Type 0} → Shown D → State → Supply
 steps_and_own_records m s = record (own s) { outcomes = λ i. outcomes_of i m.log.records }
 
--- what a log has of an outcome becomes it
-pub logged_becomes : (g : Given) → Becomes (as_logged g) g
-logged_becomes g = record { same = refl; clock = inl refl }
-
 -- a run follows the steps that it asked, and the outcomes that its log has
-follows_records : (D : Type 0) (m : Shown D) → (h : IsKept D m) → RunFollows → Follows (steps_and_own_records m h.end) h.end
-follows_records D m h follows =
+follows_records : (D : Type 0) (m : Shown D) → (h : IsKept D m) → ((version : ℕ) → Keeps (as_logged version)) → RunFollows → Follows (steps_and_own_records m h.end) h.end
+follows_records D m h keeps follows =
     let w = m.whole in
     let s = h.end in
     let to = h.ends.0 in
@@ -178,9 +175,9 @@ follows_records D m h follows =
     record {
       steps = f.steps;
       outcomes = λ i n o at. (
-        as_logged o,
-        ap (λ (l : List Given). slice_get l n) (sym (h.came i)) ∙ slice_get-map as_logged (thread_of s i).came n ∙ ap (option_map as_logged) at,
-        logged_becomes o,
+        as_logged w.settings.version o,
+        ap (λ (l : List Given). slice_get l n) (sym (h.came i)) ∙ slice_get-map (as_logged w.settings.version) (thread_of s i).came n ∙ ap (option_map (as_logged w.settings.version)) at,
+        keeps w.settings.version o,
       );
     }
 
@@ -193,7 +190,7 @@ begins_plain D m h law follows some finite =
     let few = finite s in
     let end = some (supplied setup given) (start_under (terms_with w (own s))) (record { bound = few.bound; ends = few.ends }) in
     let last = end.0 in
-    let b : Begins s last = law setup (length w.threads) limit.OBJECTS first_world s last given h.ends.0 (follows_records D m h follows) end.1 in
+    let b : Begins s last = law setup (length w.threads) limit.OBJECTS first_world s last given h.ends.0 (follows_records D m h record_laws.keeps follows) end.1 in
     let asked : (i : ℕ) → (thread_of s i).asked ≡ (let t = thread_at w i in t.asked) = λ i. (h.ends.1.threads i).asked in
     let same : given ≡ steps_and_records m = λ k. record { next = λ i. listed (asked i k); outcomes = λ i. outcomes_of i m.log.records } in
     let rows : map shown s.rows ≡ w.rows = h.ends.1.rows in

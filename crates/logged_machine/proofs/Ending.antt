@@ -63,8 +63,7 @@ phase_with settings n m p q i rows t u phase.Ended h = h
 pub shows_with : (settings : Settings) (n m : ℕ) (p q : Supply) (w : Whole) (s : State) → Shows (record { threads = n; settings = settings; supply = p }) w s → Shows (record { threads = m; settings = settings; supply = q }) w s
 shows_with settings n m p q w s h =
     record {
-      patience = h.patience;
-      door_cost = h.door_cost;
+      settings = h.settings;
       count = h.count;
       threads = λ k. let t = h.threads k in record { clock = t.clock; in_time = t.in_time; asked = t.asked; came = t.came; phase = phase_with settings n m p q k s.rows (thread_at w k) (thread_of s k) (thread_at w k).phase t.phase };
       table = h.table;
@@ -83,7 +82,7 @@ stands_with w s supply h = (h.0, shows_with (settings_in w) (length w.threads) (
 -- a machine that shows a state which arises, by the settings and the number of threads that it has itself
 pub ends_at : (old new : Whole) (supply : Supply) (s : State) → length new.threads ≡ length old.threads → Arises (setup_under (terms_with old supply)) (start_under (terms_with old supply)) s → Shows (terms_with old supply) new s → IsEnd new s
 ends_at old new supply s count arises shows =
-    let same : settings_in old ≡ settings_in new = λ k. record { patience = shows.patience k; door_cost = shows.door_cost k } in
+    let same : settings_in old ≡ settings_in new = shows.settings in
     let P : ℕ → Type 0 = λ n. Arises (setup_under (record { threads = n; settings = settings_in old; supply = own s })) (real_start n) s in
     let there = subst P (sym count) arises in
     let Q : Settings → Type 0 = λ x. StandsAt new (record { threads = length new.threads; settings = x; supply = own s }) s in

@@ -1,6 +1,8 @@
 -- What is true of each machine stays so by an event.
+use Rattle.posix_terms.specs.declared.transcript.Settings.{Settings}
+use Rattle.input_log.specs.Headers.{header_for}
 use Rattle.logged_machine.specs.Records.{as_logged}
-use Rattle.std.proofs.Common.{◌≡◌, ℕ, length, List, Option, Bool, true, false, sym, refl, ap, ◌∙◌, subst, map}
+use Rattle.std.proofs.Common.{◌≡◌, ℕ, length, List, Option, Bool, true, false, sym, refl, ap, ap₂, ◌∙◌, subst, map}
 use Rattle.std.proofs.lemmas.Bool.{false≢true, true≢false}
 use Rattle.lock_machine.specs.Refusals.{goes_outside, has_answer, is_blocked, is_outside, phase_at, works}
 use Rattle.lock_machine.specs.Conditions.{start_under}
@@ -147,7 +149,7 @@ blocked_home i w h = inside_home i w (blocked_home_in (phase_at w i) h)
 
 -- as many threads with the same settings have the same header
 pub header_stays : (old new : Whole) → length new.threads ≡ length old.threads → settings_in new ≡ settings_in old → header_of new ≡ header_of old
-header_stays old new count same = λ k. let settings = same k in record { version = 1; threads = count k; patience = settings.patience; door_cost = settings.door_cost }
+header_stays old new count same = ap₂ header_for same count
 
 -- ## The event
 
@@ -165,7 +167,10 @@ kept_quietly D m w doors c e arises outside h count settings made quiet same_doo
       ends = behind;
       header = h.header ∙ sym (header_stays m.whole w count settings);
       sound = h.sound;
-      came = λ i. ap (map as_logged) (outside setup s e i (quiet s h.ends i)) ∙ h.came i;
+      came = λ i.
+          ap (map (as_logged w.settings.version)) (outside setup s e i (quiet s h.ends i))
+          ∙ ap (λ (y : Settings). map (as_logged y.version) (thread_of s i).came) settings
+          ∙ h.came i;
       unclosed = h.unclosed;
       failed = h.failed;
       strayed = h.strayed;

@@ -1,6 +1,7 @@
 pub mod Ending
 pub mod Beginning
 pub mod AskedKinds
+pub mod Clocks
 pub mod Covering
 pub mod Keeping
 pub mod Recording

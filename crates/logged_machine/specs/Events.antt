@@ -1,6 +1,8 @@
 -- Believed: a contract of the headline stands on it.
 -- When a machine refuses an event, and what it makes of one.
-use Rattle.std.specs.Prelude.{◌≡◌, ℕ, Bool, true, false, Option, Some, None, Result, Ok, Err}
+use Rattle.posix_terms.specs.declared.transcript.HistoryRow.{HistoryRow}
+use Rattle.posix_terms.specs.declared.outcome.Given.{Given}
+use Rattle.std.specs.Prelude.{◌≡◌, ℕ, Bool, true, false, Option, Some, None, Result, Ok, Err, slice_get}
 use Rattle.input_log.specs.Format.{record_text}
 use Rattle.input_log.specs.Writing.{FailsInside, with_record}
 use Rattle.lock_machine.specs.declared.refused.Refused as calls
@@ -11,7 +13,7 @@ use Rattle.sequential_object.specs.Answers.{numbered}
 use Rattle.lock_model.specs.State.{Job, State, thread_of}
 use Rattle.lock_model.specs.State.Phase.{ToOutside}
 use Rattle.lock_machine.specs.Refusals.{is_outside, phase_at}
-use Rattle.lock_machine.specs.Shows.{replied}
+use Rattle.lock_machine.specs.Shows.{replied, as_it_comes}
 use Rattle.lock_machine.specs.Threads.{Thread}
 use Rattle.lock_machine.specs.Whole.{Whole, thread_at}
 use Rattle.lock_machine.specs.declared.thread.Phase.TheVariants as phase
@@ -21,7 +23,7 @@ use Rattle.posix_terms.specs.declared.reply.Answer.{Answer}
 use Rattle.lock_machine.specs.declared.thread.Outing.{Outing}
 use Rattle.posix_terms.specs.declared.outcome.Outcome.{Outcome}
 use Rattle.logged_machine.specs.Doors.{doors_after}
-use Rattle.logged_machine.specs.Records.{record_of}
+use Rattle.logged_machine.specs.Records.{record_of, as_logged}
 use Rattle.logged_machine.specs.Runs.{Coming, Grows, IsEnd, IsForbidden, IsPermitted, setup_with}
 use Rattle.logged_machine.specs.Runs.Coming.{Brings, Nothing}
 use Rattle.logged_machine.specs.Shown.{Shown}
@@ -88,7 +90,9 @@ given_for o outcome = record { kind = o.errand.kind; clock = None; outcome = out
 
 -- the record of an outcome of thread i, after those that it has
 abbrev pub record_for : Whole → ℕ → Outing → Outcome → Record
-record_for w i o outcome = let t : Thread = thread_at w i in record_of i t.came (given_for o outcome)
+record_for w i o outcome =
+    let t : Thread = thread_at w i in
+    record_of i t.came (as_logged w.settings.version (as_it_comes w i (given_for o outcome)))
 
 -- the record was taken whole, the run grows by the outcome, and the doors are where they belong
 pub record IsRecorded (D : Type 0) (i : ℕ) (o : Outing) (outcome : Outcome) (back opened : Option D) (old new : Shown D) : Type 0 where

@@ -1,9 +1,10 @@
 -- Believed: a contract of the headline stands on it.
 -- What is true of each machine at any time.
+use Rattle.input_log.specs.Headers.{header_for}
 use Rattle.std.specs.Prelude.{◌≡◌, ℕ, Bool, true, false, length, Option, Some, if◌then◌else◌, map}
 use Rattle.input_log.specs.Writing.{IsSound}
 use Rattle.input_log.specs.declared.log.Header.{Header}
-use Rattle.lock_machine.specs.Whole.{Whole}
+use Rattle.lock_machine.specs.Whole.{Whole, settings_in}
 use Rattle.lock_model.specs.State.{State, thread_of}
 use Rattle.posix_terms.specs.declared.limits.TheConstants.Limits as limit
 use Rattle.logged_machine.specs.DoorsThere.{DoorsThere}
@@ -13,14 +14,9 @@ use Rattle.logged_machine.specs.Shown.{Shown}
 use Rattle.logged_machine.specs.declared.stop.Stop.{Stop}
 use Rattle.logged_machine.specs.declared.stop.Stop.TheVariants as stop
 
--- a machine's log has version 1
+-- of so many threads under its settings
 abbrev pub header_of : Whole → Header
-header_of w = record {
-  version = 1;
-  threads = length w.threads;
-  patience = w.patience;
-  door_cost = w.door_cost;
-}
+header_of w = header_for (settings_in w) (length w.threads)
 
 abbrev pub is_sink : Option Stop → Bool
 is_sink (Some stop.Sink) = true
@@ -35,15 +31,15 @@ pub record StopsFor (failures : ℕ) (stopped : Option Stop) : Type 0 where
   pub sink : failures ≡ (if is_sink stopped then 1 else 0)
   pub strayed : is_strayed stopped ≡ false
 
--- a run leads to it, whose outcomes are by thread those that its log has, but for clocks; the log's
--- writer failed just where that was why the machine was stopped, and no machine itself finds that
--- threads strayed; and each door is where it belongs
+-- a run leads to it, whose outcomes are by thread those that its log has, with clocks in version 2
+-- alone; the log's writer failed exactly when that was why the machine was stopped, and no machine
+-- itself finds that threads strayed; and each door is where it belongs
 pub record IsKept (D : Type 0) (m : Shown D) : Type 0 where
   pub end : State
   pub ends : IsEnd m.whole end
   pub header : m.log.header ≡ header_of m.whole
   pub sound : IsSound m.log
-  pub came : (i : ℕ) → map as_logged (thread_of end i).came ≡ outcomes_of i m.log.records
+  pub came : (i : ℕ) → map (as_logged m.whole.settings.version) (thread_of end i).came ≡ outcomes_of i m.log.records
   pub unclosed : m.log.closed ≡ false
   pub failed : m.log.failed ≡ is_sink m.stop
   pub strayed : is_strayed m.stop ≡ false

@@ -421,7 +421,7 @@ only_lseek h c node from planned other = by_act c (act_of h c node (op.Lseek fro
 -- what the plan says that the step asks
 pub plan_asks : (law : TableFollows) (h : Stored) (c : Call) (node : ℕ) (act : Op) (keep : Bool) (w : World) (carried : Carried) → planned h.table c carried.moved ≡ plan.Node node act keep → Stands h w → asks w.object c carried ≡ query_of c act
 plan_asks law h c node act keep w carried is st =
-    let settings : Settings = record { patience = 1; door_cost = 1 } in
+    let settings : Settings = record { patience = 1; door_cost = 1; version = 1 } in
     let agrees : AgreesOn h.table c (plan.Node node act keep) (locked_object w.object c carried) (asks w.object c carried) (step settings w.object c None carried).answer =
     subst (λ (p : Plan). AgreesOn h.table c p (locked_object w.object c carried) (asks w.object c carried) (step settings w.object c None carried).answer) is ((law.calls h.table c carried.moved st.sound st.described).plans settings w.object None carried refl st.shows) in
     agrees.1.0
@@ -429,14 +429,14 @@ plan_asks law h c node act keep w carried is st =
 -- and whether the call keeps the table
 pub plan_keeps : (law : TableFollows) (h : Stored) (c : Call) (node : ℕ) (act : Op) (keep : Bool) (w : World) (carried : Carried) → planned h.table c carried.moved ≡ plan.Node node act keep → Stands h w → keep ≡ keeps_table c
 plan_keeps law h c node act keep w carried is st =
-    let settings : Settings = record { patience = 1; door_cost = 1 } in
+    let settings : Settings = record { patience = 1; door_cost = 1; version = 1 } in
     let agrees : AgreesOn h.table c (plan.Node node act keep) (locked_object w.object c carried) (asks w.object c carried) (step settings w.object c None carried).answer =
     subst (λ (p : Plan). AgreesOn h.table c p (locked_object w.object c carried) (asks w.object c carried) (step settings w.object c None carried).answer) is ((law.calls h.table c carried.moved st.sound st.described).plans settings w.object None carried refl st.shows) in
     agrees.1.1
 
 pub reply_asks : (law : TableFollows) (h : Stored) (c : Call) (r : Reply) (w : World) (carried : Carried) → planned h.table c carried.moved ≡ plan.Reply r → Stands h w → asks w.object c carried ≡ None
 reply_asks law h c r w carried is st =
-    let settings : Settings = record { patience = 1; door_cost = 1 } in
+    let settings : Settings = record { patience = 1; door_cost = 1; version = 1 } in
     let agrees : AgreesOn h.table c (plan.Reply r) (locked_object w.object c carried) (asks w.object c carried) (step settings w.object c None carried).answer =
     subst (λ (p : Plan). AgreesOn h.table c p (locked_object w.object c carried) (asks w.object c carried) (step settings w.object c None carried).answer) is ((law.calls h.table c carried.moved st.sound st.described).plans settings w.object None carried refl st.shows) in
     agrees.1.0

@@ -165,7 +165,7 @@ effect_waits settings s c carried r b (Err e) asked same = absurd (none-some r a
 -- an errand waits just where its call does
 waits_known : (law : TableFollows) (h : Stored) (w : World) (c : Call) (node : ℕ) (errand : Errand) (keep : Bool) (carried : Carried) → Stands h w → planned h.table c carried.moved ≡ plan.Node node (op.Ask errand) keep → errand.waits ≡ waits_outside w.object c carried
 waits_known law h w c node errand keep carried st is =
-    let settings : Settings = record { patience = 1; door_cost = 1 } in
+    let settings : Settings = record { patience = 1; door_cost = 1; version = 1 } in
     let now = asked_does law h w c node errand keep (Some (outcome.Fail EAGAIN)) settings carried st is in
     effect_waits settings w.object c carried (record { kind = errand.kind; asked = errand.asked; call = c }) errand.waits (effect_of w.object c carried) (plan_asks law h c node (op.Ask errand) keep w carried is st) now.answer_is
 

@@ -55,7 +55,7 @@ planned_number h w c (plan.Node node act keep_table) most o q a stands known agr
 -- the number of the object that a call locks is that of the lock machine
 pub number_known : (law : TableFollows) (h : Stored) (w : World) (call : Call) (carried : Carried) → Stands h w → numbered w (locked_object w.object call carried) ≡ number_locked h call carried
 number_known law h w call carried stands =
-    let settings : Settings = record { patience = 1; door_cost = 1 } in
+    let settings : Settings = record { patience = 1; door_cost = 1; version = 1 } in
     let follows : FollowsStep h.table call carried.moved = law.calls h.table call carried.moved stands.sound stands.described in
     planned_number h w call (planned h.table call carried.moved) (read_count call) (locked_object w.object call carried) (asks w.object call carried) (step settings w.object call None carried).answer stands follows.known
     (follows.plans settings w.object None carried refl stands.shows)

@@ -15,11 +15,13 @@ pub struct Turn {
 }
 
 /// What a run is made with: for how many turns a call may be blocked, and what a call that goes
-/// outside adds to its thread's clock. Each is 1 to 1,000,000.
+/// outside adds to its thread's clock, each 1 to 1,000,000; and the version of the log that it
+/// writes, 1 or 2 (docs/log.md).
 #[derive(Clone, Copy, Debug, PartialEq, Eq, Hash)]
 pub struct Settings {
     pub patience: u32,
     pub door_cost: u32,
+    pub version: u16,
 }
 
 /// One call of a thread with its granted turn and its reply.

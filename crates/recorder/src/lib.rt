@@ -28,7 +28,7 @@
 //!     actors.push(Box::new(alloc, ScriptActor::new(script))?)?;
 //!     let outsides = hosts(rt, alloc, 1)?;
 //!     let sink = MemorySink::new(alloc, 65_536)?;
-//!     let settings = Settings { patience: 1000, door_cost: 100 };
+//!     let settings = Settings { patience: 1000, door_cost: 100, version: 1 };
 //!     let count = match run_recorded(&rt, alloc, actors, outsides, sink, settings) {
 //!         Ok(ended) => ended.sink.bytes().len(),
 //!         Err(refused) => return Err(refused.fault.into()),

@@ -16,6 +16,7 @@ const TOO_LONG: u64 = 4_611_686_018_427_387_904;
 const SETTINGS: Settings = Settings {
     patience: 1000,
     door_cost: 100,
+    version: 1,
 };
 
 // Work of this length, a pipe that is made, or a byte that is read of it, which nobody writes.

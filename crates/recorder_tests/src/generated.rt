@@ -86,6 +86,7 @@ const LENGTH: u64 = 4;
 const SHORT_WAITS: Settings = Settings {
     patience: 4,
     door_cost: 10,
+    version: 1,
 };
 
 // The next number of a sequence.

@@ -27,6 +27,7 @@ const LETTERS: &[&str] = &[
 const SETTINGS: Settings = Settings {
     patience: 1000,
     door_cost: 100,
+    version: 1,
 };
 
 // Each opens the host file at this path and writes a byte at its end.

@@ -21,6 +21,7 @@ impl Run<'_> {
         Settings {
             patience: self.patience,
             door_cost: 100,
+            version: 1,
         }
     }
 }

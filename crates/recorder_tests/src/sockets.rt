@@ -39,6 +39,7 @@ fn record<R: Threads + Wait + Sync>(
     let settings = Settings {
         patience: wanted.patience,
         door_cost: 100,
+        version: 1,
     };
     Ok(record_actors(threads, alloc, actors, outsides, sink, settings).ok())
 }

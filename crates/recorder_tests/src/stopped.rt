@@ -18,6 +18,7 @@ use thread_scripts::{Actor, Memory, ScriptActor};
 const SETTINGS: Settings = Settings {
     patience: 1000,
     door_cost: 100,
+    version: 1,
 };
 
 // A gate that every call passes, and is counted there.

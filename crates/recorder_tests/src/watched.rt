@@ -75,6 +75,7 @@ fn is_recorded<R: Threads + Wait + Sync>(
     let settings = Settings {
         patience: 1000,
         door_cost: 100,
+        version: 1,
     };
     let manner = Manner {
         in_turn: false,

@@ -83,35 +83,35 @@ unfolding diverging
 diverged_outside setup s i h = if_diverging_outside setup s _ i h
 
 -- a log has no more than came
-none_logged : (xs : List Given) (o : Given) → slice_get (map as_logged xs) (length xs) ≡ Some o → ⊥
-none_logged xs o h = let inside = slice_get_within (map as_logged xs) (length xs) o h in let size = length-map xs as_logged in omega (arith, inside, size)
+none_logged : (version : ℕ) (xs : List Given) (o : Given) → slice_get (map (as_logged version) xs) (length xs) ≡ Some o → ⊥
+none_logged version xs o h = let inside = slice_get_within (map (as_logged version) xs) (length xs) o h in let size = length-map xs (as_logged version) in omega (arith, inside, size)
 
 pub none_behind : (xs : List Given) (o : Given) → slice_get xs (length xs) ≡ Some o → ⊥
 none_behind xs o h = omega (arith, slice_get_within xs (length xs) o h)
 
 -- and under the outcomes that came it is there at the end: no more came for it
-pub stays_outside : Known → (setup : Setup) (threads objects : ℕ) (w : World) (n m i : ℕ) (job : Job)
+pub stays_outside : Known → (version : ℕ) (setup : Setup) (threads objects : ℕ) (w : World) (n m i : ℕ) (job : Job)
     → (thread_of (plain_run setup n (start threads objects w)) i).phase ≡ Outside job
-    → (thread_of (plain_run (under_came as_logged setup (plain_run setup n (start threads objects w))) (n + m) (start threads objects w)) i).phase ≡ Outside job
-stays_outside known setup threads objects w n m i job is =
+    → (thread_of (plain_run (under_came (as_logged version) setup (plain_run setup n (start threads objects w))) (n + m) (start threads objects w)) i).phase ≡ Outside job
+stays_outside known version setup threads objects w n m i job is =
     let first = start threads objects w in
     let last = plain_run setup n first in
-    let under = under_came as_logged setup last in
-    let here : plain_run under n first ≡ last = known.same as_logged setup threads objects w n n known.keeps (omega arith) in
+    let under = under_came (as_logged version) setup last in
+    let here : plain_run under n first ≡ last = known.same (as_logged version) setup threads objects w n n (known.keeps version) (omega arith) in
     let out : (thread_of (plain_run under n first) i).phase ≡ Outside job = ap (λ (z : State). (thread_of z i).phase) here ∙ is in
     split (ap (λ (z : State). (thread_of z i).came) here) out (known.stays under first n m i job out)
   where
-    split : (thread_of (plain_run (under_came as_logged setup (plain_run setup n (start threads objects w))) n (start threads objects w)) i).came ≡ (thread_of (plain_run setup n (start threads objects w)) i).came
-        → (thread_of (plain_run (under_came as_logged setup (plain_run setup n (start threads objects w))) n (start threads objects w)) i).phase ≡ Outside job
-        → StaysOrFits (under_came as_logged setup (plain_run setup n (start threads objects w))) job
-        (thread_of (plain_run (under_came as_logged setup (plain_run setup n (start threads objects w))) n (start threads objects w)) i)
-        (thread_of (plain_run (under_came as_logged setup (plain_run setup n (start threads objects w))) (n + m) (start threads objects w)) i)
-        → (thread_of (plain_run (under_came as_logged setup (plain_run setup n (start threads objects w))) (n + m) (start threads objects w)) i).phase ≡ Outside job
+    split : (thread_of (plain_run (under_came (as_logged version) setup (plain_run setup n (start threads objects w))) n (start threads objects w)) i).came ≡ (thread_of (plain_run setup n (start threads objects w)) i).came
+        → (thread_of (plain_run (under_came (as_logged version) setup (plain_run setup n (start threads objects w))) n (start threads objects w)) i).phase ≡ Outside job
+        → StaysOrFits (under_came (as_logged version) setup (plain_run setup n (start threads objects w))) job
+        (thread_of (plain_run (under_came (as_logged version) setup (plain_run setup n (start threads objects w))) n (start threads objects w)) i)
+        (thread_of (plain_run (under_came (as_logged version) setup (plain_run setup n (start threads objects w))) (n + m) (start threads objects w)) i)
+        → (thread_of (plain_run (under_came (as_logged version) setup (plain_run setup n (start threads objects w))) (n + m) (start threads objects w)) i).phase ≡ Outside job
     split came out (inl there) = ap (λ (t : Thread). t.phase) there ∙ out
     split came out (inr (o, next, fits)) =
-        let supplied = came_supplied known (under_came as_logged setup (plain_run setup n (start threads objects w))) threads objects w (n + m) i _ o next in
-        absurd (none_logged (thread_of (plain_run setup n (start threads objects w)) i).came supplied.0
-        (ap (λ xs. slice_get (map as_logged (thread_of (plain_run setup n (start threads objects w)) i).came) (length xs)) (sym came) ∙ supplied.1))
+        let supplied = came_supplied known (under_came (as_logged version) setup (plain_run setup n (start threads objects w))) threads objects w (n + m) i _ o next in
+        absurd (none_logged version (thread_of (plain_run setup n (start threads objects w)) i).came supplied.0
+        (ap (λ xs. slice_get (map (as_logged version) (thread_of (plain_run setup n (start threads objects w)) i).came) (length xs)) (sym came) ∙ supplied.1))
 
 -- a thread that is outside has not ended, so some thread has the turn
 pub outside_turn : Known → (s : State) (i : ℕ) (job : Job) → (thread_of s i).phase ≡ Outside job → (k : ℕ) × (turn_holder (live_clocks s) ≡ Some k)

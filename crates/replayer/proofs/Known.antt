@@ -15,7 +15,7 @@ use Rattle.thread_scripts.specs.ScriptPrograms.{ScriptsEnd}
 
 pub record Known : Type 0 where
   -- plain runs, and those under what a log has of the outcomes that came
-  pub keeps : Keeps as_logged
+  pub keeps : (version : ℕ) → Keeps (as_logged version)
   pub alike : FitsAlike
   pub same : SameUnderCame
   pub over : OverUnderCame

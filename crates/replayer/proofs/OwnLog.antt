@@ -44,19 +44,19 @@ use Rattle.replayer.proofs.CameAgain.{came_past, came_rows, outside_turn, over_a
 
 -- the outcomes that the log has for each thread are those that came
 outcomes_came : Known → (input : Inputs) (n i : ℕ)
-    → get_or (outcomes_by (length input.scripts) (plain_records (setup_of input) n (first_state input))) i [] ≡ map as_logged (thread_of (plain_run (setup_of input) n (first_state input)) i).came
+    → get_or (outcomes_by (length input.scripts) (plain_records input.settings.version (setup_of input) n (first_state input))) i [] ≡ map (as_logged input.settings.version) (thread_of (plain_run (setup_of input) n (first_state input)) i).came
 outcomes_came known input n i =
-    let records = plain_records (setup_of input) n (first_state input) in
+    let records = plain_records input.settings.version (setup_of input) n (first_state input) in
     let last = plain_run (setup_of input) n (first_state input) in
     let count : length last.threads ≡ length input.scripts = plain_count known (setup_of input) (length input.scripts) limit.OBJECTS first_world n in
     ⊎_elim
     (λ (l : i < length input.scripts). outcomes_at (length input.scripts) i records l ∙ known.came input n i)
     (λ (l : length input.scripts ≤ i).
-    get_or_past (outcomes_by (length input.scripts) records) i [] (omega (arith, outcomes_length (length input.scripts) records)) ∙ ap (map as_logged) (sym (came_past last i (omega (arith, count)))))
+    get_or_past (outcomes_by (length input.scripts) records) i [] (omega (arith, outcomes_length (length input.scripts) records)) ∙ ap (map (as_logged input.settings.version)) (sym (came_past last i (omega (arith, count)))))
     (cases_lt i (length input.scripts))
 
 -- so it is the run under those
-same_setup : Known → (input : Inputs) (n : ℕ) (ends : List Bool) → setup_of (inputs_of (log_of input n ends) input.scripts) ≡ under_came as_logged (setup_of input) (plain_run (setup_of input) n (first_state input))
+same_setup : Known → (input : Inputs) (n : ℕ) (ends : List Bool) → setup_of (inputs_of (log_of input n ends) input.scripts) ≡ under_came (as_logged input.settings.version) (setup_of input) (plain_run (setup_of input) n (first_state input))
 same_setup known input n ends k =
     real_setup input.settings (record { next = λ i. scripted (script_of input i); outcomes = λ i. outcomes_came known input n i k })
 
@@ -99,12 +99,12 @@ beginnings n s last count more begins =
 
 -- each record was used
 used : Known → (input : Inputs) (n threads : ℕ)
-    → first_unused threads (plain_records (setup_of input) n (first_state input)) (map shown (plain_run (setup_of input) n (first_state input)).rows) ≡ None
+    → first_unused threads (plain_records input.settings.version (setup_of input) n (first_state input)) (map shown (plain_run (setup_of input) n (first_state input)).rows) ≡ None
 used known input n threads =
     let last = plain_run (setup_of input) n (first_state input) in
-    let records = plain_records (setup_of input) n (first_state input) in
+    let records = plain_records input.settings.version (setup_of input) n (first_state input) in
     none_unused threads records (map shown last.rows)
-    (λ i. came_counted i last.rows ∙ (ap length (sym (came_rows known (setup_of input) (length input.scripts) limit.OBJECTS first_world n i)) ∙ (sym (length-map (thread_of last i).came as_logged) ∙ (ap length (sym (known.came input n i)) ∙ sym (number_counted i records)))))
+    (λ i. came_counted i last.rows ∙ (ap length (sym (came_rows known (setup_of input) (length input.scripts) limit.OBJECTS first_world n i)) ∙ (sym (length-map (thread_of last i).came (as_logged input.settings.version)) ∙ (ap length (sym (known.came input n i)) ∙ sym (number_counted i records)))))
 
 -- ## The law
 
@@ -112,8 +112,8 @@ used known input n threads =
 record IsRunUnder (input : Inputs) (log : LogText) (s : State) (result : Result Replayed ReplayFault) : Type 0 where
   pub count : ℕ
   pub last : State
-  pub reached : plain_run (under_came as_logged (setup_of input) s) count (first_state input) ≡ last
-  pub over : IsOver (under_came as_logged (setup_of input) s) last
+  pub reached : plain_run (under_came (as_logged input.settings.version) (setup_of input) s) count (first_state input) ≡ last
+  pub over : IsOver (under_came (as_logged input.settings.version) (setup_of input) s) last
   pub tells : Tells log (plain_of (inputs_of log input.scripts) count last) (stop_by last (turn_holder (live_clocks last))) result
 
 run_under : Known → (input : Inputs) (n : ℕ) (ends : List Bool) (result : Result Replayed ReplayFault)
@@ -123,7 +123,7 @@ run_under known input n ends result h =
     let log = log_of input n ends in
     let own = inputs_of log input.scripts in
     let first = first_state input in
-    let under = under_came as_logged (setup_of input) (plain_run (setup_of input) n first) in
+    let under = under_came (as_logged input.settings.version) (setup_of input) (plain_run (setup_of input) n first) in
     let same : setup_of own ≡ under = same_setup known input n ends in
     let reached : plain_run under run.count first ≡ run.last = ap (λ (z : Setup). plain_run z run.count first) (sym same) ∙ run.goes.reached in
     let straight : diverging under run.last ≡ None = subst (λ (z : State). diverging under z ≡ None) reached (known.straight input n run.count) in
@@ -146,8 +146,8 @@ without_divergence known input n ends result over h =
     let log = log_of input n ends in
     let first = first_state input in
     let last = plain_run (setup_of input) n first in
-    let under = under_came as_logged (setup_of input) last in
-    let here : EndsIn under first last = record { count = n; reached = known.same as_logged (setup_of input) (length input.scripts) limit.OBJECTS first_world n n known.keeps (omega arith); over = known.over as_logged (setup_of input) last over } in
+    let under = under_came (as_logged input.settings.version) (setup_of input) last in
+    let here : EndsIn under first last = record { count = n; reached = known.same (as_logged input.settings.version) (setup_of input) (length input.scripts) limit.OBJECTS first_world n n (known.keeps input.settings.version) (omega arith); over = known.over (as_logged input.settings.version) (setup_of input) last over } in
     let there : EndsIn under first h.last = record { count = h.count; reached = h.reached; over = h.over } in
     let one : h.last ≡ last = known.ends under first h.last last there here in
     let tells : Tells log (plain_of (inputs_of log input.scripts) h.count last) (stop_by last (turn_holder (live_clocks last))) result =
@@ -165,17 +165,17 @@ with_divergence known input n ends result i diverges h =
     let first = first_state input in
     let setup = setup_of input in
     let last = plain_run setup n first in
-    let under = under_came as_logged setup last in
+    let under = under_came (as_logged input.settings.version) setup last in
     let other = plain_of (inputs_of log input.scripts) h.count h.last in
     let divergence = diverged_outside setup last i diverges in
     let far : plain_run under (n + h.count) first ≡ h.last = over_at under first h.count n (subst (IsOver under) (sym h.reached) h.over) ∙ h.reached in
-    let out : (thread_of h.last i).phase ≡ Outside divergence.0 = ap (λ (z : State). (thread_of z i).phase) (sym far) ∙ stays_outside known setup threads limit.OBJECTS first_world n h.count i divergence.0 divergence.1 in
+    let out : (thread_of h.last i).phase ≡ Outside divergence.0 = ap (λ (z : State). (thread_of z i).phase) (sym far) ∙ stays_outside known input.settings.version setup threads limit.OBJECTS first_world n h.count i divergence.0 divergence.1 in
     let turn = outside_turn known h.last i divergence.0 out in
     let tells : Tells log other (stop_by h.last (Some turn.0)) result = subst (λ (o : Option ℕ). Tells log other (stop_by h.last o) result) turn.1 h.tells in
     let to = known.leads setup first n in
     let there : EndsIn under first h.last = record { count = h.count; reached = h.reached; over = h.over } in
     let begins : Begins last h.last =
-    subst (λ (z : State). EndsIn (under_came as_logged setup z) first h.last → Begins z h.last) to.ends (known.prefix as_logged setup threads limit.OBJECTS first_world to.events h.last known.keeps) there in
+    subst (λ (z : State). EndsIn (under_came (as_logged input.settings.version) setup z) first h.last → Begins z h.last) to.ends (known.prefix (as_logged input.settings.version) setup threads limit.OBJECTS first_world to.events h.last (known.keeps input.settings.version)) there in
     let more : length h.last.threads ≡ threads = ap (λ (z : State). length z.threads) (sym h.reached) ∙ plain_count known under threads limit.OBJECTS first_world h.count in
     stuck_told log (plain_of input n last) other (thread_of h.last turn.0).phase i turn.0 (length (thread_of last i).came) result
     (beginnings threads last h.last (plain_count known setup threads limit.OBJECTS first_world n) more begins) tells

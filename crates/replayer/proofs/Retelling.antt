@@ -277,7 +277,7 @@ all_used : KnownOfThreads → (D : Type 0) (m : Shown D) (kept : IsKept D m) (in
     → (threads : ℕ) → first_unused threads m.log.records (map shown last.rows) ≡ None
 all_used known D m kept input last supplied back ends threads =
     none_unused threads m.log.records (map shown last.rows)
-    (λ i. came_counted i last.rows ∙ (ap length (sym (came_last i)) ∙ (same_length i ∙ (sym (length-map (thread_of kept.end i).came as_logged) ∙ (ap length (kept.came i) ∙ sym (number_counted i m.log.records))))))
+    (λ i. came_counted i last.rows ∙ (ap length (sym (came_last i)) ∙ (same_length i ∙ (sym (length-map (thread_of kept.end i).came (as_logged m.whole.settings.version)) ∙ (ap length (kept.came i) ∙ sym (number_counted i m.log.records))))))
   where
     came_last : (i : ℕ) → (thread_of last i).came ≡ of_rows.outcomes_of i last.rows
     came_last i = rows_came known input last ends i

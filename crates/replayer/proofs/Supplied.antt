@@ -1,14 +1,10 @@
 -- What supplies a run of real threads: the scripts of its actors, and the log that it wrote or was made by.
 use Rattle.lock_model.specs.Transcripts as seen
-use Rattle.lock_model.specs.History as lock
 use Rattle.posix_terms.specs.declared.limits.TheConstants.Limits as limit
-use Rattle.sequential_object.specs.Answers.{outcome_in}
-use Rattle.std.specs.Prelude.{filter_map}
 use Rattle.sequential_object.specs.Numbers.{first_world}
 use Rattle.lock_machine.specs.Conditions.{setup_under}
 use Rattle.logged_machine.specs.Runs.{terms_with}
 use Rattle.std.proofs.lemmas.Simd.{map-map}
-use Rattle.lock_model.specs.Rows.{shown}
 use Rattle.lock_model.specs.State.{Row, thread_of}
 use Rattle.lock_model.specs.Laws.{AreDated}
 use Rattle.posix_terms.specs.Queries.{requested_at}
@@ -35,7 +31,7 @@ use Rattle.lock_machine.specs.Views.{no_thread}
 use Rattle.lock_machine.specs.Whole.{settings_in, thread_at}
 use Rattle.logged_machine.specs.Covered.{IsCovered, kind_before, kinds_in}
 use Rattle.logged_machine.specs.Finishing.{EndsLog, Finishes, FinishesBy, have_ended}
-use Rattle.logged_machine.specs.History.{outcome_before, outcomes_in}
+use Rattle.logged_machine.specs.History.{clock_before, clock_told, clocks_in, outcome_before, outcomes_in}
 use Rattle.logged_machine.specs.Kept.{IsKept, header_of, is_sink}
 use Rattle.logged_machine.specs.RecordLaws.{RecordLaws}
 use Rattle.logged_machine.specs.Shown.{Shown}
@@ -81,7 +77,7 @@ steps_supplied state ahead D m past actors later scripts i rows asked meant play
 
 -- past the last thread nothing came
 nothing_past : (D : Type 0) (m : Shown D) (kept : IsKept D m) (n i : ℕ) → length m.whole.threads ≡ n → n ≤ i → records.outcomes_of i m.log.records ≡ []
-nothing_past D m kept n i threads l = sym (kept.came i) ∙ ap (map as_logged) (came_past kept.end i (let count = kept.ends.1.count in omega (arith, count, threads, l)))
+nothing_past D m kept n i threads l = sym (kept.came i) ∙ ap (map (as_logged m.whole.settings.version)) (came_past kept.end i (let count = kept.ends.1.count in omega (arith, count, threads, l)))
 
 -- ## By the log that it wrote
 
@@ -150,10 +146,10 @@ supplied_by_own known state ahead D m kept log past actors later scripts threads
       settings = sym (ap settings_of header);
       steps = λ i. steps_supplied state ahead D m past actors later scripts i rows asked meant played;
       outcomes = λ i n o at. (
-        as_logged o,
-        subst (λ gs. slice_get gs n ≡ Some (as_logged o)) (sym (ap (λ rs. get_or (outcomes_by (length scripts) rs) i []) same ∙ own_outcomes D m kept (length scripts) i threads))
-            (ap (λ gs. slice_get gs n) (sym (kept.came i)) ∙ slice_get-map as_logged (thread_of kept.end i).came n ∙ ap (option_map as_logged) at),
-        known.keeps o,
+        as_logged m.whole.settings.version o,
+        subst (λ gs. slice_get gs n ≡ Some (as_logged m.whole.settings.version o)) (sym (ap (λ rs. get_or (outcomes_by (length scripts) rs) i []) same ∙ own_outcomes D m kept (length scripts) i threads))
+            (ap (λ gs. slice_get gs n) (sym (kept.came i)) ∙ slice_get-map (as_logged m.whole.settings.version) (thread_of kept.end i).came n ∙ ap (option_map (as_logged m.whole.settings.version)) at),
+        known.keeps m.whole.settings.version o,
       );
     }
 
@@ -162,7 +158,7 @@ back_by_own D m kept log scripts threads same i k g at =
     let there : slice_get (records.outcomes_of i m.log.records) k ≡ Some g =
     subst (λ gs. slice_get gs k ≡ Some g) (ap (λ rs. get_or (outcomes_by (length scripts) rs) i []) same ∙ own_outcomes D m kept (length scripts) i threads) at in
     let inside = slice_get_within (records.outcomes_of i m.log.records) k g there in
-    let size : length (thread_of kept.end i).came ≡ length (records.outcomes_of i m.log.records) = sym (length-map (thread_of kept.end i).came as_logged) ∙ ap length (kept.came i) in
+    let size : length (thread_of kept.end i).came ≡ length (records.outcomes_of i m.log.records) = sym (length-map (thread_of kept.end i).came (as_logged m.whole.settings.version)) ∙ ap length (kept.came i) in
     omega (arith, inside, size)
 
 -- ## By the log that it was made by
@@ -194,16 +190,6 @@ doors_at n i rs l = made_at (λ k. doors_by k rs) (λ k. doors_of k rs) (doors_o
 
 doors_length : (n : ℕ) (rs : List Record) → length (doors_by n rs) ≡ n
 doors_length n rs = made_length (λ k. doors_by k rs) (λ k. doors_of k rs) refl (λ k. refl) n
-
--- the clock of a row's turn, if its outcome came, before those of the rows behind it
-abbrev clock_before : HistoryRow → Option Outcome → List (Option ℕ) → List (Option ℕ)
-clock_before row (Some o) clocks = Some row.turn.clock ∷ clocks
-clock_before row None clocks = clocks
-
--- the clocks of the turns of a thread's rows whose outcomes came, in order
-abbrev clocks_in : ℕ → List HistoryRow → List (Option ℕ)
-clocks_in thread [] = []
-clocks_in thread (row ∷ rows) = if row.turn.thread == thread then clock_before row row.outcome (clocks_in thread rows) else clocks_in thread rows
 
 -- each outcome that came is what a row brought, with its kind and the clock of its turn
 pub record IsBrought (bs : List Brought) (k : ℕ) (g : Given) : Type 0 where
@@ -239,7 +225,7 @@ abbrev AsksAt : HistoryRow → Option Request → OutKind → Type 0
 AsksAt row r x = (q : Request) × (r ≡ Some q) × (q.kind ≡ x) × (q.turn ≡ row.turn)
 
 come_one : (row : HistoryRow) (o : Option Outcome) (k : Option OutKind) (r : Option Request) (os : List Outcome) (ks : List (Option OutKind)) (cs : List (Option ℕ)) (bs : List Brought)
-    → ((x : OutKind) → k ≡ Some x → AsksAt row r x) → Come os ks cs bs → Come (outcome_before o os) (kind_before k o ks) (clock_before row o cs) (before (brought r o) bs)
+    → ((x : OutKind) → k ≡ Some x → AsksAt row r x) → Come os ks cs bs → Come (outcome_before o os) (kind_before k o ks) (clock_before (clock_told 2 row) o cs) (before (brought r o) bs)
 come_one row None k (Some q) os ks cs bs asks come came n g outcomes kinds clocks at = come came n g outcomes kinds clocks at
 come_one row None k None os ks cs bs asks come came n g outcomes kinds clocks at = come came n g outcomes kinds clocks at
 come_one row (Some o) k r os ks cs bs asks come [] n g outcomes kinds clocks at = absurd (none-some g at)
@@ -267,34 +253,18 @@ asks_kind : (row : HistoryRow) (x : OutKind) → kind_asked row.call ≡ Some x 
 asks_kind row x h =
     (record { kind = x; asked = amount_asked row.call; call = row.call; turn = row.turn }, ap (λ (k : Option OutKind). requested_at row.turn (query_of_kind row.call k)) h, refl, refl)
 
-all_come : (i : ℕ) (rows : List HistoryRow) → Come (outcomes_in i rows) (kinds_in i rows) (clocks_in i rows) (brought_in i rows)
+all_come : (i : ℕ) (rows : List HistoryRow) → Come (outcomes_in i rows) (kinds_in i rows) (clocks_in 2 i rows) (brought_in i rows)
 all_come i [] [] k g outcomes kinds clocks at = absurd (none-some g at)
 all_come i [] (x ∷ came) k g outcomes kinds clocks at = absurd (omega (arith, ap length outcomes))
 all_come i (row ∷ rows) came k g outcomes kinds clocks at = by_test (row.turn.thread == i) (all_come i rows) came k g outcomes kinds clocks at
   where
-    by_test : (b : Bool) → Come (outcomes_in i rows) (kinds_in i rows) (clocks_in i rows) (brought_in i rows)
+    by_test : (b : Bool) → Come (outcomes_in i rows) (kinds_in i rows) (clocks_in 2 i rows) (brought_in i rows)
         → Come (if b then outcome_before row.outcome (outcomes_in i rows) else outcomes_in i rows) (if b then kind_before (kind_asked row.call) row.outcome (kinds_in i rows) else kinds_in i rows)
-        (if b then clock_before row row.outcome (clocks_in i rows) else clocks_in i rows)
+        (if b then clock_before (clock_told 2 row) row.outcome (clocks_in 2 i rows) else clocks_in 2 i rows)
         (if b then before (brought_by row) (brought_in i rows) else brought_in i rows)
     by_test true come =
-        come_one row row.outcome (kind_asked row.call) (request_for row.turn row.call) (outcomes_in i rows) (kinds_in i rows) (clocks_in i rows) (brought_in i rows) (asks_kind row) come
+        come_one row row.outcome (kind_asked row.call) (request_for row.turn row.call) (outcomes_in i rows) (kinds_in i rows) (clocks_in 2 i rows) (brought_in i rows) (asks_kind row) come
     by_test false come = come
-
--- the clocks of what came are those of the turns
-clocks_shown : (i : ℕ) (rs : List Row) → AreDated rs → map (λ (g : Given). g.clock) (seen.outcomes_of i rs) ≡ clocks_in i (map shown rs)
-clocks_shown i [] dated = refl
-clocks_shown i (r ∷ rs) dated = by_test (r.turn.thread == i) r.outcome dated.0 (clocks_shown i rs dated.1)
-  where
-    by_outcome : (o : Option Given) → ((g : Given) → o ≡ Some g → g.clock ≡ Some r.turn.clock) → map (λ (g : Given). g.clock) (seen.outcomes_of i rs) ≡ clocks_in i (map shown rs)
-        → map (λ (g : Given). g.clock) (filter_map (λ (x : Row). x.outcome) (record r { outcome = o } ∷ lock.rows_of i rs)) ≡ clock_before (shown r) (outcome_in o) (clocks_in i (map shown rs))
-    by_outcome None own h = h
-    by_outcome (Some g) own h = ap₂ (λ (c : Option ℕ) (cs : List (Option ℕ)). c ∷ cs) (own g refl) h
-
-    by_test : (b : Bool) (o : Option Given) → ((g : Given) → o ≡ Some g → g.clock ≡ Some r.turn.clock) → map (λ (g : Given). g.clock) (seen.outcomes_of i rs) ≡ clocks_in i (map shown rs)
-        → map (λ (g : Given). g.clock) (filter_map (λ (x : Row). x.outcome) (if b then record r { outcome = o } ∷ lock.rows_of i rs else lock.rows_of i rs))
-        ≡ (if b then clock_before (shown r) (outcome_in o) (clocks_in i (map shown rs)) else clocks_in i (map shown rs))
-    by_test true o own h = by_outcome o own h
-    by_test false o own h = h
 
 -- so what the log has of its number becomes each
 came_listed : KnownOfThreads → (D : Type 0) (m : Shown D) (kept : IsKept D m) (covered : IsCovered D m) (past : Past) (rs : List Record) (n : ℕ) (ends : List LogList) (i k : ℕ) (g : Given)
@@ -306,11 +276,11 @@ came_listed known D m kept covered past rs n ends i k g l rows led at =
     let seen_came : came ≡ seen.outcomes_of i s.rows = known.plain.rows setup (length m.whole.threads) limit.OBJECTS first_world s kept.ends.0 i in
     let dated : AreDated s.rows = known.dated setup (length m.whole.threads) limit.OBJECTS first_world s kept.ends.0 in
     let outcomes : map (λ (x : Given). x.outcome) came ≡ outcomes_in i m.whole.rows =
-    sym (map-map (λ (x : Given). x.outcome) as_logged came) ∙ ap (map (λ (x : Given). x.outcome)) (kept.came i) ∙ covered.outcomes i in
+    sym (map-map (λ (x : Given). x.outcome) (as_logged m.whole.settings.version) came) ∙ ap (map (λ (x : Given). x.outcome)) (kept.came i) ∙ covered.outcomes i in
     let kinds : map (λ (x : Given). Some x.kind) came ≡ kinds_in i m.whole.rows =
-    sym (map-map (λ (x : Given). Some x.kind) as_logged came) ∙ ap (map (λ (x : Given). Some x.kind)) (kept.came i) ∙ covered.kinds i in
-    let clocks : map (λ (x : Given). x.clock) came ≡ clocks_in i m.whole.rows =
-    ap (map (λ (x : Given). x.clock)) seen_came ∙ clocks_shown i s.rows dated ∙ ap (clocks_in i) kept.ends.1.rows in
+    sym (map-map (λ (x : Given). Some x.kind) (as_logged m.whole.settings.version) came) ∙ ap (map (λ (x : Given). Some x.kind)) (kept.came i) ∙ covered.kinds i in
+    let clocks : map (λ (x : Given). x.clock) came ≡ clocks_in 2 i m.whole.rows =
+    ap (map (λ (x : Given). x.clock)) seen_came ∙ known.records.clocks 2 i s.rows dated ∙ ap (clocks_in 2 i) kept.ends.1.rows in
     let here = all_come i m.whole.rows came k g outcomes kinds clocks at in
     let b : Brought = here.brought in
     let leads = led_at 0 i i past.rows past.asked (doors_by n rs) ends (doors_of i rs) (omega arith) (let long = doors_length n rs in omega (arith, long, l)) led in

@@ -9,6 +9,7 @@ pub(crate) type Driven = Machine<MemorySink, u8>;
 pub(crate) const SETTINGS: Settings = Settings {
     patience: 1000,
     door_cost: 100,
+    version: 1,
 };
 
 pub(crate) const CREATE: OpenFlags = OpenFlags {

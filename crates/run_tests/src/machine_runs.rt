@@ -9,22 +9,26 @@ const NOTHING: &[Came] = &[];
 const DEFAULTS: Settings = Settings {
     patience: 1000,
     door_cost: 100,
+    version: 1,
 };
 
 // The door cost that is usual, and a patience of so many turns.
 const ONE_TURN: Settings = Settings {
     patience: 1,
     door_cost: 100,
+    version: 1,
 };
 
 const TWO_TURNS: Settings = Settings {
     patience: 2,
     door_cost: 100,
+    version: 1,
 };
 
 const THREE_TURNS: Settings = Settings {
     patience: 3,
     door_cost: 100,
+    version: 1,
 };
 
 // ## What is wanted of a run
@@ -167,6 +171,7 @@ const IN_MEMORY: &[Case] = &[
         settings: Settings {
             patience: 7,
             door_cost: 1_000_000,
+            version: 1,
         },
         wanted: &[Wanted::Log(b"DIOL\0\x01\0\x03\0\0\0\x07\0\x0f\x42\x40E\0\0\0\0")],
     },
@@ -307,6 +312,7 @@ const DIVERGING: &[&str] = &[
 const NINE_TURNS: Settings = Settings {
     patience: 9,
     door_cost: 3,
+    version: 1,
 };
 
 // The log of what came for the diverging scripts, up to the outcome that does not answer: examples/log-of-a-diverged-run

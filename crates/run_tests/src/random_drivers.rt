@@ -28,6 +28,7 @@ const ROOM: usize = 10_000;
 const SETTINGS: Settings = Settings {
     patience: 3,
     door_cost: 7,
+    version: 1,
 };
 
 // Why a run fails.

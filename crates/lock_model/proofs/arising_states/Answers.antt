@@ -1,3 +1,4 @@
+use Rattle.lock_model.proofs.Times.{times_arisen}
 use Rattle.lock_model.proofs.Arising.{arises_event, arises_run, arises_start, legal_arisen, dated_arisen}
 use Rattle.lock_model.proofs.Follows.{run_follows}
 use Rattle.lock_model.proofs.OwnPlans.{plans_arisen}
@@ -26,6 +27,9 @@ returns-clause-rising c = rising_arisen
 
 pub returns-clause-dated : goal.returns-clause-dated
 returns-clause-dated c = dated_arisen
+
+pub returns-clause-times : goal.returns-clause-times
+returns-clause-times c = times_arisen
 
 pub returns-clause-locks : goal.returns-clause-locks
 returns-clause-locks c = held_arisen

@@ -159,6 +159,7 @@ const HEADER: Header = Header {
 const SETTINGS: Settings = Settings {
     patience: 1000,
     door_cost: 100,
+    version: 1,
 };
 
 // What a new machine tells. Without memory the writer comes back, whose sink has the header.

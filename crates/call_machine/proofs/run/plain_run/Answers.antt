@@ -52,4 +52,4 @@ returns-clause-covered c =
     let e : Ends input diverged p = c.in_ok-diverged.ensures input (begins_of c.laws.ensures.starts input c.len-3.result c.new-header.result (played_of c.in_ok-driver.driver) count c.new-header.ensures c.in_ok-driver.ensures) in
     let threads : are_threads input ≡ true = search rules in
     let settings : are_settings input.settings ≡ true = search rules in
-    plain_covered c.laws.ensures.clocks c.laws.ensures.came c.laws.ensures.spelled c.laws.ensures.rows input diverged p c.in_ok-finish.field-0 e c.in_ok-finish.ensures threads settings
+    plain_covered c.laws.ensures.clocks c.laws.ensures.records c.laws.ensures.came c.laws.ensures.spelled c.laws.ensures.rows c.laws.ensures.dated input diverged p c.in_ok-finish.field-0 e c.in_ok-finish.ensures threads settings

@@ -3,15 +3,15 @@ use Rattle.std.proofs.lemmas.Option.{slice_get_past}
 use Rattle.std.specs.Prelude.{Ok, None, unwrap_or}
 use Rattle.posix_terms.specs.declared.outcome.Given.{Given}
 use Rattle.lock_machine.specs.Refusals.{is_outside, outlook, phase_at, recorded_as}
-use Rattle.lock_machine.specs.Shows.{RecordsGiven}
+use Rattle.lock_machine.specs.Shows.{RecordsGiven, as_it_comes}
 use Rattle.lock_machine.specs.Whole.{thread_at}
 use Rattle.lock_machine.specs.declared.outside.Progress.{Progress}
 use Rattle.lock_machine.specs.declared.outside.Progress.TheVariants as progress
-use Rattle.call_machine.specs.Logs.{Written, logged, record_of}
+use Rattle.call_machine.specs.Logs.{Written, logged, logged_as}
 use Rattle.call_machine.specs.Playing.{Makes, played_of}
 use Rattle.call_machine.proofs.Coming.{outside_phase}
 use Rattle.call_machine.proofs.Playing.{awaits_made, records_made}
-use Rattle.call_machine.proofs.Recording.{came_taken, little_data, logs_nothing, not_moved, taken_answers, told_taken}
+use Rattle.call_machine.proofs.Recording.{came_taken, little_data, logs_nothing, not_moved, record_is, taken_answers, told_taken}
 use Rattle.call_machine.proofs.Seats.{given_in, given_none, got_at}
 use Rattle.call_machine.proofs.driver.Driver.record.Goals as goal
 
@@ -48,7 +48,7 @@ returns-in_default-outlook c =
     let stays = not_moved made c.in_default-outlook.not-Moves in
     let h : RecordsGiven made i g p.whole p.whole = c.outlook.ensures.event c.requires.outside stays in
     let L : Written → Type 0 = λ l. Makes made i p (record p { log = l }) in
-    record { event = subst L (logs_nothing made (record_of i (thread_at p.whole i).came g) p.log stays) (records_made c.laws.ensures.events p i p.whole out.0 g made c.requires.inside out.1 next h); count = refl }
+    record { event = subst L (logs_nothing made (logged_as p.whole.settings.version i (thread_at p.whole i).came (as_it_comes p.whole i g)) p.log stays) (records_made c.laws.ensures.events p i p.whole out.0 g made c.requires.inside out.1 next h); count = refl }
 
 pub append-requires : goal.append-requires
 append-requires c =
@@ -79,10 +79,9 @@ returns-clause-event c =
     let taken : c.record.result ≡ Ok progress.Moves = c.record.ensures.value ∙ ap₂ recorded_as c.requires.outside (ap (outlook d.machine i) same ∙ moves) in
     let event : RecordsGiven progress.Moves i copy p.whole w = came_taken (is_outside (phase_at p.whole i)) c.record.result progress.Moves p.whole w (λ y. RecordsGiven (unwrap_or y progress.Stays) i copy p.whole w) taken c.record.ensures.event in
     let h = subst (λ (x : Given). RecordsGiven progress.Moves i x p.whole w) same event in
-    let log : c.append.new.self ≡ logged p.log (record_of i (thread_at p.whole i).came g) =
+    let log : c.append.new.self ≡ logged p.log (logged_as p.whole.settings.version i (thread_at p.whole i).came (as_it_comes p.whole i g)) =
     c.in_ok-append.ensures
-    ∙ ap (λ x. logged p.log (record { thread = i; number = c.came-number.result; clock = None; kind = g.kind; outcome = x })) c.in_ok-try_clone.ensures
-    ∙ ap (λ n. logged p.log (record { thread = i; number = n; clock = None; kind = g.kind; outcome = g.outcome })) c.came-number.ensures in
+    ∙ ap (logged p.log) (record_is p.whole i out.0 g c.in_ok-try_clone.field-0 c.came-number.result c.logged_clock.result out.1 moves c.in_ok-try_clone.ensures c.came-number.ensures c.logged_clock.ensures) in
     let made : c.unwrap_or.result ≡ progress.Moves = c.unwrap_or.ensures ∙ ap (λ y. unwrap_or y progress.Stays) (told_taken c.record.result c.in_ok-made.made progress.Moves taken c.in_ok-made.ensures) in
     let Q : Progress → Type 0 = λ m. Makes m i p (record p { whole = w; log = c.append.new.self }) in
     let L : Written → Type 0 = λ l. Makes progress.Moves i p (record p { whole = w; log = l }) in

@@ -19,7 +19,7 @@ use Rattle.lock_machine.proofs.machine.LockMachine.answer_granted.Goals as goal
 pub invariant_of-self-inside : goal.invariant_of-self-inside
 invariant_of-self-inside c =
     let m = c.self.inside in
-    let v : Whole = whole_by m.patience m.door_cost m.threads.items m.clocks m.shared.lock m.objects.items m.shared.store m.shared.rows.items in
+    let v : Whole = whole_by m.settings m.threads.items m.clocks m.shared.lock m.objects.items m.shared.store m.shared.rows.items in
     let view : v ≡ c.args.self.now = c.self.view_is in
     let inside = inside_of m.threads.items m.clocks v c.args.self.now c.args.i refl view c.requires.inside in
     let item = item_of m.threads.items m.clocks c.args.i c.index_mut.result.now c.answer.new.thread c.answer.new.clocks m.agree inside c.index_mut.ensures.value c.answer.ensures.others in (
@@ -39,7 +39,7 @@ invariant_of-self-inside c =
 pub invariant_of-self-inside-in-Some : goal.invariant_of-self-inside-in-Some
 invariant_of-self-inside-in-Some c =
     let m = c.self.inside in
-    let v : Whole = whole_by m.patience m.door_cost m.threads.items m.clocks m.shared.lock m.objects.items m.shared.store m.shared.rows.items in
+    let v : Whole = whole_by m.settings m.threads.items m.clocks m.shared.lock m.objects.items m.shared.store m.shared.rows.items in
     let view : v ≡ c.args.self.now = c.self.view_is in
     let inside = inside_of m.threads.items m.clocks v c.args.self.now c.args.i refl view c.requires.inside in
     let item = item_of m.threads.items m.clocks c.args.i c.index_mut-in-Some.result.now c.answer-in-Some.new.thread c.answer-in-Some.new.clocks m.agree inside c.index_mut-in-Some.ensures.value c.answer-in-Some.ensures.others in (
@@ -59,7 +59,7 @@ invariant_of-self-inside-in-Some c =
 pub returns-in-None-clause-event : goal.returns-in-None-clause-event
 returns-in-None-clause-event c =
     let m = c.self.inside in
-    let v : Whole = whole_by m.patience m.door_cost m.threads.items m.clocks m.shared.lock m.objects.items m.shared.store m.shared.rows.items in
+    let v : Whole = whole_by m.settings m.threads.items m.clocks m.shared.lock m.objects.items m.shared.store m.shared.rows.items in
     let view : v ≡ c.args.self.now = c.self.view_is in
     let inside = inside_of m.threads.items m.clocks v c.args.self.now c.args.i refl view c.requires.inside in
     let x = c.index_mut.result.now in
@@ -72,7 +72,7 @@ returns-in-None-clause-event c =
 pub returns-in-Some-get_mut-clause-event : goal.returns-in-Some-get_mut-clause-event
 returns-in-Some-get_mut-clause-event c =
     let m = c.self.inside in
-    let v : Whole = whole_by m.patience m.door_cost m.threads.items m.clocks m.shared.lock m.objects.items m.shared.store m.shared.rows.items in
+    let v : Whole = whole_by m.settings m.threads.items m.clocks m.shared.lock m.objects.items m.shared.store m.shared.rows.items in
     let view : v ≡ c.args.self.now = c.self.view_is in
     let inside = inside_of m.threads.items m.clocks v c.args.self.now c.args.i refl view c.requires.inside in
     let x = c.index_mut-in-Some.result.now in
@@ -87,7 +87,7 @@ returns-in-Some-get_mut-clause-event c =
 pub returns-in_default-clause-event : goal.returns-in_default-clause-event
 returns-in_default-clause-event c =
     let m = c.self.inside in
-    let v : Whole = whole_by m.patience m.door_cost m.threads.items m.clocks m.shared.lock m.objects.items m.shared.store m.shared.rows.items in
+    let v : Whole = whole_by m.settings m.threads.items m.clocks m.shared.lock m.objects.items m.shared.store m.shared.rows.items in
     let view : v ≡ c.args.self.now = c.self.view_is in
     let inside = inside_of m.threads.items m.clocks v c.args.self.now c.args.i refl view c.requires.inside in
     let past : length m.objects.items ≤ c.in-Some.object = search rules in
@@ -98,7 +98,7 @@ returns-in_default-clause-event c =
 pub index_mut-requires : goal.index_mut-requires
 index_mut-requires c =
     let m = c.self.inside in
-    let v : Whole = whole_by m.patience m.door_cost m.threads.items m.clocks m.shared.lock m.objects.items m.shared.store m.shared.rows.items in
+    let v : Whole = whole_by m.settings m.threads.items m.clocks m.shared.lock m.objects.items m.shared.store m.shared.rows.items in
     let view : v ≡ c.args.self.now = c.self.view_is in
     let inside = inside_of m.threads.items m.clocks v c.args.self.now c.args.i refl view c.requires.inside in
     let size : m.threads.len ≡ length m.threads.items = search rules in
@@ -107,7 +107,7 @@ index_mut-requires c =
 pub index_mut-requires-in-Some : goal.index_mut-requires-in-Some
 index_mut-requires-in-Some c =
     let m = c.self.inside in
-    let v : Whole = whole_by m.patience m.door_cost m.threads.items m.clocks m.shared.lock m.objects.items m.shared.store m.shared.rows.items in
+    let v : Whole = whole_by m.settings m.threads.items m.clocks m.shared.lock m.objects.items m.shared.store m.shared.rows.items in
     let view : v ≡ c.args.self.now = c.self.view_is in
     let inside = inside_of m.threads.items m.clocks v c.args.self.now c.args.i refl view c.requires.inside in
     let size : m.threads.len ≡ length m.threads.items = search rules in
@@ -116,7 +116,7 @@ index_mut-requires-in-Some c =
 pub answer-requires-clause-inside : goal.answer-requires-clause-inside
 answer-requires-clause-inside c =
     let m = c.self.inside in
-    let v : Whole = whole_by m.patience m.door_cost m.threads.items m.clocks m.shared.lock m.objects.items m.shared.store m.shared.rows.items in
+    let v : Whole = whole_by m.settings m.threads.items m.clocks m.shared.lock m.objects.items m.shared.store m.shared.rows.items in
     let view : v ≡ c.args.self.now = c.self.view_is in
     let inside = inside_of m.threads.items m.clocks v c.args.self.now c.args.i refl view c.requires.inside in
     clock_inside m.threads.items m.clocks c.args.i m.agree inside
@@ -124,7 +124,7 @@ answer-requires-clause-inside c =
 pub answer-requires-in-Some-clause-inside : goal.answer-requires-in-Some-clause-inside
 answer-requires-in-Some-clause-inside c =
     let m = c.self.inside in
-    let v : Whole = whole_by m.patience m.door_cost m.threads.items m.clocks m.shared.lock m.objects.items m.shared.store m.shared.rows.items in
+    let v : Whole = whole_by m.settings m.threads.items m.clocks m.shared.lock m.objects.items m.shared.store m.shared.rows.items in
     let view : v ≡ c.args.self.now = c.self.view_is in
     let inside = inside_of m.threads.items m.clocks v c.args.self.now c.args.i refl view c.requires.inside in
     clock_inside m.threads.items m.clocks c.args.i m.agree inside
@@ -132,7 +132,7 @@ answer-requires-in-Some-clause-inside c =
 pub answer-requires-clause-live : goal.answer-requires-clause-live
 answer-requires-clause-live c =
     let m = c.self.inside in
-    let v : Whole = whole_by m.patience m.door_cost m.threads.items m.clocks m.shared.lock m.objects.items m.shared.store m.shared.rows.items in
+    let v : Whole = whole_by m.settings m.threads.items m.clocks m.shared.lock m.objects.items m.shared.store m.shared.rows.items in
     let view : v ≡ c.args.self.now = c.self.view_is in
     let inside = inside_of m.threads.items m.clocks v c.args.self.now c.args.i refl view c.requires.inside in
     let granted = item_in (λ p. GrantedIn p c.args.row c.args.object) m.threads.items m.clocks v c.args.self.now c.args.i refl view inside c.requires.granted in
@@ -142,7 +142,7 @@ answer-requires-clause-live c =
 pub answer-requires-in-Some-clause-live : goal.answer-requires-in-Some-clause-live
 answer-requires-in-Some-clause-live c =
     let m = c.self.inside in
-    let v : Whole = whole_by m.patience m.door_cost m.threads.items m.clocks m.shared.lock m.objects.items m.shared.store m.shared.rows.items in
+    let v : Whole = whole_by m.settings m.threads.items m.clocks m.shared.lock m.objects.items m.shared.store m.shared.rows.items in
     let view : v ≡ c.args.self.now = c.self.view_is in
     let inside = inside_of m.threads.items m.clocks v c.args.self.now c.args.i refl view c.requires.inside in
     let granted = item_in (λ p. GrantedIn p c.args.row c.args.object) m.threads.items m.clocks v c.args.self.now c.args.i refl view inside c.requires.granted in
@@ -152,7 +152,7 @@ answer-requires-in-Some-clause-live c =
 pub returns-in-None-clause-count : goal.returns-in-None-clause-count
 returns-in-None-clause-count c =
     let m = c.self.inside in
-    let v : Whole = whole_by m.patience m.door_cost m.threads.items m.clocks m.shared.lock m.objects.items m.shared.store m.shared.rows.items in
+    let v : Whole = whole_by m.settings m.threads.items m.clocks m.shared.lock m.objects.items m.shared.store m.shared.rows.items in
     let view : v ≡ c.args.self.now = c.self.view_is in
     let inside = inside_of m.threads.items m.clocks v c.args.self.now c.args.i refl view c.requires.inside in
     count_kept m.threads.items (set m.threads.items c.args.i c.answer.new.thread) m.clocks c.answer.new.clocks v c.args.self.now refl view (length-set m.threads.items c.args.i c.answer.new.thread)
@@ -160,7 +160,7 @@ returns-in-None-clause-count c =
 pub returns-in-Some-get_mut-clause-count : goal.returns-in-Some-get_mut-clause-count
 returns-in-Some-get_mut-clause-count c =
     let m = c.self.inside in
-    let v : Whole = whole_by m.patience m.door_cost m.threads.items m.clocks m.shared.lock m.objects.items m.shared.store m.shared.rows.items in
+    let v : Whole = whole_by m.settings m.threads.items m.clocks m.shared.lock m.objects.items m.shared.store m.shared.rows.items in
     let view : v ≡ c.args.self.now = c.self.view_is in
     let inside = inside_of m.threads.items m.clocks v c.args.self.now c.args.i refl view c.requires.inside in
     count_kept m.threads.items (set m.threads.items c.args.i c.answer-in-Some.new.thread) m.clocks c.answer-in-Some.new.clocks v c.args.self.now refl view (length-set m.threads.items c.args.i c.answer-in-Some.new.thread)
@@ -168,7 +168,7 @@ returns-in-Some-get_mut-clause-count c =
 pub returns-in-None-clause-rests : goal.returns-in-None-clause-rests
 returns-in-None-clause-rests c =
     let m = c.self.inside in
-    let v : Whole = whole_by m.patience m.door_cost m.threads.items m.clocks m.shared.lock m.objects.items m.shared.store m.shared.rows.items in
+    let v : Whole = whole_by m.settings m.threads.items m.clocks m.shared.lock m.objects.items m.shared.store m.shared.rows.items in
     let view : v ≡ c.args.self.now = c.self.view_is in
     let inside = inside_of m.threads.items m.clocks v c.args.self.now c.args.i refl view c.requires.inside in
     let x = c.index_mut.result.now in
@@ -179,7 +179,7 @@ returns-in-None-clause-rests c =
 pub returns-in-Some-get_mut-clause-rests : goal.returns-in-Some-get_mut-clause-rests
 returns-in-Some-get_mut-clause-rests c =
     let m = c.self.inside in
-    let v : Whole = whole_by m.patience m.door_cost m.threads.items m.clocks m.shared.lock m.objects.items m.shared.store m.shared.rows.items in
+    let v : Whole = whole_by m.settings m.threads.items m.clocks m.shared.lock m.objects.items m.shared.store m.shared.rows.items in
     let view : v ≡ c.args.self.now = c.self.view_is in
     let inside = inside_of m.threads.items m.clocks v c.args.self.now c.args.i refl view c.requires.inside in
     let x = c.index_mut-in-Some.result.now in

@@ -22,7 +22,7 @@ returns-in_default-clause-event c = conclude_lost c.args.self.now c.args.i c.arg
 pub returns-in_default-get_mut-clause-event : goal.returns-in_default-get_mut-clause-event
 returns-in_default-get_mut-clause-event c =
     let m = c.self.inside in
-    let v : Whole = whole_by m.patience m.door_cost m.threads.items m.clocks m.shared.lock m.objects.items m.shared.store m.shared.rows.items in
+    let v : Whole = whole_by m.settings m.threads.items m.clocks m.shared.lock m.objects.items m.shared.store m.shared.rows.items in
     let view : v ≡ c.args.self.now = c.self.view_is in
     let inside = inside_of m.threads.items m.clocks v c.args.self.now c.args.i refl view c.requires.inside in
     let past : length m.objects.items ≤ c.in-Some.object = search rules in
@@ -33,7 +33,7 @@ returns-in_default-get_mut-clause-event c =
 pub invariant_of-self-inside-2 : goal.invariant_of-self-inside-2
 invariant_of-self-inside-2 c =
     let m = c.self.inside in
-    let v : Whole = whole_by m.patience m.door_cost m.threads.items m.clocks m.shared.lock m.objects.items m.shared.store m.shared.rows.items in
+    let v : Whole = whole_by m.settings m.threads.items m.clocks m.shared.lock m.objects.items m.shared.store m.shared.rows.items in
     let view : v ≡ c.args.self.now = c.self.view_is in
     let inside = inside_of m.threads.items m.clocks v c.args.self.now c.args.i refl view c.requires.inside in
     let item = item_of m.threads.items m.clocks c.args.i c.index_mut.result.now c.answer_outside.new.thread c.answer_outside.new.clocks m.agree inside c.index_mut.ensures.value c.answer_outside.ensures.others in (
@@ -53,7 +53,7 @@ invariant_of-self-inside-2 c =
 pub returns-clause-event : goal.returns-clause-event
 returns-clause-event c =
     let m = c.self.inside in
-    let v : Whole = whole_by m.patience m.door_cost m.threads.items m.clocks m.shared.lock m.objects.items m.shared.store m.shared.rows.items in
+    let v : Whole = whole_by m.settings m.threads.items m.clocks m.shared.lock m.objects.items m.shared.store m.shared.rows.items in
     let view : v ≡ c.args.self.now = c.self.view_is in
     let inside = inside_of m.threads.items m.clocks v c.args.self.now c.args.i refl view c.requires.inside in
     let item = item_of m.threads.items m.clocks c.args.i c.index_mut.result.now c.answer_outside.new.thread c.answer_outside.new.clocks m.agree inside c.index_mut.ensures.value c.answer_outside.ensures.others in
@@ -65,7 +65,7 @@ returns-clause-event c =
 pub index_mut-requires : goal.index_mut-requires
 index_mut-requires c =
     let m = c.self.inside in
-    let v : Whole = whole_by m.patience m.door_cost m.threads.items m.clocks m.shared.lock m.objects.items m.shared.store m.shared.rows.items in
+    let v : Whole = whole_by m.settings m.threads.items m.clocks m.shared.lock m.objects.items m.shared.store m.shared.rows.items in
     let view : v ≡ c.args.self.now = c.self.view_is in
     let inside = inside_of m.threads.items m.clocks v c.args.self.now c.args.i refl view c.requires.inside in
     let size : m.threads.len ≡ length m.threads.items = search rules in
@@ -74,7 +74,7 @@ index_mut-requires c =
 pub answer_outside-requires-clause-inside : goal.answer_outside-requires-clause-inside
 answer_outside-requires-clause-inside c =
     let m = c.self.inside in
-    let v : Whole = whole_by m.patience m.door_cost m.threads.items m.clocks m.shared.lock m.objects.items m.shared.store m.shared.rows.items in
+    let v : Whole = whole_by m.settings m.threads.items m.clocks m.shared.lock m.objects.items m.shared.store m.shared.rows.items in
     let view : v ≡ c.args.self.now = c.self.view_is in
     let inside = inside_of m.threads.items m.clocks v c.args.self.now c.args.i refl view c.requires.inside in
     clock_inside m.threads.items m.clocks c.args.i m.agree inside
@@ -82,7 +82,7 @@ answer_outside-requires-clause-inside c =
 pub answer_outside-requires-clause-recorded : goal.answer_outside-requires-clause-recorded
 answer_outside-requires-clause-recorded c =
     let m = c.self.inside in
-    let v : Whole = whole_by m.patience m.door_cost m.threads.items m.clocks m.shared.lock m.objects.items m.shared.store m.shared.rows.items in
+    let v : Whole = whole_by m.settings m.threads.items m.clocks m.shared.lock m.objects.items m.shared.store m.shared.rows.items in
     let view : v ≡ c.args.self.now = c.self.view_is in
     let inside = inside_of m.threads.items m.clocks v c.args.self.now c.args.i refl view c.requires.inside in
     phase_at m.threads.items c.args.i c.index_mut.result.now (phase.Recorded c.args.outing) inside c.index_mut.ensures.value (item_in (λ p. p ≡ phase.Recorded c.args.outing) m.threads.items m.clocks v c.args.self.now c.args.i refl view inside c.requires.recorded)
@@ -90,7 +90,7 @@ answer_outside-requires-clause-recorded c =
 pub returns-clause-count : goal.returns-clause-count
 returns-clause-count c =
     let m = c.self.inside in
-    let v : Whole = whole_by m.patience m.door_cost m.threads.items m.clocks m.shared.lock m.objects.items m.shared.store m.shared.rows.items in
+    let v : Whole = whole_by m.settings m.threads.items m.clocks m.shared.lock m.objects.items m.shared.store m.shared.rows.items in
     let view : v ≡ c.args.self.now = c.self.view_is in
     let inside = inside_of m.threads.items m.clocks v c.args.self.now c.args.i refl view c.requires.inside in
     count_kept m.threads.items (set m.threads.items c.args.i c.answer_outside.new.thread) m.clocks c.answer_outside.new.clocks v c.args.self.now refl view (length-set m.threads.items c.args.i c.answer_outside.new.thread)
@@ -98,7 +98,7 @@ returns-clause-count c =
 pub returns-clause-rests : goal.returns-clause-rests
 returns-clause-rests c =
     let m = c.self.inside in
-    let v : Whole = whole_by m.patience m.door_cost m.threads.items m.clocks m.shared.lock m.objects.items m.shared.store m.shared.rows.items in
+    let v : Whole = whole_by m.settings m.threads.items m.clocks m.shared.lock m.objects.items m.shared.store m.shared.rows.items in
     let view : v ≡ c.args.self.now = c.self.view_is in
     let inside = inside_of m.threads.items m.clocks v c.args.self.now c.args.i refl view c.requires.inside in
     let x = c.index_mut.result.now in
@@ -114,6 +114,6 @@ answer_outside-requires-clause-few c =
 pub answer_outside-requires-clause-decided : goal.answer_outside-requires-clause-decided
 answer_outside-requires-clause-decided c =
     let m = c.self.inside in
-    let v : Whole = whole_by m.patience m.door_cost m.threads.items m.clocks m.shared.lock m.objects.items m.shared.store m.shared.rows.items in
+    let v : Whole = whole_by m.settings m.threads.items m.clocks m.shared.lock m.objects.items m.shared.store m.shared.rows.items in
     let inside = inside_of m.threads.items m.clocks v c.args.self.now c.args.i refl c.self.view_is c.requires.inside in
     waits_at m.threads.items c.args.i c.index_mut.result.now m.shared.lock m.shared.rows.items m.shared.store m.shared.wanted inside c.index_mut.ensures.value m.wanted

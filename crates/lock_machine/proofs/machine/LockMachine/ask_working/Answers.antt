@@ -25,7 +25,7 @@ use Rattle.lock_machine.proofs.machine.LockMachine.ask_working.Goals as goal
 pub invariant_of-self-inside-2 : goal.invariant_of-self-inside-2
 invariant_of-self-inside-2 c =
     let m = c.self.inside in
-    let v : Whole = whole_by m.patience m.door_cost m.threads.items m.clocks m.shared.lock m.objects.items m.shared.store m.shared.rows.items in
+    let v : Whole = whole_by m.settings m.threads.items m.clocks m.shared.lock m.objects.items m.shared.store m.shared.rows.items in
     let view : v ≡ c.args.self.now = c.self.view_is in
     let inside = inside_of m.threads.items m.clocks v c.args.self.now c.args.i refl view c.requires.inside in
     let item = item_of m.threads.items m.clocks c.args.i c.index_mut.result.now c.ask.new.self c.ask.new.clocks m.agree inside c.index_mut.ensures.value c.ask.ensures.others in
@@ -48,7 +48,7 @@ invariant_of-self-inside-2 c =
 pub returns-clause-event : goal.returns-clause-event
 returns-clause-event c =
     let m = c.self.inside in
-    let v : Whole = whole_by m.patience m.door_cost m.threads.items m.clocks m.shared.lock m.objects.items m.shared.store m.shared.rows.items in
+    let v : Whole = whole_by m.settings m.threads.items m.clocks m.shared.lock m.objects.items m.shared.store m.shared.rows.items in
     let view : v ≡ c.args.self.now = c.self.view_is in
     let inside = inside_of m.threads.items m.clocks v c.args.self.now c.args.i refl view c.requires.inside in
     let x = c.index_mut.result.now in
@@ -62,7 +62,7 @@ returns-clause-event c =
 pub index_mut-requires : goal.index_mut-requires
 index_mut-requires c =
     let m = c.self.inside in
-    let v : Whole = whole_by m.patience m.door_cost m.threads.items m.clocks m.shared.lock m.objects.items m.shared.store m.shared.rows.items in
+    let v : Whole = whole_by m.settings m.threads.items m.clocks m.shared.lock m.objects.items m.shared.store m.shared.rows.items in
     let inside = inside_of m.threads.items m.clocks v c.args.self.now c.args.i refl c.self.view_is c.requires.inside in
     let size : m.threads.len ≡ length m.threads.items = search rules in
     subst (λ (n : ℕ). c.args.i < n) (sym size) inside
@@ -70,14 +70,14 @@ index_mut-requires c =
 pub ask-requires-clause-inside : goal.ask-requires-clause-inside
 ask-requires-clause-inside c =
     let m = c.self.inside in
-    let v : Whole = whole_by m.patience m.door_cost m.threads.items m.clocks m.shared.lock m.objects.items m.shared.store m.shared.rows.items in
+    let v : Whole = whole_by m.settings m.threads.items m.clocks m.shared.lock m.objects.items m.shared.store m.shared.rows.items in
     let inside = inside_of m.threads.items m.clocks v c.args.self.now c.args.i refl c.self.view_is c.requires.inside in
     clock_inside m.threads.items m.clocks c.args.i m.agree inside
 
 pub ask-requires-clause-live : goal.ask-requires-clause-live
 ask-requires-clause-live c =
     let m = c.self.inside in
-    let v : Whole = whole_by m.patience m.door_cost m.threads.items m.clocks m.shared.lock m.objects.items m.shared.store m.shared.rows.items in
+    let v : Whole = whole_by m.settings m.threads.items m.clocks m.shared.lock m.objects.items m.shared.store m.shared.rows.items in
     let view : v ≡ c.args.self.now = c.self.view_is in
     let inside = inside_of m.threads.items m.clocks v c.args.self.now c.args.i refl view c.requires.inside in
     lives_in m.threads.items c.args.i c.index_mut.result.now phase.Working inside c.index_mut.ensures.value (item_in (λ p. p ≡ phase.Working) m.threads.items m.clocks v c.args.self.now c.args.i refl view inside c.requires.working) refl
@@ -85,13 +85,13 @@ ask-requires-clause-live c =
 pub returns-clause-count : goal.returns-clause-count
 returns-clause-count c =
     let m = c.self.inside in
-    let v : Whole = whole_by m.patience m.door_cost m.threads.items m.clocks m.shared.lock m.objects.items m.shared.store m.shared.rows.items in
+    let v : Whole = whole_by m.settings m.threads.items m.clocks m.shared.lock m.objects.items m.shared.store m.shared.rows.items in
     count_kept m.threads.items (set m.threads.items c.args.i c.ask.new.self) m.clocks c.ask.new.clocks v c.args.self.now refl c.self.view_is (length-set m.threads.items c.args.i c.ask.new.self)
 
 pub returns-clause-rests : goal.returns-clause-rests
 returns-clause-rests c =
     let m = c.self.inside in
-    let v : Whole = whole_by m.patience m.door_cost m.threads.items m.clocks m.shared.lock m.objects.items m.shared.store m.shared.rows.items in
+    let v : Whole = whole_by m.settings m.threads.items m.clocks m.shared.lock m.objects.items m.shared.store m.shared.rows.items in
     let view : v ≡ c.args.self.now = c.self.view_is in
     let inside = inside_of m.threads.items m.clocks v c.args.self.now c.args.i refl view c.requires.inside in
     let x = c.index_mut.result.now in
@@ -104,7 +104,7 @@ returns-clause-rests c =
 pub returns-clause-err : goal.returns-clause-err
 returns-clause-err c =
     let m = c.self.inside in
-    let v : Whole = whole_by m.patience m.door_cost m.threads.items m.clocks m.shared.lock m.objects.items m.shared.store m.shared.rows.items in
+    let v : Whole = whole_by m.settings m.threads.items m.clocks m.shared.lock m.objects.items m.shared.store m.shared.rows.items in
     let view : v ≡ c.args.self.now = c.self.view_is in
     let inside = inside_of m.threads.items m.clocks v c.args.self.now c.args.i refl view c.requires.inside in
     let x = c.index_mut.result.now in
@@ -120,7 +120,7 @@ returns-clause-memory c =
     let w = c.args.self.now in
     let i = c.args.i in
     let x = c.index_mut.result.now in
-    let v : Whole = whole_by m.patience m.door_cost m.threads.items m.clocks m.shared.lock m.objects.items m.shared.store m.shared.rows.items in
+    let v : Whole = whole_by m.settings m.threads.items m.clocks m.shared.lock m.objects.items m.shared.store m.shared.rows.items in
     let inside = inside_of m.threads.items m.clocks v w i refl c.self.view_is c.requires.inside in
     let seen : thread_at w i ≡ timed x (clock_at m.clocks i) = thread_seen m.threads.items m.clocks v w i x refl c.self.view_is inside c.index_mut.ensures.value in
     on_err_weaker c.ask.result (λ (time : HasTime c.args.step (timed x (clock_at m.clocks i))). may_ask w i c.args.step c.requires.working (subst (HasTime c.args.step) (sym seen) time)) c.ask.ensures.time

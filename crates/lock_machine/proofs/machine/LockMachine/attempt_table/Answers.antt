@@ -19,7 +19,7 @@ use Rattle.lock_machine.proofs.machine.LockMachine.attempt_table.Goals as goal
 pub invariant_of-self-inside : goal.invariant_of-self-inside
 invariant_of-self-inside c =
     let m = c.self.inside in
-    let v : Whole = whole_by m.patience m.door_cost m.threads.items m.clocks m.shared.lock m.objects.items m.shared.store m.shared.rows.items in
+    let v : Whole = whole_by m.settings m.threads.items m.clocks m.shared.lock m.objects.items m.shared.store m.shared.rows.items in
     let view : v ≡ c.args.self.now = c.self.view_is in
     let inside = inside_of m.threads.items m.clocks v c.args.self.now c.args.i refl view c.requires.inside in
     let x = c.index_mut.result.now in
@@ -40,7 +40,7 @@ invariant_of-self-inside c =
 pub returns-clause-event : goal.returns-clause-event
 returns-clause-event c =
     let m = c.self.inside in
-    let v : Whole = whole_by m.patience m.door_cost m.threads.items m.clocks m.shared.lock m.objects.items m.shared.store m.shared.rows.items in
+    let v : Whole = whole_by m.settings m.threads.items m.clocks m.shared.lock m.objects.items m.shared.store m.shared.rows.items in
     let view : v ≡ c.args.self.now = c.self.view_is in
     let inside = inside_of m.threads.items m.clocks v c.args.self.now c.args.i refl view c.requires.inside in
     let x = c.index_mut.result.now in
@@ -56,7 +56,7 @@ returns-clause-event c =
 pub index_mut-requires : goal.index_mut-requires
 index_mut-requires c =
     let m = c.self.inside in
-    let v : Whole = whole_by m.patience m.door_cost m.threads.items m.clocks m.shared.lock m.objects.items m.shared.store m.shared.rows.items in
+    let v : Whole = whole_by m.settings m.threads.items m.clocks m.shared.lock m.objects.items m.shared.store m.shared.rows.items in
     let view : v ≡ c.args.self.now = c.self.view_is in
     let inside = inside_of m.threads.items m.clocks v c.args.self.now c.args.i refl view c.requires.inside in
     let size : m.threads.len ≡ length m.threads.items = search rules in
@@ -65,7 +65,7 @@ index_mut-requires c =
 pub try_table-requires-clause-inside : goal.try_table-requires-clause-inside
 try_table-requires-clause-inside c =
     let m = c.self.inside in
-    let v : Whole = whole_by m.patience m.door_cost m.threads.items m.clocks m.shared.lock m.objects.items m.shared.store m.shared.rows.items in
+    let v : Whole = whole_by m.settings m.threads.items m.clocks m.shared.lock m.objects.items m.shared.store m.shared.rows.items in
     let view : v ≡ c.args.self.now = c.self.view_is in
     let inside = inside_of m.threads.items m.clocks v c.args.self.now c.args.i refl view c.requires.inside in
     clock_inside m.threads.items m.clocks c.args.i m.agree inside
@@ -73,7 +73,7 @@ try_table-requires-clause-inside c =
 pub returns-clause-count : goal.returns-clause-count
 returns-clause-count c =
     let m = c.self.inside in
-    let v : Whole = whole_by m.patience m.door_cost m.threads.items m.clocks m.shared.lock m.objects.items m.shared.store m.shared.rows.items in
+    let v : Whole = whole_by m.settings m.threads.items m.clocks m.shared.lock m.objects.items m.shared.store m.shared.rows.items in
     let view : v ≡ c.args.self.now = c.self.view_is in
     let inside = inside_of m.threads.items m.clocks v c.args.self.now c.args.i refl view c.requires.inside in
     count_kept m.threads.items (set m.threads.items c.args.i c.try_table.new.thread) m.clocks c.try_table.new.clocks v c.args.self.now refl view (length-set m.threads.items c.args.i c.try_table.new.thread)
@@ -81,7 +81,7 @@ returns-clause-count c =
 pub returns-clause-rests : goal.returns-clause-rests
 returns-clause-rests c =
     let m = c.self.inside in
-    let v : Whole = whole_by m.patience m.door_cost m.threads.items m.clocks m.shared.lock m.objects.items m.shared.store m.shared.rows.items in
+    let v : Whole = whole_by m.settings m.threads.items m.clocks m.shared.lock m.objects.items m.shared.store m.shared.rows.items in
     let view : v ≡ c.args.self.now = c.self.view_is in
     let inside = inside_of m.threads.items m.clocks v c.args.self.now c.args.i refl view c.requires.inside in
     let x = c.index_mut.result.now in
@@ -96,13 +96,13 @@ try_table-requires-clause-few c =
 pub try_table-requires-clause-row : goal.try_table-requires-clause-row
 try_table-requires-clause-row c =
     let m = c.self.inside in
-    let v : Whole = whole_by m.patience m.door_cost m.threads.items m.clocks m.shared.lock m.objects.items m.shared.store m.shared.rows.items in
+    let v : Whole = whole_by m.settings m.threads.items m.clocks m.shared.lock m.objects.items m.shared.store m.shared.rows.items in
     let inside = inside_of m.threads.items m.clocks v c.args.self.now c.args.i refl c.self.view_is c.requires.inside in
     room_at m.threads.items c.args.i c.index_mut.result.now m.shared.rows inside c.index_mut.ensures.value m.room
 
 pub try_table-requires-clause-decided : goal.try_table-requires-clause-decided
 try_table-requires-clause-decided c =
     let m = c.self.inside in
-    let v : Whole = whole_by m.patience m.door_cost m.threads.items m.clocks m.shared.lock m.objects.items m.shared.store m.shared.rows.items in
+    let v : Whole = whole_by m.settings m.threads.items m.clocks m.shared.lock m.objects.items m.shared.store m.shared.rows.items in
     let inside = inside_of m.threads.items m.clocks v c.args.self.now c.args.i refl c.self.view_is c.requires.inside in
     waits_at m.threads.items c.args.i c.index_mut.result.now m.shared.lock m.shared.rows.items m.shared.store m.shared.wanted inside c.index_mut.ensures.value m.wanted

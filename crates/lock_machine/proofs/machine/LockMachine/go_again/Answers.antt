@@ -20,7 +20,7 @@ use Rattle.lock_machine.proofs.machine.LockMachine.go_again.Goals as goal
 pub invariant_of-self-inside-2 : goal.invariant_of-self-inside-2
 invariant_of-self-inside-2 c =
     let m = c.self.inside in
-    let v : Whole = whole_by m.patience m.door_cost m.threads.items m.clocks m.shared.lock m.objects.items m.shared.store m.shared.rows.items in
+    let v : Whole = whole_by m.settings m.threads.items m.clocks m.shared.lock m.objects.items m.shared.store m.shared.rows.items in
     let view : v ≡ c.args.self.now = c.self.view_is in
     let inside = inside_of m.threads.items m.clocks v c.args.self.now c.args.i refl view c.requires.inside in
     let item = item_still m.threads.items m.clocks c.args.i c.index_mut.result.now c.again.new.self m.agree inside c.index_mut.ensures.value c.again.ensures.live in
@@ -43,7 +43,7 @@ invariant_of-self-inside-2 c =
 pub returns-clause-event : goal.returns-clause-event
 returns-clause-event c =
     let m = c.self.inside in
-    let v : Whole = whole_by m.patience m.door_cost m.threads.items m.clocks m.shared.lock m.objects.items m.shared.store m.shared.rows.items in
+    let v : Whole = whole_by m.settings m.threads.items m.clocks m.shared.lock m.objects.items m.shared.store m.shared.rows.items in
     let view : v ≡ c.args.self.now = c.self.view_is in
     let inside = inside_of m.threads.items m.clocks v c.args.self.now c.args.i refl view c.requires.inside in
     let x = c.index_mut.result.now in
@@ -56,7 +56,7 @@ returns-clause-event c =
 pub index_mut-requires : goal.index_mut-requires
 index_mut-requires c =
     let m = c.self.inside in
-    let v : Whole = whole_by m.patience m.door_cost m.threads.items m.clocks m.shared.lock m.objects.items m.shared.store m.shared.rows.items in
+    let v : Whole = whole_by m.settings m.threads.items m.clocks m.shared.lock m.objects.items m.shared.store m.shared.rows.items in
     let view : v ≡ c.args.self.now = c.self.view_is in
     let inside = inside_of m.threads.items m.clocks v c.args.self.now c.args.i refl view c.requires.inside in
     let size : m.threads.len ≡ length m.threads.items = search rules in
@@ -65,7 +65,7 @@ index_mut-requires c =
 pub returns-clause-count : goal.returns-clause-count
 returns-clause-count c =
     let m = c.self.inside in
-    let v : Whole = whole_by m.patience m.door_cost m.threads.items m.clocks m.shared.lock m.objects.items m.shared.store m.shared.rows.items in
+    let v : Whole = whole_by m.settings m.threads.items m.clocks m.shared.lock m.objects.items m.shared.store m.shared.rows.items in
     let view : v ≡ c.args.self.now = c.self.view_is in
     let inside = inside_of m.threads.items m.clocks v c.args.self.now c.args.i refl view c.requires.inside in
     count_kept m.threads.items (set m.threads.items c.args.i c.again.new.self) m.clocks m.clocks v c.args.self.now refl view (length-set m.threads.items c.args.i c.again.new.self)
@@ -73,7 +73,7 @@ returns-clause-count c =
 pub returns-clause-rests : goal.returns-clause-rests
 returns-clause-rests c =
     let m = c.self.inside in
-    let v : Whole = whole_by m.patience m.door_cost m.threads.items m.clocks m.shared.lock m.objects.items m.shared.store m.shared.rows.items in
+    let v : Whole = whole_by m.settings m.threads.items m.clocks m.shared.lock m.objects.items m.shared.store m.shared.rows.items in
     let view : v ≡ c.args.self.now = c.self.view_is in
     let inside = inside_of m.threads.items m.clocks v c.args.self.now c.args.i refl view c.requires.inside in
     let x = c.index_mut.result.now in
@@ -86,7 +86,7 @@ returns-clause-rests c =
 pub returns-clause-err : goal.returns-clause-err
 returns-clause-err c =
     let m = c.self.inside in
-    let v : Whole = whole_by m.patience m.door_cost m.threads.items m.clocks m.shared.lock m.objects.items m.shared.store m.shared.rows.items in
+    let v : Whole = whole_by m.settings m.threads.items m.clocks m.shared.lock m.objects.items m.shared.store m.shared.rows.items in
     let view : v ≡ c.args.self.now = c.self.view_is in
     let inside = inside_of m.threads.items m.clocks v c.args.self.now c.args.i refl view c.requires.inside in
     let x = c.index_mut.result.now in

@@ -47,8 +47,7 @@ returns c =
     let table : c.in_ok-new.field-0 ≡ first_stored = search rules in
     let rows : c.new-4.result.items ≡ [] = search rules in
     λ i. record {
-      patience = c.args.settings.patience;
-      door_cost = c.args.settings.door_cost;
+      settings = c.args.settings;
       threads = (ap₂ joined threads clocks ∙ joined_first count) i;
       lock = c.new-2.ensures i;
       objects = objects i;

@@ -16,7 +16,7 @@ use Rattle.lock_machine.proofs.machine.LockMachine.take_outcome.Goals as goal
 pub invariant_of-self-inside : goal.invariant_of-self-inside
 invariant_of-self-inside c =
     let m = c.self.inside in
-    let v : Whole = whole_by m.patience m.door_cost m.threads.items m.clocks m.shared.lock m.objects.items m.shared.store m.shared.rows.items in
+    let v : Whole = whole_by m.settings m.threads.items m.clocks m.shared.lock m.objects.items m.shared.store m.shared.rows.items in
     let view : v ≡ c.args.self.now = c.self.view_is in
     let inside = inside_of m.threads.items m.clocks v c.args.self.now c.args.i refl view c.requires.inside in
     let outside = phase_at m.threads.items c.args.i c.index_mut.result.now (phase.Outside c.args.outing) inside c.index_mut.ensures.value (item_in (λ p. p ≡ phase.Outside c.args.outing) m.threads.items m.clocks v c.args.self.now c.args.i refl view inside c.requires.outside) in
@@ -37,7 +37,7 @@ invariant_of-self-inside c =
 pub returns-clause-event : goal.returns-clause-event
 returns-clause-event c =
     let m = c.self.inside in
-    let v : Whole = whole_by m.patience m.door_cost m.threads.items m.clocks m.shared.lock m.objects.items m.shared.store m.shared.rows.items in
+    let v : Whole = whole_by m.settings m.threads.items m.clocks m.shared.lock m.objects.items m.shared.store m.shared.rows.items in
     let view : v ≡ c.args.self.now = c.self.view_is in
     let inside = inside_of m.threads.items m.clocks v c.args.self.now c.args.i refl view c.requires.inside in
     let outside = phase_at m.threads.items c.args.i c.index_mut.result.now (phase.Outside c.args.outing) inside c.index_mut.ensures.value (item_in (λ p. p ≡ phase.Outside c.args.outing) m.threads.items m.clocks v c.args.self.now c.args.i refl view inside c.requires.outside) in
@@ -48,7 +48,7 @@ returns-clause-event c =
 pub index_mut-requires : goal.index_mut-requires
 index_mut-requires c =
     let m = c.self.inside in
-    let v : Whole = whole_by m.patience m.door_cost m.threads.items m.clocks m.shared.lock m.objects.items m.shared.store m.shared.rows.items in
+    let v : Whole = whole_by m.settings m.threads.items m.clocks m.shared.lock m.objects.items m.shared.store m.shared.rows.items in
     let view : v ≡ c.args.self.now = c.self.view_is in
     let inside = inside_of m.threads.items m.clocks v c.args.self.now c.args.i refl view c.requires.inside in
     let size : m.threads.len ≡ length m.threads.items = search rules in
@@ -57,7 +57,7 @@ index_mut-requires c =
 pub returns-clause-count : goal.returns-clause-count
 returns-clause-count c =
     let m = c.self.inside in
-    let v : Whole = whole_by m.patience m.door_cost m.threads.items m.clocks m.shared.lock m.objects.items m.shared.store m.shared.rows.items in
+    let v : Whole = whole_by m.settings m.threads.items m.clocks m.shared.lock m.objects.items m.shared.store m.shared.rows.items in
     let view : v ≡ c.args.self.now = c.self.view_is in
     let inside = inside_of m.threads.items m.clocks v c.args.self.now c.args.i refl view c.requires.inside in
     count_kept m.threads.items (set m.threads.items c.args.i c.record.new.thread) m.clocks m.clocks v c.args.self.now refl view (length-set m.threads.items c.args.i c.record.new.thread)
@@ -65,7 +65,7 @@ returns-clause-count c =
 pub returns-clause-rests : goal.returns-clause-rests
 returns-clause-rests c =
     let m = c.self.inside in
-    let v : Whole = whole_by m.patience m.door_cost m.threads.items m.clocks m.shared.lock m.objects.items m.shared.store m.shared.rows.items in
+    let v : Whole = whole_by m.settings m.threads.items m.clocks m.shared.lock m.objects.items m.shared.store m.shared.rows.items in
     let view : v ≡ c.args.self.now = c.self.view_is in
     let inside = inside_of m.threads.items m.clocks v c.args.self.now c.args.i refl view c.requires.inside in
     let x = c.index_mut.result.now in
@@ -77,7 +77,7 @@ returns-clause-rests c =
 pub returns-clause-outlook : goal.returns-clause-outlook
 returns-clause-outlook c =
     let m = c.self.inside in
-    let v : Whole = whole_by m.patience m.door_cost m.threads.items m.clocks m.shared.lock m.objects.items m.shared.store m.shared.rows.items in
+    let v : Whole = whole_by m.settings m.threads.items m.clocks m.shared.lock m.objects.items m.shared.store m.shared.rows.items in
     let view : v ≡ c.args.self.now = c.self.view_is in
     let inside = inside_of m.threads.items m.clocks v c.args.self.now c.args.i refl view c.requires.inside in
     let x = c.index_mut.result.now in
@@ -89,7 +89,7 @@ returns-clause-outlook c =
 pub record-requires : goal.record-requires
 record-requires c =
     let m = c.self.inside in
-    let v : Whole = whole_by m.patience m.door_cost m.threads.items m.clocks m.shared.lock m.objects.items m.shared.store m.shared.rows.items in
+    let v : Whole = whole_by m.settings m.threads.items m.clocks m.shared.lock m.objects.items m.shared.store m.shared.rows.items in
     let view : v ≡ c.args.self.now = c.self.view_is in
     let inside = inside_of m.threads.items m.clocks v c.args.self.now c.args.i refl view c.requires.inside in
     record {
