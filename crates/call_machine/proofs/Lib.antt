@@ -9,5 +9,6 @@ pub mod Scheduling
 pub mod Told
 pub mod Legality
 pub mod Concluding
+pub mod RunRecords
 pub mod Covering
 pub mod Agreeing

@@ -1,7 +1,5 @@
 -- Scripts play the threads of a run: what the machine's events make of both.
 use Rattle.posix_terms.specs.declared.transcript.Settings.{Settings}
-use Rattle.posix_terms.specs.declared.transcript.HistoryRow.{HistoryRow}
-use Rattle.input_log.specs.declared.log.Record.{Record}
 use Rattle.std.proofs.Common.{◌≡◌, ◌⊎◌, ℕ, suc, ◌+◌, ◌<◌, ◌≤◌, List, [], ◌∷◌, ◌++◌, length, get_or, set, slice_get, Option, Some, None, Bool, true, false, is_some, not, if◌then◌else◌, inl, inr, sym, refl, ap, ap₂, ◌∙◌, subst, arith, ⊎_elim}
 use Rattle.std.proofs.lemmas.Bool.{cases_eq, false≢true, true≢false}
 use Rattle.std.proofs.lemmas.List.{get_or-set_other, get_or-set_same, length-append, length-set, set-get_or}
@@ -28,7 +26,7 @@ use Rattle.thread_scripts.specs.ScriptPrograms.{Reached, at_start, next_at, reac
 use Rattle.lock_model.specs.State as lock
 use Rattle.lock_model.specs.State.{Job, Row, State, thread_of}
 use Rattle.lock_model.specs.State.Phase.{Blocked, Ended, Granted, Outside, Recorded, ToOutside, WantsObject, WantsTable, Working}
-use Rattle.call_machine.specs.Logs.{Written, came_between, log_with, record_of, LogsMore, logged_as}
+use Rattle.call_machine.specs.Logs.{Written, came_between, log_with, LogsMore, logged_as}
 use Rattle.call_machine.specs.Playing as playing
 use Rattle.call_machine.specs.Playing.{Attempted, IsBetween, IsInCall, IsPlayed, Made, Makes, Pauses, Played, Plays, PlaysIn, heard, hears, no_player, player_at}
 use Rattle.lock_machine.specs.Conditions.{Conditions, setup_under}

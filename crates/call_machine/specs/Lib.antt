@@ -8,3 +8,5 @@ pub mod Starting
 pub mod Logs
 pub mod Diverging
 pub mod Covered
+pub mod Upgraded
+pub mod RunLogs

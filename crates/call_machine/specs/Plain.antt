@@ -45,7 +45,7 @@ abbrev pub stop_of : State → Option ℕ → Option Stop
 stop_of s (Some i) = Some (stop.Diverged i (length (thread_of s i).came))
 stop_of s None = stop_by s (turn_holder (live_clocks s))
 
--- the header of a run's log: version 1, the number of its threads, and its settings
+-- the header of the log of a run: its version, the number of its threads, and its settings
 abbrev pub header_of : Inputs → Header
 header_of input = header_for input.settings (length input.scripts)
 

@@ -34,8 +34,9 @@ use thread_scripts::Script;
 /// where the thread that it is for would be the next to go on.
 ///
 /// The history is legal, and its turns rise. The log is a header, a record of each outcome in the order in which they
-/// came, each before its call was answered, and, where all threads ended, the end. These bytes spell a log, and by thread
-/// its records are the outcomes of the rows (`covered`).
+/// came, each before its call was answered, and, where all threads ended, the end. These bytes spell a log of the
+/// settings' version, and by thread its records are the outcomes of the rows, in version 2 with the clocks of their
+/// turns (`covered`).
 pub fn plain_run(
     alloc: Global,
     scripts: Vec<Script>,

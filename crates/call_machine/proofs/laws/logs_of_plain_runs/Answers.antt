@@ -6,8 +6,17 @@ returns-clause-came c = records_came c.one_event.ensures c.outcomes_are_recorded
 
 pub returns-clause-spelled : goal.returns-clause-spelled
 returns-clause-spelled c =
-    let came = c.outcomes_that_came.ensures in
-    has_spelling (record { events = c.one_event.ensures; records = c.outcomes_are_recorded.ensures; little = c.requests_asked.ensures.little; arises = came.arises; count = came.count; room = came.room; times = c.arising_states.ensures.times })
+    let arising = c.arising_states.ensures in
+    has_spelling
+    (record {
+      events = c.one_event.ensures;
+      records = c.outcomes_are_recorded.ensures;
+      little = c.requests_asked.ensures.little;
+      at_start = arising.at_start;
+      by_event = arising.by_event;
+      room = c.outcomes_that_came.ensures.room;
+      times = arising.times;
+    })
 
 pub returns-clause-straight : goal.returns-clause-straight
 returns-clause-straight c =
