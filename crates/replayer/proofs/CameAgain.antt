@@ -18,7 +18,7 @@ use Rattle.logical_clocks.specs.TurnOrder.{turn_holder}
 use Rattle.posix_terms.specs.declared.outcome.Given.{Given}
 use Rattle.lock_model.specs.Came.{StaysOrFits, under_came}
 use Rattle.lock_model.specs.Laws.{HaveEnded}
-use Rattle.replayer.proofs.Known.{Known}
+use Rattle.replayer.specs.Known.{Known}
 
 -- ## The number of threads
 

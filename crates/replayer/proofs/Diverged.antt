@@ -14,7 +14,7 @@ use Rattle.lock_model.specs.State.Phase.{Outside}
 use Rattle.sequential_object.specs.Worlds.{World}
 use Rattle.posix_terms.specs.declared.outcome.Given.{Given}
 use Rattle.replayer.proofs.CameAgain.{came_supplied, diverged_outside}
-use Rattle.replayer.proofs.Known.{KnownOfThreads}
+use Rattle.replayer.specs.Known.{KnownOfThreads}
 
 -- ## The end of a plain run
 

@@ -34,7 +34,7 @@ use Rattle.posix_terms.specs.declared.step.Step.TheVariants as step
 use Rattle.thread_scripts.specs.declared.line.Line.{Line}
 use Rattle.worker_notes.specs.Agrees.{before, replies_in, reply_of}
 use Rattle.worker_notes.specs.Plays.{Plays, PlaysTo, noted}
-use Rattle.replayer.proofs.Known.{KnownOfThreads}
+use Rattle.replayer.specs.Known.{KnownOfThreads}
 
 -- ## Replies
 
@@ -130,7 +130,7 @@ pub record IsSupplied (D : Type 0) (m : Shown D) (s : State) (input : Inputs) : 
   pub steps : (i : ℕ) → AreSteps (script_of input i) (let t = thread_at m.whole i in t.asked) (replies_in i m.whole.rows)
   pub outcomes : (i n : ℕ) (o : Given) → slice_get (thread_of s i).came n ≡ Some o → Supplies (outcomes_of input i) n o
 
-abbrev supply_of : Inputs → Supply
+abbrev pub supply_of : Inputs → Supply
 supply_of input = record { next = λ i. scripted (script_of input i); outcomes = outcomes_of input }
 
 follows : KnownOfThreads → (D : Type 0) (m : Shown D) (kept : IsKept D m) (input : Inputs) → IsSupplied D m kept.end input → Follows (supply_of input) kept.end

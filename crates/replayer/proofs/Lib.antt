@@ -2,7 +2,6 @@ pub mod ByThread
 pub mod CameAgain
 pub mod FirstUnused
 pub mod Fronts
-pub mod Known
 pub mod OneFront
 pub mod OwnLog
 pub mod Tellings
@@ -12,3 +11,6 @@ pub mod Retelling
 pub mod Supplied
 pub mod Recorded
 pub mod Running
+pub mod VersionTwo
+pub mod Redated
+pub mod Upgrading

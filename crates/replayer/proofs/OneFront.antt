@@ -1,6 +1,5 @@
 -- A text has one log at its front at most, and none where a replay tells of another fault.
 use Rattle.std.proofs.Common.{◌≡◌, ℕ, ◌≤◌, List, length, take, Result, Ok, Err, sym, ap, ◌∙◌, subst, inl, inr, arith}
-use Rattle.std.proofs.lemmas.Bool.{eq-eqb, false≢true}
 use Rattle.call_machine.specs.Plain.{IsPlainRun}
 use Rattle.call_machine.specs.declared.plain.Plain.{Plain}
 use Rattle.input_log.specs.Faults.{Fault, HasFault, bad_magic, bad_record, bad_version, torn}
@@ -14,7 +13,7 @@ use Rattle.replayer.specs.Replay.{IsReplay, Replays, Tells, inputs_of}
 use Rattle.replayer.specs.declared.fault.ReplayFault.{ReplayFault}
 use Rattle.replayer.specs.declared.fault.ReplayFault.TheVariants as replay_fault
 use Rattle.replayer.specs.declared.replayed.Replayed.{Replayed}
-use Rattle.replayer.proofs.Known.{Known}
+use Rattle.replayer.specs.Known.{Known}
 
 abbrev place_in : Fault → ℕ
 place_in (torn place count) = place
@@ -44,7 +43,7 @@ IsTear fault = ⊥
 not_torn : (fault : Fault) → (IsTear fault → ⊥) → (place count : ℕ) → fault ≡ torn place count → 16 ≤ place → ⊥
 not_torn fault not place count same behind = not (subst IsTear (sym same) tt)
 
-log_faultless : Known → (text : List ℕ) (scripts : List (List Line)) (log : LogText) (fault : LogFault) → IsFront text log → Replays text scripts (Err (replay_fault.Log fault)) → ⊥
+pub log_faultless : Known → (text : List ℕ) (scripts : List (List Line)) (log : LogText) (fault : LogFault) → IsFront text log → Replays text scripts (Err (replay_fault.Log fault)) → ⊥
 log_faultless known text scripts log log_fault.Memory is h = h
 log_faultless known text scripts log log_fault.BadMagic is h = no_fault known text log bad_magic is h (not_torn bad_magic (λ e. e))
 log_faultless known text scripts log log_fault.BadVersion is h = no_fault known text log bad_version is h (not_torn bad_version (λ e. e))
@@ -53,11 +52,10 @@ log_faultless known text scripts log (log_fault.Torn place count) is h =
     no_fault known text log (torn place count) is h.0 (λ p n same behind. let here : place ≡ p = ap place_in same in omega (arith, h.1, behind, here))
 
 -- with as many scripts as it has threads
-no_other : Known → (text : List ℕ) (scripts : List (List Line)) (log : LogText) → IsFront text log → log.header.threads ≡ length scripts → Replays text scripts (Err replay_fault.Threads) → ⊥
+pub no_other : Known → (text : List ℕ) (scripts : List (List Line)) (log : LogText) → IsFront text log → log.header.threads ≡ length scripts → Replays text scripts (Err replay_fault.Threads) → ⊥
 no_other known text scripts log is threads h =
-    let found : h.log ≡ log = one_front known text h.log log h.front is in
-    let same : h.log.header.threads ≡ length scripts = ap (λ (l : LogText). l.header.threads) found ∙ threads in
-    false≢true (sym h.other ∙ eq-eqb h.log.header.threads (length scripts) same)
+    let (other, front, apart) = h in
+    apart (ap (λ (l : LogText). l.header.threads) (one_front known text other log front is) ∙ threads)
 
 -- what a replay of a log gives: the plain run by that log, and what is told of it
 pub record IsToldBy (log : LogText) (scripts : List (List Line)) (result : Result Replayed ReplayFault) : Type 0 where
@@ -66,8 +64,8 @@ pub record IsToldBy (log : LogText) (scripts : List (List Line)) (result : Resul
   pub tells : Tells log plain plain.stop result
 
 by_log : Known → (text : List ℕ) (scripts : List (List Line)) (log : LogText) (result : Result Replayed ReplayFault) → IsFront text log → IsReplay text scripts result → IsToldBy log scripts result
-by_log known text scripts log result is h =
-    subst (λ (l : LogText). IsToldBy l scripts result) (one_front known text h.log log h.front is) (record { plain = h.plain; run = h.run; tells = h.tells })
+by_log known text scripts log result is (found, plain, by, tells) =
+    subst (λ (l : LogText). IsToldBy l scripts result) (one_front known text found log by.front is) (record { plain = plain; run = by.run; tells = tells })
 
 -- or memory ran out
 pub told_or_memory : Known → (text : List ℕ) (scripts : List (List Line)) (log : LogText) (result : Result Replayed ReplayFault) (Q : Result Replayed ReplayFault → Type 0)

@@ -36,7 +36,7 @@ use Rattle.replayer.specs.Replay.{Replays, Tells, ended, inputs_of}
 use Rattle.replayer.specs.declared.fault.ReplayFault.{ReplayFault}
 use Rattle.replayer.specs.declared.replayed.Replayed.{Replayed}
 use Rattle.replayer.proofs.ByThread.{came_counted, none_unused, number_counted, outcomes_at, outcomes_length, same_transcript, transcripts_at, transcripts_length}
-use Rattle.replayer.proofs.Known.{Known}
+use Rattle.replayer.specs.Known.{Known}
 use Rattle.replayer.proofs.OneFront.{IsToldBy, told_or_memory}
 use Rattle.replayer.proofs.CameAgain.{came_past, came_rows, outside_turn, over_at, plain_count, stays_outside, diverged_outside}
 

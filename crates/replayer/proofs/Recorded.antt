@@ -22,12 +22,12 @@ use Rattle.replayer.specs.Replay.{inputs_of}
 use Rattle.replayer.specs.Threads.{AgreesWithReplay, IsRetold, IsRunBy, RecordedRunsAreReplayed, RunsAgreeWithReplays, cause_told, doors_by, gives_logged, seen_in, stop_told}
 use Rattle.replayer.proofs.Diverged.{plain_end}
 use Rattle.replayer.proofs.Fronts.{front_is_log}
-use Rattle.replayer.proofs.Known.{KnownOfThreads}
+use Rattle.replayer.specs.Known.{KnownOfThreads}
 use Rattle.replayer.proofs.Retelling.{begun_by, nothing_begins, retold_by, seen_begins, whole_by}
 use Rattle.replayer.proofs.Supplied.{back_by_own, supplied_by_log, supplied_by_own, took_log}
 
 -- unless the threads strayed, the notes fit the machine
-unless_strayed : {P Q : Type 0} (stopped told : Option Stop) → told ≢ Some stop.Strayed → IsWhy P Q stopped told → P
+pub unless_strayed : {P Q : Type 0} (stopped told : Option Stop) → told ≢ Some stop.Strayed → IsWhy P Q stopped told → P
 unless_strayed stopped told not (its_own fits whole same) = fits
 unless_strayed stopped told not (no_memory fits lacks some same) = fits
 unless_strayed stopped told not (strayed misfit same) = absurd (not same)
@@ -37,7 +37,7 @@ not_so not (inl p) = absurd (not p)
 not_so not (inr q) = q
 
 -- there are as many scripts as actors
-as_many : {A : Type 0} (state : A → ScriptState) (actors : List A) (scripts : List (List Line)) → map start_of scripts ≡ map state actors → length actors ≡ length scripts
+pub as_many : {A : Type 0} (state : A → ScriptState) (actors : List A) (scripts : List (List Line)) → map start_of scripts ≡ map state actors → length actors ≡ length scripts
 as_many state actors scripts meant = sym (length-map actors state) ∙ (sym (ap length meant) ∙ length-map scripts start_of)
 
 -- ## The law of recorded runs

@@ -2,16 +2,18 @@
 use Rattle.logged_machine.specs.Records.{as_logged}
 use Rattle.std.proofs.Common.{◌≡◌, ℕ, zero, suc, ◌+◌, ◌<◌, ◌≤◌, true, false, List, [], ◌∷◌, ◌++◌, length, map, get_or, slice_get, Option, Some, None, Result, Ok, Err, refl, sym, ap, ap₂, ◌∙◌, subst, ⊎_elim, inl, inr, arith}
 use Rattle.std.proofs.lemmas.Bool.{false≢true, and_parts, cases_lt}
-use Rattle.std.proofs.lemmas.List.{get_or_past, length-append, length-map}
+use Rattle.std.proofs.lemmas.List.{append-nil, get_or_past, length-append, length-map}
 use Rattle.std.proofs.lemmas.Option.{none-some, slice_get-get_or}
 use Rattle.call_machine.specs.Diverging.{diverging}
 use Rattle.call_machine.specs.History.{Past, transcripts_of}
-use Rattle.call_machine.specs.Plain.{has_ended, plain_of, stop_by, stop_of, stuck_in}
+use Rattle.call_machine.specs.Plain.{IsPlainRun, has_ended, plain_of, stop_by, stop_of, stuck_in}
 use Rattle.call_machine.specs.Setup.{Inputs, first_state, outcomes_of, setup_of}
 use Rattle.call_machine.specs.declared.plain.Plain.{Plain}
 use Rattle.input_log.specs.Fronts.{IsFront}
 use Rattle.input_log.specs.Grammar.{IsLog}
+use Rattle.input_log.specs.Outcomes as logged
 use Rattle.input_log.specs.declared.log.LogText.{LogText}
+use Rattle.input_log.specs.declared.log.Record.{Record}
 use Rattle.lock_machine.specs.Shows.{PhaseShows}
 use Rattle.lock_machine.specs.Threads.{Thread}
 use Rattle.lock_machine.specs.Conditions.{setup_under}
@@ -55,7 +57,7 @@ use Rattle.replayer.proofs.ByThread.{came_counted, none_unused, number_counted, 
 use Rattle.replayer.proofs.CameAgain.{came_supplied, diverged_outside, over_at, plain_count}
 use Rattle.replayer.proofs.Diverged.{diverged_stays, diverging_is, misfit, plain_end}
 use Rattle.replayer.proofs.Following.{IsSupplied, begins_plain}
-use Rattle.replayer.proofs.Known.{KnownOfThreads}
+use Rattle.replayer.specs.Known.{KnownOfThreads}
 use Rattle.replayer.proofs.Fronts.{settings_fit, threads_fit}
 use Rattle.replayer.proofs.OneFront.{IsToldBy, told_or_memory}
 use Rattle.replayer.proofs.OwnLog.{beginnings}
@@ -78,21 +80,11 @@ prefix_length xs ys h = let whole : length xs + length h.0 ≡ length ys = sym (
 
 -- ## What came
 
--- in a run that was made by a log, and in the plain run by it
-abbrev pub CameWhole : State → State → Type 0
-CameWhole s last = (i : ℕ) → IsPrefixOf (thread_of s i).came (thread_of last i).came
-
 -- in the plain run too what came for a thread are the outcomes of its rows
-rows_came : KnownOfThreads → (input : Inputs) (last : State) → EndsIn (setup_of input) (first_state input) last → (i : ℕ) → (thread_of last i).came ≡ of_rows.outcomes_of i last.rows
+pub rows_came : KnownOfThreads → (input : Inputs) (last : State) → EndsIn (setup_of input) (first_state input) last → (i : ℕ) → (thread_of last i).came ≡ of_rows.outcomes_of i last.rows
 rows_came known input last ends i =
     subst (λ (z : State). (thread_of z i).came ≡ of_rows.outcomes_of i z.rows) ends.reached
     (known.plain.rows (setup_of input) (length input.scripts) limit.OBJECTS first_world (plain_run (setup_of input) ends.count (first_state input)) (known.plain.arises (setup_of input) (length input.scripts) limit.OBJECTS first_world ends.count) i)
-
-came_begins : KnownOfThreads → (D : Type 0) (m : Shown D) (kept : IsKept D m) (input : Inputs) (last : State) → EndsIn (setup_of input) (first_state input) last → Begins kept.end last → CameWhole kept.end last
-came_begins known D m kept input last ends begins i =
-    let s = kept.end in
-    let here : (thread_of s i).came ≡ of_rows.outcomes_of i s.rows = known.plain.rows (setup_under (terms_with m.whole (own s))) (length m.whole.threads) limit.OBJECTS first_world s kept.ends.0 i in
-    subst (λ xs. IsPrefixOf xs (thread_of last i).came) (sym here) (subst (λ ys. IsPrefixOf (of_rows.outcomes_of i s.rows) ys) (sym (rows_came known input last ends i)) (begins.outcomes i))
 
 -- each was supplied
 supplied_last : KnownOfThreads → (input : Inputs) (last : State) → EndsIn (setup_of input) (first_state input) last → (i k : ℕ) (o : Given) → slice_get (thread_of last i).came k ≡ Some o → Supplies (outcomes_of input i) k o
@@ -255,9 +247,31 @@ told_all log scripts count last seen past stopped result (Some i) used begins te
 abbrev pub IsBack : State → Inputs → Type 0
 IsBack s input = (i k : ℕ) (g : Given) → slice_get (outcomes_of input i) k ≡ Some g → k < length (thread_of s i).came
 
--- so its plain run diverges nowhere
-straight : KnownOfThreads → (D : Type 0) (m : Shown D) (kept : IsKept D m) (input : Inputs) → IsSupplied D m kept.end input → IsBack kept.end input → (k : ℕ) → diverging (setup_of input) (plain_run (setup_of input) k (first_state input)) ≡ None
-straight known D m kept input supplied back k = by (diverging (setup_of input) (plain_run (setup_of input) k (first_state input))) refl
+-- a run came to this state, which begins the plain run by what its own log supplies
+pub record IsRetraced (input : Inputs) (s : State) : Type 0 where
+  pub begins : (last : State) → EndsIn (setup_of input) (first_state input) last → Begins s last
+  pub rows : (i : ℕ) → (thread_of s i).came ≡ of_rows.outcomes_of i s.rows
+  pub back : IsBack s input
+
+pub retraced : KnownOfThreads → (D : Type 0) (m : Shown D) (kept : IsKept D m) (input : Inputs) → IsSupplied D m kept.end input → IsBack kept.end input → IsRetraced input kept.end
+retraced known D m kept input supplied back =
+    record {
+      begins = λ last ends. begins_plain known D m kept input last supplied ends;
+      rows = λ i. known.plain.rows (setup_under (terms_with m.whole (own kept.end))) (length m.whole.threads) limit.OBJECTS first_world kept.end kept.ends.0 i;
+      back = back;
+    }
+
+-- what came in the run comes first in the plain run
+came_begins : KnownOfThreads → (input : Inputs) (s last : State) → IsRetraced input s → EndsIn (setup_of input) (first_state input) last
+    → (i : ℕ) → IsPrefixOf (thread_of s i).came (thread_of last i).came
+came_begins known input s last h ends i =
+    let begins = h.begins last ends in
+    subst (λ xs. IsPrefixOf xs (thread_of last i).came) (sym (h.rows i))
+    (subst (λ ys. IsPrefixOf (of_rows.outcomes_of i s.rows) ys) (sym (rows_came known input last ends i)) (begins.outcomes i))
+
+-- so the plain run diverges nowhere
+pub straight : KnownOfThreads → (input : Inputs) (s : State) → IsRetraced input s → (k : ℕ) → diverging (setup_of input) (plain_run (setup_of input) k (first_state input)) ≡ None
+straight known input s retraced k = by (diverging (setup_of input) (plain_run (setup_of input) k (first_state input))) refl
   where
     by : (o : Option ℕ) → diverging (setup_of input) (plain_run (setup_of input) k (first_state input)) ≡ o → o ≡ None
     by None h = refl
@@ -266,35 +280,42 @@ straight known D m kept input supplied back k = by (diverging (setup_of input) (
         let last = found.0 in
         let ends = found.1 in
         let lost = lost_at known input last ends k i h in
-        let came = came_begins known D m kept input last ends (begins_plain known D m kept input last supplied ends) i in
         let n = length (thread_of last i).came in
-        let few = back i n lost.next.0 lost.next.1 in
-        let more = prefix_length (thread_of kept.end i).came (thread_of last i).came came in
+        let few = retraced.back i n lost.next.0 lost.next.1 in
+        let more = prefix_length (thread_of s i).came (thread_of last i).came (came_begins known input s last retraced ends i) in
         absurd (omega (arith, few, more))
 
--- and it uses each record
-all_used : KnownOfThreads → (D : Type 0) (m : Shown D) (kept : IsKept D m) (input : Inputs) (last : State) → IsSupplied D m kept.end input → IsBack kept.end input → EndsIn (setup_of input) (first_state input) last
-    → (threads : ℕ) → first_unused threads m.log.records (map shown last.rows) ≡ None
-all_used known D m kept input last supplied back ends threads =
-    none_unused threads m.log.records (map shown last.rows)
-    (λ i. came_counted i last.rows ∙ (ap length (sym (came_last i)) ∙ (same_length i ∙ (sym (length-map (thread_of kept.end i).came (as_logged m.whole.settings.version)) ∙ (ap length (kept.came i) ∙ sym (number_counted i m.log.records))))))
-  where
-    came_last : (i : ℕ) → (thread_of last i).came ≡ of_rows.outcomes_of i last.rows
-    came_last i = rows_came known input last ends i
+whole_prefix : {A : Type 0} (xs ys : List A) → IsPrefixOf xs ys → length ys ≤ length xs → ys ≡ xs
+whole_prefix xs ys ([], is) short = sym is ∙ append-nil xs
+whole_prefix xs ys (z ∷ zs, is) short = absurd (omega (arith, short, length-append xs (z ∷ zs), ap length is))
 
-    same_length : (i : ℕ) → length (thread_of last i).came ≡ length (thread_of kept.end i).came
-    same_length i =
-        let more = prefix_length (thread_of kept.end i).came (thread_of last i).came (came_begins known D m kept input last ends (begins_plain known D m kept input last supplied ends) i) in
-        ⊎_elim
-        (λ (l : length (thread_of kept.end i).came < length (thread_of last i).came).
-        let xs = (thread_of last i).came in
-        let n = length (thread_of kept.end i).came in
-        let there : slice_get xs n ≡ Some (get_or xs n no_given) = slice_get-get_or xs n no_given l in
-        let supplied = supplied_last known input last ends i n (get_or xs n no_given) there in
-        let few = back i n supplied.0 supplied.1 in
-        absurd (omega (arith, few)))
-        (λ (l : length (thread_of last i).came ≤ length (thread_of kept.end i).came). omega (arith, more, l))
-        (cases_lt (length (thread_of kept.end i).came) (length (thread_of last i).came))
+-- and what comes in it is just what came in the run
+pub same_came : KnownOfThreads → (input : Inputs) (s last : State) → IsRetraced input s → EndsIn (setup_of input) (first_state input) last
+    → (i : ℕ) → (thread_of last i).came ≡ (thread_of s i).came
+same_came known input s last retraced ends i =
+    let xs = (thread_of last i).came in
+    let n = length (thread_of s i).came in
+    whole_prefix (thread_of s i).came xs (came_begins known input s last retraced ends i)
+    (⊎_elim
+    (λ (l : n < length xs).
+    let there : slice_get xs n ≡ Some (get_or xs n no_given) = slice_get-get_or xs n no_given l in
+    let supplied = supplied_last known input last ends i n (get_or xs n no_given) there in
+    let few = retraced.back i n supplied.0 supplied.1 in
+    absurd (omega (arith, few)))
+    (λ (l : length xs ≤ n). l)
+    (cases_lt n (length xs)))
+
+-- so it uses each record, where a thread has as many as outcomes came for it
+pub all_used : KnownOfThreads → (records : List Record) (input : Inputs) (s last : State) → IsRetraced input s → EndsIn (setup_of input) (first_state input) last
+    → ((i : ℕ) → length (thread_of s i).came ≡ length (logged.outcomes_of i records))
+    → (threads : ℕ) → first_unused threads records (map shown last.rows) ≡ None
+all_used known records input s last retraced ends as_many threads =
+    none_unused threads records (map shown last.rows)
+    (λ i. came_counted i last.rows ∙ (ap length (sym (rows_came known input last ends i)) ∙ (ap length (same_came known input s last retraced ends i) ∙ (as_many i ∙ sym (number_counted i records)))))
+
+-- as many as its own log has
+pub kept_as_many : (D : Type 0) (m : Shown D) (kept : IsKept D m) (i : ℕ) → length (thread_of kept.end i).came ≡ length (logged.outcomes_of i m.log.records)
+kept_as_many D m kept i = sym (length-map (thread_of kept.end i).came (as_logged m.whole.settings.version)) ∙ ap length (kept.came i)
 
 -- ## The law
 
@@ -328,7 +349,7 @@ retold_by known D m kept log scripts past told text result front threads records
     (λ h.
     let run = h.run in
     let input = inputs_of log scripts in
-    let none : diverging (setup_of input) run.last ≡ None = subst (λ (z : State). diverging (setup_of input) z ≡ None) run.goes.reached (straight known D m kept input supplied back run.count) in
+    let none : diverging (setup_of input) run.last ≡ None = subst (λ (z : State). diverging (setup_of input) z ≡ None) run.goes.reached (straight known input kept.end (retraced known D m kept input supplied back) run.count) in
     by_stop told over (own_run log scripts result h none))
     replays
   where
@@ -342,7 +363,7 @@ retold_by known D m kept log scripts past told text result front threads records
         let same : kept.end ≡ last = begins.whole have in
         let turn : turn_holder (live_clocks last) ≡ None = no_turn known last (subst HaveEnded same have) in
         let used : first_unused log.header.threads log.records (map shown last.rows) ≡ None =
-        subst (λ rs. first_unused log.header.threads rs (map shown last.rows) ≡ None) (sym records) (all_used known D m kept input last supplied back ends log.header.threads) in
+        subst (λ rs. first_unused log.header.threads rs (map shown last.rows) ≡ None) (sym records) (all_used known m.log.records input kept.end last (retraced known D m kept input supplied back) ends (kept_as_many D m kept) log.header.threads) in
         let tells : Tells log (plain_of input own.count last) (stop_by last None) result = subst (λ (o : Option ℕ). Tells log (plain_of input own.count last) (stop_by last o) result) turn own.tells in
         let is : result ≡ came_to_its_end (transcripts_of (length scripts) past.rows) past =
         tells ∙ (ap (ended (plain_of input own.count last)) used ∙ shown_whole D m kept input past own.count last supplied.threads rows asked same) in
@@ -351,7 +372,7 @@ retold_by known D m kept log scripts past told text result front threads records
         let input = inputs_of log scripts in
         let last = own.last in
         let used : first_unused log.header.threads log.records (map shown last.rows) ≡ None =
-        subst (λ rs. first_unused log.header.threads rs (map shown last.rows) ≡ None) (sym records) (all_used known D m kept input last supplied back own.ends log.header.threads) in
+        subst (λ rs. first_unused log.header.threads rs (map shown last.rows) ≡ None) (sym records) (all_used known m.log.records input kept.end last (retraced known D m kept input supplied back) own.ends (kept_as_many D m kept) log.header.threads) in
         let begins : AreBeginnings (transcripts_of (length scripts) past.rows) (seen_in last) =
         subst (λ rs. AreBeginnings (transcripts_of (length scripts) rs) (seen_in last)) (sym rows) (seen_begins known D m kept input last supplied own.ends) in
         told_all log scripts own.count last (transcripts_of (length scripts) past.rows) past stopped result (turn_holder (live_clocks last)) used begins own.tells
@@ -378,6 +399,22 @@ begun_by known log scripts seen text result front threads begins replays =
         let is : result ≡ Err (replay_fault.Diverged i number h.plain.transcripts) = subst (λ (o : Option Stop). Tells log h.plain o result) stops h.tells in
         subst (IsBeginningOf log scripts seen) (sym is) (inr (h.plain, run, stops))
 
+-- the plain run by a log that diverges nowhere
+pub plain_is : (log : LogText) (scripts : List (List Line)) → IsLog log → log.header.threads ≡ length scripts
+    → (last : State) (ends : EndsIn (setup_of (inputs_of log scripts)) (first_state (inputs_of log scripts)) last)
+    → ((k : ℕ) → diverging (setup_of (inputs_of log scripts)) (plain_run (setup_of (inputs_of log scripts)) k (first_state (inputs_of log scripts))) ≡ None)
+    → IsPlainRun (inputs_of log scripts) (plain_of (inputs_of log scripts) ends.count last)
+plain_is log scripts is threads last ends straight_on =
+    record {
+      threads = threads_fit log.header (length scripts) log.records is.range threads;
+      settings = settings_fit log.header is.range;
+      count = ends.count;
+      last = last;
+      goes = record { reached = ends.reached; straight = λ k l. straight_on k };
+      ends = λ e. ends.over;
+      shows = refl;
+    }
+
 -- where nothing stopped the run and each record was used, the replay comes to its end, with just that
 pub whole_by : KnownOfThreads → (D : Type 0) (m : Shown D) (kept : IsKept D m) (log : LogText) (scripts : List (List Line)) (past : Past) (text : List ℕ)
     → IsFront text log → log.header.threads ≡ length scripts → IsLog log → IsSupplied D m kept.end (inputs_of log scripts)
@@ -399,19 +436,9 @@ whole_by known D m kept log scripts past text front threads is supplied rows ask
     let unused : first_unused log.header.threads log.records (map shown last.rows) ≡ None = ap (first_unused log.header.threads log.records) seen ∙ used in
     let told : came_to_its_end (transcripts_of (length scripts) past.rows) past ≡ ended (plain_of input ends.count last) (first_unused log.header.threads log.records (map shown last.rows)) =
     sym (ap (ended (plain_of input ends.count last)) unused ∙ shown_whole D m kept input past ends.count last supplied.threads rows asked same) in
-    record {
-      log = log;
-      front = front;
-      threads = threads;
-      plain = plain_of input ends.count last;
-      run = record {
-        threads = threads_fit log.header (length scripts) log.records is.range threads;
-        settings = settings_fit log.header is.range;
-        count = ends.count;
-        last = last;
-        goes = record { reached = ends.reached; straight = λ k l. straight_on k };
-        ends = λ e. ends.over;
-        shows = refl;
-      };
-      tells = subst (λ (o : Option Stop). Tells log (plain_of input ends.count last) o (came_to_its_end (transcripts_of (length scripts) past.rows) past)) (sym stops) told;
-    }
+    let plain : Plain = plain_of input ends.count last in (
+      log,
+      plain,
+      record { front = front; threads = threads; run = plain_is log scripts is threads last ends straight_on },
+      subst (λ (o : Option Stop). Tells log plain o (came_to_its_end (transcripts_of (length scripts) past.rows) past)) (sym stops) told,
+    )

@@ -5,13 +5,13 @@ use Rattle.sequential_object.specs.Numbers.{first_world}
 use Rattle.lock_machine.specs.Conditions.{setup_under}
 use Rattle.logged_machine.specs.Runs.{terms_with}
 use Rattle.std.proofs.lemmas.Simd.{map-map}
-use Rattle.lock_model.specs.State.{Row, thread_of}
+use Rattle.lock_model.specs.State.{State, thread_of}
 use Rattle.lock_model.specs.Laws.{AreDated}
 use Rattle.posix_terms.specs.Queries.{requested_at}
 use Rattle.posix_terms.specs.declared.transcript.Turn.{Turn}
 use Rattle.lock_model.specs.Runs.{Supplies, own}
 use Rattle.logged_machine.specs.Records.{as_logged}
-use Rattle.std.proofs.Common.{◌≡◌, ℕ, zero, suc, ◌+◌, ◌<◌, ◌≤◌, Bool, true, false, ◌&&◌, List, [], ◌∷◌, ◌++◌, length, map, take, get_or, slice_get, slice_index_or, Option, Some, None, is_none, if◌then◌else◌, ◌==◌, refl, sym, ap, ap₂, ◌∙◌, subst, ⊎_elim, inl, inr, arith, option_map, ◌⊎◌}
+use Rattle.std.proofs.Common.{◌≡◌, ℕ, zero, suc, ◌+◌, ◌<◌, ◌≤◌, Bool, true, false, ◌&&◌, List, [], ◌∷◌, ◌++◌, length, map, take, get_or, slice_get, slice_index_or, Option, Some, None, is_none, if◌then◌else◌, ◌==◌, refl, sym, ap, ◌∙◌, subst, ⊎_elim, inl, inr, arith, option_map, ◌⊎◌}
 use Rattle.std.proofs.lemmas.Bool.{false≢true, and_parts, cases_lt, eqb-true}
 use Rattle.std.proofs.lemmas.List.{append-nil, append_assoc, get_or_past, length-map}
 use Rattle.std.proofs.lemmas.Option.{none-some, same_Some, slice_get-map, slice_get_within}
@@ -57,7 +57,7 @@ use Rattle.replayer.specs.Threads.{doors_by, doors_of, gives_logged}
 use Rattle.replayer.proofs.ByThread.{made_at, made_length, outcomes_at, outcomes_length}
 use Rattle.replayer.proofs.CameAgain.{came_past}
 use Rattle.replayer.proofs.Following.{AreSteps, IsSupplied, steps_played}
-use Rattle.replayer.proofs.Known.{KnownOfThreads}
+use Rattle.replayer.specs.Known.{KnownOfThreads}
 use Rattle.replayer.proofs.Retelling.{IsBack}
 
 -- ## Its steps
@@ -75,18 +75,46 @@ steps_supplied state ahead D m past actors later scripts i rows asked meant play
     subst (λ xs. AreSteps (slice_index_or scripts i []) xs (replies_in i m.whole.rows)) (ap (λ xs. get_or xs i []) asked ∙ asked_at m.whole.threads i)
     (subst (λ rs. AreSteps (slice_index_or scripts i []) (get_or past.asked i []) (replies_in i rs)) rows steps)
 
--- past the last thread nothing came
-nothing_past : (D : Type 0) (m : Shown D) (kept : IsKept D m) (n i : ℕ) → length m.whole.threads ≡ n → n ≤ i → records.outcomes_of i m.log.records ≡ []
-nothing_past D m kept n i threads l = sym (kept.came i) ∙ ap (map (as_logged m.whole.settings.version)) (came_past kept.end i (let count = kept.ends.1.count in omega (arith, count, threads, l)))
-
 -- ## By the log that it wrote
 
-own_outcomes : (D : Type 0) (m : Shown D) (kept : IsKept D m) (n i : ℕ) → length m.whole.threads ≡ n → get_or (outcomes_by n m.log.records) i [] ≡ records.outcomes_of i m.log.records
-own_outcomes D m kept n i threads =
+-- a log of this version has by thread what came up to this state, of so many threads
+pub record HasCame (version n : ℕ) (log : List Record) (s : State) : Type 0 where
+  pub count : length s.threads ≡ n
+  pub came : (i : ℕ) → map (as_logged version) (thread_of s i).came ≡ records.outcomes_of i log
+
+pub kept_came : (D : Type 0) (m : Shown D) (kept : IsKept D m) (n : ℕ) (log : List Record) → length m.whole.threads ≡ n → log ≡ m.log.records
+    → HasCame m.whole.settings.version n log kept.end
+kept_came D m kept n log threads same =
+    record { count = kept.ends.1.count ∙ threads; came = λ i. kept.came i ∙ ap (records.outcomes_of i) (sym same) }
+
+-- past the last thread nothing came
+own_outcomes : (version n : ℕ) (log : List Record) (s : State) → HasCame version n log s → (i : ℕ) → get_or (outcomes_by n log) i [] ≡ records.outcomes_of i log
+own_outcomes version n log s h i =
     ⊎_elim
-    (λ (l : i < n). outcomes_at n i m.log.records l)
-    (λ (l : n ≤ i). get_or_past (outcomes_by n m.log.records) i [] (let long = outcomes_length n m.log.records in omega (arith, long, l)) ∙ sym (nothing_past D m kept n i threads l))
+    (λ (l : i < n). outcomes_at n i log l)
+    (λ (l : n ≤ i).
+    let nothing : records.outcomes_of i log ≡ [] = sym (h.came i) ∙ ap (map (as_logged version)) (came_past s i (let count = h.count in omega (arith, count, l))) in
+    get_or_past (outcomes_by n log) i [] (let long = outcomes_length n log in omega (arith, long, l)) ∙ sym nothing)
     (cases_lt i n)
+
+-- so it supplies all of it
+pub own_supplies : RecordLaws → (version n : ℕ) (log : List Record) (s : State) → HasCame version n log s
+    → (i k : ℕ) (o : Given) → slice_get (thread_of s i).came k ≡ Some o → Supplies (get_or (outcomes_by n log) i []) k o
+own_supplies known version n log s h i k o at = (
+  as_logged version o,
+  subst (λ gs. slice_get gs k ≡ Some (as_logged version o)) (sym (own_outcomes version n log s h i))
+      (ap (λ gs. slice_get gs k) (sym (h.came i)) ∙ slice_get-map (as_logged version) (thread_of s i).came k ∙ ap (option_map (as_logged version)) at),
+  known.keeps version o,
+)
+
+-- and no more
+pub own_back : (version n : ℕ) (log : List Record) (s : State) → HasCame version n log s
+    → (i k : ℕ) (g : Given) → slice_get (get_or (outcomes_by n log) i []) k ≡ Some g → k < length (thread_of s i).came
+own_back version n log s h i k g at =
+    let there : slice_get (records.outcomes_of i log) k ≡ Some g = subst (λ gs. slice_get gs k ≡ Some g) (own_outcomes version n log s h i) at in
+    let inside = slice_get_within (records.outcomes_of i log) k g there in
+    let size : length (thread_of s i).came ≡ length (records.outcomes_of i log) = sym (length-map (thread_of s i).came (as_logged version)) ∙ ap length (h.came i) in
+    omega (arith, inside, size)
 
 -- what its sink took has this log at its front, which may have its end
 pub record TookLog (D : Type 0) (m : Shown D) (taken : List ℕ) : Type 0 where
@@ -145,21 +173,12 @@ supplied_by_own known state ahead D m kept log past actors later scripts threads
       threads = threads;
       settings = sym (ap settings_of header);
       steps = λ i. steps_supplied state ahead D m past actors later scripts i rows asked meant played;
-      outcomes = λ i n o at. (
-        as_logged m.whole.settings.version o,
-        subst (λ gs. slice_get gs n ≡ Some (as_logged m.whole.settings.version o)) (sym (ap (λ rs. get_or (outcomes_by (length scripts) rs) i []) same ∙ own_outcomes D m kept (length scripts) i threads))
-            (ap (λ gs. slice_get gs n) (sym (kept.came i)) ∙ slice_get-map (as_logged m.whole.settings.version) (thread_of kept.end i).came n ∙ ap (option_map (as_logged m.whole.settings.version)) at),
-        known.keeps m.whole.settings.version o,
-      );
+      outcomes = λ i k o at. own_supplies known m.whole.settings.version (length scripts) log.records kept.end (kept_came D m kept (length scripts) log.records threads same) i k o at;
     }
 
 pub back_by_own : (D : Type 0) (m : Shown D) (kept : IsKept D m) (log : LogText) (scripts : List (List Line)) → length m.whole.threads ≡ length scripts → log.records ≡ m.log.records → IsBack kept.end (inputs_of log scripts)
 back_by_own D m kept log scripts threads same i k g at =
-    let there : slice_get (records.outcomes_of i m.log.records) k ≡ Some g =
-    subst (λ gs. slice_get gs k ≡ Some g) (ap (λ rs. get_or (outcomes_by (length scripts) rs) i []) same ∙ own_outcomes D m kept (length scripts) i threads) at in
-    let inside = slice_get_within (records.outcomes_of i m.log.records) k g there in
-    let size : length (thread_of kept.end i).came ≡ length (records.outcomes_of i m.log.records) = sym (length-map (thread_of kept.end i).came (as_logged m.whole.settings.version)) ∙ ap length (kept.came i) in
-    omega (arith, inside, size)
+    own_back m.whole.settings.version (length scripts) log.records kept.end (kept_came D m kept (length scripts) log.records threads same) i k g at
 
 -- ## By the log that it was made by
 

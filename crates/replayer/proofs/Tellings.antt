@@ -1,14 +1,12 @@
 -- What is told of a plain run is what a replay gives.
-use Rattle.std.proofs.Common.{◌≡◌, ℕ, List, Option, Some, None, length, Result, Ok, Err}
-use Rattle.call_machine.specs.Plain.{IsPlainRun}
+use Rattle.std.proofs.Common.{◌≡◌, ℕ, List, Option, Some, None, Result, Ok, Err}
 use Rattle.logged_machine.specs.declared.stop.Stop.{Stop}
 use Rattle.logged_machine.specs.declared.stop.Stop.TheVariants as stop
 use Rattle.call_machine.specs.declared.plain.Plain.{Plain}
-use Rattle.input_log.specs.Fronts.{IsFront}
 use Rattle.input_log.specs.declared.fault.LogFault.{LogFault}
 use Rattle.input_log.specs.declared.log.LogText.{LogText}
 use Rattle.replayer.specs.Outcomes.{first_unused}
-use Rattle.replayer.specs.Replay.{Replays, Tells, ended, inputs_of}
+use Rattle.replayer.specs.Replay.{IsRunByText, Replays, Tells, ended}
 use Rattle.replayer.specs.declared.fault.ReplayFault.{ReplayFault}
 use Rattle.replayer.specs.declared.fault.ReplayFault.TheVariants as replay_fault
 use Rattle.replayer.specs.declared.replayed.Replayed.{Replayed}
@@ -41,11 +39,11 @@ never_threads log plain (Some stop.Sink) is = is
 never_threads log plain (Some stop.Strayed) is = is
 
 pub replays : (text : List ℕ) (scripts : List (List Line)) (log : LogText) (plain : Plain) (answer : Result Replayed ReplayFault)
-    → IsFront text log → log.header.threads ≡ length scripts → IsPlainRun (inputs_of log scripts) plain → Tells log plain plain.stop answer → Replays text scripts answer
-replays text scripts log plain (Err replay_fault.Memory) front threads run tells = tt
-replays text scripts log plain (Err (replay_fault.Log fault)) front threads run tells = absurd (never_log log plain fault plain.stop tells)
-replays text scripts log plain (Err replay_fault.Threads) front threads run tells = absurd (never_threads log plain plain.stop tells)
-replays text scripts log plain (Ok replayed) front threads run tells = record { log = log; front = front; threads = threads; plain = plain; run = run; tells = tells }
-replays text scripts log plain (Err (replay_fault.EndOfLog i t)) front threads run tells = record { log = log; front = front; threads = threads; plain = plain; run = run; tells = tells }
-replays text scripts log plain (Err (replay_fault.Diverged i n t)) front threads run tells = record { log = log; front = front; threads = threads; plain = plain; run = run; tells = tells }
-replays text scripts log plain (Err (replay_fault.ClockFull t)) front threads run tells = record { log = log; front = front; threads = threads; plain = plain; run = run; tells = tells }
+    → IsRunByText text scripts log plain → Tells log plain plain.stop answer → Replays text scripts answer
+replays text scripts log plain (Err replay_fault.Memory) by tells = tt
+replays text scripts log plain (Err (replay_fault.Log fault)) by tells = absurd (never_log log plain fault plain.stop tells)
+replays text scripts log plain (Err replay_fault.Threads) by tells = absurd (never_threads log plain plain.stop tells)
+replays text scripts log plain (Ok replayed) by tells = (log, plain, by, tells)
+replays text scripts log plain (Err (replay_fault.EndOfLog i t)) by tells = (log, plain, by, tells)
+replays text scripts log plain (Err (replay_fault.Diverged i n t)) by tells = (log, plain, by, tells)
+replays text scripts log plain (Err (replay_fault.ClockFull t)) by tells = (log, plain, by, tells)

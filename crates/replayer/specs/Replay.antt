@@ -1,6 +1,6 @@
 -- Believed: a contract of the headline stands on it.
 -- What a replay gives: the plain run under the outcomes of a log.
-use Rattle.std.specs.Prelude.{◌≡◌, ℕ, List, Option, Some, None, false, ◌==◌, length, Result, Ok, Err}
+use Rattle.std.specs.Prelude.{◌≡◌, ◌≢◌, ℕ, List, Option, Some, None, length, Result, Ok, Err}
 use Rattle.call_machine.specs.Plain.{IsPlainRun}
 use Rattle.call_machine.specs.Setup.{Inputs}
 use Rattle.logged_machine.specs.declared.stop.Stop.{Stop}
@@ -42,25 +42,31 @@ Tells log plain (Some (stop.Diverged thread number)) result = result ≡ Err (re
 Tells log plain (Some stop.ClockFull) result = result ≡ Err (replay_fault.ClockFull plain.transcripts)
 Tells log plain (Some other) result = ⊥
 
--- the scripts were run by a log with as many threads, and this is told of the run
-pub record IsReplay (text : List ℕ) (scripts : List (List Line)) (result : Result Replayed ReplayFault) : Type 0 where
-  pub log : LogText
+-- the scripts were run by the log at the front of a text, which has as many threads
+pub record IsRunByText (text : List ℕ) (scripts : List (List Line)) (log : LogText) (plain : Plain) : Type 0 where
   pub front : IsFront text log
   pub threads : log.header.threads ≡ length scripts
-  pub plain : Plain
   pub run : IsPlainRun (inputs_of log scripts) plain
-  pub tells : Tells log plain plain.stop result
 
--- the log's header has another number of threads
-pub record HasOtherThreads (text : List ℕ) (scripts : List (List Line)) : Type 0 where
-  pub log : LogText
-  pub front : IsFront text log
-  pub other : (log.header.threads == length scripts) ≡ false
+-- and this is told of the run
+abbrev pub IsReplay : List ℕ → List (List Line) → Result Replayed ReplayFault → Type 0
+IsReplay text scripts result =
+    (log : LogText) × (plain : Plain)
+    × IsRunByText text scripts log plain × Tells log plain plain.stop result
 
--- What a replay of a text with these scripts gives: the log's fault, or that of the number of scripts, or what is told of the plain run. Want of memory says nothing, and is never told as a fault of the log
+-- why so many scripts were not run by a text: it has no log at its front, or one of another number of
+-- threads; or there was no memory, which is never reported as a fault of the log
+abbrev pub IsNoReplay : List ℕ → ℕ → ReplayFault → Type 0
+IsNoReplay text threads (replay_fault.Log log_fault.Memory) = ⊥
+IsNoReplay text threads (replay_fault.Log fault) = HasNoFront text fault
+IsNoReplay text threads replay_fault.Threads =
+    (log : LogText) × IsFront text log × (log.header.threads ≢ threads)
+IsNoReplay text threads replay_fault.Memory = Unit {0}
+IsNoReplay text threads fault = ⊥
+
+-- what a replay of a text with these scripts gives: what is told of the plain run, or why there was none
 abbrev pub Replays : List ℕ → List (List Line) → Result Replayed ReplayFault → Type 0
-Replays text scripts (Err replay_fault.Memory) = Unit {0}
-Replays text scripts (Err (replay_fault.Log log_fault.Memory)) = ⊥
-Replays text scripts (Err (replay_fault.Log fault)) = HasNoFront text fault
-Replays text scripts (Err replay_fault.Threads) = HasOtherThreads text scripts
+Replays text scripts (Err (replay_fault.Log fault)) = IsNoReplay text (length scripts) (replay_fault.Log fault)
+Replays text scripts (Err replay_fault.Threads) = IsNoReplay text (length scripts) replay_fault.Threads
+Replays text scripts (Err replay_fault.Memory) = IsNoReplay text (length scripts) replay_fault.Memory
 Replays text scripts result = IsReplay text scripts result

@@ -7,9 +7,8 @@ use Rattle.call_machine.specs.Setup.{first_state, setup_of}
 use Rattle.call_machine.specs.declared.plain.Plain.{Plain}
 use Rattle.host_doors.specs.LogList.{GivesNext, LogList}
 use Rattle.host_doors.specs.declared.script.ScriptDoor.{ScriptDoor}
-use Rattle.input_log.specs.Fronts.{HasNoFront, IsFront}
+use Rattle.input_log.specs.Fronts.{IsFront}
 use Rattle.input_log.specs.Outcomes.{outcomes_of}
-use Rattle.input_log.specs.declared.fault.LogFault.TheVariants as log_fault
 use Rattle.input_log.specs.declared.log.LogText.{LogText}
 use Rattle.input_log.specs.declared.log.Record.{Record}
 use Rattle.lock_model.specs.Rows.{shown}
@@ -143,14 +142,6 @@ RunsAgreeWithReplays {A} state =
     (text : List ℕ) (log : LogText) (actors : List A) (e : AtEnd A) (taken : List ℕ) (failures : ℕ) (told : Option Stop) (scripts : List (List Line))
     → IsFront text log → log.header.threads ≡ length actors → EndsBy state log actors e taken failures told → told ≢ Some stop.Strayed → map start_of scripts ≡ map state actors
     → AgreesWithReplay text log scripts e.history told
-
--- why nothing was run: the text is no log and has none at its front, or one of another number of threads; or there was no memory
-abbrev pub IsNoReplay : List ℕ → ℕ → ReplayFault → Type 0
-IsNoReplay text threads (replay_fault.Log log_fault.Memory) = ⊥
-IsNoReplay text threads (replay_fault.Log fault) = HasNoFront text fault
-IsNoReplay text threads replay_fault.Threads = (log : LogText) × IsFront text log × (log.header.threads ≢ threads)
-IsNoReplay text threads replay_fault.Memory = Unit {0}
-IsNoReplay text threads fault = ⊥
 
 -- ## The log that a recorded run wrote
 

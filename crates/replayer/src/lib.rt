@@ -33,9 +33,13 @@ mod replayed;
 mod run;
 mod threads;
 mod unused;
+mod version_two;
 
 pub use fault::ReplayFault;
-pub use laws::{own_log, recorded_runs_are_replayed};
+pub use laws::{
+    own_log, recorded_runs_are_replayed, recorded_runs_are_upgraded, runs_are_upgraded,
+};
 pub use replayed::Replayed;
 pub use run::replay;
 pub use threads::{NotReplayed, replay_threads};
+pub use version_two::upgrade;

@@ -1,6 +1,6 @@
-ghost use Rattle.std.specs.Prelude.{◌≡◌};
+ghost use Rattle.std.specs.Prelude.{◌≡◌, IfErr, IfOk, length};
 ghost use Rattle.input_log.specs.Grammar.{IsLog};
-ghost use Rattle.replayer.specs.Replay.{IsRunOf, Replays, Tells};
+ghost use Rattle.replayer.specs.Replay.{IsNoReplay, IsRunByText, IsRunOf, Replays, Tells};
 
 use crate::fault::ReplayFault;
 use crate::outcomes::outcomes_by;
@@ -22,13 +22,33 @@ use thread_scripts::Script;
 pub fn replay(alloc: Global, log: &[u8], scripts: Vec<Script>) -> Result<Replayed, ReplayFault>
     ensures { Replays log.now scripts.items result }
 {
-    let log = decode_front(alloc, log)?;
+    let RunByLog { log, plain } = run_by_text(alloc, log, scripts)?;
+    told(&log, plain)
+}
+
+// A log, and the plain run by it.
+#[derive(Drop)]
+pub struct RunByLog {
+    pub log: LogText,
+    pub plain: Plain,
+}
+
+// Runs scripts by the log at the front of a text.
+pub fn run_by_text(
+    alloc: Global,
+    text: &[u8],
+    scripts: Vec<Script>,
+) -> Result<RunByLog, ReplayFault>
+    ensures run { IfOk result (λ by. IsRunByText text.now scripts.items by.log by.plain) }
+    ensures fault { IfErr result (IsNoReplay text.now (length scripts.items)) }
+{
+    let log = decode_front(alloc, text)?;
     if usize::from(log.header.threads) != scripts.len() {
         return Err(ReplayFault::Threads);
     }
     let outcomes = outcomes_by(alloc, scripts.len(), log.records.as_slice())?;
     match plain_run(alloc, scripts, outcomes, log.header.settings()) {
-        Ok(plain) => told(&log, plain),
+        Ok(plain) => Ok(RunByLog { log, plain }),
         Err(PlainFault::Memory) => Err(ReplayFault::Memory),
         // A log has 1 to 16 threads, and settings of a run.
         Err(PlainFault::Threads) => unreachable!(),

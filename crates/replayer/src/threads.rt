@@ -3,7 +3,8 @@ ghost use Rattle.input_log.specs.Fronts.{IsFront};
 ghost use Rattle.input_log.specs.Grammar.{IsLog};
 ghost use Rattle.logged_machine.specs.declared.stop.Stop.TheVariants as stop;
 ghost use Rattle.replayer.specs.Outcomes.{first_unused};
-ghost use Rattle.replayer.specs.Threads.{EndsBy, IsNoReplay, IsReplayedBy, doors_by, stop_told};
+ghost use Rattle.replayer.specs.Replay.{IsNoReplay};
+ghost use Rattle.replayer.specs.Threads.{EndsBy, IsReplayedBy, doors_by, stop_told};
 ghost use Rattle.replayer.specs.declared.fault.ReplayFault.TheVariants as replay_fault;
 
 use crate::fault::ReplayFault;

@@ -1,16 +1,22 @@
--- The laws of other crates that the law of a run's own log rests on.
+-- Internal: no contract of the headline or of a command stands on it.
+-- The laws of other crates that the laws of this one rest on.
 use Rattle.lock_model.specs.Runs.{Keeps}
 use Rattle.logged_machine.specs.Records.{as_logged}
-use Rattle.std.proofs.Common.{◌≡◌, ℕ, List}
+use Rattle.std.specs.Prelude.{◌≡◌, ◌==◌, ℕ, List, not}
 use Rattle.call_machine.specs.Covered.{HasSpelling, NoneDiverges, RecordsCame}
 use Rattle.logged_machine.specs.RecordLaws.{RecordLaws}
-use Rattle.input_log.specs.Faults.{Fault, HasFault}
+use Rattle.call_machine.specs.Plain.{OnePlainRun}
+use Rattle.call_machine.specs.RunLogs.{PlainIsMade, RunHasSpelling, RunRecordsCame, RunsOfBothVersions}
+use Rattle.input_log.specs.Faults.{Fault, HasFault, is_other_version}
 use Rattle.input_log.specs.Fronts.{IsFront}
 use Rattle.input_log.specs.Grammar.{Spells}
 use Rattle.input_log.specs.Writing.{IsSound, Writing, log_of}
 use Rattle.input_log.specs.declared.log.LogText.{LogText}
-use Rattle.lock_model.specs.Came.{CameIsRows, OutsideStays, OverUnderCame, PlainArises, PlainCount, PlainLeads, RepliesAreRows, SameUnderCame, FitsAlike}
-use Rattle.lock_model.specs.Laws.{EndedOrTurn, HolderHasTurn, PrefixLawOfCame, PrefixLawOfFollowed, RunFollows, SomeEnd, UniqueEnd, DatedOfArisen}
+use Rattle.lock_model.specs.Came.{CameIsRows, FitsAlike, OutsideStays, OverUnderCame, PlainArises}
+use Rattle.lock_model.specs.Came.{PlainCount, PlainLeads, RepliesAreRows, SameUnderCame}
+use Rattle.lock_model.specs.Events.{EventLaws}
+use Rattle.lock_model.specs.Laws.{ArisesByRun, DatedOfArisen, EndedOrTurn, HolderHasTurn, PrefixLawOfCame}
+use Rattle.lock_model.specs.Laws.{PrefixLawOfFollowed, RunFollows, SomeEnd, UniqueEnd}
 use Rattle.thread_scripts.specs.ScriptPrograms.{ScriptsEnd}
 
 pub record Known : Type 0 where
@@ -36,6 +42,8 @@ pub record Known : Type 0 where
   pub one_value : (text : List ℕ) (a b : LogText) → Spells text a → Spells text b → a ≡ b
   pub one_fault : (text : List ℕ) (a b : Fault) → HasFault text a → HasFault text b → a ≡ b
   pub no_fault : (text : List ℕ) (log : LogText) (fault : Fault) → Spells text log → HasFault text fault → ⊥
+  pub version : (text : List ℕ) (log : LogText) (version : ℕ) → IsFront text log
+      → is_other_version version text ≡ not (log.header.version == version)
 
 -- and those that runs in threads rest on besides
 pub record KnownOfThreads : Type 0 where
@@ -50,3 +58,11 @@ pub record KnownOfThreads : Type 0 where
   pub records : RecordLaws
   -- what a sink took
   pub written : (w : Writing) → IsSound w → IsFront w.taken (log_of w)
+  -- any run of scripts, and its log in both versions
+  pub events : EventLaws
+  pub arises : ArisesByRun
+  pub run_came : RunRecordsCame
+  pub run_spelled : RunHasSpelling
+  pub versions : RunsOfBothVersions
+  pub made : PlainIsMade
+  pub one_plain : OnePlainRun
