@@ -16,7 +16,7 @@ use thread_scripts::ScriptActor;
 const SETTINGS: Settings = Settings {
     patience: 1000,
     door_cost: 100,
-    version: 1,
+    version: 2,
 };
 
 // So many bytes of the log there is room for. Where it runs out the run stops, and the log is good up to its last whole record.

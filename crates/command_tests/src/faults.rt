@@ -6,7 +6,14 @@ use std::alloc::Global;
 use std::io;
 use std::test::Fail;
 
-const OUT_OF_RANGE: &[(u32, u32)] = &[(0, 100), (1_000_001, 100), (1000, 0), (1000, 1_000_001)];
+const OUT_OF_RANGE: &[(u32, u32, u16)] = &[
+    (0, 100, 2),
+    (1_000_001, 100, 2),
+    (1000, 0, 1),
+    (1000, 1_000_001, 1),
+    (1000, 100, 0),
+    (1000, 100, 3),
+];
 
 const BAD_SCRIPT: Device = Device::Text(b"x\n");
 
@@ -17,7 +24,7 @@ const REFUSED: &[(&[Device], u8, &str)] = &[
     (
         &[GOOD_SCRIPT],
         2,
-        "patience and door cost are 1 to 1000000\n",
+        "patience and door cost are 1 to 1000000, and the version of the log is 1 or 2\n",
     ),
     (&[BAD_SCRIPT], 3, "script 0: bad line 1\n"),
     (&[], 2, "needs 1 to 16 scripts\n"),
@@ -50,15 +57,15 @@ fn refuses_all(
 
 #[test]
 fn faults_of_settings(rt: HostRuntime) -> Result<(), Fail> {
-    for (patience, door_cost) in OUT_OF_RANGE {
+    for (patience, door_cost, version) in OUT_OF_RANGE {
         let settings = Settings {
             patience: *patience,
             door_cost: *door_cost,
-            version: 1,
+            version: *version,
         };
         assert!(rt;
             refuses_all(rt.alloc(), settings, REFUSED)?,
-            "{patience} {door_cost}"
+            "{patience} {door_cost} {version}"
         );
     }
     Ok(())

@@ -37,12 +37,14 @@ const LINES: &[&str] = &[
     "unlink /m\n",
 ];
 
-// A blocked call is made again three times, so that no run waits long.
-const SHORT_PATIENCE: Settings = Settings {
-    patience: 4,
-    door_cost: 100,
-    version: 1,
-};
+// A blocked call is made again three times, so that no run waits long. Every other seed has a log of version 1.
+fn short_patience(seed: u64) -> Settings {
+    Settings {
+        patience: 4,
+        door_cost: 100,
+        version: if seed % 2 == 0 { 2 } else { 1 },
+    }
+}
 
 // The next number of a sequence.
 fn next(seed: u64) -> u64 {
@@ -75,10 +77,11 @@ fn scripts(alloc: Global, seed: u64) -> io::Result<Vec<String>> {
 // Whether the run of these scripts comes to its end, and the replay of its log by threads tells the same.
 fn is_replayed_by_threads(
     rt: &(impl Threads + Wait + Sync),
+    settings: Settings,
     log: LogFile<'_>,
     scripts: &[&str],
 ) -> io::Result<bool> {
-    let told = record_by_host(rt, SHORT_PATIENCE, log, scripts)?;
+    let told = record_by_host(rt, settings, log, scripts)?;
     let sources = sources(log.host.alloc(), scripts)?;
     let text = Text::File(fs::open(&log.host, log.path)?);
     let again = replay_by_threads(rt, log.host.alloc(), text, sources)?;
@@ -104,9 +107,9 @@ fn is_seed_replayed(
     let scripts = scripts(log.host.alloc(), seed)?;
     let texts = texts(log.host.alloc(), &scripts)?;
     if by_threads {
-        is_replayed_by_threads(rt, log, &texts)
+        is_replayed_by_threads(rt, short_patience(seed), log, &texts)
     } else {
-        is_replayed(rt, SHORT_PATIENCE, log, &texts)
+        is_replayed(rt, short_patience(seed), log, &texts)
     }
 }
 

@@ -31,3 +31,5 @@ mod sizes;
 mod told;
 #[cfg(test)]
 mod unrecorded;
+#[cfg(test)]
+mod upgrades;

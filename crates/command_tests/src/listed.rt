@@ -2,11 +2,11 @@ ghost use Rattle.std.specs.Prelude.{◌≡◌, All, IfOk, length};
 ghost use Rattle.recorder.specs.Each.{IsUnused};
 
 use crate::devices::sources;
-use crate::logs::{SHORT_WRITE, THREE_RECORDS};
+use crate::logs::{SHORT_WRITE, THREE_RECORDS, WITH_CLOCKS};
 use crate::recording::{LogFile, file_has, record, replayed};
 use commands::DEFAULTS;
 use host_doors::{NoGate, ScriptDoors};
-use posix_terms::{Bytes, Errno, Given, OutKind, Outcome, Outcomes};
+use posix_terms::{Bytes, Errno, Given, OutKind, Outcome, Outcomes, Settings};
 use std::alloc::{AllocError, Global};
 use std::fs::remove_file;
 use std::io;
@@ -15,6 +15,12 @@ use std::test::Fail;
 use std::thread::Threads;
 
 const SCRIPTS: &[&str] = &[SHORT_WRITE];
+
+const WITHOUT_CLOCKS: Settings = Settings {
+    patience: 1000,
+    door_cost: 100,
+    version: 1,
+};
 
 pub(crate) fn success(alloc: Global, kind: OutKind, value: u64) -> Given {
     let bytes = Bytes::from_vec(Vec::new(alloc));
@@ -51,6 +57,7 @@ fn outside(alloc: Global, list: Outcomes) -> Result<Vec<ScriptDoors<NoGate>>, Al
 // Whether `record` tells this of the short write.
 fn is_recorded(
     rt: &(impl Threads + Wait + Sync),
+    settings: Settings,
     log: LogFile<'_>,
     status: u8,
     printed: &str,
@@ -58,15 +65,17 @@ fn is_recorded(
     let alloc = log.host.alloc();
     let sources = sources(alloc, SCRIPTS)?;
     let outsides = outside(alloc, short_write(alloc)?)?;
-    Ok(record(rt, DEFAULTS, log, outsides, sources)?.is(status, printed, ""))
+    Ok(record(rt, settings, log, outsides, sources)?.is(status, printed, ""))
 }
 
 #[test]
 fn short_write_is_recorded(rt: HostRuntime) -> Result<(), Fail> {
     let log = LogFile::at(rt, "/tmp/detio_record_short_write");
     let printed = "0 0 1 host_open number 0\n0 1 105 write count 3\n0 2 209 write fail EIO\nend\n";
-    assert!(rt; is_recorded(&rt, log, 0, printed)?);
-    assert!(rt; file_has(rt, log.path, THREE_RECORDS)?);
+    for (settings, bytes) in [(WITHOUT_CLOCKS, THREE_RECORDS), (DEFAULTS, WITH_CLOCKS)] {
+        assert!(rt; is_recorded(&rt, settings, log, 0, printed)?);
+        assert!(rt; file_has(rt, log.path, bytes)?);
+    }
     remove_file(&rt, log.path)?;
     Ok(())
 }
@@ -80,7 +89,7 @@ fn room_of_the_log_runs_out(rt: HostRuntime) -> Result<(), Fail> {
         room: 42,
     };
     let printed = "0 0 1 host_open number 0\nstop sink\n";
-    assert!(rt; is_recorded(&rt, log, 4, printed)?);
+    assert!(rt; is_recorded(&rt, WITHOUT_CLOCKS, log, 4, printed)?);
     assert!(rt; file_has(rt, log.path, THREE_RECORDS.split_at(42).0)?);
     let printed = "0 0 1 host_open number 0\nstop end of log 0\n";
     assert!(rt; replayed(rt, log.path, SCRIPTS)?.is(1, printed, ""));

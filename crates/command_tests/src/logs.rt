@@ -18,6 +18,13 @@ pub const THREE_RECORDS: &[u8] = b"DIOL\0\x01\0\x01\0\0\x03\xe8\0\0\0\x64\
     R\0\0\0\0\0\x02\x03\x09\0\0\0\0\0\0\0\0\0\0\
     E\0\0\0\x03";
 
+/// The same in version 2, with the clocks of its turns.
+pub const WITH_CLOCKS: &[u8] = b"DIOL\0\x02\0\x01\0\0\x03\xe8\0\0\0\x64\
+    R\0\0\0\0\0\0\0\0\0\0\0\0\0\x01\x01\0\0\0\0\0\0\0\0\0\0\0\
+    R\0\0\0\0\0\x01\0\0\0\0\0\0\0\x69\x03\0\0\0\0\0\0\0\0\x03\0\0\
+    R\0\0\0\0\0\x02\0\0\0\0\0\0\0\xd1\x03\x09\0\0\0\0\0\0\0\0\0\0\
+    E\0\0\0\x03";
+
 // Whether `show` says that this log cannot be read.
 fn is_unreadable(alloc: Global, log: Device) -> io::Result<bool> {
     Ok(show(alloc, Text::Device(log))?.is(4, "", "cannot read a.log\n"))

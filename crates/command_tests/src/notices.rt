@@ -27,7 +27,7 @@ const STANDS: &str = "detio: for 300 ms no thread has come to a new step
 const PATIENCE: Settings = Settings {
     patience: 1,
     door_cost: 100,
-    version: 1,
+    version: 2,
 };
 
 // The status of a run of these scripts that says where it stands in this file, after 300 ms. A call waits for a second.

@@ -39,7 +39,7 @@ fn later_faults_leave_the_log_as_it_was(rt: HostRuntime) -> Result<(), Fail> {
     assert!(rt;
         record_by_host(&rt, DEFAULTS, log, &[long.as_str()])?.is(3, "", "script 0: too long\n")
     );
-    let line = "patience and door cost are 1 to 1000000\n";
+    let line = "patience and door cost are 1 to 1000000, and the version of the log is 1 or 2\n";
     assert!(rt; record_by_host(&rt, NO_PATIENCE, log, &["end"])?.is(2, "", line));
     assert!(rt; file_has(rt, log.path, b"as it was")?);
     remove_file(&rt, log.path)?;

@@ -4,3 +4,4 @@ pub mod Tells
 pub mod Replays
 pub mod Compares
 pub mod Records
+pub mod Upgrades

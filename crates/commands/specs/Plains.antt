@@ -13,7 +13,8 @@ use Rattle.command_texts.specs.Reading.{AreRead, scripts_from}
 use Rattle.command_texts.specs.declared.printed.Printed.{Printed}
 
 abbrev pub bad_settings : Printed
-bad_settings = fault_printed 2 (codes "patience and door cost are 1 to 1000000\n")
+bad_settings =
+    fault_printed 2 (codes "patience and door cost are 1 to 1000000, and the version of the log is 1 or 2\n")
 
 -- the run of scripts, none of which has outcomes from outside
 abbrev pub inputs_of : Settings → List (List Line) → Inputs

@@ -9,8 +9,8 @@ use Rattle.input_log.specs.Fronts.{IsFront}
 use Rattle.input_log.specs.declared.fault.LogFault.{LogFault}
 use Rattle.input_log.specs.declared.fault.LogFault.TheVariants as log_fault
 use Rattle.input_log.specs.declared.log.LogText.{LogText}
-use Rattle.replayer.specs.Replay.{Replays}
-use Rattle.replayer.specs.Threads.{AtEnd, IsNoReplay, IsReplayedBy}
+use Rattle.replayer.specs.Replay.{IsNoReplay, Replays}
+use Rattle.replayer.specs.Threads.{AtEnd, IsReplayedBy}
 use Rattle.replayer.specs.declared.fault.ReplayFault.{ReplayFault}
 use Rattle.replayer.specs.declared.fault.ReplayFault.TheVariants as replay_fault
 use Rattle.replayer.specs.declared.replayed.Replayed.{Replayed}

@@ -1,11 +1,12 @@
-//! What the commands `plain`, `record`, `replay`, `compare` and `show` do, over any readers and
-//! writers, for the program `detio` and for its tests.
+//! What the commands `plain`, `record`, `replay`, `compare`, `show` and `upgrade` do, over any
+//! readers and writers, for the program `detio` and for its tests.
 //!
 //! Each command is a function, as [`plain_over`]: it reads its [`Source`]s, writes what the command
 //! prints to two writers, and answers the exit status. Its contract says what is printed for which
 //! texts. Bad scripts, bad logs and lack of memory are faults that it prints; it fails only with an
 //! error of the writer `errors`. [`record_over`] makes its log, a [`LogTo`], just before the run,
-//! and asks for one outside for each script, of which none gave anything yet. [`DEFAULTS`] are the
+//! and asks for one outside for each script, of which none gave anything yet. [`upgrade_over`] makes
+//! its file, a [`NewFile`], only when it has the bytes of the upgraded log. [`DEFAULTS`] are the
 //! settings where no option says otherwise.
 //!
 //! ```rust
@@ -33,6 +34,7 @@ mod replay;
 mod settings;
 mod show;
 mod told;
+mod upgrade;
 
 pub use command_texts::{
     LARGEST_FILE, Source, SourceFault, TextReader, cannot_write, no_memory, read_once,
@@ -43,3 +45,4 @@ pub use record::{LogTo, NewLog, NotCreated, RecordOptions, Recorded, log_sink, r
 pub use replay::{replay_over, replay_threads_over};
 pub use settings::{DEFAULTS, settings_of};
 pub use show::show_over;
+pub use upgrade::{NewFile, OutFile, Upgraded, upgrade_over};

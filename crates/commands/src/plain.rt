@@ -114,5 +114,6 @@ pub fn needs_scripts(alloc: Global) -> Result<Printed, AllocError>
 pub fn bad_settings(alloc: Global) -> Result<Printed, AllocError>
     ensures { IfOk result (λ printed. printed ≡ bad_settings) }
 {
-    fault(alloc, 2, "patience and door cost are 1 to 1000000\n")
+    let line = "patience and door cost are 1 to 1000000, and the version of the log is 1 or 2\n";
+    fault(alloc, 2, line)
 }

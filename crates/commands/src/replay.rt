@@ -110,7 +110,7 @@ pub enum ToReplay {
 }
 
 // Reads the log and then the scripts.
-fn to_replay<R: TextReader + Drop>(
+pub fn to_replay<R: TextReader + Drop>(
     alloc: Global,
     log: Source<'_, R>,
     sources: Vec<Source<'_, R>>,

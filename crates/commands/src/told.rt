@@ -84,7 +84,7 @@ fn threads_told<T: Threads + Wait + Sync>(
 }
 
 // What is told of a replay with so many scripts that did not come to its end, or was none.
-fn fault_told(
+pub fn fault_told(
     alloc: Global,
     log: &[u8],
     scripts: usize,

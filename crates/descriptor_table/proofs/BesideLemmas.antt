@@ -800,7 +800,7 @@ planned_alike t (call.Write descriptor bytes) one other plain = absurd (false≢
 planned_alike t c one other plain = refl
 
 -- a call that the table refuses leaves it as it is, and tells no number
-pub refused-as_step : ChangesKeepSound → FailChangesNothing → (t : TableState) (c : Call) (made_with : Option Outcome) → IsSound t → AreSound t.descriptions 
+pub refused-as_step : ChangesKeepSound → FailChangesNothing → (t : TableState) (c : Call) (made_with : Option Outcome) → IsSound t → AreSound t.descriptions
     → (so_far : Moved) → is_refused (planned t c so_far) ≡ true
     → ChangesAsStep t c made_with t × TellsAsStep t c made_with numbers.None
 refused-as_step keep fails t c made_with sound all so_far refused = by_write (is_write c) refl

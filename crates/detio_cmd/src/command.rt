@@ -20,7 +20,7 @@ prints
   end
 
 Exit statuses:
-  0  the run came to its end, the logs gave the same, or the log was printed
+  0  the run came to its end, the logs gave the same, or the log was printed or upgraded
   1  a difference, a divergence or the end of a log
   2  wrong usage
   3  a bad script or log
@@ -151,6 +151,10 @@ The log is a new file, or takes the place of the log at its path, once all scrip
 that is not empty and is not a log stays, unless --force is given, and a log that is one of the scripts is
 wrong usage. Two recorders must not share a log. It has room for 16777216 bytes; a script has 1000 lines, of which a
 thread executes 10000.
+
+A log of version 2, the default, also has in each record the clock of the turn that its outcome belongs to. So a
+replay notices a changed script earlier, and also where its calls only come at other turns. Version 1 has no clocks,
+and is for tools that read that version alone. detio upgrade makes a log of version 2 of one of version 1.
 
 The last line is end where all threads came to their end, or one of
   stop memory
@@ -304,6 +308,56 @@ prints
   version 1 threads 1 patience 1000 door cost 100
   end 0";
 
+const UPGRADE_ABOUT: &str =
+    "Writes a log of version 1 in version 2, with the clocks that its scripts give it";
+
+const UPGRADE_LONG_ABOUT: &str =
+    "Writes a log of version 1 in version 2, with the clocks that its scripts give it.
+
+A record of version 1 does not say at which turn its outcome came. The scripts that were recorded tell it: they are
+replayed by the log, as detio replay does, and each record gets the clock of the turn that took it. The new log has
+the same header, but for its version, and the same records in the same order; and its end, where the old one has it. A
+replay by it prints the same, and notices more changes of a script. Nothing is printed where all went well.
+
+There is one script for each thread of the log, in the same order. Of a log that is torn after its header the
+records before the tear are upgraded, and the torn part is left out. A log that ends before its scripts do is upgraded
+too. But each record must be used: where a thread waits for a record that is not there while another thread has some
+left, or where the replay diverges, there is no new log, and the last line of that replay is printed alone:
+  stop end of log THREAD
+  stop diverged THREAD NUMBER
+  stop clock full
+
+The new log is a new file, or takes the place of the log at its path, which may be that of --log: that was read before.
+It is made only once all of it is known, so no fault of the log or of a script changes a file. A file there that is
+not empty and is not a log stays, unless --force is given, and one that is one of the scripts is wrong usage. The old
+log has at most 16777216 bytes; a new one of more cannot be read.
+
+What is not a log of version 1, and a log of another number of threads, has one line on standard error:
+  log: bad magic
+  log: bad version
+  log: bad record at PLACE
+  log: torn at 0 after 0 records
+  log has COUNT threads, COUNT scripts given
+
+Exit statuses:
+  0  the new log was written
+  1  records were left at the end of the log, or the replay diverged
+  2  wrong usage
+  3  a bad script or log
+  4  a file that cannot be read or written, no memory, a full clock";
+
+const UPGRADE_AFTER_HELP: &str = "Example:
+  printf 'host_open nofile r\\nhost_open nofile r\\n' > missing.script
+  detio record --log old.log --log-version 1 missing.script
+  detio upgrade --log old.log --out new.log missing.script
+  detio show --log new.log
+
+prints at last
+  version 2 threads 1 patience 1000 door cost 100
+  0 0 1 open fail ENOENT
+  0 1 105 open fail ENOENT
+  end 2";
+
 /// The command line of the program.
 pub(crate) fn command<'a>(alloc: Global) -> Result<Command<'a>, AllocError> {
     let subcommands = subcommands(alloc)?;
@@ -317,6 +371,7 @@ fn subcommands<'a>(alloc: Global) -> Result<Vec<Command<'a>>, AllocError> {
     subcommands.push(replay(alloc)?)?;
     subcommands.push(compare(alloc)?)?;
     subcommands.push(show(alloc)?)?;
+    subcommands.push(upgrade(alloc)?)?;
     Ok(subcommands)
 }
 
@@ -383,6 +438,7 @@ fn with_door_cost<'a>(alloc: Global, command: Command<'a>) -> Result<Command<'a>
 
 fn record<'a>(alloc: Global) -> Result<Command<'a>, AllocError> {
     let log = log(alloc, "The log to write");
+    let force = force(alloc, "Replaces a file at the log's path that is not a log");
     let patience = patience(alloc);
     let command = described(
         alloc,
@@ -391,15 +447,25 @@ fn record<'a>(alloc: Global) -> Result<Command<'a>, AllocError> {
         RECORD_LONG_ABOUT,
         RECORD_AFTER_HELP,
     );
-    let command = command.arg(log)?.arg(force(alloc))?.arg(wait(alloc))?;
-    with_door_cost(alloc, command.arg(in_turn(alloc))?.arg(patience)?)
+    let command = command.arg(log)?.arg(log_version(alloc))?.arg(force)?;
+    let command = command.arg(wait(alloc))?.arg(in_turn(alloc))?;
+    with_door_cost(alloc, command.arg(patience)?)
 }
 
-fn force<'a>(alloc: Global) -> Arg<'a> {
+fn log_version<'a>(alloc: Global) -> Arg<'a> {
+    Arg::new(alloc, "log-version")
+        .long("log-version")
+        .value_name("N")
+        .value_parser(value_parser!(u16).range(1..=2))
+        .default_value("2")
+        .help("The version of the log, 1 or 2: version 2 has the clocks of turns")
+}
+
+fn force<'a>(alloc: Global, help: &'a str) -> Arg<'a> {
     Arg::new(alloc, "force")
         .long("force")
         .action(ArgAction::SetTrue)
-        .help("Replaces a file at the log's path that is not a log")
+        .help(help)
 }
 
 fn wait<'a>(alloc: Global) -> Arg<'a> {
@@ -453,6 +519,24 @@ fn compare<'a>(alloc: Global) -> Result<Command<'a>, AllocError> {
 fn show<'a>(alloc: Global) -> Result<Command<'a>, AllocError> {
     let log = log(alloc, "The log to print; /dev/stdin is standard input");
     described(alloc, "show", SHOW_ABOUT, SHOW_LONG_ABOUT, SHOW_AFTER_HELP).arg(log)
+}
+
+fn upgrade<'a>(alloc: Global) -> Result<Command<'a>, AllocError> {
+    let log = log(alloc, "The log of version 1; /dev/stdin is standard input");
+    let out = file(alloc, "out", "The log of version 2 to write");
+    let force = force(
+        alloc,
+        "Replaces a file at the new log's path that is not a log",
+    );
+    let command = described(
+        alloc,
+        "upgrade",
+        UPGRADE_ABOUT,
+        UPGRADE_LONG_ABOUT,
+        UPGRADE_AFTER_HELP,
+    );
+    let command = command.arg(log)?.arg(out)?.arg(force)?;
+    command.arg(scripts(alloc))
 }
 
 // A subcommand that runs scripts.

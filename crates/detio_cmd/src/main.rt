@@ -3,17 +3,19 @@
 
 mod command;
 mod input;
+mod log_file;
 mod record;
 
 use clap::ArgMatches;
 use clap::error::ErrorKind;
 use command::command;
 use commands::{
-    cannot_write, compare_over, no_memory, plain_over, replay_over, replay_threads_over,
-    settings_of, show_over,
+    LogTo, cannot_write, compare_over, no_memory, plain_over, replay_over, replay_threads_over,
+    settings_of, show_over, upgrade_over,
 };
 use host_doors::Outside;
 use input::{open_scripts, open_source};
+use log_file::{LogFile, is_script, log_is_script};
 use record::{HostOutsides, NewOutsides, run_record};
 use std::alloc::AllocError;
 use std::fs::File;
@@ -79,6 +81,7 @@ fn run_matches<O: Outside + Send + Drop, N: NewOutsides<O> + Drop, T: Threads + 
         Some(("replay", matches)) => run_replay(rt, handles, matches),
         Some(("compare", matches)) => run_compare(rt, matches),
         Some(("show", matches)) => Ok(run_show(rt, matches)),
+        Some(("upgrade", matches)) => run_upgrade(rt, matches),
         _ => Ok(2),
     }
 }
@@ -110,6 +113,7 @@ fn run_plain(rt: &HostRuntime, matches: &ArgMatches<'_>) -> Result<u8, AllocErro
     let settings = settings_of(
         matches.get_one::<u32>("patience"),
         matches.get_one::<u32>("door-cost"),
+        None,
     );
     let turns = matches.get_flag("turns");
     let sources = open_scripts(rt, matches.get_strs("script").unwrap_or(&[]))?;
@@ -180,4 +184,31 @@ fn run_show(rt: &HostRuntime, matches: &ArgMatches<'_>) -> u8 {
     };
     let source = open_source(rt, path);
     show_over(rt.alloc(), source, &mut rt.stdout(), &mut rt.stderr()).unwrap_or(4)
+}
+
+// `detio upgrade`, as the command line has it.
+fn run_upgrade(rt: &HostRuntime, matches: &ArgMatches<'_>) -> Result<u8, AllocError> {
+    let (Some(log), Some(path)) = (matches.get_str("log"), matches.get_str("out")) else {
+        return Ok(2);
+    };
+    let scripts = matches.get_strs("script").unwrap_or(&[]);
+    if is_script(rt, path, scripts) {
+        return Ok(log_is_script(rt, path));
+    }
+    let log = open_source(rt, log);
+    let sources = open_scripts(rt, scripts)?;
+    let force = matches.get_flag("force");
+    let out = LogTo {
+        path,
+        log: LogFile { rt, path, force },
+    };
+    let upgraded = upgrade_over(
+        rt.alloc(),
+        log,
+        out,
+        sources,
+        &mut rt.stdout(),
+        &mut rt.stderr(),
+    );
+    Ok(upgraded.map(|it| it.status).unwrap_or(4))
 }

@@ -86,7 +86,7 @@ const LENGTH: u64 = 4;
 const SHORT_WAITS: Settings = Settings {
     patience: 4,
     door_cost: 10,
-    version: 1,
+    version: 2,
 };
 
 // The next number of a sequence.

@@ -9,6 +9,8 @@ use std::alloc::{AllocError, Global};
 pub(crate) enum Came {
     Ok(OutKind, u64, &'static [u8]),
     Fail(OutKind, Errno),
+    // A success at this clock, with this value.
+    At(OutKind, u64, u64),
 }
 
 fn given(alloc: Global, came: Came) -> Result<Given, AllocError> {
@@ -25,6 +27,14 @@ fn given(alloc: Global, came: Came) -> Result<Given, AllocError> {
             kind,
             clock: None,
             outcome: Outcome::Fail(error),
+        },
+        Came::At(kind, clock, value) => Given {
+            kind,
+            clock: Some(clock),
+            outcome: Outcome::Ok {
+                value,
+                bytes: Bytes::from_vec(Vec::new(alloc)),
+            },
         },
     })
 }

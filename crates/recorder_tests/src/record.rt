@@ -8,12 +8,14 @@ use std::sync::Wait;
 use std::thread::Threads;
 use thread_scripts::{Script, ScriptActor, parse};
 
-// Scripts, one for each thread, with what comes for each from outside; and how often a call is blocked until it fails.
+// Scripts, one for each thread, with what comes for each from outside; how often a call is blocked until it fails; and
+// the version of the log.
 #[derive(Clone, Copy)]
 pub(crate) struct Run<'a> {
     pub scripts: &'a [&'a [u8]],
     pub came: &'a [&'a [Came]],
     pub patience: u32,
+    pub version: u16,
 }
 
 impl Run<'_> {
@@ -21,7 +23,7 @@ impl Run<'_> {
         Settings {
             patience: self.patience,
             door_cost: 100,
-            version: 1,
+            version: self.version,
         }
     }
 }

@@ -202,11 +202,13 @@ fn is_as_plain_alone<R: Threads + Wait + Sync>(
     script: &[u8],
     came: &[Came],
     patience: u32,
+    version: u16,
 ) -> Result<bool, AllocError> {
     let run = Run {
         scripts: &[script],
         came: &[came],
         patience,
+        version,
     };
     are_as_plain(rt, alloc, run, 1, 1)
 }
@@ -214,7 +216,9 @@ fn is_as_plain_alone<R: Threads + Wait + Sync>(
 #[test]
 fn one_thread(rt: HostRuntime) -> Result<(), Fail> {
     for (script, came, patience) in ALONE {
-        assert!(rt; is_as_plain_alone(&rt, rt.alloc(), script, came, *patience)?);
+        for version in [1, 2] {
+            assert!(rt; is_as_plain_alone(&rt, rt.alloc(), script, came, *patience, version)?);
+        }
     }
     Ok(())
 }
@@ -225,6 +229,7 @@ fn run_of<'a>(scripts: &'a [&'a [u8]], patience: u32) -> Run<'a> {
         scripts,
         came: &[],
         patience,
+        version: 2,
     }
 }
 

@@ -36,6 +36,7 @@ fn stops<R: Threads + Wait + Sync>(
         scripts,
         came: &[came],
         patience: 1000,
+        version: 1,
     };
     match record(rt, alloc, run, scripts.len(), 1000)? {
         Ok(over) => Ok(over.stop == Some(wanted)),
@@ -79,6 +80,14 @@ const DIVERGED: &[(&[&[u8]], &[Came])] = &[
     // the script has another second line
     (&[OTHER_KIND], WRITTEN),
     (&[SHORTER], WRITTEN),
+    // one at the clock after that of the turn
+    (
+        &[SHORT_WRITE],
+        &[
+            Came::At(OutKind::Open, 1, 0),
+            Came::At(OutKind::Write, 106, 3),
+        ],
+    ),
 ];
 
 #[test]
@@ -138,6 +147,7 @@ fn the_log_has_no_more_room(rt: HostRuntime) -> Result<(), Fail> {
             scripts,
             came: &[*came],
             patience: 1000,
+            version: 1,
         };
         assert!(rt;
             fills_its_sink(&rt, rt.alloc(), run, *room, seen)?,
@@ -186,6 +196,7 @@ fn refused_starts(rt: HostRuntime) -> Result<(), Fail> {
             scripts,
             came: &[],
             patience: *patience,
+            version: 1,
         };
         assert!(rt;
             is_refused(&rt, rt.alloc(), run, *outsides, *wanted)?,

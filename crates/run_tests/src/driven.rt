@@ -34,11 +34,12 @@ pub(crate) fn machine(
         || settings.patience > 1_000_000
         || settings.door_cost < 1
         || settings.door_cost > 1_000_000
+        || (settings.version != 1 && settings.version != 2)
     {
         return Err(AllocError);
     }
     let header = Header {
-        version: 1,
+        version: settings.version,
         threads: threads as u16,
         patience: settings.patience,
         door_cost: settings.door_cost,

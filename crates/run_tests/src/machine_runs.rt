@@ -12,6 +12,12 @@ const DEFAULTS: Settings = Settings {
     version: 1,
 };
 
+const WITH_CLOCKS: Settings = Settings {
+    patience: 1000,
+    door_cost: 100,
+    version: 2,
+};
+
 // The door cost that is usual, and a patience of so many turns.
 const ONE_TURN: Settings = Settings {
     patience: 1,
@@ -166,6 +172,12 @@ const IN_MEMORY: &[Case] = &[
         wanted: &[Wanted::Log(b"DIOL\0\x01\0\x01\0\0\x03\xe8\0\0\0\x64E\0\0\0\0")],
     },
     Case {
+        texts: &[""],
+        came: &[NOTHING],
+        settings: WITH_CLOCKS,
+        wanted: &[Wanted::Log(b"DIOL\0\x02\0\x01\0\0\x03\xe8\0\0\0\x64E\0\0\0\0")],
+    },
+    Case {
         texts: &["open /a rw create", "", "close 0"],
         came: &[NOTHING; 3],
         settings: Settings {
@@ -219,6 +231,14 @@ const READY_AT_LAST_LOG: &[u8] = b"DIOL\0\x01\0\x01\0\0\0\x03\0\0\0\x64\
     R\0\0\0\0\0\x01\x03\x06\0\0\0\0\0\0\0\0\0\0\
     R\0\0\0\0\0\x02\x03\x06\0\0\0\0\0\0\0\0\0\0\
     R\0\0\0\0\0\x03\x03\0\0\0\0\0\0\0\0\x01\0\0\
+    E\0\0\0\x04";
+
+// In version 2 each record has the clock of its turn, of a blocked one too.
+const READY_AT_LAST_CLOCKS: &[u8] = b"DIOL\0\x02\0\x01\0\0\0\x03\0\0\0\x64\
+    R\0\0\0\0\0\0\0\0\0\0\0\0\0\x01\x01\0\0\0\0\0\0\0\0\0\0\0\
+    R\0\0\0\0\0\x01\0\0\0\0\0\0\0\x69\x03\x06\0\0\0\0\0\0\0\0\0\0\
+    R\0\0\0\0\0\x02\0\0\0\0\0\0\0\xd1\x03\x06\0\0\0\0\0\0\0\0\0\0\
+    R\0\0\0\0\0\x03\0\0\0\0\0\0\x01\x39\x03\0\0\0\0\0\0\0\0\x01\0\0\
     E\0\0\0\x04";
 
 const OUTSIDE: &[Case] = &[
@@ -299,6 +319,16 @@ const OUTSIDE: &[Case] = &[
             Wanted::Failed(2, Errno::EAGAIN),
             Wanted::Saw(&[2]),
         ],
+    },
+    Case {
+        texts: &[WRITE_A],
+        came: &[&[FOUND, NOT_READY, NOT_READY, (OutKind::Write, Ok(1))]],
+        settings: Settings {
+            patience: 3,
+            door_cost: 100,
+            version: 2,
+        },
+        wanted: &[Wanted::Whole, Wanted::Log(READY_AT_LAST_CLOCKS)],
     },
 ];
 

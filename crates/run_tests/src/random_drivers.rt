@@ -22,13 +22,13 @@ const RUNS: u64 = 250;
 // More than a run makes: it has at most 40 calls of 3 turns, and few attempts of each turn fail.
 const MOST_EVENTS: u32 = 20_000;
 
-// More than the log of a run takes: a header, at most 120 records of at most 28 bytes, and the end.
+// More than the log of a run takes: a header, at most 120 records of at most 36 bytes, and the end.
 const ROOM: usize = 10_000;
 
 const SETTINGS: Settings = Settings {
     patience: 3,
     door_cost: 7,
-    version: 1,
+    version: 2,
 };
 
 // Why a run fails.

@@ -19,6 +19,7 @@ fn run_of(case: &Case) -> Run {
         scripts: SHORT_HOST_WRITE.scripts,
         came: case.came,
         patience: case.patience,
+        version: 1,
     }
 }
 

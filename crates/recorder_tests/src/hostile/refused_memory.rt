@@ -1,13 +1,15 @@
 use crate::hostile::runs::{
-    PATIENCE_ON_A_PIPE, PATIENCE_SEEN, READER_SEEN, READER_WAITS, Run, SHORT_HOST_WRITE, SHORT_LOG,
-    SHORT_SEEN, Wanted,
+    LOG_WITH_CLOCKS, PATIENCE_ON_A_PIPE, PATIENCE_SEEN, READER_SEEN, READER_WAITS, Run,
+    SEEN_WITH_CLOCKS, SHORT_HOST_WRITE, SHORT_LOG, SHORT_SEEN, SHORT_WRITE_WITH_CLOCKS, Wanted,
 };
 use crate::hostile::ways::{
     Told, memory_if, plain, recorded, replayed, replayed_by_threads, whole_if,
 };
+use crate::record::scripts;
 use input_log::{Header, LogFault, LogReader, LogText, LogWriter, MemorySink, decode};
 use logged_machine::Machine;
 use posix_terms::Settings;
+use replayer::{ReplayFault, upgrade};
 use std::alloc::{AllocError, Global};
 use std::sync::Wait;
 use std::test::Fail;
@@ -21,6 +23,7 @@ use thread_scripts::{Actor, Memory, ScriptActor, ScriptFault, Step, parse};
 const RUNS: &[(Run, Wanted)] = &[
     (PATIENCE_ON_A_PIPE, PATIENCE_SEEN),
     (SHORT_HOST_WRITE, SHORT_SEEN),
+    (SHORT_WRITE_WITH_CLOCKS, SEEN_WITH_CLOCKS),
     (READER_WAITS, READER_SEEN),
 ];
 
@@ -201,9 +204,24 @@ fn a_replay_is_whole_or_wants_memory(rt: HostRuntime) {
     }
 }
 
+// What the upgrade of the short host write's log tells.
+fn upgraded(alloc: Global) -> Result<Told, AllocError> {
+    let scripts = scripts(alloc, SHORT_HOST_WRITE.scripts)?;
+    Ok(match upgrade(alloc, SHORT_LOG, scripts) {
+        Ok(log) => whole_if(log.as_slice() == LOG_WITH_CLOCKS),
+        Err(fault) => memory_if(matches!(fault, ReplayFault::Memory)),
+    })
+}
+
+#[test]
+fn an_upgrade_is_whole_or_wants_memory(rt: HostRuntime) {
+    let first = upgraded(rt.alloc());
+    assert!(rt; is_one_whole(first, upgraded(rt.alloc())));
+}
+
 fn is_recorded<R: Threads + Wait + Sync>(rt: &R, alloc: Global, run: Run, wanted: Wanted) -> bool {
-    let first = recorded(rt, alloc, run, 100, wanted);
-    is_one_whole(first, recorded(rt, alloc, run, 100, wanted))
+    let first = recorded(rt, alloc, run, 110, wanted);
+    is_one_whole(first, recorded(rt, alloc, run, 110, wanted))
 }
 
 #[test]

@@ -25,6 +25,7 @@ pub(crate) const PATIENCE_ON_A_PIPE: Run = Run {
     scripts: &[b"pipe\nread 0 4\nsetfl 0 nonblock\nread 0 4\nclose 1\nread 0 4\n"],
     came: &[],
     patience: 3,
+    version: 1,
 };
 
 pub(crate) const PATIENCE_SEEN: Wanted = Wanted {
@@ -44,6 +45,7 @@ pub(crate) const SHORT_HOST_WRITE: Run = Run {
     scripts: &[SHORT_WRITE],
     came: &[WRITTEN],
     patience: 1000,
+    version: 1,
 };
 
 // The log of an open, a short write and a write that failed, by one thread.
@@ -59,6 +61,26 @@ pub(crate) const SHORT_SEEN: Wanted = Wanted {
     log: SHORT_LOG,
 };
 
+// The same with the clocks of its turns, in version 2.
+pub(crate) const SHORT_WRITE_WITH_CLOCKS: Run = Run {
+    scripts: &[SHORT_WRITE],
+    came: &[WRITTEN],
+    patience: 1000,
+    version: 2,
+};
+
+pub(crate) const LOG_WITH_CLOCKS: &[u8] = b"DIOL\0\x02\0\x01\0\0\x03\xe8\0\0\0\x64\
+    R\0\0\0\0\0\0\0\0\0\0\0\0\0\x01\x01\0\0\0\0\0\0\0\0\0\0\0\
+    R\0\0\0\0\0\x01\0\0\0\0\0\0\0\x69\x03\0\0\0\0\0\0\0\0\x03\0\0\
+    R\0\0\0\0\0\x02\0\0\0\0\0\0\0\xd1\x03\x09\0\0\0\0\0\0\0\0\0\0\
+    E\0\0\0\x03";
+
+pub(crate) const SEEN_WITH_CLOCKS: Wanted = Wanted {
+    end: End::Whole,
+    rows: SHORT_ROWS,
+    log: LOG_WITH_CLOCKS,
+};
+
 // What its thread saw, with the clocks of the turns.
 pub(crate) const SHORT_ROW: &[(u64, Seen)] = &[
     (1, Seen::Number(0)),
@@ -72,6 +94,7 @@ pub(crate) const READER_WAITS: Run = Run {
     scripts: &[b"pipe\nwork 20\nwrite 1 x7a\n", b"work 5\nread 0 1\n"],
     came: &[],
     patience: 1000,
+    version: 1,
 };
 
 pub(crate) const READER_SEEN: Wanted = Wanted {

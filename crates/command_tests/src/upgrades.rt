@@ -1,0 +1,175 @@
+ghost use Rattle.std.specs.Prelude.{◌≡◌};
+ghost use Rattle.commands.specs.declared.record.NotCreated.TheVariants as not_created;
+
+use crate::devices::{Device, Sources, Text, numbered, sources};
+use crate::logs::{SHORT_WRITE, THREE_RECORDS, WITH_CLOCKS};
+use crate::told::{Told, log_at};
+use commands::{LogTo, NewFile, NotCreated, OutFile, Upgraded, upgrade_over};
+use std::alloc::Global;
+use std::io;
+use std::test::Fail;
+
+// A new file in memory, which may be refused.
+#[derive(Drop)]
+struct Place {
+    alloc: Global,
+    refused: Option<NotCreated>,
+}
+
+impl NewFile<Vec<u8>> for Place {
+    ghost refuses = { λ _ _. Unit {0} };
+
+    fn write(self, bytes: &[u8]) -> Result<Vec<u8>, NotCreated> {
+        if let Some(why) = self.refused {
+            return Err(why);
+        }
+        let mut file = Vec::new(self.alloc);
+        match file.extend_from_slice(bytes) {
+            Ok(()) => Ok(file),
+            Err(_) => Err(NotCreated::Memory),
+        }
+    }
+}
+
+// What `upgrade` told, and what its file has; none where it was not asked for or refused.
+#[derive(Drop)]
+struct Done {
+    told: Told,
+    file: Option<Vec<u8>>,
+    unused: bool,
+}
+
+impl Done {
+    fn new(
+        upgraded: io::Result<Upgraded<Place, Vec<u8>>>,
+        output: Vec<u8>,
+        errors: Vec<u8>,
+    ) -> io::Result<Done> {
+        let Upgraded { status, file } = upgraded?;
+        let unused = matches!(file, OutFile::Unused(_));
+        let told = Told::new(Ok(status), output, errors)?;
+        let file = match file {
+            OutFile::Written(file) => Some(file),
+            _ => None,
+        };
+        Ok(Done { told, file, unused })
+    }
+
+    // Whether the file has just these bytes, and nothing was printed.
+    fn has(&self, bytes: &[u8]) -> bool {
+        match &self.file {
+            Some(file) => file.as_slice() == bytes && self.told.is(0, "", ""),
+            None => false,
+        }
+    }
+}
+
+// Upgrades what is on these devices. The log is "a.log", and the new one "b.log".
+fn upgrade<'a>(
+    alloc: Global,
+    log: Text<'a>,
+    refused: Option<NotCreated>,
+    scripts: Sources<'a>,
+) -> io::Result<Done> {
+    let out = LogTo {
+        path: "b.log",
+        log: Place { alloc, refused },
+    };
+    let mut output: Vec<u8> = Vec::new(alloc);
+    let mut errors: Vec<u8> = Vec::new(alloc);
+    let log = log_at("a.log", log);
+    let upgraded = upgrade_over(alloc, log, out, scripts, &mut output, &mut errors);
+    Done::new(upgraded, output, errors)
+}
+
+// The upgrade of the short write.
+fn upgraded(alloc: Global, refused: Option<NotCreated>) -> io::Result<Done> {
+    let scripts = sources(alloc, &[SHORT_WRITE])?;
+    upgrade(alloc, Text::Script(THREE_RECORDS), refused, scripts)
+}
+
+#[test]
+fn a_log_is_upgraded(rt: HostRuntime) -> Result<(), Fail> {
+    assert!(rt; upgraded(rt.alloc(), None)?.has(WITH_CLOCKS));
+    Ok(())
+}
+
+// Why a file is not made, and what is told of it.
+const REFUSED: &[(NotCreated, &str)] = &[
+    (NotCreated::Failed, "cannot write b.log\n"),
+    (
+        NotCreated::NotALog,
+        "cannot write b.log\nthe file there is not empty and is not a log: --force replaces it\n",
+    ),
+    (NotCreated::Memory, "no memory\n"),
+];
+
+#[test]
+fn a_file_is_refused(rt: HostRuntime) -> Result<(), Fail> {
+    for (why, line) in REFUSED {
+        let done = upgraded(rt.alloc(), Some(*why))?;
+        assert!(rt;
+            done.told.is(4, "", line) && !done.unused && done.file.is_none(),
+            "{line}"
+        );
+    }
+    Ok(())
+}
+
+const LOG: Device = Device::Text(THREE_RECORDS);
+
+const NEW_LOG: Device = Device::Text(WITH_CLOCKS);
+
+const GOOD: Device = Device::Text(b"end\n");
+
+const BAD: Device = Device::Text(b"x\n");
+
+// The number of scripts is looked at first, then the log is read, then the scripts in their order;
+// then the first script that is bad counts, and then what the upgrade says.
+const FAULTS: &[(Device, &[Device], u8, &str, &str)] = &[
+    (Device::Broken, &[], 2, "", "needs 1 to 16 scripts\n"),
+    (
+        Device::Broken,
+        &[Device::Broken],
+        4,
+        "",
+        "cannot read a.log\n",
+    ),
+    (Device::Endless, &[BAD], 4, "", "cannot read a.log\n"),
+    (NEW_LOG, &[BAD, Device::Broken], 4, "", "cannot read 1\n"),
+    (NEW_LOG, &[GOOD, BAD], 3, "", "script 1: bad line 1\n"),
+    (NEW_LOG, &[GOOD, GOOD], 3, "", "log: bad version\n"),
+    (
+        LOG,
+        &[GOOD, GOOD],
+        3,
+        "",
+        "log has 1 threads, 2 scripts given\n",
+    ),
+    (LOG, &[GOOD], 1, "stop diverged 0 0\n", ""),
+];
+
+// Whether `upgrade` says this of what is on these devices, unless memory is wanted, and asks for no
+// file.
+fn is_fault(
+    alloc: Global,
+    log: Device,
+    scripts: &[Device],
+    status: u8,
+    output: &str,
+    errors: &str,
+) -> io::Result<bool> {
+    let done = upgrade(alloc, Text::Device(log), None, numbered(alloc, scripts)?)?;
+    Ok(done.unused && done.told.may_be(status, output, errors))
+}
+
+#[test]
+fn faults_of_upgrades_ask_for_no_file(rt: HostRuntime) -> Result<(), Fail> {
+    for (log, scripts, status, output, errors) in FAULTS {
+        assert!(rt;
+            is_fault(rt.alloc(), *log, scripts, *status, output, errors)?,
+            "{output}{errors}"
+        );
+    }
+    Ok(())
+}
