@@ -46,7 +46,9 @@ abbrev pub first_log : Inputs → Written
 first_log input = record { text = header_text (header_of input); records = 0 }
 
 abbrev pub IsLogged : Inputs → ℕ → Written → Type 0
-IsLogged input count log = LogsMore (plain_records input.settings.version (setup_of input) count (first_state input)) (first_log input) log
+IsLogged input count log =
+    let records = plain_records input.settings.version (setup_of input) count (first_state input) in
+    LogsMore records (first_log input) log
 
 -- so many events of the plain run lead to a state that the run shows
 pub record ComesTo (input : Inputs) (p : Played) : Type 0 where

@@ -51,7 +51,12 @@ header_of input = header_for input.settings (length input.scripts)
 
 -- the log of so many events of a plain run: its end stands where all threads ended
 abbrev pub log_of : Inputs → ℕ → List Bool → LogText
-log_of input count ended = record { header = header_of input; records = plain_records input.settings.version (setup_of input) count (first_state input); closed = all_true ended }
+log_of input count ended =
+    record {
+      header = header_of input;
+      records = plain_records input.settings.version (setup_of input) count (first_state input);
+      closed = all_true ended;
+    }
 
 -- what a plain run shows that came to this state after so many events
 abbrev pub plain_of : Inputs → ℕ → State → Plain
