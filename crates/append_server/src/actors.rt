@@ -2,7 +2,7 @@ use crate::lines::{
     accept, close, connect, end_of_writing, fstat, held, keep_in, last_read, listen,
     open_to_append, read, register, write,
 };
-use posix_terms::Bytes;
+use posix_terms::SharedBytes;
 use std::alloc::{AllocError, Global};
 use thread_scripts::{Data, Line, Number, Script};
 
@@ -16,7 +16,7 @@ const DONE: usize = 12;
 
 // Listens, takes one connection, and appends all that comes over it to the host file at this path.
 pub(crate) fn server(alloc: Global, path: &str) -> Result<Vec<Line>, AllocError> {
-    let path = Bytes::from_slice(alloc, path.as_bytes())?;
+    let path = SharedBytes::from_slice(alloc, path.as_bytes())?;
     let mut lines = Vec::new(alloc);
     lines.push(listen())?;
     lines.push(open_to_append(path))?;
@@ -43,7 +43,7 @@ pub(crate) fn server(alloc: Global, path: &str) -> Result<Vec<Line>, AllocError>
 
 // Once the server listens, asks for its port, connects, and sends this text.
 pub(crate) fn client(alloc: Global, text: &str) -> Result<Vec<Line>, AllocError> {
-    let text = Bytes::from_slice(alloc, text.as_bytes())?;
+    let text = SharedBytes::from_slice(alloc, text.as_bytes())?;
     let mut lines = Vec::new(alloc);
     // The order of turns comes from clocks: with so much work the client comes behind the server's first calls.
     lines.push(Line::Work(1_000))?;

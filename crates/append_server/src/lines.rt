@@ -1,6 +1,6 @@
 ghost use Rattle.std.specs.Prelude.{◌<◌};
 
-use posix_terms::{Access, Bytes, Call, OpenFlags, ShutdownHow};
+use posix_terms::{Access, Call, OpenFlags, SharedBytes, ShutdownHow};
 use thread_scripts::{Data, Line, Number, NumberRegister, Register};
 
 // The lines of this program, each under the name of its call. A descriptor is a number that the script knows, or a register that has it.
@@ -38,7 +38,7 @@ pub(crate) fn connect(port: Number) -> Line {
 }
 
 // Opens a host file to append to it, and makes it where it is not there.
-pub(crate) fn open_to_append(path: Bytes) -> Line {
+pub(crate) fn open_to_append(path: SharedBytes) -> Line {
     Line::Call(Call::HostOpen {
         path,
         access: Access::WriteOnly,

@@ -151,8 +151,8 @@ impl Descriptions {
         self.description(key).flags
     }
 
-    /// The birth of the description: a number that is never given to another one, where a key is
-    /// given again once it is free.
+    /// The birth of the description: how many had been made before it. Keys are used again, and
+    /// births are not.
     pub fn birth(&self, key: usize) -> u128
         requires { ContainsKey self.now key }
         ensures { result ≡ (description_at self.now key).birth }

@@ -8,8 +8,8 @@ use Rattle.std.specs.Cmp.Lexicographic.{pointwise}
 use Rattle.std.specs.contracts.prelude.I64PartialEq.TheImpl as numbers
 use denote.Builtin
 use Rattle.posix_terms.specs.contracts.call.AccessPartialEq.TheImpl as access
-use Rattle.posix_terms.specs.contracts.bytes.Bytes
-use Rattle.posix_terms.specs.contracts.bytes.BytesPartialEq.TheImpl as bytes
+use Rattle.posix_terms.specs.contracts.shared_bytes.SharedBytes
+use Rattle.posix_terms.specs.contracts.shared_bytes.SharedBytesPartialEq.TheImpl as bytes
 use Rattle.posix_terms.specs.contracts.call.CallPartialEq.TheImpl as calls
 use Rattle.posix_terms.specs.contracts.call.OpenFlagsPartialEq.TheImpl as flags
 use Rattle.posix_terms.specs.contracts.reply.ReplyPartialEq.TheImpl as reply
@@ -50,7 +50,7 @@ opening_is p q a b f g h =
 
 -- `==` of two calls
 abbrev equal : Call → Call → Bool
-equal a b = let g = calls.ghosts Builtin.i64 Bytes.the_row numbers.ghosts numbers.dict bytes.ghosts bytes.dict in g.eq a b
+equal a b = let g = calls.ghosts Builtin.i64 SharedBytes.the_row numbers.ghosts numbers.dict bytes.ghosts bytes.dict in g.eq a b
 
 call_is : (a b : Call) → equal a b ≡ true → a ≡ b
 call_is (call.Open p a f) (call.Open q b g) h = let s = opening_is p q a b f g h in λ i. call.Open (s.0 i) (s.1 i) (s.2 i)

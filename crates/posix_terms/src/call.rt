@@ -1,7 +1,7 @@
 ghost use Rattle.std.specs.Prelude.{◌≡◌, IfOk};
 ghost use Rattle.posix_terms.specs.Calls.{can_read, can_write, kind_of, word_of};
 
-use crate::bytes::Bytes;
+use crate::shared_bytes::SharedBytes;
 use std::alloc::AllocError;
 
 /// How an open file description may be used (`O_RDONLY`, `O_WRONLY`, `O_RDWR`).
@@ -60,9 +60,9 @@ pub enum ShutdownHow {
 /// A line of a script that makes a call has it in this type too: there `Number` and `Text` may be
 /// registers, whose values are found when the line is executed.
 #[derive(Clone, Debug, PartialEq, Eq, Drop)]
-pub enum Call<Number = i64, Text = Bytes> {
+pub enum Call<Number = i64, Text = SharedBytes> {
     Open {
-        path: Bytes,
+        path: SharedBytes,
         access: Access,
         flags: OpenFlags,
     },
@@ -124,22 +124,22 @@ pub enum Call<Number = i64, Text = Bytes> {
         nonblock: bool,
     },
     Link {
-        old_path: Bytes,
-        new_path: Bytes,
+        old_path: SharedBytes,
+        new_path: SharedBytes,
     },
     Unlink {
-        path: Bytes,
+        path: SharedBytes,
     },
     /// `rename` of a file; directories keep their names.
     Rename {
-        old_path: Bytes,
-        new_path: Bytes,
+        old_path: SharedBytes,
+        new_path: SharedBytes,
     },
     Mkdir {
-        path: Bytes,
+        path: SharedBytes,
     },
     Rmdir {
-        path: Bytes,
+        path: SharedBytes,
     },
     Pipe,
     /// A pair of connected stream sockets in memory.
@@ -150,7 +150,7 @@ pub enum Call<Number = i64, Text = Bytes> {
     },
     /// Opens a file of the host. `exclusive` and `nonblock` of the flags are ignored.
     HostOpen {
-        path: Bytes,
+        path: SharedBytes,
         access: Access,
         flags: OpenFlags,
     },

@@ -1,7 +1,7 @@
-/// What a call that is blocked hands on to its next turn.
+/// What a blocked call hands on to its next turn.
 #[derive(Clone, Copy, Debug, PartialEq, Eq)]
 pub struct Carried {
-    /// For how many turns it was blocked so far.
+    /// How many turns found it blocked so far.
     pub turns: u32,
     /// What it moved at those turns.
     pub moved: Moved,
@@ -12,8 +12,9 @@ pub struct Carried {
 pub struct Moved {
     /// How many of its bytes.
     pub bytes: u64,
-    /// The open file description by which the first of them went, by its birth: that number is
-    /// never given to another one. `None` where no byte was moved.
+    /// The birth of the open file description through which the first byte went: how many
+    /// descriptions had been made before it. So a call can see whether its descriptor still refers
+    /// to that one, even after another took its key. `None` before the first byte.
     pub from: Option<u128>,
 }
 

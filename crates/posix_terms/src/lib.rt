@@ -6,14 +6,15 @@
 //! whether it answers what was asked. [`Carried`] is what a blocked call hands on to its next turn,
 //! and [`Moved`] what of its bytes went before.
 //! A [`Transcript`] is what one thread saw, a [`HistoryRow`] one granted turn of a run, and
-//! [`Limits`] has the limits of the profile. Contracts see plain values: of [`Bytes`] the list of
-//! bytes, of a transcript the list of its rows. Copies and `Transcript::push` take memory, and fail
-//! only for want of it; `from_vec` takes none.
+//! [`Limits`] has the limits of the profile. Contracts see plain values: of [`Bytes`] and of
+//! [`SharedBytes`] the list of bytes, of a transcript the list of its rows. Copies and
+//! `Transcript::push` take memory, and fail only where it runs out; a copy of shared bytes takes
+//! none, and `from_vec` takes none but for shared bytes.
 //!
 //! ```rust
-//! use posix_terms::{Bytes, Call, Errno, OutKind, Outcome, Reply, Row, Transcript, Turn};
+//! use posix_terms::{Call, Errno, OutKind, Outcome, Reply, Row, SharedBytes, Transcript, Turn};
 //!
-//! let bytes = Bytes::from_slice(alloc, b"hi")?;
+//! let bytes = SharedBytes::from_slice(alloc, b"hi")?;
 //! let call = Call::Write { descriptor: 0, bytes };
 //! assert!(rt; call.kind().word() == "write");
 //! assert!(rt; Errno::from_code(Errno::EIO.code()) == Some(Errno::EIO));
@@ -39,6 +40,7 @@ mod object;
 mod outcome;
 mod reply;
 mod request;
+mod shared_bytes;
 mod step;
 mod text;
 mod transcript;
@@ -53,6 +55,7 @@ pub use object::{Door, End, Side};
 pub use outcome::{Given, OutKind, Outcome, Outcomes};
 pub use reply::{Answer, ObjectKind, Reply};
 pub use request::Request;
+pub use shared_bytes::SharedBytes;
 pub use step::Step;
 pub use text::{pieces, split};
 pub use transcript::{HistoryRow, Row, Settings, Transcript, Transcripts, Turn};

@@ -1,6 +1,6 @@
 use call_machine::Machine;
 use input_log::{Header, LogWriter, MemorySink};
-use posix_terms::{Access, Bytes, Call, Limits, OpenFlags, Settings, Step};
+use posix_terms::{Access, Call, Limits, OpenFlags, Settings, SharedBytes, Step};
 use std::alloc::{AllocError, Global};
 
 // A machine that a test drives. A door is a number here.
@@ -61,7 +61,7 @@ pub(crate) fn open(
     flags: OpenFlags,
 ) -> Result<Step, AllocError> {
     Ok(Step::Call(Call::Open {
-        path: Bytes::from_slice(alloc, path)?,
+        path: SharedBytes::from_slice(alloc, path)?,
         access,
         flags,
     }))
@@ -70,6 +70,6 @@ pub(crate) fn open(
 pub(crate) fn write(alloc: Global, descriptor: i64, bytes: &[u8]) -> Result<Step, AllocError> {
     Ok(Step::Call(Call::Write {
         descriptor,
-        bytes: Bytes::from_slice(alloc, bytes)?,
+        bytes: SharedBytes::from_slice(alloc, bytes)?,
     }))
 }

@@ -6,4 +6,5 @@ pub mod Gathering
 pub mod Jumps
 pub mod Targets
 pub mod Keeping
+pub mod Replacing
 pub mod ScriptEnds

@@ -3,6 +3,7 @@ ghost use Rattle.thread_scripts.specs.declared.actor.ScriptState.{ScriptState};
 
 use crate::fault::Memory;
 use crate::script::Script;
+use crate::state::Replaced;
 use posix_terms::{Bytes, Reply, Step};
 use std::alloc::AllocError;
 use std::marker::Model;
@@ -79,7 +80,7 @@ impl ScriptActor {
         ensures script { OnOk result (self.new.script ≡ self.old.script) }
         ensures ends { IfOk result (λ step. (step ≡ Step.End) ⊎ (lines_left self.new < lines_left self.old)) }
     {
-        let Ok(step) = self.state.advance(last) else {
+        let Ok(step) = self.state.advance(last, &mut Replaced::none()) else {
             return Err(Memory);
         };
         Ok(step)
@@ -89,14 +90,15 @@ impl ScriptActor {
 impl Actor for ScriptActor {
     ghost state = { λ a. a };
 
-    #[tactic(auto, using(crate::proofs::Ending::next_ends, crate::proofs::Ending::next_script))]
+    #[tactic(auto, using(crate::proofs::Ending::next_ends, crate::proofs::Ending::next_script, crate::proofs::Replacing::none_is_replaced))]
     fn next(&mut self, last: Option<&Reply>) -> Result<Step, Memory> {
         let last = copied(last)?;
-        let saved = self.state.save()?;
-        match self.state.advance(last) {
+        let saved = self.state.save();
+        let mut replaced = Replaced::none();
+        match self.state.advance(last, &mut replaced) {
             Ok(step) => Ok(step),
             Err(_) => {
-                self.state.restore(saved);
+                self.state.restore(saved, replaced);
                 Err(Memory)
             }
         }

@@ -6,7 +6,7 @@ use crate::fault::LineFault;
 use crate::line::{CallLine, Data, Number};
 use crate::numbers::{byte_register, number, register};
 use crate::texts::{access, byte_text, flags, known_to_host, path, shutdown_how, whence};
-use posix_terms::{Access, Bytes, Call, CallKind, OpenFlags, ShutdownHow, Whence};
+use posix_terms::{Access, Call, CallKind, OpenFlags, SharedBytes, ShutdownHow, Whence};
 use std::alloc::Global;
 
 /// An operand that is a number: a register's or its own.
@@ -151,7 +151,7 @@ fn number_and_flags(operands: &[&[u8]]) -> Result<(Number, OpenFlags), LineFault
 }
 
 /// `PATH`
-fn one_path(alloc: Global, operands: &[&[u8]]) -> Result<Bytes, LineFault>
+fn one_path(alloc: Global, operands: &[&[u8]]) -> Result<SharedBytes, LineFault>
     ensures { Reads result (one_path (map (λ w. w.now) operands.now)) }
 {
     let [word] = operands else {
@@ -161,7 +161,7 @@ fn one_path(alloc: Global, operands: &[&[u8]]) -> Result<Bytes, LineFault>
 }
 
 /// `PATH PATH`
-fn two_paths(alloc: Global, operands: &[&[u8]]) -> Result<(Bytes, Bytes), LineFault>
+fn two_paths(alloc: Global, operands: &[&[u8]]) -> Result<(SharedBytes, SharedBytes), LineFault>
     ensures { Reads result (two_paths (map (λ w. w.now) operands.now)) }
 {
     let [first, second] = operands else {
@@ -173,7 +173,7 @@ fn two_paths(alloc: Global, operands: &[&[u8]]) -> Result<(Bytes, Bytes), LineFa
 }
 
 /// `PATH ACCESS FLAG..`
-fn opening(alloc: Global, operands: &[&[u8]]) -> Result<(Bytes, Access, OpenFlags), LineFault>
+fn opening(alloc: Global, operands: &[&[u8]]) -> Result<(SharedBytes, Access, OpenFlags), LineFault>
     ensures { Reads result (opening (map (λ w. w.now) operands.now)) }
 {
     let [path_word, access_word, words @ ..] = operands else {

@@ -1,6 +1,6 @@
 ghost use Rattle.std.specs.Prelude.{◌≡◌, ◌<◌, ℕ};
 
-use posix_terms::{Bytes, Call};
+use posix_terms::{Call, SharedBytes};
 use std::marker::Model;
 
 /// One of so many registers. Contracts see its number.
@@ -54,7 +54,7 @@ pub enum Number {
 #[derive(Debug, PartialEq, Eq, Drop)]
 pub enum Data {
     /// At most 32,767 bytes.
-    Text(Bytes),
+    Text(SharedBytes),
     /// What the register holds when the line is executed.
     Register(ByteRegister),
 }

@@ -3,7 +3,7 @@ ghost use Rattle.std.specs.List.{list_all};
 ghost use Rattle.thread_scripts.specs.Rules.{call_keeps, is_path, is_script, is_short, keeps_rules, leads_to_label, line_keeps, target_of};
 
 use crate::line::{CallLine, Data, Line};
-use posix_terms::{Bytes, Call, Limits};
+use posix_terms::{Call, Limits, SharedBytes};
 
 /// Where a line may jump to.
 fn target(line: &Line) -> Option<usize>
@@ -36,7 +36,7 @@ fn is_short(value: &Data) -> bool
     }
 }
 
-fn is_path(path: &Bytes) -> bool
+fn is_path(path: &SharedBytes) -> bool
     ensures { result ≡ is_path path.now }
 {
     path.as_slice().iter().all(|byte| byte.is_ascii_graphic())

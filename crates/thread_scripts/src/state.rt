@@ -1,10 +1,11 @@
-ghost use Rattle.std.specs.Prelude.{◌≡◌, ◌+◌, ◌^◌, ◌<◌, IfOk, IfSome, option_copied, slice_get};
+ghost use Rattle.std.specs.Prelude.{◌≡◌, ◌+◌, ◌^◌, ◌<◌, IfOk, IfSome, option_copied, replicate, slice_get, []};
 
 use crate::actor::ScriptState;
 use crate::line::{ByteRegister, CallLine, Data, Line, Number, NumberRegister};
 use crate::script::Script;
-use posix_terms::{Bytes, Call, Limits, Reply, Step};
-use std::alloc::AllocError;
+use posix_terms::{Bytes, Call, Limits, Reply, SharedBytes, Step};
+use std::alloc::{AllocError, Global};
+use std::mem;
 
 /// What a line does.
 #[derive(Drop)]
@@ -16,18 +17,65 @@ pub(crate) enum Action {
     Nothing,
 }
 
-/// What of a state changes while lines are executed.
-#[derive(Drop)]
+/// What of a state changes while lines are executed, but for the byte registers.
+#[derive(Clone, Copy)]
 pub(crate) struct Saved {
     place: usize,
     numbers: [i64; 16],
-    bytes: [Bytes; 4],
     executed: usize,
+}
+
+/// What the byte registers held that were replaced while lines were executed, by register.
+#[derive(Drop)]
+pub(crate) struct Replaced {
+    bytes: [Option<Bytes>; 4],
+}
+
+impl Replaced {
+    ghost use Rattle.std.specs.Prelude.{length, None};
+    ghost use Rattle.thread_scripts.specs.Saving.{also_replaced, registers_before};
+
+    /// Of no register.
+    pub(crate) fn none() -> Replaced
+        ensures { result.bytes ≡ replicate 4 None }
+    {
+        Replaced {
+            bytes: [None, None, None, None],
+        }
+    }
+
+    /// Keeps what a byte register held, unless it was replaced before.
+    fn keep(&mut self, register: ByteRegister, held: Bytes)
+        ensures kept { self.new.bytes ≡ also_replaced register held self.old.bytes }
+        ensures inside { register < length self.old.bytes }
+    {
+        let kept = &mut self.bytes[register.index()];
+        if kept.is_none() {
+            *kept = Some(held);
+        }
+    }
+
+    /// The registers, those that were replaced with what they held before.
+    #[tactic(auto, unfolding(crate::specs::Saving::registers_before))]
+    fn put_back(self, registers: [Bytes; 4]) -> [Bytes; 4]
+        ensures { result ≡ registers_before self.bytes registers }
+    {
+        let Replaced { bytes } = self;
+        let [held0, held1, held2, held3] = bytes;
+        let [now0, now1, now2, now3] = registers;
+        [
+            held0.unwrap_or(now0),
+            held1.unwrap_or(now1),
+            held2.unwrap_or(now2),
+            held3.unwrap_or(now3),
+        ]
+    }
 }
 
 impl ScriptState {
     ghost use Rattle.thread_scripts.specs.Meaning.{action_of, call_of, data_value, lines_left, next_of, next_within, number_value, performed, start_of, step_given, stored};
-    ghost use Rattle.thread_scripts.specs.Saving.{with_saved};
+    ghost use Rattle.std.specs.Prelude.{None, slice_set};
+    ghost use Rattle.thread_scripts.specs.Saving.{registers_before, with_saved};
 
     /// The state before the script's first line. It takes no memory.
     pub fn new(script: Script) -> ScriptState
@@ -38,12 +86,7 @@ impl ScriptState {
             script,
             place: 0,
             numbers: [0; 16],
-            bytes: [
-                Bytes::from_vec(Vec::new(alloc)),
-                Bytes::from_vec(Vec::new(alloc)),
-                Bytes::from_vec(Vec::new(alloc)),
-                Bytes::from_vec(Vec::new(alloc)),
-            ],
+            bytes: no_registers(alloc),
             executed: 0,
         }
     }
@@ -57,13 +100,32 @@ impl ScriptState {
         }
     }
 
-    /// A copy of the bytes.
-    fn bytes(&self, text: &Data) -> Result<Bytes, AllocError>
-        ensures { IfOk result (λ bytes. bytes ≡ data_value self.now text.now) }
+    fn slice<'a>(&'a self, given: &'a Data) -> &'a [u8]
+        ensures { result.now ≡ data_value self.now given.now }
     {
-        match text {
+        match given {
+            Data::Text(bytes) => bytes.as_slice(),
+            Data::Register(register) => self.bytes[register.index()].as_slice(),
+        }
+    }
+
+    /// The bytes, for a register.
+    fn bytes(&self, given: &Data) -> Result<Bytes, AllocError>
+        ensures { IfOk result (λ bytes. bytes ≡ data_value self.now given.now) }
+    {
+        Bytes::from_slice(self.script.allocator(), self.slice(given))
+    }
+
+    /// The bytes, for a call: a text of the script is shared, a register is copied.
+    fn shared(&self, given: &Data) -> Result<SharedBytes, AllocError>
+        ensures { IfOk result (λ bytes. bytes ≡ data_value self.now given.now) }
+    {
+        match given {
             Data::Text(bytes) => bytes.try_clone(),
-            Data::Register(register) => self.bytes[register.index()].try_clone(),
+            Data::Register(register) => {
+                let bytes = self.bytes[register.index()].as_slice();
+                SharedBytes::from_slice(self.script.allocator(), bytes)
+            }
         }
     }
 
@@ -90,7 +152,7 @@ impl ScriptState {
             },
             Call::Write { descriptor, bytes } => Call::Write {
                 descriptor: self.number(*descriptor),
-                bytes: self.bytes(bytes)?,
+                bytes: self.shared(bytes)?,
             },
             Call::Pread {
                 descriptor,
@@ -107,7 +169,7 @@ impl ScriptState {
                 position,
             } => Call::Pwrite {
                 descriptor: self.number(*descriptor),
-                bytes: self.bytes(bytes)?,
+                bytes: self.shared(bytes)?,
                 position: self.number(*position),
             },
             Call::Lseek {
@@ -227,15 +289,25 @@ impl ScriptState {
         })
     }
 
+    /// Replaces a byte register, and keeps what it held.
+    fn replace(&mut self, register: ByteRegister, bytes: Bytes, replaced: &mut Replaced)
+        ensures state { self.new ≡ record self.old { bytes = slice_set self.old.bytes register bytes } }
+        ensures replaced { registers_before replaced.new.bytes self.new.bytes ≡ registers_before replaced.old.bytes self.old.bytes }
+    {
+        let held = mem::replace(&mut self.bytes[register.index()], bytes);
+        replaced.keep(register, held);
+    }
+
     /// Does what a line does, and answers the step that it gives.
-    fn perform(&mut self, action: Action) -> Option<Step>
+    fn perform(&mut self, action: Action, replaced: &mut Replaced) -> Option<Step>
         ensures step { result ≡ step_given action }
         ensures state { self.new ≡ performed action self.old }
+        ensures replaced { registers_before replaced.new.bytes self.new.bytes ≡ registers_before replaced.old.bytes self.old.bytes }
     {
         match action {
             Action::Step(step) => return Some(step),
             Action::Set(register, value) => self.numbers[register.index()] = value,
-            Action::SetBytes(register, bytes) => self.bytes[register.index()] = bytes,
+            Action::SetBytes(register, bytes) => self.replace(register, bytes, replaced),
             Action::Go(place) => self.place = place,
             Action::Nothing => {}
         }
@@ -250,10 +322,11 @@ impl ScriptState {
         self.script.lines().get(self.place)
     }
 
-    /// Executes lines up to one that gives a step. Without memory only the script is as it was.
+    /// Executes lines up to one that gives a step. Without memory the state is some lines further.
     #[tactic(auto, using(crate::proofs::Executing::next_none, crate::proofs::Executing::next_step, crate::proofs::Executing::next_more, crate::proofs::Executing::within_end, crate::proofs::Executing::performed_script))]
-    fn run(&mut self, failed: bool) -> Result<Step, AllocError>
+    fn run(&mut self, failed: bool, replaced: &mut Replaced) -> Result<Step, AllocError>
         ensures ok { IfOk result (λ step. (step, self.new) ≡ next_within failed (lines_left self.old) self.old) }
+        ensures replaced { registers_before replaced.new.bytes self.new.bytes ≡ registers_before replaced.old.bytes self.old.bytes }
         ensures script { self.new.script ≡ self.old.script }
     {
         while self.executed < Limits::EXECUTED_LINES {
@@ -263,7 +336,7 @@ impl ScriptState {
             let action = self.action(failed, line)?;
             self.place += 1;
             self.executed += 1;
-            if let Some(step) = self.perform(action) {
+            if let Some(step) = self.perform(action, replaced) {
                 return Ok(step);
             }
         }
@@ -271,14 +344,15 @@ impl ScriptState {
     }
 
     /// Stores a reply in the registers.
-    fn store(&mut self, reply: Reply)
-        ensures { self.new ≡ stored (Some reply) self.old }
+    fn store(&mut self, reply: Reply, replaced: &mut Replaced)
+        ensures state { self.new ≡ stored (Some reply) self.old }
+        ensures replaced { registers_before replaced.new.bytes self.new.bytes ≡ registers_before replaced.old.bytes self.old.bytes }
     {
         match reply {
             Reply::Count(count) => self.numbers[0] = count.cast_signed(),
             Reply::Data(bytes) => {
                 self.numbers[0] = (bytes.as_slice().len() as u64).cast_signed();
-                self.bytes[0] = bytes;
+                self.replace(ByteRegister::new(0), bytes, replaced);
             }
             Reply::Number(number) => self.numbers[0] = number,
             Reply::Pair(first, second) => {
@@ -294,50 +368,63 @@ impl ScriptState {
         }
     }
 
-    /// A copy of what changes while lines are executed.
-    pub(crate) fn save(&self) -> Result<Saved, AllocError>
-        ensures { IfOk result (λ saved. with_saved self.now saved ≡ self.now) }
+    /// A copy of what changes while lines are executed, but for the byte registers.
+    #[tactic(auto, using(crate::proofs::Replacing::none_is_replaced))]
+    pub(crate) fn save(&self) -> Saved
+        ensures { with_saved self.now result (replicate 4 None) ≡ self.now }
     {
-        let [b0, b1, b2, b3] = &self.bytes;
-        Ok(Saved {
+        Saved {
             place: self.place,
             numbers: self.numbers,
-            bytes: [
-                b0.try_clone()?,
-                b1.try_clone()?,
-                b2.try_clone()?,
-                b3.try_clone()?,
-            ],
             executed: self.executed,
-        })
+        }
     }
 
-    /// Takes back what was saved.
-    pub(crate) fn restore(&mut self, saved: Saved)
-        ensures { self.new ≡ with_saved self.old saved }
+    /// Takes back what was saved and replaced.
+    pub(crate) fn restore(&mut self, saved: Saved, replaced: Replaced)
+        ensures { self.new ≡ with_saved self.old saved replaced.bytes }
     {
         let Saved {
             place,
             numbers,
-            bytes,
             executed,
         } = saved;
         self.place = place;
         self.numbers = numbers;
-        self.bytes = bytes;
         self.executed = executed;
+        let none = no_registers(self.script.allocator());
+        let registers = mem::replace(&mut self.bytes, none);
+        let registers = replaced.put_back(registers);
+        self.bytes = registers;
     }
 
-    /// The next step after the last reply. Without memory only the script is as it was.
-    pub(crate) fn advance(&mut self, last: Option<Reply>) -> Result<Step, AllocError>
+    /// The next step after the last reply. Without memory the state is some lines further.
+    pub(crate) fn advance(
+        &mut self,
+        last: Option<Reply>,
+        replaced: &mut Replaced,
+    ) -> Result<Step, AllocError>
         ensures ok { IfOk result (λ step. (step, self.new) ≡ next_of last self.old) }
+        ensures replaced { registers_before replaced.new.bytes self.new.bytes ≡ registers_before replaced.old.bytes self.old.bytes }
         ensures script { self.new.script ≡ self.old.script }
     {
         let mut failed = false;
         if let Some(reply) = last {
             failed = matches!(reply, Reply::Fail(_));
-            self.store(reply);
+            self.store(reply, replaced);
         }
-        self.run(failed)
+        self.run(failed, replaced)
     }
+}
+
+/// Byte registers that hold nothing, which take no memory.
+fn no_registers(alloc: Global) -> [Bytes; 4]
+    ensures { result ≡ replicate 4 [] }
+{
+    [
+        Bytes::from_vec(Vec::new(alloc)),
+        Bytes::from_vec(Vec::new(alloc)),
+        Bytes::from_vec(Vec::new(alloc)),
+        Bytes::from_vec(Vec::new(alloc)),
+    ]
 }

@@ -5,12 +5,12 @@ ghost use Rattle.thread_scripts.specs.Faults.{Reads};
 
 use crate::fault::LineFault;
 use hex::FromHexError;
-use posix_terms::{Access, Bytes, Limits, OpenFlags, ShutdownHow, Whence};
+use posix_terms::{Access, Limits, OpenFlags, SharedBytes, ShutdownHow, Whence};
 use std::alloc::Global;
 use std::mem;
 
 /// The bytes of a byte text.
-pub(crate) fn byte_text(alloc: Global, word: &[u8]) -> Result<Bytes, LineFault>
+pub(crate) fn byte_text(alloc: Global, word: &[u8]) -> Result<SharedBytes, LineFault>
     ensures { Reads result (bytes_of word.now) }
 {
     let (first, digits) = word.split_first().ok_or(LineFault::Bad)?;
@@ -23,7 +23,7 @@ pub(crate) fn byte_text(alloc: Global, word: &[u8]) -> Result<Bytes, LineFault>
             if bytes.len() > Limits::COUNT {
                 return Err(LineFault::Bad);
             }
-            Ok(Bytes::from_vec(bytes))
+            Ok(SharedBytes::from_vec(bytes)?)
         }
         Err(FromHexError::OutOfMemory) => Err(LineFault::Memory),
         Err(_) => Err(LineFault::Bad),
@@ -38,16 +38,16 @@ fn is_graphic_text(word: &[u8]) -> bool
 }
 
 /// The path that a word names.
-pub(crate) fn path(alloc: Global, word: &[u8]) -> Result<Bytes, LineFault>
+pub(crate) fn path(alloc: Global, word: &[u8]) -> Result<SharedBytes, LineFault>
     ensures { Reads result (path_of word.now) }
 {
     if word == b"\"\"".as_slice() {
-        return Ok(Bytes::from_vec(Vec::new(alloc)));
+        return Ok(SharedBytes::from_vec(Vec::new(alloc))?);
     }
     if !is_graphic_text(word) {
         return Err(LineFault::Bad);
     }
-    Ok(Bytes::from_slice(alloc, word)?)
+    Ok(SharedBytes::from_slice(alloc, word)?)
 }
 
 pub(crate) fn access(word: &[u8]) -> Option<Access>

@@ -3,7 +3,7 @@ ghost use Rattle.std.specs.Prelude.{◌≡◌};
 use crate::words::doors::{Came, FIRST_TURN, is_so, plain};
 use host_doors::{DoorStop, HostDoor, HostDoors, Opened, Outside};
 use posix_terms::{
-    Access, Bytes, Call, Errno, OpenFlags, OutKind, Outcome, Request, ShutdownHow, Whence,
+    Access, Call, Errno, OpenFlags, OutKind, Outcome, Request, SharedBytes, ShutdownHow, Whence,
 };
 use std::alloc::{AllocError, Global};
 use std::fs::remove_file;
@@ -47,7 +47,7 @@ enum Ask {
 fn request_of(alloc: Global, ask: Ask) -> Result<Request, AllocError> {
     let (kind, asked, call) = match ask {
         Ask::Write(bytes) => {
-            let text = Bytes::from_slice(alloc, bytes)?;
+            let text = SharedBytes::from_slice(alloc, bytes)?;
             let call = Call::Write {
                 descriptor: 3,
                 bytes: text,
@@ -149,7 +149,7 @@ fn refuses(made: &Result<Opened<HostDoor>, DoorStop>, wanted: Errno) -> bool {
 /// The opening of a host file that is made where it is missing, with the two flags that are passed by.
 fn opening(alloc: Global, path: &[u8], access: Access) -> Result<Request, AllocError> {
     let call = Call::HostOpen {
-        path: Bytes::from_slice(alloc, path)?,
+        path: SharedBytes::from_slice(alloc, path)?,
         access,
         flags: OpenFlags {
             create: true,

@@ -13,4 +13,5 @@ pub loop-self-preserved : goal.loop-self-preserved
 loop-self-preserved c = (
   more_there _ _ _ _ c.in-Some.line.now c.in_ok-action.action c.loop-self.invariant.0 (omega arith) (sym c.line.ensures.line ∙ ap option_copied c.in-Some.is) c.in_ok-action.ensures (sym c.perform.ensures.step ∙ c.in_default-perform.is) c.perform.ensures.state,
   rw c.perform.ensures.state (performed_script c.in_ok-action.action _ ∙ c.loop-self.invariant.1),
+  c.perform.ensures.replaced ∙ c.loop-self.invariant.2,
 )
