@@ -1,9 +1,10 @@
 -- What a page that changes, is taken or is given back leaves of the pool, and of what the places hold.
-use Rattle.std.proofs.Common.{◌≡◌, ◌≢◌, ℕ, ◌+◌, ◌/◌, ◌%◌, ◌<◌, ◌≤◌, List, [], ◌∷◌, ◌++◌, Bool, true, false, cond, zero, suc, Option, None, Some, length, map, get_or, set, take, drop, replicate, refl, ap, sym, ◌∙◌, subst, nat_eq, nat_lt, arith, inl, inr, eq-eqb}
+use Rattle.std.proofs.Common.{◌≡◌, ◌≢◌, ℕ, ◌+◌, ◌/◌, ◌%◌, ◌<◌, ◌≤◌, List, [], ◌∷◌, ◌++◌, Bool, true, false, cond, Option, None, Some, length, map, get_or, set, take, drop, replicate, refl, ap, sym, ◌∙◌, subst, nat_eq, nat_lt, arith, inl, inr, eq-eqb, rules}
 use Rattle.std.proofs.Math.ListN.{get_or-map}
-use Rattle.std.proofs.lemmas.List.{length-set, length_push, get_or-set_same, get_or-set_other, get_or_past, get_or_read, get_or-replicate, length-replicate, places}
-use Rattle.std.proofs.lemmas.List.Sums.{sum_by-set, sum_by-cons, sum_by_push, get_or-le-sum_by, count_by-le-length}
-use Rattle.std.proofs.lemmas.List.Elements.{All-set}
+use Rattle.std.proofs.Math.Seq.{get_or-append_seam}
+use Rattle.std.proofs.lemmas.List.{length-set, length_push, get_or-set_same, get_or-set_other, get_or_past, get_or_read, get_or-replicate, get_or_append_left, length-replicate, places}
+use Rattle.std.proofs.lemmas.List.Sums.{sum_by-set, sum_by_push, get_or-le-sum_by, count_by-le-length}
+use Rattle.std.proofs.lemmas.List.Elements.{All-append, All-set}
 use Rattle.std.proofs.lemmas.Bool.{cases_lt, cases_eq}
 use borrow.Rule.Slice.PartMut.{put_mid, mid_of}
 use Rattle.std.proofs.lemmas.Bool.Decides.{nat_tests}
@@ -34,17 +35,17 @@ named_counts places place page named =
     let least' = rw named at least in
     rw (names_itself page) at least'
 
-once_in_pool : (a b page : ℕ) → a + b ≡ cond (nat_lt page 128) 1 0 → 1 ≤ a + b → page < 128
-once_in_pool a b page once least = grind (arith, nat_tests)
+once_in_pool : (a b page size : ℕ) → a + b ≡ cond (nat_lt page size) 1 0 → 1 ≤ a + b → page < size
+once_in_pool a b page size once least = grind (arith, nat_tests)
 
-at_most_once : (a b page : ℕ) → a + b ≡ cond (nat_lt page 128) 1 0 → a + b ≤ 1
-at_most_once a b page once = grind (arith, nat_tests)
+at_most_once : (a b page size : ℕ) → a + b ≡ cond (nat_lt page size) 1 0 → a + b ≤ 1
+at_most_once a b page size once = grind (arith, nat_tests)
 
 -- a page that a place names is in the pool
-pub in_pool : {pool : List (List ℕ)} {places : List (Option ℕ)} {free : List ℕ} → ArePages pool places free → (place page : ℕ) → get_or places place None ≡ Some page → page < 128
+pub in_pool : {pool : List (List ℕ)} {places : List (Option ℕ)} {free : List ℕ} → ArePages pool places free → (place page : ℕ) → get_or places place None ≡ Some page → page < length pool
 in_pool {pool} {places} {free} pages place page named =
     let least = named_counts places place page named in
-    once_in_pool _ _ page (pages.once page) (omega arith)
+    once_in_pool _ _ page (length pool) (pages.once page) (omega arith)
 
 -- no other place names it
 named_once : {pool : List (List ℕ)} {places : List (Option ℕ)} {free : List ℕ} → ArePages pool places free → (place page other : ℕ) → get_or places place None ≡ Some page → other ≢ place → get_or places other None ≢ Some page
@@ -52,24 +53,24 @@ named_once {pool} {places} {free} pages place page other named apart same =
     let less = rw (named, names_itself page) at (count_set (names page) places place None None (within_places places place page named)) in
     let still : get_or (set places place None) other None ≡ Some page = get_or-set_other places place other None None apart ∙ same in
     let least = named_counts (set places place None) other page still in
-    let most = at_most_once _ _ page (pages.once page) in
+    let most = at_most_once _ _ page (length pool) (pages.once page) in
     omega arith
 
 free_counts : (free rest : List ℕ) (page : ℕ) → free ≡ rest ++ page ∷ [] → count_by (λ other. nat_eq other page) free ≡ count_by (λ other. nat_eq other page) rest + 1
 free_counts free rest page is = rw (is, count_push (λ (other : ℕ). nat_eq other page) rest page, eq-eqb page page refl) refl
 
 -- a free page is in the pool
-pub free_in_pool : {pool : List (List ℕ)} {places : List (Option ℕ)} {free : List ℕ} → ArePages pool places free → (rest : List ℕ) (page : ℕ) → free ≡ rest ++ page ∷ [] → page < 128
+pub free_in_pool : {pool : List (List ℕ)} {places : List (Option ℕ)} {free : List ℕ} → ArePages pool places free → (rest : List ℕ) (page : ℕ) → free ≡ rest ++ page ∷ [] → page < length pool
 free_in_pool {pool} {places} {free} pages rest page is =
     let more = free_counts free rest page is in
-    once_in_pool _ _ page (pages.once page) (omega arith)
+    once_in_pool _ _ page (length pool) (pages.once page) (omega arith)
 
 -- no place names it
 free_unnamed : {pool : List (List ℕ)} {places : List (Option ℕ)} {free : List ℕ} → ArePages pool places free → (rest : List ℕ) (page other : ℕ) → free ≡ rest ++ page ∷ [] → get_or places other None ≢ Some page
 free_unnamed {pool} {places} {free} pages rest page other is same =
     let more = free_counts free rest page is in
     let least = named_counts places other page same in
-    let most = at_most_once _ _ page (pages.once page) in
+    let most = at_most_once _ _ page (length pool) (pages.once page) in
     omega arith
 
 held_other : (pool : List (List ℕ)) (page : ℕ) (bytes : List ℕ) (place : Option ℕ) → place ≢ Some page → held (set pool page bytes) place ≡ held pool place
@@ -79,16 +80,16 @@ held_other pool page bytes (Some other) apart = ap Some (get_or-set_other pool p
 -- the bytes of a page change
 pub written : {pool : List (List ℕ)} {places : List (Option ℕ)} {free : List ℕ} → ArePages pool places free → (page : ℕ) (bytes : List ℕ) → length bytes ≡ 512 → ArePages (set pool page bytes) places free
 written {pool} {places} {free} pages page bytes full = record {
-  pool_len = length-set pool page bytes ∙ pages.pool_len;
+  pool_len = rw length-set pages.pool_len;
   page_len = All-set (λ (x : List ℕ). length x ≡ 512) pool page bytes full pages.page_len;
   places_len = pages.places_len;
-  once = pages.once;
-  as_many = pages.as_many;
+  once = λ other. rw length-set (pages.once other);
+  as_many = rw length-set pages.as_many;
 }
 
 pub written_at : {pool : List (List ℕ)} {places : List (Option ℕ)} {free : List ℕ} → ArePages pool places free → (place page : ℕ) (bytes : List ℕ) → get_or places place None ≡ Some page → get_or (map (held (set pool page bytes)) places) place None ≡ Some bytes
 written_at {pool} {places} {free} pages place page bytes named =
-    let there : page < length pool = rw pages.pool_len (in_pool pages place page named) in
+    let there = in_pool pages place page named in
     held_at (set pool page bytes) places place ∙ ap (held (set pool page bytes)) named ∙ ap Some (get_or-set_same pool page bytes [] there)
 
 pub written_others : {pool : List (List ℕ)} {places : List (Option ℕ)} {free : List ℕ} → ArePages pool places free → (place page : ℕ) (bytes : List ℕ) → get_or places place None ≡ Some page → SameBut place (map (held pool) places) (map (held (set pool page bytes)) places)
@@ -114,6 +115,7 @@ taken {pool} {places} {free} pages rest place page is there empty = record {
       let named = rw empty at (count_set is_none places place (Some page) None within) in
       let fewer : length free ≡ length rest + 1 = rw is (length_push rest page) in
       let before = pages.as_many in
+      let len = length-set places place (Some page) in
       omega arith;
 }
 
@@ -128,6 +130,85 @@ taken_others {pool} {places} {free} pages rest place page bytes is other apart =
     held_at (set pool page bytes) (set places place (Some page)) other
     ∙ ap (held (set pool page bytes)) (get_or-set_other places place other (Some page) None apart)
     ∙ held_other pool page bytes (get_or places other None) (free_unnamed pages rest page other is)
+    ∙ sym (held_at pool places other)
+
+-- the last page of a pool that one page joined
+joined : {X : Type 0} (xs : List X) (x d : X) → get_or (xs ++ x ∷ []) (length xs) d ≡ x
+joined xs x d = get_or-append_seam xs x [] d
+
+-- where a place is empty and no page is free, there is room for a page
+pub some_room : {pool : List (List ℕ)} {places : List (Option ℕ)} {free : List ℕ}
+    → ArePages pool places free
+    → (place : ℕ) → place < 128 → get_or places place None ≡ None → length free ≡ 0
+    → length pool < 128
+some_room {pool} {places} {free} pages place there empty no_free =
+    let within : place < length places = rw pages.places_len there in
+    let one : Option ℕ → ℕ = λ x. cond (is_none x) 1 0 in
+    let least = rw empty at (get_or-le-sum_by one places place None within) in
+    let same = pages.as_many in
+    let all = pages.places_len in
+    omega arith
+
+one_more : (page other n : ℕ) → n ≡ cond (nat_lt other page) 1 0
+    → n + cond (nat_eq page other) 1 0 ≡ cond (nat_lt other (page + 1)) 1 0
+one_more page other n is = grind (arith, nat_tests)
+
+abbrev IsWhole : List ℕ → Type 0
+IsWhole page = length page ≡ 512
+
+one_page : (bytes : List ℕ) → length bytes ≡ 512 → All IsWhole (bytes ∷ [])
+one_page bytes full = search rules
+
+-- an empty place names a page that joins the pool, since none is free
+pub grown : {pool : List (List ℕ)} {places : List (Option ℕ)} {free : List ℕ}
+    → ArePages pool places free
+    → (place : ℕ) (bytes : List ℕ) → length bytes ≡ 512 → place < 128
+    → get_or places place None ≡ None → length free ≡ 0
+    → ArePages (pool ++ bytes ∷ []) (set places place (Some (length pool))) free
+grown {pool} {places} {free} pages place bytes full there empty no_free = record {
+  pool_len = rw length_push (omega (arith, some_room pages place there empty no_free));
+  page_len = All-append IsWhole pool (bytes ∷ []) pages.page_len (one_page bytes full);
+  places_len = length-set places place (Some (length pool)) ∙ pages.places_len;
+  once = λ other.
+      let within : place < length places = rw pages.places_len there in
+      let counted = count_set (names other) places place (Some (length pool)) None within in
+      let named = rw empty at counted in
+      let more = one_more (length pool) other _ (pages.once other) in
+      rw length_push (omega arith);
+  as_many =
+      let within : place < length places = rw pages.places_len there in
+      let named = rw empty at (count_set is_none places place (Some (length pool)) None within) in
+      let before = pages.as_many in
+      let len = length-set places place (Some (length pool)) in
+      rw length_push (omega arith);
+}
+
+pub grown_at : (pool : List (List ℕ)) (places : List (Option ℕ)) (place : ℕ) (bytes : List ℕ)
+    → place < length places
+    → get_or (map (held (pool ++ bytes ∷ [])) (set places place (Some (length pool)))) place None
+    ≡ Some bytes
+grown_at pool places place bytes there =
+    held_at (pool ++ bytes ∷ []) (set places place (Some (length pool))) place
+    ∙ ap (held (pool ++ bytes ∷ [])) (get_or-set_same places place (Some (length pool)) None there)
+    ∙ ap Some (joined pool bytes [])
+
+held_grown : (pool : List (List ℕ)) (bytes : List ℕ) (place : Option ℕ)
+    → ((page : ℕ) → place ≡ Some page → page < length pool)
+    → held (pool ++ bytes ∷ []) place ≡ held pool place
+held_grown pool bytes None within = refl
+held_grown pool bytes (Some page) within =
+    ap Some (get_or_append_left pool (bytes ∷ []) [] page (within page refl))
+
+pub grown_others : {pool : List (List ℕ)} {places : List (Option ℕ)} {free : List ℕ}
+    → ArePages pool places free
+    → (place : ℕ) (bytes : List ℕ)
+    → SameBut place (map (held pool) places)
+    (map (held (pool ++ bytes ∷ [])) (set places place (Some (length pool))))
+grown_others {pool} {places} {free} pages place bytes other apart =
+    held_at (pool ++ bytes ∷ []) (set places place (Some (length pool))) other
+    ∙ ap (held (pool ++ bytes ∷ []))
+    (get_or-set_other places place other (Some (length pool)) None apart)
+    ∙ held_grown pool bytes (get_or places other None) (λ page. in_pool pages other page)
     ∙ sym (held_at pool places other)
 
 -- a place is emptied, and its page is free
@@ -145,6 +226,7 @@ given {pool} {places} {free} pages place page was = record {
       let named = rw was at (count_set is_none places place None None (within_places places place page was)) in
       let more = length_push free page in
       let before = pages.as_many in
+      let len = length-set places place None in
       omega arith;
 }
 
@@ -171,14 +253,7 @@ room {pool} {places} {free} pages place page named =
     let len = length-set places place None in
     let all = pages.places_len in
     let same = pages.as_many in
-    omega arith
-
--- where a place is empty there is a free page
-pub some_free : {pool : List (List ℕ)} {places : List (Option ℕ)} {free : List ℕ} → ArePages pool places free → (place : ℕ) → place < 128 → get_or places place None ≡ None → 0 < length free
-some_free {pool} {places} {free} pages place there empty =
-    let within : place < length places = rw pages.places_len there in
-    let least = rw empty at (get_or-le-sum_by (λ (x : Option ℕ). cond (is_none x) 1 0) places place None within) in
-    let same = pages.as_many in
+    let few = pages.pool_len in
     omega arith
 
 -- bytes of places that did not change, and of one that names a page or is empty
@@ -221,9 +296,8 @@ zeros xs n k is =
     ]
 
 -- each page that is read has 512 bytes
-pub page_full : {pool : List (List ℕ)} {places : List (Option ℕ)} {free : List ℕ} → ArePages pool places free → (page : ℕ) (bytes : List ℕ) → page < 128 → bytes ≡ get_or pool page bytes → length bytes ≡ 512
-page_full {pool} {places} {free} pages page bytes in' read =
-    let there : page < length pool = rw pages.pool_len in' in
+pub page_full : {pool : List (List ℕ)} {places : List (Option ℕ)} {free : List ℕ} → ArePages pool places free → (page : ℕ) (bytes : List ℕ) → page < length pool → bytes ≡ get_or pool page bytes → length bytes ≡ 512
+page_full {pool} {places} {free} pages page bytes there read =
     let bytes_are : bytes ≡ get_or pool page [] = get_or_read pool page bytes there read [] in
     rw bytes_are (pages.page_len page [] there)
 
@@ -245,7 +319,7 @@ pub record Patched (pool patched : List (List ℕ)) (places : List (Option ℕ))
 
 pub patched : {pool : List (List ℕ)} {places : List (Option ℕ)} {free : List ℕ} → ArePages pool places free → (start place offset page size : ℕ) (bytes piece : List ℕ) → place ≡ start / 512 → offset ≡ start % 512 → get_or places place None ≡ Some page → bytes ≡ get_or pool page bytes → size ≡ length piece → offset + size ≤ 512 → Patched pool (set pool page (put_mid offset size bytes piece)) places free start piece
 patched {pool} {places} {free} pages start place offset page size bytes piece at into named read is within =
-    let there : page < length pool = rw pages.pool_len (in_pool pages place page named) in
+    let there = in_pool pages place page named in
     let bytes_are : bytes ≡ get_or pool page [] = get_or_read pool page bytes there read [] in
     let full : length bytes ≡ 512 = rw bytes_are (pages.page_len page [] there) in
     let after = put_mid offset size bytes piece in
@@ -313,37 +387,6 @@ in_mid xs at size k inside = grind (arith, places)
 -- the head of a list, after a piece that is as long as it was copied there
 pub in_head : (piece into : List ℕ) (count k : ℕ) → length piece ≡ length (take count into) → count ≤ length into → k < count → get_or (piece ++ drop count into) k 0 ≡ get_or piece k 0
 in_head piece into count k same within inside = grind (arith, places)
-
-one_more : (page other n : ℕ) → n ≡ cond (nat_lt other page) 1 0 → n + cond (nat_eq page other) 1 0 ≡ cond (nat_lt other (page + 1)) 1 0
-one_more page other n is = grind (arith, nat_tests)
-
--- the free pages of a new file, as they are listed one after another
-pub listed_more : (free more : List ℕ) (page : ℕ) → more ≡ free ++ page ∷ [] → ((other : ℕ) → count_by (λ x. nat_eq x other) free ≡ cond (nat_lt other page) 1 0) → (other : ℕ) → count_by (λ x. nat_eq x other) more ≡ cond (nat_lt other (page + 1)) 1 0
-listed_more free more page is each other =
-    ap (count_by (λ x. nat_eq x other)) is
-    ∙ count_push (λ x. nat_eq x other) free page
-    ∙ one_more page other _ (each other)
-
-none_named : (page n : ℕ) → count_by (names page) (replicate n None) ≡ 0
-none_named page zero = refl
-none_named page (suc n) = none_named page n
-
-all_empty : (n : ℕ) → count_by is_none (replicate {A = Option ℕ} n None) ≡ n
-all_empty zero = refl
-all_empty (suc n) = sum_by-cons (λ (x : Option ℕ). cond (is_none x) 1 0) None (replicate n None) ∙ ap (λ m. 1 + m) (all_empty n) ∙ omega arith
-
--- all pages are free, and all places empty
-pub all_free : (pool : List (List ℕ)) (places : List (Option ℕ)) (free : List ℕ) → length pool ≡ 128 → All (λ page. length page ≡ 512) pool → places ≡ replicate 128 None → length free ≡ 128 → ((page : ℕ) → count_by (λ x. nat_eq x page) free ≡ cond (nat_lt page 128) 1 0) → ArePages pool places free
-all_free pool places free pool_len page_len is free_len each = record {
-  pool_len = pool_len;
-  page_len = page_len;
-  places_len = ap length is;
-  once = λ page.
-      let named : count_by (names page) places ≡ 0 = ap (count_by (names page)) is ∙ none_named page 128 in
-      let free_once = each page in
-      omega arith;
-  as_many = free_len ∙ sym (ap (count_by is_none) is ∙ all_empty 128);
-}
 
 pub none_at : (places : List (Option ℕ)) (n place : ℕ) → places ≡ replicate n None → get_or places place None ≡ None
 none_at places n place is =

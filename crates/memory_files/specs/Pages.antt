@@ -48,11 +48,13 @@ abbrev pub SameOutside : ℕ → ℕ → List (Option (List ℕ)) → List (Opti
 SameOutside position count old new =
     (place : ℕ) → (512 * place + 512 ≤ position) ⊎ (position + count ≤ 512 * place) → SameAt place old new
 
--- the pool has 128 pages of 512 bytes. Each stands once among what places name and the free ones, and no other
--- page does; and for each empty place there is a free page
+-- the pool has at most 128 pages of 512 bytes. Each stands once among what places name and the
+-- free ones, and no other page does; so there are as many pages as are free and as places name
 pub record ArePages (pool : List (List ℕ)) (places : List (Option ℕ)) (free : List ℕ) : Type 0 where
-  pub pool_len : length pool ≡ 128
+  pub pool_len : length pool ≤ 128
   pub page_len : All (λ page. length page ≡ 512) pool
   pub places_len : length places ≡ 128
-  pub once : (page : ℕ) → count_by (λ other. other == page) free + count_by (names page) places ≡ (if nat_lt page 128 then 1 else 0)
-  pub as_many : length free ≡ count_by is_none places
+  pub once :
+      (page : ℕ) → count_by (λ other. other == page) free + count_by (names page) places
+      ≡ (if nat_lt page (length pool) then 1 else 0)
+  pub as_many : length pool + count_by is_none places ≡ length free + length places

@@ -1,5 +1,4 @@
 ghost use Rattle.std.specs.Prelude.{◌≡◌, ℕ, ◌+◌, ◌-◌, ◌*◌, ◌<◌, ◌≤◌, ◌/◌, ◌%◌, length, drop, min, None, slice_index, slice_index_or, IfOk, IsSome};
-ghost use Rattle.std.specs.List.{All};
 ghost use Rattle.memory_files.specs.Pages.{byte_at, EmptyBehind, SameAt, SameBut, ZeroFrom};
 
 use std::alloc::{AllocError, Global};
@@ -8,11 +7,12 @@ use std::marker::Model;
 // Bytes of a page.
 const PAGE_BYTES: usize = 512;
 
-// Places of a file, and pages of its pool.
+// Places of a file, and pages that its pool has at most.
 const PLACES: usize = 128;
 
-// The pages of one file. Each is named by one place, or is free. Contracts see the places: each with
-// the bytes of its page, or empty.
+// The pages of one file. Each is named by one place, or is free. The room for all of them is taken
+// when the file is made. A page joins the pool when a place wants one and none is free. Contracts
+// see the places: each with the bytes of its page, or empty.
 #[derive(Drop)]
 pub(crate) struct Pages {
     pool: Vec<[u8; PAGE_BYTES]>,
@@ -29,20 +29,18 @@ impl Model for Pages {
 
     ghost view = { λ p. map (held p.pool.items) p.places.items };
 
-    ghost invariant = { λ p. ArePages p.pool.items p.places.items p.free.items × (128 ≤ vec_capacity p.free) };
+    ghost invariant = { λ p. ArePages p.pool.items p.places.items p.free.items
+        × (128 ≤ vec_capacity p.pool) × (128 ≤ vec_capacity p.free) };
 }
 
 impl Pages {
-    // All places empty. It takes the memory for all pages.
+    // All places empty, and no page yet. It takes the memory for all pages.
     pub(crate) fn new(alloc: Global) -> Result<Pages, AllocError>
         ensures empty { IfOk result (λ pages. EmptyBehind pages 0) }
     {
-        let pool = new_pool(alloc)?;
+        let pool = Vec::with_capacity(alloc, PLACES)?;
         let places = vec![in alloc; None; PLACES]?;
-        let mut free = Vec::with_capacity(alloc, PLACES)?;
-        for page in 0..PLACES as u8 {
-            free.push(page).unwrap();
-        }
+        let free = Vec::with_capacity(alloc, PLACES)?;
         Ok(Pages { pool, places, free })
     }
 
@@ -109,7 +107,8 @@ impl Pages {
         count
     }
 
-    // Has a place name a page, where it is empty: a free one, which is cleared.
+    // Has a place name a page of 0 bytes, where it is empty: a free one, which is cleared, or else
+    // a new one.
     fn take_page(&mut self, place: usize)
         requires within { place < 128 }
         ensures named { IsSome (slice_index_or self.new place None) }
@@ -119,9 +118,17 @@ impl Pages {
         if self.places[place].is_some() {
             return;
         }
-        let page = self.free.pop().unwrap();
-        self.pool[page as usize].fill(0);
-        self.places[place] = Some(page);
+        match self.free.pop() {
+            Some(page) => {
+                self.pool[page as usize].fill(0);
+                self.places[place] = Some(page);
+            }
+            None => {
+                let page = self.pool.len() as u8;
+                self.pool.push_reserved([0; PAGE_BYTES]);
+                self.places[place] = Some(page);
+            }
+        }
     }
 
     // Has all bytes from `size` on read as 0, and gives back the pages that lie behind it. All bytes behind `end`
@@ -163,18 +170,6 @@ impl Pages {
             self.free.push(page).unwrap();
         }
     }
-}
-
-// The pages of a pool. Their bytes are cleared once a place names them.
-fn new_pool(alloc: Global) -> Result<Vec<[u8; PAGE_BYTES]>, AllocError>
-    ensures pages { IfOk result (λ pool. length pool.items ≡ 128) }
-    ensures bytes { IfOk result (λ pool. All (λ page. length page ≡ 512) pool.items) }
-{
-    let mut pool = Vec::with_capacity(alloc, PLACES)?;
-    for _ in 0..PLACES {
-        pool.push([0; PAGE_BYTES]).unwrap();
-    }
-    Ok(pool)
 }
 
 // Where a position lies: in the page of which place, and how far into it.

@@ -6,7 +6,7 @@ pub index-bytes-requires : goal.index-bytes-requires
 index-bytes-requires c =
     let there : c.of-spot.result.place < length c.self.inside.places.items = omega (arith, c.self.invariant.0.places_len) in
     let named = read_place _ _ _ _ there c.index.ensures c.in-Some.is in
-    omega (arith, in_pool c.self.invariant.0 _ _ named, c.self.invariant.0.pool_len)
+    omega (arith, in_pool c.self.invariant.0 _ _ named)
 
 pub returns-in-Some-clause-bytes : goal.returns-in-Some-clause-bytes
 returns-in-Some-clause-bytes c k h =
@@ -16,7 +16,7 @@ returns-in-Some-clause-bytes c k h =
     in_head c.copy_from_slice.new.self c.args.into.now c.min-count.result k c.copy_from_slice.ensures.len (omega (arith, c.min-count.ensures)) h
     ∙ ap (λ xs. get_or xs k 0) c.copy_from_slice.ensures.after
     ∙ in_mid c.index-bytes.result.now c.of-spot.result.offset (c.of-spot.result.offset + c.min-count.result - c.of-spot.result.offset) k (omega arith)
-    ∙ sym (rw c.self.view_is at (read_named c.self.inside.pool.items c.self.inside.places.items c.args.start c.of-spot.result.place c.of-spot.result.offset c.in-Some.page c.index-bytes.result.now k c.of-spot.ensures.place c.of-spot.ensures.offset named (omega (arith, in_pool c.self.invariant.0 _ _ named, c.self.invariant.0.pool_len)) c.index-bytes.ensures within))
+    ∙ sym (rw c.self.view_is at (read_named c.self.inside.pool.items c.self.inside.places.items c.args.start c.of-spot.result.place c.of-spot.result.offset c.in-Some.page c.index-bytes.result.now k c.of-spot.ensures.place c.of-spot.ensures.offset named (in_pool c.self.invariant.0 _ _ named) c.index-bytes.ensures within))
 
 pub returns-in-None-clause-bytes : goal.returns-in-None-clause-bytes
 returns-in-None-clause-bytes c k h =

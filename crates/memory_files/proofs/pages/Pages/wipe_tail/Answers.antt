@@ -7,7 +7,7 @@ pub index_mut-requires : goal.index_mut-requires
 index_mut-requires c =
     let there : c.of-spot.result.place < length c.self.inside.places.items = omega (arith, c.self.invariant.0.places_len) in
     let named = read_place _ _ _ _ there c.index.ensures c.in-Some.is in
-    omega (arith, in_pool c.self.invariant.0 _ _ named, c.self.invariant.0.pool_len)
+    omega (arith, in_pool c.self.invariant.0 _ _ named)
 
 named : (c : goal.After-self-1) → get_or c.self.inside.places.items c.of-spot.result.place None ≡ Some c.in-Some.page
 named c =
@@ -24,7 +24,7 @@ wiped : (c : goal.After-self-1) → Patched c.self.inside.pool.items (set c.self
 wiped c = patched c.self.invariant.0 c.args.start c.of-spot.result.place c.of-spot.result.offset c.in-Some.page (512 - c.of-spot.result.offset) c.index_mut.result.now c.fill.new.self c.of-spot.ensures.place c.of-spot.ensures.offset (named c) c.index_mut.ensures.value (filled_to_end c) (omega arith)
 
 pub invariant_of-self : goal.invariant_of-self
-invariant_of-self c = ((wiped c).pages, c.self.invariant.1)
+invariant_of-self c = ((wiped c).pages, c.self.invariant.1, c.self.invariant.2)
 
 pub returns-in-Some-clause-before : goal.returns-in-Some-clause-before
 returns-in-Some-clause-before c = rw (← c.self.view_is) (wiped c).before

@@ -13,7 +13,7 @@ pub index_mut-requires : goal.index_mut-requires
 index_mut-requires c =
     let there : c.of-spot.result.place < length c.self.inside.places.items = omega (arith, c.self.invariant.0.places_len) in
     let named = read_place _ _ _ _ there c.index.ensures c.unwrap-page.ensures in
-    omega (arith, in_pool c.self.invariant.0 _ _ named, c.self.invariant.0.pool_len)
+    omega (arith, in_pool c.self.invariant.0 _ _ named)
 
 named : (c : goal.After-self-1) → get_or c.self.inside.places.items c.of-spot.result.place None ≡ Some c.unwrap-page.result
 named c =
@@ -31,7 +31,7 @@ laid : (c : goal.After-self-1) → Patched c.self.inside.pool.items (set c.self.
 laid c = patched c.self.invariant.0 c.args.start c.of-spot.result.place c.of-spot.result.offset c.unwrap-page.result (c.of-spot.result.offset + c.min-count.result - c.of-spot.result.offset) c.index_mut.result.now c.copy_from_slice.new.self c.of-spot.ensures.place c.of-spot.ensures.offset (named c) c.index_mut.ensures.value (omega (arith, piece_len c)) (omega (arith, c.min-count.ensures))
 
 pub invariant_of-self : goal.invariant_of-self
-invariant_of-self c = ((laid c).pages, c.self.invariant.1)
+invariant_of-self c = ((laid c).pages, c.self.invariant.1, c.self.invariant.2)
 
 pub returns-clause-before : goal.returns-clause-before
 returns-clause-before c k h = rw c.self.view_is at ((laid c).before k h) ∙ c.take_page.ensures.bytes k
