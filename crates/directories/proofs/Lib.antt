@@ -1,3 +1,4 @@
+pub mod HashLemmas
 pub mod ComponentLemmas
 pub mod EntryLemmas
 pub mod NameLemmas

@@ -1,11 +1,12 @@
 -- Internal: no contract of the headline or of a command stands on it.
 -- How the names are kept: each with its path as it was written.
-use Rattle.std.specs.Prelude.{◌≡◌, ℕ, ◌<◌, List, [], ◌∷◌, length, map, Some, None, slice_index_or}
+use Rattle.std.specs.Prelude.{◌≡◌, ℕ, ◌<◌, List, [], ◌∷◌, length, map, Some, None, slice_index_or, refl}
 use Rattle.std.specs.FinMap as fin
 use Rattle.std.specs.declared.cmp.Ordering.{Ordering}
 use Rattle.sequential_object.specs.Object.{Node, FileNode, Directory, path_cmp}
 use Rattle.sequential_object.specs.Paths.{components_of}
 use Rattle.sequential_object.specs.Names.{PathMap}
+use Rattle.directories.specs.Hashes.{hash_of}
 use Rattle.directories.specs.declared.entry.Entry.{Entry}
 use Rattle.directories.specs.declared.entry.Node.{Node as Named}
 use Rattle.directories.specs.declared.entry.Node.TheVariants as named
@@ -18,7 +19,14 @@ abbrev pub entry_of : Entry → List (List ℕ) × Node
 entry_of e = (components_of e.path.items, node_of e.node)
 
 abbrev pub no_entry : Entry
-no_entry = record { path = record { items = [] }; node = named.Directory }
+no_entry = record {
+  path = record { items = [] };
+  node = named.Directory;
+  hash = hash_of [];
+  count = 0;
+  hashed = refl;
+  counted = refl;
+}
 
 abbrev pub entry_at : List Entry → ℕ → Entry
 entry_at entries i = slice_index_or entries i no_entry

@@ -2,12 +2,12 @@ ghost use Rattle.std.specs.Prelude.{◌≡◌, ◌<◌, ◌≤◌, [], length, m
 ghost use Rattle.std.specs.FinMap as fin;
 ghost use Rattle.sequential_object.specs.Object.{path_cmp, FileNode, Directory as a_directory};
 ghost use Rattle.sequential_object.specs.Paths.{components_of, node_at, resolved, walked};
-ghost use Rattle.sequential_object.specs.Names.{added, removed, renamed, removed_dir, removed_dir_at, has_entries, is_inside, links_of};
+ghost use Rattle.sequential_object.specs.Names.{added, removed, renamed, removed_dir, removed_dir_at, has_entries, links_of};
 ghost use Rattle.directories.specs.Lookup.{NamesFile, looked_up, moved_name, renaming};
 ghost use Rattle.directories.specs.Entries.{node_of, entry_of, IsAt};
 
 use crate::entry::{Entry, Node};
-use crate::path::{component_count, has_prefix_components, well_formed};
+use crate::path::{component_count, prefix_hash, well_formed};
 use arrayvec::ArrayVec;
 use posix_terms::{Errno, Limits};
 use std::marker::Model;
@@ -170,8 +170,7 @@ impl Names {
         requires missing { fin.get self.old (components_of path.now) ≡ None }
         ensures { self.new ≡ fin.insert self.old (components_of path.now) (node_of node) }
     {
-        let path = ArrayVec::try_from(path).unwrap();
-        self.entries.push(Entry { path, node });
+        self.entries.push(Entry::new(path, node));
     }
 
     /// Takes a name away, if it is there. What it names, and whether anything is inside, is the caller's to know:
@@ -322,7 +321,7 @@ impl Names {
         ensures { result ≡ has_entries self.now (components_of path.now) }
     {
         for entry in self.entries.as_slice() {
-            if leads_on(path, count, entry.path.as_slice()) {
+            if entry.is_inside(path, count) {
                 return true;
             }
         }
@@ -336,18 +335,11 @@ fn position(entries: &[Entry], path: &[u8], count: usize) -> Option<usize>
     ensures found { IfSome result (λ i. IsAt entries.now i (take count (components_of path.now))) }
     ensures missing { IfNone result (fin.find path_cmp (take count (components_of path.now)) (map entry_of entries.now) ≡ None) }
 {
+    let hash = prefix_hash(path, count);
     for i in 0..entries.len() {
-        if has_prefix_components(entries[i].path.as_slice(), path, count) {
+        if entries[i].has_components(path, count, hash) {
             return Some(i);
         }
     }
     None
-}
-
-// Whether another path leads on from a path.
-fn leads_on(path: &[u8], count: usize, other: &[u8]) -> bool
-    requires { count ≡ length (components_of path.now) }
-    ensures { result ≡ is_inside (components_of path.now) (components_of other.now) }
-{
-    count < component_count(other) && has_prefix_components(path, other, count)
 }

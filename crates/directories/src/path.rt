@@ -2,8 +2,10 @@ ghost use Rattle.std.specs.Prelude.{◌≡◌, ◌==◌, ◌<◌, ◌≤◌, ◌
 ghost use Rattle.std.specs.Cmp.Lexicographic.{pointwise};
 ghost use Rattle.std.specs.List.{list_any};
 ghost use Rattle.sequential_object.specs.Paths.{slash, components_of, has_trailing_slash, is_dots, path_form};
+ghost use Rattle.directories.specs.Hashes.{hash_of};
 
 use posix_terms::{Errno, Limits};
+use std::hash::{FoldHasher, Hasher};
 
 // Where the first slash stands.
 fn slash_at(path: &[u8]) -> Option<usize>
@@ -52,6 +54,23 @@ pub fn component_count(path: &[u8]) -> usize
         rest = next;
     }
     count
+}
+
+// A hash of the first `count` components of a path: the same for the same components.
+#[tactic(auto, using(crate::proofs::HashLemmas::hashing))]
+pub fn prefix_hash(path: &[u8], count: usize) -> u64
+    ensures { result ≡ hash_of (take count (components_of path.now)) }
+{
+    let mut hasher = FoldHasher::default();
+    let mut rest = path;
+    for _ in 0..count {
+        let Some((name, next)) = split_first(rest) else {
+            return hasher.finish();
+        };
+        hasher.write(name);
+        rest = next;
+    }
+    hasher.finish()
 }
 
 // Whether a path has the components of the first `count` of another path.
