@@ -37,6 +37,7 @@ mod log_lines;
 mod printed;
 mod script_texts;
 mod source;
+mod text_parts;
 mod transcripts;
 
 pub use first_fault::FirstFault;

@@ -1,8 +1,11 @@
-ghost use Rattle.std.specs.Prelude.{◌≡◌, ◌++◌, IfOk, string_bytes};
+ghost use Rattle.std.specs.Prelude.{◌≡◌, ◌++◌, IfOk, OnOk, codes, string_bytes};
+ghost use Rattle.posix_terms.specs.Calls.{kind_of, word_of};
 ghost use Rattle.command_texts.specs.Printing.{run_printed};
-ghost use Rattle.command_texts.specs.Transcripts.{data_text, end_status, end_text, reply_text, row_text, rows_text, transcripts_text};
+ghost use Rattle.command_texts.specs.Transcripts.{end_status, end_text, reply_text};
+ghost use Rattle.command_texts.specs.Transcripts.{row_text, rows_text, transcripts_text};
 
 use crate::printed::Printed;
+use crate::text_parts::{push_data, push_number, push_place, push_signed, push_word};
 use call_machine::Stop;
 use posix_terms::{Bytes, Reply, Row, Transcript, Transcripts, errno_name};
 use std::alloc::{AllocError, Global};
@@ -16,99 +19,115 @@ pub fn run_printed(
 ) -> Result<Printed, AllocError>
     ensures { IfOk result (λ printed. printed ≡ run_printed turns transcripts.now stop) }
 {
-    let mut output = transcripts_text(alloc, turns, transcripts.threads())?;
+    let mut output = Vec::new(alloc);
+    push_transcripts(&mut output, turns, transcripts.threads())?;
     let end = end_text(alloc, stop)?;
-    output.push_str(end.as_str())?;
+    push_word(&mut output, end.as_str())?;
     Ok(Printed {
         status: end_status(stop),
-        output: Bytes::from_vec(output.into_bytes()),
+        output: Bytes::from_vec(output),
         errors: Bytes::from_vec(Vec::new(alloc)),
     })
 }
 
-// The text of all transcripts, by thread, with the clocks of the turns if that is asked.
-fn transcripts_text(
-    alloc: Global,
+// Adds all transcripts, by thread, with the clocks of the turns if that is asked.
+fn push_transcripts(
+    text: &mut Vec<u8>,
     turns: bool,
     transcripts: &[Transcript],
-) -> Result<String, AllocError>
-    ensures { IfOk result (λ text. string_bytes text ≡ transcripts_text turns 0 transcripts.now) }
+) -> Result<(), AllocError>
+    ensures { OnOk result (
+        text.new.items ≡ text.old.items ++ transcripts_text turns 0 transcripts.now) }
 {
-    let mut text = String::new(alloc);
     for (thread, transcript) in transcripts.iter().enumerate() {
-        let rows = rows_text(alloc, turns, thread, transcript.rows())?;
-        text.push_str(rows.as_str())?;
+        push_rows(text, turns, thread, transcript.rows())?;
     }
-    Ok(text)
+    Ok(())
 }
 
-// The text of one thread's rows.
-fn rows_text(alloc: Global, turns: bool, thread: usize, rows: &[Row]) -> Result<String, AllocError>
-    ensures { IfOk result (λ text. string_bytes text ≡ rows_text turns thread 0 rows.now) }
+// Adds one thread's rows.
+fn push_rows(text: &mut Vec<u8>, turns: bool, thread: usize, rows: &[Row]) -> Result<(), AllocError>
+    ensures { OnOk result (
+        text.new.items ≡ text.old.items ++ rows_text turns thread 0 rows.now) }
 {
-    let mut text = String::new(alloc);
     for (number, row) in rows.iter().enumerate() {
-        let line = row_text(alloc, turns, thread, number, row)?;
-        text.push_str(line.as_str())?;
+        push_row(text, turns, thread, number, row)?;
     }
-    Ok(text)
+    Ok(())
 }
 
 #[tactic(auto, unfolding(crate::specs::Transcripts::row_text))]
-fn row_text(
-    alloc: Global,
+fn push_row(
+    text: &mut Vec<u8>,
     turns: bool,
     thread: usize,
     number: usize,
     row: &Row,
-) -> Result<String, AllocError>
-    ensures { IfOk result (λ text. string_bytes text ≡ row_text turns thread number row.now) }
+) -> Result<(), AllocError>
+    ensures { OnOk result (
+        text.new.items ≡ text.old.items ++ row_text turns thread number row.now) }
 {
-    let call = row.call.kind().word();
-    let reply = reply_text(alloc, &row.reply)?;
+    push_place(text, thread as u64, number as u64)?;
     if turns {
-        let clock = row.turn.clock;
-        return format!(in alloc; "{thread} {number} {clock} {call} {reply}\n");
+        push_number(text, row.turn.clock)?;
+        push_word(text, " ")?;
     }
-    format!(in alloc; "{thread} {number} {call} {reply}\n")
+    push_call(text, row)
+}
+
+// Adds the rest of a row's line: its call and the reply.
+fn push_call(text: &mut Vec<u8>, row: &Row) -> Result<(), AllocError>
+    ensures { OnOk result (text.new.items
+        ≡ text.old.items ++ word_of (kind_of row.now.call) ++ codes " "
+        ++ reply_text row.now.reply ++ codes "\n") }
+{
+    push_word(text, row.call.kind().word())?;
+    push_word(text, " ")?;
+    push_reply(text, &row.reply)?;
+    push_word(text, "\n")
 }
 
 #[tactic(auto, unfolding(crate::specs::Transcripts::reply_text))]
-fn reply_text(alloc: Global, reply: &Reply) -> Result<String, AllocError>
-    ensures { IfOk result (λ text. string_bytes text ≡ reply_text reply.now) }
+fn push_reply(text: &mut Vec<u8>, reply: &Reply) -> Result<(), AllocError>
+    ensures { OnOk result (text.new.items ≡ text.old.items ++ reply_text reply.now) }
 {
     match reply {
-        Reply::Count(count) => format!(in alloc; "count {count}"),
-        Reply::Data(bytes) => {
-            let data = data_text(alloc, bytes.as_slice())?;
-            format!(in alloc; "data {data}")
+        Reply::Count(count) => {
+            push_word(text, "count ")?;
+            push_number(text, *count)
         }
-        Reply::Number(number) => format!(in alloc; "number {number}"),
-        Reply::Pair(first, second) => format!(in alloc; "pair {first} {second}"),
+        Reply::Data(bytes) => {
+            push_word(text, "data ")?;
+            push_data(text, bytes.as_slice())
+        }
+        Reply::Number(number) => {
+            push_word(text, "number ")?;
+            push_signed(text, *number)
+        }
+        Reply::Pair(first, second) => {
+            push_word(text, "pair ")?;
+            push_signed(text, *first)?;
+            push_word(text, " ")?;
+            push_signed(text, *second)
+        }
         Reply::Stat {
             kind,
             number,
             links,
         } => {
-            let kind = kind.code();
-            format!(in alloc; "stat {kind} {number} {links}")
+            push_word(text, "stat ")?;
+            push_number(text, u64::from(kind.code()))?;
+            push_word(text, " ")?;
+            push_number(text, *number)?;
+            push_word(text, " ")?;
+            push_number(text, *links)
         }
-        Reply::Done => String::from_str(alloc, "done"),
+        Reply::Done => push_word(text, "done"),
         Reply::Fail(error) => {
-            let name = errno_name(*error);
-            format!(in alloc; "fail {name}")
+            push_word(text, "fail ")?;
+            push_word(text, errno_name(*error))
         }
     }
-}
-
-// Bytes as hexadecimal digits, and `-` for none.
-pub fn data_text(alloc: Global, bytes: &[u8]) -> Result<String, AllocError>
-    ensures { IfOk result (λ text. string_bytes text ≡ data_text bytes.now) }
-{
-    if bytes.is_empty() {
-        return String::from_str(alloc, "-");
-    }
-    hex::encode(alloc, bytes)
 }
 
 // The line that tells how a run ended.
