@@ -187,6 +187,14 @@ attempt_falls laws terms i s lines can =
     enough : (x y lines : ℕ) → y ≡ 2 * lines + 2 → x ≤ 2 * lines + 5 → x ≤ y + 3
     enough x y lines e h = omega arith
 
+-- a later clock leaves less to do
+pub later_weighs : (u : lock.Thread) (clock : ℕ) (stuck : Bool) (lines : ℕ) → u.clock ≤ clock → weight_at (record u { clock = clock }) stuck lines ≤ weight_at u stuck lines
+unfolding weight_at load
+later_weighs u clock stuck lines later = less u.clock clock (left_at u.phase stuck lines) later
+  where
+    less : (a b left : ℕ) → a ≤ b → 4 * (2 ^ 62 - b) + left ≤ 4 * (2 ^ 62 - a) + left
+    less a b left h = omega arith
+
 -- ## All threads
 
 abbrev weight_of : List Thread → List Player → ℕ → ℕ

@@ -6,6 +6,7 @@ pub mod Playing
 pub mod Coming
 pub mod Seats
 pub mod Scheduling
+pub mod Skipping
 pub mod Told
 pub mod Legality
 pub mod Concluding

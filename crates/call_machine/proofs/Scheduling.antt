@@ -1,5 +1,5 @@
 -- The events of the plain schedule.
-use Rattle.std.proofs.Common.{◌≡◌, ◌⊎◌, ℕ, zero, suc, ◌+◌, ◌<◌, ◌≤◌, List, [], ◌++◌, length, Option, Some, None, Bool, true, false, ◌||◌, inl, inr, sym, refl, ap, ap₂, ◌∙◌, subst, arith}
+use Rattle.std.proofs.Common.{◌≡◌, ◌⊎◌, ℕ, zero, suc, ◌+◌, ◌<◌, ◌≤◌, List, [], ◌++◌, length, Option, Some, None, Bool, true, false, ◌||◌, is_some, max, slice_get, inl, inr, ⊎_elim, sym, refl, ap, ap₂, ◌∙◌, subst, arith}
 use Rattle.std.proofs.lemmas.Bool.{cases_eq, cond-true, cond-false, true≢false}
 use Rattle.std.proofs.lemmas.List.{append_assoc, append-nil, length-append}
 use Rattle.std.proofs.lemmas.Grind.{flat_map-append}
@@ -7,198 +7,44 @@ use Rattle.std.proofs.lemmas.Option.{none-some}
 use Rattle.input_log.specs.Format.{record_text, records_text}
 use Rattle.input_log.specs.declared.log.Record.{Record}
 use Rattle.posix_terms.specs.declared.limits.TheConstants.Limits as limit
-use Rattle.lock_model.specs.Events.{EventLaws}
+use Rattle.lock_model.specs.Events.{EventLaws, thread_in}
 use Rattle.lock_model.specs.Laws.{ArisesAtStart, ArisesByEvent}
-use Rattle.lock_model.specs.Machine.{Event, Setup, advance, attempt, can_advance, can_attempt, happens}
+use Rattle.lock_model.specs.Machine.{Event, Setup, advance, attempt, can_advance, can_attempt, happens, moves}
 use Rattle.sequential_object.specs.Numbers.{first_world}
 use Rattle.lock_model.specs.Machine.Event.{Advances, Attempts}
-use Rattle.lock_model.specs.Schedule.{advance_by, after_event, attempt_by, next_event, plain, plain_run}
+use Rattle.lock_model.specs.Schedule.{IsOver, advance_by, after_event, attempt_by, next_event, plain, plain_run}
+use Rattle.lock_model.specs.State as lock
 use Rattle.lock_model.specs.State.{State, live_clocks, thread_of}
 use Rattle.logical_clocks.specs.TurnOrder.{LeastIsFound, first_below, first_or, turn_holder}
-use Rattle.call_machine.specs.Driven.{Begins, ComesTo, Ends, IsLogged, Plainly, StaysAt, first_log}
+use Rattle.call_machine.specs.Driven.{Begins, ComesTo, Ends, GoesOn, IsLogged, Rests, RestsBut, first_log, stops_at}
 use Rattle.call_machine.specs.Logs.{LogsMore, Written, came_between}
 use Rattle.call_machine.specs.Logs.{plain_records, recorded_by, recorded_next}
 use Rattle.call_machine.specs.Plain.{GoesTo}
-use Rattle.call_machine.specs.Playing.{Attempted, ComesAt, IsPlayed, Makes, Played}
-use Rattle.call_machine.specs.Setup.{Inputs, conditions_of, first_state, setup_of}
+use Rattle.call_machine.specs.Playing.{Attempted, IsPlayed, Made, Makes, Played}
+use Rattle.call_machine.specs.Setup.{Inputs, conditions_of, first_state, outcomes_of, setup_of}
 use Rattle.call_machine.specs.Diverging.{diverging, if_diverging}
 use Rattle.lock_machine.specs.Shows.{ClocksShown}
-use Rattle.lock_machine.specs.Diverging.{is_diverging}
+use Rattle.lock_machine.specs.Diverging.{diverging_in, is_diverging}
+use Rattle.lock_machine.specs.declared.outside.Progress.{Progress}
 use Rattle.lock_machine.specs.Views.{clocks_of}
 use Rattle.call_machine.specs.Weights.{Falls, total}
-use Rattle.call_machine.specs.declared.drive.Went.TheVariants as went
 use Rattle.lock_machine.specs.declared.outside.Progress.TheVariants as progress
 use Rattle.call_machine.proofs.Quiet.{attempt_came, logs_none, none_between}
 
 -- ## Diverges and advances together
 
--- thread i could make an event without the turn, or diverges
-abbrev pub stops_at : Inputs → State → ℕ → Bool
-stops_at input s i = can_advance (setup_of input) s i || is_diverging (setup_of input) s i
-
 neither : (a b : Bool) → (a || b) ≡ false → (a ≡ false) × (b ≡ false)
 neither true b h = absurd (true≢false h)
 neither false b h = (refl, h)
 
--- where none of the first ones stops, none of them advances
-none_of_both : (n : ℕ) (p q : ℕ → Bool) → first_below n (λ i. p i || q i) ≡ None → first_below n p ≡ None
+none_below : (n : ℕ) (p : ℕ → Bool) → ((k : ℕ) → k < n → p k ≡ false) → first_below n p ≡ None
 unfolding first_below
-none_of_both zero p q h = refl
-none_of_both (suc n) p q h = by_first (first_below n (λ i. p i || q i)) (p n || q n) refl refl (λ is. none_of_both n p q is) h
-  where
-    by_first : (o : Option ℕ) (b : Bool) → first_below n (λ i. p i || q i) ≡ o → (p n || q n) ≡ b → (first_below n (λ i. p i || q i) ≡ None → first_below n p ≡ None) → first_or o b n ≡ None → first_below (suc n) p ≡ None
-    by_first (Some i) b is test before h = absurd (none-some i (sym h))
-    by_first None true is test before h = absurd (none-some n (sym h))
-    by_first None false is test before h = ap (λ (o : Option ℕ). first_or o (p n) n) (before is) ∙ ap (λ (b : Bool). first_or None b n) (neither (p n) (q n) test).0
-
--- ## The schedule
-
--- the first threads, so many, can't make an event without the turn, and none of them diverges; so the run stays where it is
-pub record StaysSo (input : Inputs) (s : State) (n : ℕ) (old now : Played) : Type 0 where
-  pub none : first_below n (stops_at input s) ≡ None
-  pub plays : IsPlayed input now s
-  pub log : now.log ≡ old.log
-  pub falls : Falls false old.whole.threads old.players now.whole.threads now.players
-
-pub record NoneMoves (n : ℕ) (old now : Played) : Type 0 where
-  pub count : length now.players ≡ length old.players
-  pub holds : (input : Inputs) (s : State) → ComesAt old input s → StaysSo input s n old now
-
-pub none_at_first : (p : Played) → NoneMoves 0 p p
-unfolding first_below
-none_at_first p = record { count = refl; holds = λ input s at. record { none = refl; plays = at.1; log = refl; falls = omega arith } }
-
--- the log of an event that was not made is as it was
-unlogged : EventLaws → (input : Inputs) (s : State) (i : ℕ) (now new : Played) → can_advance (setup_of input) s i ≡ false → LogsMore (came_between input.settings.version i s (advance (setup_of input) i s)) now.log new.log → new.log ≡ now.log
-unlogged laws input s i now new stays log =
-    let same : advance (setup_of input) i s ≡ s = laws.not_allowed (setup_of input) (Advances i) s stays in
-    let none : came_between input.settings.version i s (advance (setup_of input) i s) ≡ [] = none_between input.settings.version i s (advance (setup_of input) i s) (ap (λ (z : State). (thread_of z i).came) same) in
-    let P : List Record → Type 0 = λ rs. LogsMore rs now.log new.log in
-    let h : LogsMore [] now.log new.log = subst P none log in
-    λ k. record { text = (h.0 ∙ append-nil now.log.text) k; records = (h.1 ∙ no_more now.log.records) k }
-  where
-    no_more : (n : ℕ) → n + 0 ≡ n
-    no_more n = omega arith
-
-pub one_more_none : EventLaws → (n : ℕ) (old now new : Played) → NoneMoves n old now → length new.players ≡ length now.players → Makes progress.Stays n now new → NoneMoves (n + 1) old new
-unfolding first_below
-one_more_none laws n old now new h same still =
-    record {
-      count = same ∙ h.count;
-      holds = λ input s at.
-          let so_far = h.holds input s at in
-          let next = still input s (at.0, so_far.plays) in
-          let P : State → Type 0 = IsPlayed input new in
-          let stays : stops_at input s n ≡ false = ap₂ (λ (a b : Bool). a || b) next.can next.diverges in
-          record {
-            none = ap (λ (k : ℕ). first_below k (stops_at input s)) (add_one n) ∙ ap (λ (o : Option ℕ). first_or o (stops_at input s n) n) so_far.none ∙ ap (λ (b : Bool). first_or None b n) stays;
-            plays = subst P (laws.not_allowed (setup_of input) (Advances n) s next.can) next.plays;
-            log = unlogged laws input s n now new next.can next.log ∙ so_far.log;
-            falls = no_higher (total new.whole.threads new.players) (total now.whole.threads now.players) (total old.whole.threads old.players) next.falls so_far.falls;
-          };
-    }
-  where
-    add_one : (n : ℕ) → n + 1 ≡ suc n
-    add_one n = omega arith
-
-    no_higher : (a b c : ℕ) → a ≤ b → b ≤ c → a ≤ c
-    no_higher a b c h g = omega arith
-
-relogged : (records : List Record) (old now new : Written) → now ≡ old → LogsMore records now new → LogsMore records old new
-relogged records old now new same h = let P : Written → Type 0 = λ w. LogsMore records w new in subst P same h
-
-lower : (a b c : ℕ) → a < b → b ≤ c → a < c
-lower a b c h g = omega arith
+none_below zero p h = refl
+none_below (suc n) p h = ap (λ (o : Option ℕ). first_or o (p n) n) (none_below n p (λ k l. h k (omega arith))) ∙ ap (λ (b : Bool). first_or None b n) (h n (omega arith))
 
 -- a thread of the run is one of the state
 seat_of : (input : Inputs) (p : Played) (s : State) → IsPlayed input p s → length p.players ≡ length s.threads
 seat_of input p s h = h.count ∙ sym h.shows.count
-
-pub advanced_next : LeastIsFound → (i : ℕ) (old now new : Played) → i < length old.players → NoneMoves i old now → Makes progress.Moves i now new → Plainly went.On old new
-unfolding next_event diverging
-advanced_next found i old now new inside h moved input s at =
-    let so_far = h.holds input s at in
-    let next = moved input s (at.0, so_far.plays) in
-    let within : i < length s.threads = subst (λ (n : ℕ). i < n) (seat_of input old s at.1) inside in
-    let stops : stops_at input s i ≡ true = ap₂ (λ (a b : Bool). a || b) next.can next.diverges in
-    record {
-      straight = ap (if_diverging (setup_of input) s) (found (length s.threads) i (stops_at input s) within so_far.none stops) ∙ cond-false (is_diverging (setup_of input) s i) (Some i) None next.diverges;
-      event = Advances i;
-      next = ap (advance_by (setup_of input) s) (found (length s.threads) i (can_advance (setup_of input) s) within (none_of_both i (can_advance (setup_of input) s) (is_diverging (setup_of input) s) so_far.none) next.can);
-      plays = next.plays;
-      log = relogged (came_between input.settings.version i s (advance (setup_of input) i s)) old.log now.log new.log so_far.log next.log;
-      falls = lower (total new.whole.threads new.players) (total now.whole.threads now.players) (total old.whole.threads old.players) next.falls so_far.falls;
-    }
-
-pub diverged_next : EventLaws → LeastIsFound → (i : ℕ) (old now new : Played) → i < length old.players → NoneMoves i old now → Makes progress.Diverges i now new → Plainly (went.Diverges i) old new
-unfolding diverging
-diverged_next laws found i old now new inside h diverged input s at =
-    let so_far = h.holds input s at in
-    let next = diverged input s (at.0, so_far.plays) in
-    let within : i < length s.threads = subst (λ (n : ℕ). i < n) (seat_of input old s at.1) inside in
-    let stops : stops_at input s i ≡ true = ap₂ (λ (a b : Bool). a || b) next.can next.diverges in
-    let P : State → Type 0 = IsPlayed input new in
-    record {
-      diverges = ap (if_diverging (setup_of input) s) (found (length s.threads) i (stops_at input s) within so_far.none stops) ∙ cond-true (is_diverging (setup_of input) s i) (Some i) None next.diverges;
-      over = λ none. absurd (none-some i (sym none));
-      plays = subst P (laws.not_allowed (setup_of input) (Advances i) s next.can) next.plays;
-      log = unlogged laws input s i now new next.can next.log ∙ so_far.log;
-    }
-
--- no thread makes an event without the turn
-record Quiet (input : Inputs) (s : State) (old now : Played) : Type 0 where
-  straight : diverging (setup_of input) s ≡ None
-  next : next_event (setup_of input) s ≡ attempt_by (setup_of input) s (turn_holder (live_clocks s))
-  plays : IsPlayed input now s
-  log : now.log ≡ old.log
-  falls : Falls false old.whole.threads old.players now.whole.threads now.players
-
-none_advances : (n : ℕ) (old now : Played) → n ≡ length old.players → NoneMoves n old now → (input : Inputs) (s : State) → ComesAt old input s → Quiet input s old now
-unfolding next_event diverging
-none_advances n old now whole h input s at =
-    let so_far = h.holds input s at in
-    let all : first_below (length s.threads) (stops_at input s) ≡ None = ap (λ (k : ℕ). first_below k (stops_at input s)) (sym (whole ∙ seat_of input old s at.1)) ∙ so_far.none in
-    record {
-      straight = ap (if_diverging (setup_of input) s) all;
-      next = ap (advance_by (setup_of input) s) (none_of_both (length s.threads) (can_advance (setup_of input) s) (is_diverging (setup_of input) s) all);
-      plays = so_far.plays;
-      log = so_far.log;
-      falls = so_far.falls;
-    }
-
-holder_is : ClocksShown → (input : Inputs) (p : Played) (s : State) (o : Option ℕ) → IsPlayed input p s → turn_holder (clocks_of p.whole.threads) ≡ o → attempt_by (setup_of input) s (turn_holder (live_clocks s)) ≡ attempt_by (setup_of input) s o
-holder_is clocks input p s o h e = ap (attempt_by (setup_of input) s) (ap turn_holder (clocks (conditions_of input) p.whole s h.shows) ∙ e)
-
-pub over_next : ClocksShown → (n : ℕ) (old now : Played) → n ≡ length old.players → NoneMoves n old now → turn_holder (clocks_of now.whole.threads) ≡ None → Plainly went.Over old now
-over_next clocks n old now whole h none input s at =
-    let q = none_advances n old now whole h input s at in
-    record { diverges = q.straight; over = λ _. q.next ∙ holder_is clocks input now s None q.plays none; plays = q.plays; log = q.log }
-
-pub attempted_next : EventLaws → ClocksShown → (n i : ℕ) (old now new : Played) → n ≡ length old.players → NoneMoves n old now → turn_holder (clocks_of now.whole.threads) ≡ Some i → Attempted true i now new → Plainly went.On old new
-attempted_next laws clocks n i old now new whole h holder made input s at =
-    let q = none_advances n old now whole h input s at in
-    let tried = made input s (at.0, q.plays) in
-    let none : came_between input.settings.version i s (attempt (setup_of input) i s) ≡ [] = none_between input.settings.version i s (attempt (setup_of input) i s) (attempt_came laws (setup_of input) s i) in
-    record {
-      straight = q.straight;
-      event = Attempts i;
-      next = q.next ∙ holder_is clocks input now s (Some i) q.plays holder ∙ cond-true (can_attempt (setup_of input) s i) (Some (Attempts i)) None tried.can;
-      plays = tried.plays;
-      log = logs_none (came_between input.settings.version i s (attempt (setup_of input) i s)) old.log new.log none (tried.log ∙ q.log);
-      falls = lower (total new.whole.threads new.players) (total now.whole.threads now.players) (total old.whole.threads old.players) tried.falls q.falls;
-    }
-
-pub refused_next : EventLaws → ClocksShown → (n i : ℕ) (old now new : Played) → n ≡ length old.players → NoneMoves n old now → turn_holder (clocks_of now.whole.threads) ≡ Some i → Attempted false i now new → Plainly went.Over old new
-refused_next laws clocks n i old now new whole h holder made input s at =
-    let q = none_advances n old now whole h input s at in
-    let tried = made input s (at.0, q.plays) in
-    let P : State → Type 0 = IsPlayed input new in
-    record {
-      diverges = q.straight;
-      over = λ _. q.next ∙ holder_is clocks input now s (Some i) q.plays holder ∙ cond-false (can_attempt (setup_of input) s i) (Some (Attempts i)) None tried.can;
-      plays = subst P (laws.not_allowed (setup_of input) (Attempts i) s tried.can) tried.plays;
-      log = tried.log ∙ q.log;
-    }
 
 -- ## The run
 
@@ -224,7 +70,7 @@ at_the_start starts input p h =
     no_less k less = omega arith
 
 -- so the run goes on
-goes_on_by : (input : Inputs) (count : ℕ) (s : State) (e : Event) → GoesTo (setup_of input) (first_state input) count s → diverging (setup_of input) s ≡ None → next_event (setup_of input) s ≡ Some e → GoesTo (setup_of input) (first_state input) (suc count) (happens (setup_of input) e s)
+pub goes_on_by : (input : Inputs) (count : ℕ) (s : State) (e : Event) → GoesTo (setup_of input) (first_state input) count s → diverging (setup_of input) s ≡ None → next_event (setup_of input) s ≡ Some e → GoesTo (setup_of input) (first_state input) (suc count) (happens (setup_of input) e s)
 goes_on_by input count s e goes straight next =
     record {
       reached = run_next (setup_of input) count (first_state input) ∙ ap (λ (z : State). after_event (setup_of input) z (next_event (setup_of input) z)) goes.reached ∙ ap (after_event (setup_of input) s) next;
@@ -238,7 +84,7 @@ goes_on_by input count s e goes straight next =
     by_place k less (inl same) = ap (λ (n : ℕ). diverging (setup_of input) (plain_run (setup_of input) n (first_state input))) same ∙ ap (diverging (setup_of input)) goes.reached ∙ straight
     by_place k less (inr apart) = goes.straight k (fewer k count less apart)
 
-logged_on : (input : Inputs) (count : ℕ) (s : State) (e : Event) (old new : Written) → plain_run (setup_of input) count (first_state input) ≡ s → next_event (setup_of input) s ≡ Some e → IsLogged input count old → LogsMore (recorded_by input.settings.version (setup_of input) s e) old new → IsLogged input (suc count) new
+pub logged_on : (input : Inputs) (count : ℕ) (s : State) (e : Event) (old new : Written) → plain_run (setup_of input) count (first_state input) ≡ s → next_event (setup_of input) s ≡ Some e → IsLogged input count old → LogsMore (recorded_by input.settings.version (setup_of input) s e) old new → IsLogged input (suc count) new
 unfolding plain_records
 logged_on input count s e old new reached next before more =
     let setup = setup_of input in
@@ -255,31 +101,245 @@ logged_on input count s e old new reached next before more =
     sums : (a b : ℕ) → 0 + a + b ≡ 0 + (a + b)
     sums a b = omega arith
 
-pub comes_on : ArisesByEvent → (input : Inputs) (old new : Played) → ComesTo input old → Plainly went.On old new → ComesTo input new
-comes_on by_event input old new h next =
+-- with one event more
+abbrev next_comes : ArisesByEvent → (input : Inputs) (old new : Played) (h : ComesTo input old) (e : Event) → diverging (setup_of input) h.state ≡ None → next_event (setup_of input) h.state ≡ Some e → IsPlayed input new (happens (setup_of input) e h.state)
+    → LogsMore (recorded_by input.settings.version (setup_of input) h.state e) old.log new.log → ComesTo input new
+next_comes by_event input old new h e straight next plays log =
     let setup = setup_of input in
-    let now = next input h.state (h.arises, h.plays) in
     record {
-      state = happens setup now.event h.state;
+      state = happens setup e h.state;
       count = suc h.count;
-      goes = goes_on_by input h.count h.state now.event h.goes now.straight now.next;
-      arises = by_event setup (first_state input) h.state now.event h.arises;
-      plays = now.plays;
-      log = logged_on input h.count h.state now.event old.log new.log h.goes.reached now.next h.log now.log;
+      goes = goes_on_by input h.count h.state e h.goes straight next;
+      arises = by_event setup (first_state input) h.state e h.arises;
+      plays = plays;
+      log = logged_on input h.count h.state e old.log new.log h.goes.reached next h.log log;
     }
 
--- which lowers what the scripts can still do
-pub goes_down : (input : Inputs) (old new : Played) → ComesTo input old → Plainly went.On old new → total new.whole.threads new.players < total old.whole.threads old.players
-goes_down input old new h next = (next input h.state (h.arises, h.plays)).falls
-
 -- the run stays where it is
-ends_at : (input : Inputs) (diverged : Option ℕ) (old new : Played) (h : ComesTo input old) → StaysAt input h.state diverged old new → Ends input diverged new
-ends_at input diverged old new h now =
+abbrev stays_there : (input : Inputs) (old new : Played) (h : ComesTo input old) → IsPlayed input new h.state → new.log ≡ old.log → ComesTo input new
+stays_there input old new h plays log =
     let P : Written → Type 0 = IsLogged input h.count in
-    record { last = h.state; count = h.count; goes = h.goes; diverges = now.diverges; over = now.over; arises = h.arises; plays = now.plays; log = subst P (sym now.log) h.log }
+    record { state = h.state; count = h.count; goes = h.goes; arises = h.arises; plays = plays; log = subst P (sym log) h.log }
 
-pub comes_to_end : (input : Inputs) (old new : Played) → ComesTo input old → Plainly went.Over old new → Ends input None new
-comes_to_end input old new h next = ends_at input None old new h (next input h.state (h.arises, h.plays))
+-- and ends there
+ends_there : (input : Inputs) (diverged : Option ℕ) (p : Played) (h : ComesTo input p) → diverging (setup_of input) h.state ≡ diverged → (diverged ≡ None → IsOver (setup_of input) h.state) → Ends input diverged p
+ends_there input diverged p h diverges over = record { last = h.state; count = h.count; goes = h.goes; diverges = diverges; over = over; arises = h.arises; plays = h.plays; log = h.log }
 
-pub comes_diverging : (input : Inputs) (i : ℕ) (old new : Played) → ComesTo input old → Plainly (went.Diverges i) old new → Ends input (Some i) new
-comes_diverging input i old new h next = ends_at input (Some i) old new h (next input h.state (h.arises, h.plays))
+-- ## One thread goes on
+
+-- an event of thread i leaves the others as they are
+pub still_there : EventLaws → (input : Inputs) (s : State) (e : Event) (k : ℕ) → (thread_in e ≡ k → ⊥) → stops_at input s k ≡ false → stops_at input (happens (setup_of input) e s) k ≡ false
+still_there laws input s e k apart still =
+    let t : lock.Thread = thread_of s k in
+    let P : lock.Thread → Type 0 = λ u. (is_some (moves (setup_of input) k u) || diverging_in (setup_of input) u.phase (slice_get (outcomes_of input k) (length u.came))) ≡ false in
+    subst P (sym (laws.others (setup_of input) s e k apart)) still
+
+-- the first thread that stops is thread i
+first_stops : LeastIsFound → (input : Inputs) (s : State) (n i : ℕ) → i ≤ n → i < length s.threads → ((k : ℕ) → k < n → (k ≡ i → ⊥) → stops_at input s k ≡ false) → stops_at input s i ≡ true → first_below (length s.threads) (stops_at input s) ≡ Some i
+first_stops found input s n i below inside still stops = found (length s.threads) i (stops_at input s) inside (none_below i (stops_at input s) (λ k l. still k (omega arith) (λ e. omega (arith, e)))) stops
+
+first_advances : LeastIsFound → (input : Inputs) (s : State) (n i : ℕ) → i ≤ n → i < length s.threads → ((k : ℕ) → k < n → (k ≡ i → ⊥) → stops_at input s k ≡ false) → can_advance (setup_of input) s i ≡ true → first_below (length s.threads) (can_advance (setup_of input) s) ≡ Some i
+first_advances found input s n i below inside still can =
+    found (length s.threads) i (can_advance (setup_of input) s) inside
+    (none_below i (can_advance (setup_of input) s) (λ k l. (neither (can_advance (setup_of input) s k) (is_diverging (setup_of input) s k) (still k (omega arith) (λ e. omega (arith, e)))).0)) can
+
+pub advanced_on : EventLaws → ArisesByEvent → LeastIsFound → (input : Inputs) (n i : ℕ) (old new : Played) → i < length old.players → i ≤ n → RestsBut input n i old → Makes progress.Moves i old new
+    → RestsBut input n i new × Falls true old.whole.threads old.players new.whole.threads new.players
+unfolding next_event diverging
+advanced_on laws by_event found input n i old new inside below h moved =
+    let setup = setup_of input in
+    let s = h.comes.state in
+    let made = moved input s (h.comes.arises, h.comes.plays) in
+    let within : i < length s.threads = subst (λ (m : ℕ). i < m) (seat_of input old s h.comes.plays) inside in
+    let stops : stops_at input s i ≡ true = ap₂ (λ (a b : Bool). a || b) made.can made.diverges in
+    let straight : diverging setup s ≡ None = ap (if_diverging setup s) (first_stops found input s n i below within h.still stops) ∙ cond-false (is_diverging setup s i) (Some i) None made.diverges in
+    let next : next_event setup s ≡ Some (Advances i) = ap (advance_by setup s) (first_advances found input s n i below within h.still made.can) in (
+      record {
+        comes = next_comes by_event input old new h.comes (Advances i) straight next made.plays made.log;
+        still = λ k l apart. still_there laws input s (Advances i) k (λ e. apart (sym e)) (h.still k l apart);
+      },
+      made.falls,
+    )
+
+-- the log of an event that was not made is as it was
+unlogged : EventLaws → (input : Inputs) (s : State) (i : ℕ) (now new : Played) → can_advance (setup_of input) s i ≡ false → LogsMore (came_between input.settings.version i s (advance (setup_of input) i s)) now.log new.log → new.log ≡ now.log
+unlogged laws input s i now new stays log =
+    let same : advance (setup_of input) i s ≡ s = laws.not_allowed (setup_of input) (Advances i) s stays in
+    let none : came_between input.settings.version i s (advance (setup_of input) i s) ≡ [] = none_between input.settings.version i s (advance (setup_of input) i s) (ap (λ (z : State). (thread_of z i).came) same) in
+    let P : List Record → Type 0 = λ rs. LogsMore rs now.log new.log in
+    let h : LogsMore [] now.log new.log = subst P none log in
+    λ k. record { text = (h.0 ∙ append-nil now.log.text) k; records = (h.1 ∙ no_more now.log.records) k }
+  where
+    no_more : (n : ℕ) → n + 0 ≡ n
+    no_more n = omega arith
+
+abbrev rested : EventLaws → (input : Inputs) (i : ℕ) (old new : Played) (h : ComesTo input old) (made : Progress) → can_advance (setup_of input) h.state i ≡ false → Made made i old new input h.state → ComesTo input new
+rested laws input i old new h made stays m =
+    let P : State → Type 0 = IsPlayed input new in
+    stays_there input old new h (subst P (laws.not_allowed (setup_of input) (Advances i) h.state stays) m.plays) (unlogged laws input h.state i old new stays m.log)
+
+pub stayed : EventLaws → (input : Inputs) (n i : ℕ) (old new : Played) → i ≤ n → RestsBut input n i old → Makes progress.Stays i old new → Rests input (max n (i + 1)) new × Falls false old.whole.threads old.players new.whole.threads new.players
+stayed laws input n i old new below h stays =
+    let s = h.comes.state in
+    let made = stays input s (h.comes.arises, h.comes.plays) in
+    let own : stops_at input s i ≡ false = ap₂ (λ (a b : Bool). a || b) made.can made.diverges in (
+      record {
+        comes = rested laws input i old new h.comes progress.Stays made.can made;
+        still = λ k l. ⊎_elim (λ (e : k ≡ i). ap (stops_at input s) e ∙ own) (λ (apart : k ≡ i → ⊥). h.still k (omega (arith, apart)) apart) (cases_eq k i);
+      },
+      made.falls,
+    )
+
+pub diverged : EventLaws → LeastIsFound → (input : Inputs) (n i : ℕ) (old new : Played) → i < length old.players → i ≤ n → RestsBut input n i old → Makes progress.Diverges i old new → Ends input (Some i) new
+unfolding diverging
+diverged laws found input n i old new inside below h diverges =
+    let setup = setup_of input in
+    let s = h.comes.state in
+    let made = diverges input s (h.comes.arises, h.comes.plays) in
+    let within : i < length s.threads = subst (λ (m : ℕ). i < m) (seat_of input old s h.comes.plays) inside in
+    let stops : stops_at input s i ≡ true = ap₂ (λ (a b : Bool). a || b) made.can made.diverges in
+    ends_there input (Some i) new (rested laws input i old new h.comes progress.Diverges made.can made)
+    (ap (if_diverging setup s) (first_stops found input s n i below within h.still stops) ∙ cond-true (is_diverging setup s i) (Some i) None made.diverges)
+    (λ none. absurd (none-some i (sym none)))
+
+-- ## Where no thread goes on
+
+abbrev pub AllStill : Inputs → State → Type 0
+AllStill input s = (k : ℕ) → k < length s.threads → stops_at input s k ≡ false
+
+pub still_straight : (input : Inputs) (s : State) → AllStill input s → diverging (setup_of input) s ≡ None
+unfolding diverging
+still_straight input s still = ap (if_diverging (setup_of input) s) (none_below (length s.threads) (stops_at input s) still)
+
+pub still_next : (input : Inputs) (s : State) → AllStill input s → next_event (setup_of input) s ≡ attempt_by (setup_of input) s (turn_holder (live_clocks s))
+unfolding next_event
+still_next input s still =
+    ap (advance_by (setup_of input) s)
+    (none_below (length s.threads) (can_advance (setup_of input) s) (λ k l. (neither (can_advance (setup_of input) s k) (is_diverging (setup_of input) s k) (still k l)).0))
+
+all_still : (input : Inputs) (p : Played) (h : Rests input (length p.players) p) → AllStill input h.comes.state
+all_still input p h k l = h.still k (subst (λ (n : ℕ). k < n) (sym (seat_of input p h.comes.state h.comes.plays)) l)
+
+holder_is : ClocksShown → (input : Inputs) (p : Played) (s : State) (o : Option ℕ) → IsPlayed input p s → turn_holder (clocks_of p.whole.threads) ≡ o → attempt_by (setup_of input) s (turn_holder (live_clocks s)) ≡ attempt_by (setup_of input) s o
+holder_is clocks input p s o h e = ap (attempt_by (setup_of input) s) (ap turn_holder (clocks (conditions_of input) p.whole s h.shows) ∙ e)
+
+pub nobody_left : ClocksShown → (input : Inputs) (p : Played) → Rests input (length p.players) p → turn_holder (clocks_of p.whole.threads) ≡ None → Ends input None p
+nobody_left clocks input p h none =
+    let s = h.comes.state in
+    ends_there input None p h.comes (still_straight input s (all_still input p h)) (λ _. still_next input s (all_still input p h) ∙ holder_is clocks input p s None h.comes.plays none)
+
+pub attempted_on : EventLaws → ArisesByEvent → ClocksShown → (input : Inputs) (i : ℕ) (old new : Played) → Rests input (length old.players) old → turn_holder (clocks_of old.whole.threads) ≡ Some i → Attempted true i old new
+    → RestsBut input (length old.players) i new × Falls true old.whole.threads old.players new.whole.threads new.players
+attempted_on laws by_event clocks input i old new h holder made =
+    let setup = setup_of input in
+    let s = h.comes.state in
+    let tried = made input s (h.comes.arises, h.comes.plays) in
+    let next : next_event setup s ≡ Some (Attempts i) = still_next input s (all_still input old h) ∙ holder_is clocks input old s (Some i) h.comes.plays holder ∙ cond-true (can_attempt setup s i) (Some (Attempts i)) None tried.can in
+    let none : came_between input.settings.version i s (attempt setup i s) ≡ [] = none_between input.settings.version i s (attempt setup i s) (attempt_came laws setup s i) in (
+      record {
+        comes = next_comes by_event input old new h.comes (Attempts i) (still_straight input s (all_still input old h)) next tried.plays (logs_none (came_between input.settings.version i s (attempt setup i s)) old.log new.log none tried.log);
+        still = λ k l apart. still_there laws input s (Attempts i) k (λ e. apart (sym e)) (h.still k l);
+      },
+      tried.falls,
+    )
+
+pub refused_there : EventLaws → ClocksShown → (input : Inputs) (i : ℕ) (old new : Played) → Rests input (length old.players) old → turn_holder (clocks_of old.whole.threads) ≡ Some i → Attempted false i old new → Ends input None new
+refused_there laws clocks input i old new h holder made =
+    let setup = setup_of input in
+    let s = h.comes.state in
+    let tried = made input s (h.comes.arises, h.comes.plays) in
+    let P : State → Type 0 = IsPlayed input new in
+    let there = stays_there input old new h.comes (subst P (laws.not_allowed setup (Attempts i) s tried.can) tried.plays) tried.log in
+    ends_there input None new there (still_straight input s (all_still input old h))
+    (λ _. still_next input s (all_still input old h) ∙ holder_is clocks input old s (Some i) h.comes.plays holder ∙ cond-false (can_attempt setup s i) (Some (Attempts i)) None tried.can)
+
+-- ## At the start
+
+pub rests_first : ArisesAtStart → (input : Inputs) (p : Played) → Begins input p → Rests input 0 p
+rests_first starts input p h = record { comes = at_the_start starts input p h; still = λ k l. absurd (omega arith) }
+
+pub rests_but : (input : Inputs) (n i : ℕ) (p : Played) → Rests input n p → RestsBut input n i p
+rests_but input n i p h = record { comes = h.comes; still = λ k l apart. h.still k l }
+
+pub rests_for : (input : Inputs) (n m : ℕ) (p : Played) → n ≡ m → Rests input n p → Rests input m p
+rests_for input n m p e h = subst (λ (k : ℕ). Rests input k p) e h
+
+-- ## Thread i goes on
+
+-- it has gone on so far
+pub record KeepsOn (i : ℕ) (old now : Played) : Type 0 where
+  pub count : length now.players ≡ length old.players
+  pub rests : (input : Inputs) (n : ℕ) → i ≤ n → RestsBut input n i old → RestsBut input n i now × Falls false old.whole.threads old.players now.whole.threads now.players
+
+pub keeps_first : (i : ℕ) (p : Played) → KeepsOn i p p
+keeps_first i p = record { count = refl; rests = λ input n below h. (h, omega arith) }
+
+pub keeps_more : EventLaws → ArisesByEvent → LeastIsFound → (i : ℕ) (old now new : Played) → i < length old.players → length new.players ≡ length now.players → KeepsOn i old now → Makes progress.Moves i now new → KeepsOn i old new
+keeps_more laws by_event found i old now new inside same h moved =
+    record {
+      count = same ∙ h.count;
+      rests = λ input n below rests.
+          let so_far = h.rests input n below rests in
+          let next = advanced_on laws by_event found input n i now new (subst (λ (k : ℕ). i < k) (sym h.count) inside) below so_far.0 moved in
+          (next.0, lower (total new.whole.threads new.players) (total now.whole.threads now.players) (total old.whole.threads old.players) next.1 so_far.1);
+    }
+  where
+    lower : (a b c : ℕ) → a < b → b ≤ c → a ≤ c
+    lower a b c h g = omega arith
+
+-- which lowers what the scripts can still do
+pub keeps_lower : EventLaws → ArisesByEvent → LeastIsFound → (input : Inputs) (n i : ℕ) (old now new : Played) → i < length old.players → i ≤ n → RestsBut input n i old → KeepsOn i old now → Makes progress.Moves i now new → total new.whole.threads new.players < total now.whole.threads now.players
+keeps_lower laws by_event found input n i old now new inside below rests h moved =
+    (advanced_on laws by_event found input n i now new (subst (λ (k : ℕ). i < k) (sym h.count) inside) below (h.rests input n below rests).0 moved).1
+
+pub went_on : EventLaws → (i : ℕ) (old now new : Played) → KeepsOn i old now → Makes progress.Stays i now new → GoesOn false i old new
+went_on laws i old now new h stays input n below rests =
+    let so_far = h.rests input n below rests in
+    let next = stayed laws input n i now new below so_far.0 stays in
+    (next.0, no_higher (total new.whole.threads new.players) (total now.whole.threads now.players) (total old.whole.threads old.players) next.1 so_far.1)
+  where
+    no_higher : (a b c : ℕ) → a ≤ b → b ≤ c → a ≤ c
+    no_higher a b c h g = omega arith
+
+pub went_apart : EventLaws → LeastIsFound → (i : ℕ) (old now new : Played) → i < length old.players → KeepsOn i old now → Makes progress.Diverges i now new → GoesOn true i old new
+went_apart laws found i old now new inside h diverges input n below rests =
+    diverged laws found input n i now new (subst (λ (k : ℕ). i < k) (sym h.count) inside) below (h.rests input n below rests).0 diverges
+
+-- ## The run goes on
+
+-- the next thread of the first ones has gone on
+pub rests_more : (input : Inputs) (i : ℕ) (old new : Played) → Rests input i old → GoesOn false i old new → Rests input (i + 1) new
+rests_more input i old new h goes = rests_for input (max i (i + 1)) (i + 1) new (next i) (goes input i (omega arith) (rests_but input i i old h)).0
+  where
+    next : (i : ℕ) → max i (i + 1) ≡ i + 1
+    next i = omega arith
+
+pub ends_first : (input : Inputs) (i : ℕ) (old new : Played) → Rests input i old → GoesOn true i old new → Ends input (Some i) new
+ends_first input i old new h goes = goes input i (omega arith) (rests_but input i i old h)
+
+-- a thread made its attempt, and has gone on
+pub rests_again : (input : Inputs) (i n : ℕ) (mid new : Played) → i < n → n ≡ length new.players → RestsBut input n i mid → GoesOn false i mid new → Rests input (length new.players) new
+rests_again input i n mid new inside all h goes = rests_for input (max n (i + 1)) (length new.players) new (same i n inside ∙ all) (goes input n (omega arith) h).0
+  where
+    same : (i n : ℕ) → i < n → max n (i + 1) ≡ n
+    same i n inside = omega arith
+
+pub ends_again : (input : Inputs) (i n : ℕ) (mid new : Played) → i < n → RestsBut input n i mid → GoesOn true i mid new → Ends input (Some i) new
+ends_again input i n mid new inside h goes = goes input n (omega arith) h
+
+pub goes_lower : (input : Inputs) (i n : ℕ) (old mid new : Played) → i < n → RestsBut input n i mid → GoesOn false i mid new → total mid.whole.threads mid.players < total old.whole.threads old.players → total new.whole.threads new.players < total old.whole.threads old.players
+goes_lower input i n old mid new inside h goes less =
+    lower (total new.whole.threads new.players) (total mid.whole.threads mid.players) (total old.whole.threads old.players) (goes input n (omega arith) h).1 less
+  where
+    lower : (a b c : ℕ) → a ≤ b → b < c → a < c
+    lower a b c h g = omega arith
+
+pub record HaveGoneOn (n : ℕ) (first now : Played) : Type 0 where
+  pub count : length now.players ≡ length first.players
+  pub rests : (input : Inputs) → Begins input first → Rests input n now
+
+pub none_gone : ArisesAtStart → (p : Played) → HaveGoneOn 0 p p
+none_gone starts p = record { count = refl; rests = λ input h. rests_first starts input p h }
+
+pub one_gone : (i : ℕ) (first now new : Played) → HaveGoneOn i first now → length new.players ≡ length now.players → GoesOn false i now new → HaveGoneOn (i + 1) first new
+one_gone i first now new h same goes = record { count = same ∙ h.count; rests = λ input begins. rests_more input i now new (h.rests input begins) goes }

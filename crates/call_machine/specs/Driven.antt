@@ -1,45 +1,21 @@
 -- Internal: no contract of the headline or of a command stands on it.
 -- The plain schedule, made by a driver.
-use Rattle.std.specs.Prelude.{◌≡◌, ℕ, Option, Some, None, true, Result, Ok, Err}
+use Rattle.std.specs.Prelude.{◌≡◌, ℕ, ◌+◌, ◌<◌, ◌≤◌, ◌||◌, length, max, Bool, true, false}
+use Rattle.std.specs.Prelude.{Option, Some, None, Result, Ok, Err}
 use Rattle.input_log.specs.Format.{header_text}
-use Rattle.lock_model.specs.Machine.{Event, happens}
+use Rattle.lock_model.specs.Machine.{can_advance}
 use Rattle.lock_model.specs.Runs.{Arises}
-use Rattle.lock_model.specs.Schedule.{IsOver, next_event}
+use Rattle.lock_model.specs.Schedule.{IsOver}
 use Rattle.lock_model.specs.State.{State}
-use Rattle.call_machine.specs.Logs.{LogsMore, Written, plain_records, recorded_by}
-use Rattle.call_machine.specs.Plain.{GoesTo, header_of}
-use Rattle.call_machine.specs.Setup.{Inputs, first_state, setup_of}
-use Rattle.call_machine.specs.Playing.{ComesAt, IsPlayed, Played}
+use Rattle.lock_machine.specs.Diverging.{is_diverging}
 use Rattle.lock_machine.specs.declared.refused.Refused.{Refused}
 use Rattle.lock_machine.specs.declared.refused.Refused.TheVariants as refused
+use Rattle.call_machine.specs.Logs.{LogsMore, Written, plain_records}
+use Rattle.call_machine.specs.Plain.{GoesTo, header_of}
+use Rattle.call_machine.specs.Setup.{Inputs, first_state, setup_of}
+use Rattle.call_machine.specs.Playing.{IsPlayed, Played}
 use Rattle.call_machine.specs.Weights.{Falls}
 use Rattle.call_machine.specs.Diverging.{diverging}
-use Rattle.call_machine.specs.declared.drive.Went.{Went}
-use Rattle.call_machine.specs.declared.drive.Went.TheVariants as went
-
--- the next event of the plain schedule was made
-pub record GoesOn (input : Inputs) (s : State) (old new : Played) : Type 0 where
-  pub straight : diverging (setup_of input) s ≡ None
-  pub event : Event
-  pub next : next_event (setup_of input) s ≡ Some event
-  pub plays : IsPlayed input new (happens (setup_of input) event s)
-  pub log : LogsMore (recorded_by input.settings.version (setup_of input) s event) old.log new.log
-  pub falls : Falls true old.whole.threads old.players new.whole.threads new.players
-
--- the run stays where it is: it diverges at this thread, or no event is next
-pub record StaysAt (input : Inputs) (s : State) (diverged : Option ℕ) (old new : Played) : Type 0 where
-  pub diverges : diverging (setup_of input) s ≡ diverged
-  pub over : diverged ≡ None → IsOver (setup_of input) s
-  pub plays : IsPlayed input new s
-  pub log : new.log ≡ old.log
-
-abbrev pub WentSo : Went → Inputs → State → Played → Played → Type 0
-WentSo went.On input s old new = GoesOn input s old new
-WentSo went.Over input s old new = StaysAt input s None old new
-WentSo (went.Diverges i) input s old new = StaysAt input s (Some i) old new
-
-abbrev pub Plainly : Went → Played → Played → Type 0
-Plainly w old new = (input : Inputs) (s : State) → ComesAt old input s → WentSo w input s old new
 
 -- the log of a run after so many events
 abbrev pub first_log : Inputs → Written
@@ -69,6 +45,43 @@ pub record Ends (input : Inputs) (diverged : Option ℕ) (p : Played) : Type 0 w
   pub arises : Arises (setup_of input) (first_state input) last
   pub plays : IsPlayed input p last
   pub log : IsLogged input count p.log
+
+-- thread k can make an event without the turn, or diverges
+abbrev pub stops_at : Inputs → State → ℕ → Bool
+stops_at input s k = can_advance (setup_of input) s k || is_diverging (setup_of input) s k
+
+-- the run has come to a state in which the first n threads can do neither
+pub record Rests (input : Inputs) (n : ℕ) (p : Played) : Type 0 where
+  pub comes : ComesTo input p
+  pub still : (k : ℕ) → k < n → stops_at input comes.state k ≡ false
+
+-- but perhaps thread i
+pub record RestsBut (input : Inputs) (n i : ℕ) (p : Played) : Type 0 where
+  pub comes : ComesTo input p
+  pub still : (k : ℕ) → k < n → (k ≡ i → ⊥) → stops_at input comes.state k ≡ false
+
+-- thread i has gone on as far as it can, or diverges
+abbrev pub WentOn : Bool → Inputs → ℕ → ℕ → Played → Played → Type 0
+WentOn false input n i old new =
+    Rests input (max n (i + 1)) new
+    × Falls false old.whole.threads old.players new.whole.threads new.players
+WentOn true input n i old new = Ends input (Some i) new
+
+abbrev pub GoesOn : Bool → ℕ → Played → Played → Type 0
+GoesOn diverges i old new =
+    (input : Inputs) (n : ℕ) → i ≤ n → RestsBut input n i old → WentOn diverges input n i old new
+
+-- this thread made its attempt, or no event is next
+abbrev pub MadeNext : Option ℕ → Inputs → ℕ → Played → Played → Type 0
+MadeNext (Some i) input n old new =
+    (i < n) × RestsBut input n i new
+    × Falls true old.whole.threads old.players new.whole.threads new.players
+MadeNext None input n old new = Ends input None new
+
+abbrev pub AttemptsNext : Option ℕ → Played → Played → Type 0
+AttemptsNext made old new =
+    (input : Inputs) → Rests input (length old.players) old
+    → MadeNext made input (length old.players) old new
 
 -- from a run at its start
 pub record Begins (input : Inputs) (p : Played) : Type 0 where

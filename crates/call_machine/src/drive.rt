@@ -1,12 +1,12 @@
-ghost use Rattle.std.specs.Prelude.{◌≡◌, ◌<◌, ◌≤◌, true, IfOk, is_some, length, if◌then◌else◌};
+ghost use Rattle.std.specs.Prelude.{◌≡◌, ◌<◌, ◌≤◌, ℕ, true, IfOk, is_some, length, if◌then◌else◌};
 ghost use Rattle.posix_terms.specs.declared.limits.TheConstants.Limits as limit;
-ghost use Rattle.call_machine.specs.Driven.{Begins, Ends, IsTold, Plainly};
+ghost use Rattle.call_machine.specs.Driven.{AttemptsNext, Begins, Ends, GoesOn, IsTold, RestsBut};
 ghost use Rattle.call_machine.specs.Playing.{Attempted, Makes, played_of};
 ghost use Rattle.call_machine.specs.Setup.{Inputs};
 ghost use Rattle.lock_machine.specs.Refusals.{Comes, has_answer, is_outside, phase_at, works};
 ghost use Rattle.lock_machine.specs.Shows.{AsksFor, ClocksShown};
 ghost use Rattle.lock_model.specs.Events.{EventLaws};
-ghost use Rattle.lock_model.specs.Laws.{ArisesAtStart, ArisesByEvent};
+ghost use Rattle.lock_model.specs.Laws.{ArisesAtStart, ArisesByEvent, HolderHasTurn};
 ghost use Rattle.logical_clocks.specs.TurnOrder.{LeastIsFound};
 ghost use Rattle.thread_scripts.specs.Laws.{RunsEnd};
 ghost use Rattle.call_machine.specs.Starting.{first_played};
@@ -17,22 +17,11 @@ use crate::log::Log;
 use crate::players::first_players;
 use input_log::{Header, Record};
 use lock_machine::{LockMachine, Phase, Progress, Refused, machines_show};
-use lock_model::{arising_states, one_event};
+use lock_model::{arising_states, one_event, turn_order};
 use logical_clocks::least_is_found;
 use posix_terms::{Given, Outcomes};
 use std::alloc::{AllocError, Global};
 use thread_scripts::{Script, Step, runs_end};
-
-// How a run went on.
-#[derive(Clone, Copy)]
-pub enum Went {
-    // by one event
-    On,
-    // not at all: no event is next
-    Over,
-    // not at all: the outcome of this thread does not answer what it asked
-    Diverges(usize),
-}
 
 impl Driver {
     // A thread for each script, with its outcomes. The header's settings are the run's.
@@ -54,43 +43,62 @@ impl Driver {
         })
     }
 
-    // Makes the events of the plain schedule, to its end, or until the outcome of a thread does not answer, which is
-    // told.
+    // Makes the events of the plain schedule, to its end, or until the outcome of a thread does not
+    // answer, which is told. Once each thread has gone on as far as it can, only one that made an
+    // attempt can go on again.
     pub fn run(&mut self, alloc: Global) -> Result<Option<usize>, AllocError>
         requires { (input : Inputs) × Begins input (played_of self.old) }
         ensures { IfOk result (λ diverged. (input : Inputs) → Begins input (played_of self.old) → Ends input diverged (played_of self.new)) }
     {
         laws();
+        for i in 0..self.players.len() {
+            if self.go_on(alloc, i)? {
+                return Ok(Some(i));
+            }
+        }
         loop {
-            match self.step(alloc)? {
-                Went::On => {}
-                Went::Over => return Ok(None),
-                Went::Diverges(i) => return Ok(Some(i)),
+            let Some(i) = self.attempt_next()? else {
+                return Ok(None);
+            };
+            if self.go_on(alloc, i)? {
+                return Ok(Some(i));
             }
         }
     }
 
-    // Makes the next event of the plain schedule, if there is one: the least thread that can makes its event that
-    // needs no turn; where none can, the thread that has the turn makes its attempt. Where the least thread that
-    // could make an event has an outcome that does not answer, the run diverges.
-    fn step(&mut self, alloc: Global) -> Result<Went, AllocError>
-        ensures { IfOk result (λ went. Plainly went (played_of self.old) (played_of self.new)) }
+    // Thread i makes its events that need no turn, as far as it can, and tells whether it diverges
+    // then. The threads before it can make none.
+    fn go_on(&mut self, alloc: Global, i: usize) -> Result<bool, AllocError>
+        requires inside { i < length self.old.players.items }
+        requires rests { (input : Inputs) × (n : ℕ) × (i ≤ n) × RestsBut input n i (played_of self.old) }
+        ensures event { IfOk result (λ diverges. GoesOn diverges i (played_of self.old) (played_of self.new)) }
+        ensures count { length self.new.players.items ≡ length self.old.players.items }
     {
         laws();
-        for i in 0..self.players.len() {
+        loop {
             match self.advance(alloc, i)? {
-                Progress::Moves => return Ok(Went::On),
-                Progress::Diverges => return Ok(Went::Diverges(i)),
-                Progress::Stays => {}
+                Progress::Moves => {}
+                Progress::Diverges => return Ok(true),
+                Progress::Stays => return Ok(false),
             }
         }
+    }
+
+    // Where no thread can go on without the turn: the attempts that fail are skipped, and the next
+    // one is made by the thread that has the turn then. It is told, if there is one and it could.
+    fn attempt_next(&mut self) -> Result<Option<usize>, AllocError>
+        ensures event { IfOk result (λ made. AttemptsNext made (played_of self.old) (played_of self.new)) }
+        ensures count { length self.new.players.items ≡ length self.old.players.items }
+    {
+        laws();
+        self.machine.skip_failures();
         let Some(i) = self.machine.turn_holder() else {
-            return Ok(Went::Over);
+            return Ok(None);
         };
         if self.attempt(i)? {
-            Ok(Went::On)
+            Ok(Some(i))
         } else {
-            Ok(Went::Over)
+            Ok(None)
         }
     }
 
@@ -244,10 +252,12 @@ fn laws()
     ensures clocks { ClocksShown }
     ensures starts { ArisesAtStart }
     ensures arises { ArisesByEvent }
+    ensures holder { HolderHasTurn }
 {
     one_event();
     runs_end();
     least_is_found();
     machines_show();
     arising_states();
+    turn_order();
 }

@@ -1,6 +1,6 @@
-ghost use Rattle.std.specs.Prelude.{◌≡◌, Some, is_none};
+ghost use Rattle.std.specs.Prelude.{◌≡◌, ◌<◌, ◌^◌, ℕ, Some, is_none};
 ghost use Rattle.std.specs.Bool.{OnTrue, OnFalse};
-ghost use Rattle.det_mutex.specs.Attempt.{new_lock, takes, held, freed};
+ghost use Rattle.det_mutex.specs.Attempt.{new_lock, takes, is_open_by, held, freed};
 
 /// A lock by logical times: which thread holds it, and the clock of the last holder when it freed the
 /// lock. An attempt succeeds only at a later time than that.
@@ -36,6 +36,18 @@ impl DetLock {
             self.holder = Some(thread);
         }
         opens
+    }
+
+    /// The least time at which an attempt succeeds, or none while a thread holds the lock.
+    #[inline(always)]
+    #[tactic(auto, unfolding(crate::specs::Attempt::takes))]
+    pub fn opens(&self) -> Option<u64>
+        ensures { (clock : ℕ) → clock < 2 ^ 64 → takes self.now clock ≡ is_open_by result clock }
+    {
+        match self.holder {
+            None => self.released.checked_add(1),
+            Some(_) => None,
+        }
     }
 
     /// Frees the lock, which this thread holds, at a time of its clock.

@@ -20,3 +20,6 @@ pub mod Parting
 pub mod Beginning
 pub mod ShownPhases
 pub mod Wanting
+pub mod SkipShows
+pub mod Openings
+pub mod Passing

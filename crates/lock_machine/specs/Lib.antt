@@ -13,6 +13,7 @@ pub mod Events
 pub mod Outings
 pub mod Diverging
 pub mod Shows
+pub mod Skipping
 pub mod Phases
 pub mod Starting
 pub mod Refusals

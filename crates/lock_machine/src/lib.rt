@@ -39,6 +39,7 @@ mod machine_events;
 mod outside;
 mod refusals;
 mod refused;
+mod skipping;
 mod start;
 mod steps;
 mod thread;

@@ -54,7 +54,7 @@ pub enum Phase {
 }
 
 impl Phase {
-    ghost use Rattle.lock_machine.specs.Refusals.{is_blocked, wants_object, wants_table, works};
+    ghost use Rattle.lock_machine.specs.Refusals.{is_blocked, wants_lock, wants_object, wants_table, works};
 
     pub(crate) fn is_working(&self) -> bool
         ensures { result ≡ works self.now }
@@ -72,6 +72,12 @@ impl Phase {
         ensures { result ≡ wants_object self.now }
     {
         matches!(self, Phase::WantsObject { .. })
+    }
+
+    pub(crate) fn wants_lock(&self) -> bool
+        ensures { result ≡ wants_lock self.now }
+    {
+        matches!(self, Phase::WantsTable { .. } | Phase::WantsObject { .. })
     }
 
     pub(crate) fn is_blocked(&self) -> bool

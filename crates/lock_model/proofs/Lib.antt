@@ -27,3 +27,4 @@ pub mod RepliesRows
 pub mod PlainCame
 pub mod CameOutside
 pub mod Times
+pub mod Skipping

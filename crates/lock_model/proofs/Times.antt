@@ -6,17 +6,16 @@ use Rattle.lock_model.proofs.Attempt.{move_of, attempt_other}
 use Rattle.lock_model.proofs.Turn.{thread_moved}
 use Rattle.lock_model.proofs.Commute.{thread_advance, advance_move}
 use Rattle.std.proofs.lemmas.List.{get_or-set_same}
-use Rattle.std.proofs.Common.{◌≡◌, ℕ, ◌+◌, ◌<◌, ◌≤◌, List, [], ◌∷◌, ◌++◌, Option, Some, None, Bool, true, sym, refl, ap, ◌∙◌, subst, ⊎_elim, arith}
+use Rattle.std.proofs.Common.{◌≡◌, ℕ, ◌+◌, ◌<◌, List, [], ◌∷◌, ◌++◌, Option, Some, true, sym, refl, ap, ◌∙◌, subst, ⊎_elim, arith}
 use Rattle.std.proofs.lemmas.List.Sums.{fold-append}
 use Rattle.std.specs.Prelude.{get_or, length, set}
-use Rattle.std.specs.List.{fold}
 use Rattle.std.specs.Option.{unwrap_or}
 use Rattle.lock_model.specs.CallTable.{CallTable, Plan, Way}
 use Rattle.lock_model.specs.CallTable.Plan.{No_object, Object}
 use Rattle.lock_model.specs.CallTable.Way.{Inside, Door, Keeps_table}
-use Rattle.lock_model.specs.Machine.{Setup, Moved, Event, after_step, answer, answered, advance, attempt, can_attempt, failed, happens, is_allowed, move, moves, planned, reached}
+use Rattle.lock_model.specs.Machine.{Setup, Moved, Event, after_step, answered, advance, attempt, can_attempt, failed, happens, is_allowed, move, moves, planned, reached}
 use Rattle.lock_model.specs.Machine.Event.{Advances, Attempts}
-use Rattle.lock_model.specs.Runs.{Arises, own, run, supplied}
+use Rattle.lock_model.specs.Runs.{own, supplied}
 use Rattle.lock_model.specs.State.{Phase, State, Thread, nobody, start, thread_of}
 use Rattle.lock_model.specs.State.Phase.{Working, WantsTable, WantsObject, Granted, ToOutside, Outside, Recorded, Blocked, Ended}
 use Rattle.lock_model.specs.Times.{TimesOfArisen, last_clock}

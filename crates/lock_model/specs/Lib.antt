@@ -10,6 +10,7 @@ pub mod Legal
 pub mod Rising
 pub mod Held
 pub mod Events
+pub mod Skipping
 pub mod Laws
 pub mod Came
 pub mod RealCalls

@@ -45,6 +45,7 @@ ghost use Rattle.lock_model.specs.Laws.{RisingOfArisen, RowsOfArisen, RunFollows
 ghost use Rattle.lock_model.specs.Laws.{SomeTurn, StepsOfArisen, StuckLaw, UniqueEnd};
 ghost use Rattle.lock_model.specs.RealLaws.{RealEnd, RealLegal, RealLegalOfArisen, RealPrefix, RealRising};
 ghost use Rattle.lock_model.specs.Schedule.{IsOver, plain_run};
+ghost use Rattle.lock_model.specs.Skipping.{SkipLaw};
 ghost use Rattle.lock_model.specs.Times.{TimesOfArisen};
 ghost use Rattle.lock_model.specs.Transcripts.{transcript};
 
@@ -101,6 +102,12 @@ pub fn plain_run_ends()
 /// phase says; where it is not allowed it changes nothing.
 pub fn one_event()
     ensures { EventLaws }
+{}
+
+/// Attempts that fail can be skipped: where each turn before a given one is for an attempt that fails, they lead,
+/// one after another, to the state in which no thread that wants a lock comes before that turn any more.
+pub fn failing_attempts()
+    ensures { SkipLaw }
 {}
 
 /// At every moment of every run the history is legal: each answer is the one that the calls before it, one granted

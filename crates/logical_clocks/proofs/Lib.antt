@@ -1,4 +1,2 @@
 pub mod LiveLemmas
-pub mod RowLemmas
-pub mod StepLemmas
 pub mod TurnLemmas

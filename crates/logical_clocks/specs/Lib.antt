@@ -1,3 +1,2 @@
 pub mod TurnOrder
 pub mod ThreadClocks
-pub mod TurnRow

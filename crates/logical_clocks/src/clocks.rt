@@ -1,9 +1,7 @@
-ghost use Rattle.std.specs.Prelude.{◌≡◌, ◌+◌, ◌<◌, ◌≤◌, ◌↔◌, length, IsErr, IfOk, OnOk, OnErr};
+ghost use Rattle.std.specs.Prelude.{◌≡◌, ◌+◌, ◌<◌, ◌≤◌, ◌↔◌, length, max, IsErr, IfOk, OnOk, OnErr};
 ghost use Rattle.logical_clocks.specs.ThreadClocks.{AreWithinLimit, first_clocks, clock_at, with_clock, with_end, live_clocks};
 ghost use Rattle.logical_clocks.specs.TurnOrder.{has_turn, turn_holder};
 
-use crate::row::{LiveThread, advance, place_of};
-use arrayvec::ArrayVec;
 use posix_terms::Limits;
 use std::alloc::{AllocError, Global};
 use std::marker::Model;
@@ -22,12 +20,10 @@ pub struct ThreadClock {
 pub struct ClockFull;
 
 /// The logical clocks of all threads. Contracts see the list of them, by the threads' numbers. No clock
-/// passes `Limits::CLOCK`. Beside them the threads that have not ended stand in a row, in the order of
-/// their turns.
+/// passes `Limits::CLOCK`.
 #[derive(Debug, Drop)]
 pub struct Clocks {
     threads: Vec<ThreadClock>,
-    row: ArrayVec<LiveThread, { Limits::THREADS }>,
 }
 
 impl Model for Clocks {
@@ -37,11 +33,10 @@ impl Model for Clocks {
     ghost Value = { List ThreadClock };
 
     ghost use Rattle.logical_clocks.specs.ThreadClocks.{AreWithinLimit};
-    ghost use Rattle.logical_clocks.specs.TurnRow.{IsTurnRow};
 
     ghost view = { λ c. c.threads.items };
 
-    ghost invariant = { λ c. AreWithinLimit c.threads.items × IsTurnRow c.threads.items c.row.items };
+    ghost invariant = { λ c. AreWithinLimit c.threads.items };
 }
 
 impl Clocks {
@@ -55,16 +50,8 @@ impl Clocks {
             clock: 1,
             live: true,
         };
-        let mut row = ArrayVec::new();
-        for thread in 0..threads {
-            row.push(LiveThread {
-                clock: first.clock,
-                thread,
-            });
-        }
         Ok(Clocks {
             threads: vec![in alloc; first; threads]?,
-            row,
         })
     }
 
@@ -81,11 +68,18 @@ impl Clocks {
             return Err(ClockFull);
         }
         thread.clock += n;
-        let clock = thread.clock;
-        if let Some(at) = place_of(self.row.as_slice(), i) {
-            advance(self.row.as_mut_slice(), at, clock);
-        }
         Ok(())
+    }
+
+    /// Moves the clock of a thread on to this one, unless it is there or past it.
+    #[inline(always)]
+    pub fn raise(&mut self, i: usize, clock: u64)
+        requires inside { i < length self.old }
+        requires within_limit { clock ≤ Limits.CLOCK }
+        ensures { self.new ≡ with_clock self.old i (max (clock_at self.old i) clock) }
+    {
+        let thread = &mut self.threads[i];
+        thread.clock = thread.clock.max(clock);
     }
 
     /// Whether a thread has the turn: it has not ended, and each other thread that has not ended has a
@@ -94,8 +88,8 @@ impl Clocks {
         requires { i < length self.now }
         ensures { result ≡ has_turn (live_clocks self.now) i }
     {
-        match self.row.first() {
-            Some(first) => first.thread == i,
+        match self.turn_holder() {
+            Some(holder) => holder == i,
             None => false,
         }
     }
@@ -104,8 +98,16 @@ impl Clocks {
     pub fn turn_holder(&self) -> Option<usize>
         ensures { result ≡ turn_holder (live_clocks self.now) }
     {
-        let first = self.row.first()?;
-        Some(first.thread)
+        let mut holder = None;
+        let mut least = u64::MAX;
+        for i in 0..self.threads.len() {
+            let thread = self.threads[i];
+            if thread.live && thread.clock < least {
+                least = thread.clock;
+                holder = Some(i);
+            }
+        }
+        holder
     }
 
     /// Takes a thread out of all turns to come. It keeps its clock.
@@ -114,9 +116,6 @@ impl Clocks {
         ensures { self.new ≡ with_end self.old i }
     {
         self.threads[i].live = false;
-        if let Some(at) = place_of(self.row.as_slice(), i) {
-            let _ = self.row.remove(at);
-        }
     }
 
     /// The clock of a thread; of one that has ended the clock that it had. With it comes what holds of all clocks (`all_within_limit`).

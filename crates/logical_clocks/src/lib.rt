@@ -3,11 +3,10 @@
 //! [`Clocks`] are made for 1 to `Limits::THREADS` threads, each at clock 1, and take all their
 //! memory then. Of the threads that have not ended, the one with the least clock has the turn, and
 //! of equal clocks the one with the least number: `turn_holder` names it, and `is_turn` tests one
-//! thread. Those threads stand in a row in the order of their turns, so both look at its first
-//! alone. `add` adds just so much to a clock, and moves the thread to its new place in the row;
-//! where the sum would pass `Limits::CLOCK` it fails with [`ClockFull`], and nothing changes. `end`
-//! takes a thread out of the turns to come. What names a thread asks that there is one of this
-//! number.
+//! thread. `add` adds just so much to a clock; where the sum would pass `Limits::CLOCK` it fails
+//! with [`ClockFull`], and nothing changes. `raise` moves a clock on to a time that it has not
+//! reached. `end` takes a thread out of the turns to come. What names a thread asks that there is
+//! one of this number.
 //!
 //! ```rust
 //! use logical_clocks::{ClockFull, Clocks};
@@ -25,7 +24,6 @@
 
 mod clocks;
 mod laws;
-mod row;
 
 pub use clocks::{ClockFull, Clocks, ThreadClock};
 pub use laws::least_is_found;
