@@ -12,7 +12,7 @@ use crate::outside::reach;
 use crate::shared::Shared;
 use host_doors::Outside;
 use input_log::LogSink;
-use posix_terms::{Request, Turn};
+use posix_terms::{Reply, Request, Turn};
 use std::alloc::AllocError;
 use std::sync::Wait;
 use thread_scripts::Actor;
@@ -20,15 +20,15 @@ use worker_notes::{Brought, Noted, Own, last_reply, open_call, request_for};
 
 // What a worker does for its next note: where the machine took the event there is a note of it.
 
-// Thread i asks the actor's next step. The notes have room for it then.
+// Thread i asks the actor's next step, and has its reply where that comes at once. The notes have room for the step then.
 pub fn ask_next<A: Actor, S: LogSink, D: Drop, R: Wait>(
     rt: &R,
     shared: &Shared<S, D>,
     i: usize,
     actor: &mut A,
     notes: &mut Vec<Noted>,
-) -> Result<Noted, Leave>
-    ensures note { IfOk result (λ note. note ≡ record { step = (next_of (last_reply notes.old.items) (A.state actor.old)).0; reply = None }) }
+) -> Result<(Noted, Option<Reply>), Leave>
+    ensures note { IfOk result (λ asked. asked.0 ≡ record { step = (next_of (last_reply notes.old.items) (A.state actor.old)).0; reply = None }) }
     ensures after { OnOk result (A.state actor.new ≡ (next_of (last_reply notes.old.items) (A.state actor.old)).1) }
     ensures room { OnOk result (vec_len notes.new < vec_capacity notes.new) }
     ensures notes { notes.new.items ≡ notes.old.items }
@@ -37,11 +37,12 @@ pub fn ask_next<A: Actor, S: LogSink, D: Drop, R: Wait>(
     let step = actor.next(last_reply(notes.as_slice()))?;
     let copy = copied(&step)?;
     notes.reserve(1)?;
-    ask(rt, shared, i, step, notes)?;
-    Ok(Noted {
+    let reply = ask(rt, shared, i, step, notes)?;
+    let note = Noted {
         step: copy,
         reply: None,
-    })
+    };
+    Ok((note, reply))
 }
 
 // Makes this journey of thread i, while others make their events: the request of the call in which its steps end, which

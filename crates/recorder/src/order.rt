@@ -3,10 +3,10 @@ ghost use Rattle.lock_machine.specs.Refusals.{phase_at};
 ghost use Rattle.logged_machine.specs.Requests.{out_of};
 ghost use Rattle.recorder.specs.Order.{all_let_go, is_next_outside, lets_go};
 
+use crate::shared::Held;
 use input_log::LogSink;
 use lock_machine::Phase;
 use logged_machine::Machine;
-use std::sync::Condvar;
 
 // Where calls go outside in the order of the turns, they go one after the other, by the numbers of their rows.
 // Nobody waits for ever for that: of the calls that are about to go outside, or are there, the one with the
@@ -47,10 +47,10 @@ fn lets_go(row: usize, phase: &Phase) -> bool
 }
 
 // Wakes the worker whose call is the next to go outside, if there is one.
-pub fn wake_next_outside<S: LogSink, D: Drop>(machine: &Machine<S, D>, turns: &[Condvar]) {
-    for (i, turn) in turns.iter().enumerate() {
-        if i < machine.len() && is_next_outside(machine, i) {
-            turn.notify_all();
+pub fn wake_next_outside<S: LogSink, D: Drop>(held: &mut Held<S, D>) {
+    for i in 0..held.machine.len() {
+        if i < held.machine.len() && is_next_outside(&held.machine, i) {
+            held.wakes.add(i);
         }
     }
 }

@@ -6,16 +6,17 @@ ghost use Rattle.recorder.specs.Starting.{IsRefusal, refusal};
 
 use crate::ended::StartFault;
 use logged_machine::are_in_range;
-use posix_terms::{Limits, Settings, Transcript};
+use posix_terms::{Limits, Reply, Settings, Transcript};
 use std::alloc::{AllocError, Global};
 use std::sync::Condvar;
 use worker_notes::Own;
 
-// What is reserved before a run is started: for each worker a place for its notes, for its transcript, and to wait.
+// What is reserved before a run is started: for each worker a place for its notes, for its transcript, for its reply, and to wait.
 #[derive(Drop)]
 pub struct Room {
     pub own: Vec<Own>,
     pub transcripts: Vec<Transcript>,
+    pub told: Vec<Option<Reply>>,
     pub turns: Vec<Condvar>,
 }
 
@@ -60,12 +61,15 @@ fn reserved(alloc: Global, actors: usize) -> Result<Room, AllocError>
     ensures transcripts { IfOk result (λ room. actors ≤ vec_capacity room.transcripts) }
 {
     let mut turns = Vec::new(alloc);
+    let mut told = Vec::new(alloc);
     for _ in 0..actors {
         turns.push(Condvar::new())?;
+        told.push(None)?;
     }
     Ok(Room {
         own: Vec::with_capacity(alloc, actors)?,
         transcripts: Vec::with_capacity(alloc, actors)?,
+        told,
         turns,
     })
 }

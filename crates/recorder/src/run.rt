@@ -15,7 +15,7 @@ use crate::ended::{Ended, NotStarted, StartFault};
 use crate::history::History;
 use crate::pulse::Pulse;
 use crate::room::{Room, room_for};
-use crate::shared::Shared;
+use crate::shared::{Held, Shared, Wakes};
 use crate::threads::{Crew, run_all};
 use crate::watch::{Manner, Unwatched, Watch};
 use host_doors::Outside;
@@ -345,16 +345,22 @@ fn run_with<
     let Room {
         own,
         transcripts,
+        told,
         turns,
     } = room;
     let Manner { in_turn, watch } = manner;
     let shared = Shared {
-        machine: Mutex::new(machine),
+        held: Mutex::new(Held {
+            machine,
+            told,
+            wakes: Wakes::none(),
+        }),
         turns,
         in_turn,
         pulse: Pulse::new(),
     };
     let gathered = run_all(rt, alloc, &shared, crew, own, watch);
-    let Shared { machine, .. } = shared;
-    conclude(alloc, header, machine.into_inner(), gathered, transcripts)
+    let Shared { held, .. } = shared;
+    let Held { machine, .. } = held.into_inner();
+    conclude(alloc, header, machine, gathered, transcripts)
 }

@@ -103,34 +103,35 @@ impl<A: Actor, O: Outside> Seat<A, O> {
     {
         for _ in rt.forever() {
             match self.ask(rt, shared, i)? {
-                Asked::Work => {}
-                Asked::Call => self.call(rt, shared, i)?,
-                Asked::End => return Ok(()),
+                (Asked::Work, _) => {}
+                (Asked::Call, Some(reply)) => self.hear(reply),
+                (Asked::Call, None) => self.call(rt, shared, i)?,
+                (Asked::End, _) => return Ok(()),
             }
         }
         unreachable!()
     }
 
-    // Asks the actor's next step.
+    // Asks the actor's next step. With it comes the reply, where that came at once.
     fn ask<S: LogSink, R: Wait>(
         &mut self,
         rt: &R,
         shared: &Shared<S, O::Door>,
         i: usize,
-    ) -> Result<Asked, Leave>
+    ) -> Result<(Asked, Option<Reply>), Leave>
         requires ready { IsReady self.old }
         ensures from { self.new.from ≡ self.old.from }
         ensures began { self.new.began ≡ self.old.began }
-        ensures behind { IfOk result (λ kind. StandsBehind kind self.new) }
+        ensures behind { IfOk result (λ asked. StandsBehind asked.0 self.new) }
     {
         self.ahead = true;
-        let note = ask_next(rt, shared, i, &mut self.actor, &mut self.own.steps)?;
+        let (note, reply) = ask_next(rt, shared, i, &mut self.actor, &mut self.own.steps)?;
         let kind = kind(&note.step);
         let ended = is_end(&note.step);
         self.own.steps.push_reserved(note);
         self.own.ended = ended;
         self.ahead = false;
-        Ok(kind)
+        Ok((kind, reply))
     }
 
     // Brings the call that was asked last to its reply.

@@ -1,45 +1,64 @@
 ghost use Rattle.std.specs.Prelude.{◌≡◌, ◌<◌, is_some, length, true};
 
 use crate::leave::Leave;
+use crate::shared::{Held, Wakes};
 use input_log::LogSink;
 use lock_machine::Phase;
 use logged_machine::{Machine, Refused};
-use std::sync::Condvar;
+use posix_terms::Answer;
 
-// Makes every attempt that can be made, for whichever thread has the turn, and wakes each worker whose own event is next then. Whoever made
-// an event does so before it lets the machine go, so nobody has to hunt for its turn. A refusal stops the machine and wakes all.
-pub fn settle<S: LogSink, D: Drop>(machine: &mut Machine<S, D>, turns: &[Condvar]) {
+// Makes every attempt that can be made, for whichever thread has the turn, and answers each call
+// that is granted then, so that its worker need only take the reply. Whoever made an event does so
+// before it lets the machine go, so nobody has to hunt for its turn. A refusal stops the machine.
+pub fn settle<S: LogSink, D: Drop>(held: &mut Held<S, D>) {
     // It ends long before: each attempt adds to a clock, and a full one stops the machine.
     for _ in 0..u64::MAX {
-        let Some(holder) = machine.turn_holder() else {
+        let Some(holder) = held.machine.turn_holder() else {
             return;
         };
-        match attempt(machine, holder) {
-            Ok(()) => wake(machine, turns, holder),
-            // An event of its worker's is next, or somebody stopped the machine and woke all.
+        match turn(held, holder) {
+            Ok(()) => {}
+            // An event of its worker's is next, or somebody stopped the machine.
             Err(Refused::WrongPhase) | Err(Refused::Stopped(_)) => return,
             Err(refused) => {
-                stop(machine, turns, Leave::from(refused));
+                stop(held, Leave::from(refused));
                 return;
             }
         }
     }
 }
 
-// Stops the machine, and wakes all workers: each is to see it.
-pub fn stop<S: LogSink, D: Drop>(machine: &mut Machine<S, D>, turns: &[Condvar], leave: Leave)
-    ensures { is_some machine.new.stop ≡ true }
+// Stops the machine. All workers are to be woken: each is to see it.
+pub fn stop<S: LogSink, D: Drop>(held: &mut Held<S, D>, leave: Leave)
+    ensures { is_some held.new.machine.stop ≡ true }
 {
     // Refused where it is stopped already: the first cause stands.
-    let _first = machine.stop(leave.cause());
-    for turn in turns {
-        turn.notify_all();
+    let _first = held.machine.stop(leave.cause());
+    held.wakes = Wakes::all();
+}
+
+// The attempt of thread i, which has the turn; and the answer, if its call is granted then. A worker
+// whose call goes outside is to be woken for that.
+fn turn<S: LogSink, D: Drop>(held: &mut Held<S, D>, i: usize) -> Result<(), Refused>
+    requires { i < length held.old.machine.whole.threads }
+{
+    attempt(&mut held.machine, i)?;
+    match held.machine.phase(i) {
+        Phase::Granted { .. } => {
+            if let Answer::Reply(reply) = held.machine.answer(i)? {
+                held.tell(i, reply);
+            }
+        }
+        Phase::ToOutside(_) => held.wakes.add(i),
+        _ => {}
     }
+    Ok(())
 }
 
 // The attempt of thread i, which has the turn: at the lock that it wants, or again at the call in which it was blocked.
 fn attempt<S: LogSink, D: Drop>(machine: &mut Machine<S, D>, i: usize) -> Result<(), Refused>
     requires { i < length machine.old.whole.threads }
+    ensures { length machine.new.whole.threads ≡ length machine.old.whole.threads }
 {
     match machine.phase(i) {
         Phase::WantsTable { .. } => {
@@ -52,18 +71,4 @@ fn attempt<S: LogSink, D: Drop>(machine: &mut Machine<S, D>, i: usize) -> Result
         _ => return Err(Refused::WrongPhase),
     }
     Ok(())
-}
-
-// Wakes the worker of thread i where its own event is next.
-fn wake<S: LogSink, D: Drop>(machine: &Machine<S, D>, turns: &[Condvar], i: usize) {
-    if i >= machine.len() {
-        return;
-    }
-    let is_own = matches!(
-        machine.phase(i),
-        Phase::Granted { .. } | Phase::ToOutside(_)
-    );
-    if let (true, Some(turn)) = (is_own, turns.get(i)) {
-        turn.notify_all();
-    }
 }

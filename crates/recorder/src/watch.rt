@@ -65,8 +65,8 @@ fn show<W: Watch, S: LogSink, D: Drop, R: Wait>(
     beats: u64,
     watch: &mut W,
 ) {
-    let machine = shared.machine.lock(rt);
+    let held = shared.held.lock(rt);
     if shared.pulse.beats() == beats {
-        watch.stands(&machine);
+        watch.stands(&held.machine);
     }
 }
