@@ -14,11 +14,11 @@
 
 enum { ROUNDS = 30, MOST_THREADS = 16, MOST_TRIPS = 10000 };
 
-enum { OPEN, READ, WRITE, LSEEK, PREAD, PWRITE, FSTAT, GETFL, DUP, LINK, MKDIR, PIPE, PAIR, KINDS };
+enum { OPEN, READ, WRITE, LSEEK, PREAD, PWRITE, FSTAT, GETFL, DUP, LINK, RENAME, MKDIR, PIPE, PAIR, KINDS };
 static const char *const words_of[KINDS] = {
     [OPEN] = "open, close", [READ] = "read",         [WRITE] = "write",       [LSEEK] = "lseek",
     [PREAD] = "pread",      [PWRITE] = "pwrite",     [FSTAT] = "fstat",       [GETFL] = "getfl",
-    [DUP] = "dup, close",   [LINK] = "link, unlink", [MKDIR] = "mkdir, rmdir",
+    [DUP] = "dup, close",   [LINK] = "link, unlink", [RENAME] = "rename",     [MKDIR] = "mkdir, rmdir",
     [PIPE] = "write, read of a pipe", [PAIR] = "write, read of a pair",
 };
 
@@ -55,6 +55,7 @@ static void two_calls(int fd, const char *path, const char *other, const int *en
   case GETFL: must(fcntl(fd, F_GETFL) >= 0 && fcntl(fd, F_GETFL) >= 0); break;
   case DUP: fd = dup(fd), must(fd >= 0 && close(fd) == 0); break;
   case LINK: must(link(path, other) == 0 && unlink(other) == 0); break;
+  case RENAME: must(rename(path, other) == 0 && rename(other, path) == 0); break;
   case MKDIR: must(mkdir(other, 0700) == 0 && rmdir(other) == 0); break;
   case PIPE:
   case PAIR: must(write(ends[1], bytes, 8) == 8 && read(ends[0], bytes, 8) == 8); break;
