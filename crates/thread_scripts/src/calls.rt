@@ -45,7 +45,7 @@ fn kind_among(kinds: &[CallKind], word: &[u8]) -> Option<CallKind>
 }
 
 /// The call that a word names.
-pub(crate) fn kind_named(word: &[u8]) -> Option<CallKind>
+pub fn kind_named(word: &[u8]) -> Option<CallKind>
     ensures { result ≡ kind_named word.now }
 {
     kind_among(&CallKind::ALL, word)

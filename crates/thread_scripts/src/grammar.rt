@@ -6,7 +6,7 @@ use crate::fault::{LineFault, ScriptFault};
 use crate::labels::{Label, labels, place_after};
 use crate::lines::read_line;
 use crate::script::Script;
-use crate::words::{SplitLine, lines, split_lines};
+use crate::words::{SplitLine, split_lines, text_lines};
 use posix_terms::Limits;
 use std::alloc::Global;
 
@@ -35,7 +35,7 @@ fn read_lines(alloc: Global, labels: &[Label], split: &[SplitLine]) -> Result<Sc
 pub fn parse(alloc: Global, text: &[u8]) -> Result<Script, ScriptFault>
     ensures { Parses result (script_of text.now) }
 {
-    let texts = lines(alloc, text)?;
+    let texts = text_lines(alloc, text)?;
     if texts.len() > Limits::SCRIPT_LINES {
         return Err(ScriptFault::TooLong);
     }

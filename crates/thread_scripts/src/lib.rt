@@ -8,6 +8,9 @@
 //! By the contract each step is the one that the script's meaning gives, and each but the end
 //! leaves fewer lines to be executed. Without memory for a step the actor is as it was.
 //!
+//! [`text_lines`], [`line_words`], [`kind_named`], [`natural`] and [`number`] read the parts of a
+//! text as [`parse`] does.
+//!
 //! ```rust
 //! use posix_terms::{Call, Reply};
 //! use thread_scripts::{Actor, Line, Script, ScriptActor, Step, parse};
@@ -47,6 +50,7 @@ mod words;
 
 pub use actor::{Actor, ScriptActor, ScriptState};
 pub use boxed::BoxedActor;
+pub use calls::kind_named;
 pub use fault::{Memory, ScriptFault};
 pub use grammar::parse;
 pub use laws::{
@@ -54,5 +58,7 @@ pub use laws::{
     read_scripts_keep_rules, runs_end, script_stays, too_long_is_counted,
 };
 pub use line::{ByteRegister, CallLine, Data, Line, Number, NumberRegister, Register};
+pub use numbers::{natural, number};
 pub use posix_terms::Step;
 pub use script::Script;
+pub use words::{line_words, text_lines};

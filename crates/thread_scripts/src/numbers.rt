@@ -3,9 +3,9 @@ ghost use Rattle.thread_scripts.specs.Numbers.{byte_register_of, index_of, natur
 
 use crate::line::{ByteRegister, NumberRegister};
 
-/// The value of a text of digits, if it is at most `limit`.
+/// The value of one or more digits, if it is at most `limit`. Leading zeros are allowed.
 #[tactic(auto, using(crate::proofs::Digits::too_great))]
-pub(crate) fn natural(text: &[u8], limit: u64) -> Option<u64>
+pub fn natural(text: &[u8], limit: u64) -> Option<u64>
     ensures value { result ≡ up_to limit (natural_of text.now) }
     ensures bound { IfSome result (λ n. n ≤ limit) }
 {
@@ -26,8 +26,8 @@ pub(crate) fn natural(text: &[u8], limit: u64) -> Option<u64>
     Some(value)
 }
 
-/// The value of a decimal number, if it is one of 64 bits.
-pub(crate) fn number(text: &[u8]) -> Option<i64>
+/// The value of digits after an optional minus sign, if it is a number of 64 bits.
+pub fn number(text: &[u8]) -> Option<i64>
     ensures { result ≡ number_of text.now }
 {
     let (first, digits) = text.split_first()?;

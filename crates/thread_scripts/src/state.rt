@@ -1,4 +1,5 @@
-ghost use Rattle.std.specs.Prelude.{◌≡◌, ◌+◌, ◌^◌, ◌<◌, IfOk, IfSome, option_copied, replicate, slice_get, []};
+ghost use Rattle.std.specs.Prelude.{◌≡◌, ◌+◌, ◌^◌, ◌<◌, [], IfOk, IfSome, option_copied};
+ghost use Rattle.std.specs.Prelude.{replicate, slice_get};
 
 use crate::actor::ScriptState;
 use crate::line::{ByteRegister, CallLine, Data, Line, Number, NumberRegister};
@@ -292,7 +293,8 @@ impl ScriptState {
     /// Replaces a byte register, and keeps what it held.
     fn replace(&mut self, register: ByteRegister, bytes: Bytes, replaced: &mut Replaced)
         ensures state { self.new ≡ record self.old { bytes = slice_set self.old.bytes register bytes } }
-        ensures replaced { registers_before replaced.new.bytes self.new.bytes ≡ registers_before replaced.old.bytes self.old.bytes }
+        ensures replaced { registers_before replaced.new.bytes self.new.bytes
+            ≡ registers_before replaced.old.bytes self.old.bytes }
     {
         let held = mem::replace(&mut self.bytes[register.index()], bytes);
         replaced.keep(register, held);
@@ -302,7 +304,8 @@ impl ScriptState {
     fn perform(&mut self, action: Action, replaced: &mut Replaced) -> Option<Step>
         ensures step { result ≡ step_given action }
         ensures state { self.new ≡ performed action self.old }
-        ensures replaced { registers_before replaced.new.bytes self.new.bytes ≡ registers_before replaced.old.bytes self.old.bytes }
+        ensures replaced { registers_before replaced.new.bytes self.new.bytes
+            ≡ registers_before replaced.old.bytes self.old.bytes }
     {
         match action {
             Action::Step(step) => return Some(step),
@@ -326,7 +329,8 @@ impl ScriptState {
     #[tactic(auto, using(crate::proofs::Executing::next_none, crate::proofs::Executing::next_step, crate::proofs::Executing::next_more, crate::proofs::Executing::within_end, crate::proofs::Executing::performed_script))]
     fn run(&mut self, failed: bool, replaced: &mut Replaced) -> Result<Step, AllocError>
         ensures ok { IfOk result (λ step. (step, self.new) ≡ next_within failed (lines_left self.old) self.old) }
-        ensures replaced { registers_before replaced.new.bytes self.new.bytes ≡ registers_before replaced.old.bytes self.old.bytes }
+        ensures replaced { registers_before replaced.new.bytes self.new.bytes
+            ≡ registers_before replaced.old.bytes self.old.bytes }
         ensures script { self.new.script ≡ self.old.script }
     {
         while self.executed < Limits::EXECUTED_LINES {
@@ -346,7 +350,8 @@ impl ScriptState {
     /// Stores a reply in the registers.
     fn store(&mut self, reply: Reply, replaced: &mut Replaced)
         ensures state { self.new ≡ stored (Some reply) self.old }
-        ensures replaced { registers_before replaced.new.bytes self.new.bytes ≡ registers_before replaced.old.bytes self.old.bytes }
+        ensures replaced { registers_before replaced.new.bytes self.new.bytes
+            ≡ registers_before replaced.old.bytes self.old.bytes }
     {
         match reply {
             Reply::Count(count) => self.numbers[0] = count.cast_signed(),
@@ -405,7 +410,8 @@ impl ScriptState {
         replaced: &mut Replaced,
     ) -> Result<Step, AllocError>
         ensures ok { IfOk result (λ step. (step, self.new) ≡ next_of last self.old) }
-        ensures replaced { registers_before replaced.new.bytes self.new.bytes ≡ registers_before replaced.old.bytes self.old.bytes }
+        ensures replaced { registers_before replaced.new.bytes self.new.bytes
+            ≡ registers_before replaced.old.bytes self.old.bytes }
         ensures script { self.new.script ≡ self.old.script }
     {
         let mut failed = false;

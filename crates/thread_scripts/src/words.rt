@@ -21,7 +21,7 @@ fn is_comment(text: &[u8]) -> bool
 
 /// The words of a line, if it is ASCII text; a comment has none.
 #[tactic(auto, unfolding(crate::specs::Words::words_of))]
-fn words<'a>(alloc: Global, text: &'a [u8]) -> Result<Option<Vec<&'a [u8]>>, AllocError>
+pub fn line_words<'a>(alloc: Global, text: &'a [u8]) -> Result<Option<Vec<&'a [u8]>>, AllocError>
     ensures { IfOk result (λ words. option_map (λ v. map (λ w. w.now) v.items) words ≡ words_of text.now) }
 {
     if !is_ascii(text) {
@@ -51,14 +51,14 @@ pub(crate) fn split_lines<'a>(
     let mut lines = Vec::new(alloc);
     for i in 0..texts.len() {
         let text = texts[i];
-        let words = words(alloc, text)?;
+        let words = line_words(alloc, text)?;
         lines.push(SplitLine { text, words })?;
     }
     Ok(lines)
 }
 
-/// The lines of a text.
-pub(crate) fn lines<'a>(alloc: Global, text: &'a [u8]) -> Result<Vec<&'a [u8]>, AllocError>
+/// The lines of a text, without their line feeds. The last may lack its own.
+pub fn text_lines<'a>(alloc: Global, text: &'a [u8]) -> Result<Vec<&'a [u8]>, AllocError>
     ensures { IfOk result (λ lines. map (λ l. l.now) lines.items ≡ lines_of text.now) }
 {
     if text.is_empty() {
