@@ -1,4 +1,6 @@
-//! Scripts: the faults of texts that are none, and a script made in code.
+//! Scripts: the faults of texts that are none, a script made in code, and what a text expects of its
+//! calls' replies.
 
+mod expected;
 mod faults;
 mod made;

@@ -1,0 +1,11 @@
+pub mod Calls
+pub mod Lines
+pub mod Rows
+pub mod Shapes
+pub mod CallPlaces
+pub mod Standing
+pub mod Numerals
+pub mod HexDigits
+pub mod ReadBack
+pub mod OneFirst
+pub mod OneReading

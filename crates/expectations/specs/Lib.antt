@@ -1,0 +1,7 @@
+pub mod Meeting
+pub mod Words
+pub mod Expected
+pub mod Places
+pub mod Unmet
+pub mod Laws
+pub mod Printing

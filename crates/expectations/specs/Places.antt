@@ -1,0 +1,44 @@
+-- Internal: no contract of the headline or of a command stands on it.
+-- Where the calls of a thread stand in its script, by the replies that it had.
+use Rattle.std.specs.Prelude.{ℕ, zero, suc, ◌+◌, List, [], ◌∷◌, Option, Some, None}
+use Rattle.posix_terms.specs.declared.reply.Reply.{Reply}
+use Rattle.posix_terms.specs.declared.step.Step.{Step}
+use Rattle.posix_terms.specs.declared.step.Step.TheVariants as step
+use Rattle.thread_scripts.specs.Meaning.{lines_left, next_of, start_of}
+use Rattle.thread_scripts.specs.declared.actor.ScriptState.{ScriptState}
+use Rattle.thread_scripts.specs.declared.line.Line.{Line}
+
+-- the state after a step that is a call. After a work the call is sought further, and after the
+-- end there is none
+abbrev pub call_or : Step → ScriptState → Option ScriptState → Option ScriptState
+call_or (step.Call call) s more = Some s
+call_or (step.Work amount) s more = more
+call_or step.End s more = None
+
+-- the state after the next call, if that is among the next n steps. After a work there is no reply
+unfoldable pub call_within : ℕ → Option Reply → ScriptState → Option ScriptState
+call_within zero last s = None
+call_within (suc n) last s =
+    call_or (next_of last s).0 (next_of last s).1 (call_within n None (next_of last s).1)
+
+-- the state after the next call, given the last reply, if there is such a call. Each step but the
+-- end leaves fewer lines to be executed, so these are steps enough
+abbrev pub call_after : Option Reply → ScriptState → Option ScriptState
+call_after last s = call_within (lines_left s + 1) last s
+
+-- a call with its place, by the state after it, and its reply; then those that follow
+abbrev pub call_before :
+    Option ScriptState → Reply → (ScriptState → List (ℕ × Reply)) → List (ℕ × Reply)
+call_before None reply others = []
+call_before (Some s) reply others = (s.place, reply) ∷ others s
+
+-- the places of the next calls, each with its reply of these. Where there is no call left, the
+-- replies that are left have none
+abbrev pub calls_from : Option Reply → ScriptState → List Reply → List (ℕ × Reply)
+calls_from last s [] = []
+calls_from last s (reply ∷ replies) =
+    call_before (call_after last s) reply (λ after. calls_from (Some reply) after replies)
+
+-- the places of a script's calls to which these are the replies, each with its reply
+abbrev pub calls_of : List Line → List Reply → List (ℕ × Reply)
+calls_of script replies = calls_from None (start_of script) replies

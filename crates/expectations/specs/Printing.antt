@@ -1,0 +1,35 @@
+-- Internal: no contract of the headline or of a command stands on it.
+-- How what is wanted is written: in the words by which it is read, one space apart.
+use Rattle.std.specs.Prelude.{ℕ, List, [], ◌∷◌, length, ◌==◌, if◌then◌else◌, Option, Some, None, codes, decimal}
+use Rattle.std.specs.Fmt.{signed_decimal}
+use Rattle.std.specs.List.{join_with_byte}
+use Rattle.hex.specs.Hex.{encode_lower}
+use Rattle.posix_terms.specs.Errors.{name_of}
+use Rattle.posix_terms.specs.Replies.{kind_code}
+use Rattle.expectations.specs.declared.wanted.Wanted.{Wanted}
+use Rattle.expectations.specs.declared.wanted.Wanted.TheVariants as want
+
+-- an operand's word, and `_` for any
+abbrev pub operand_word : {A : Type 0} → (A → List ℕ) → Option A → List ℕ
+operand_word word None = codes "_"
+operand_word word (Some operand) = word operand
+
+-- bytes as hexadecimal digits in lower case, and `-` for none
+abbrev pub data_word : List ℕ → List ℕ
+data_word bytes = if length bytes == 0 then codes "-" else encode_lower bytes
+
+unfoldable pub wanted_words : Wanted → List (List ℕ)
+wanted_words (want.Count n) = codes "count" ∷ operand_word decimal n ∷ []
+wanted_words (want.Data bytes) = codes "data" ∷ operand_word data_word bytes ∷ []
+wanted_words (want.Number n) = codes "number" ∷ operand_word signed_decimal n ∷ []
+wanted_words (want.Pair first second) =
+    codes "pair" ∷ operand_word signed_decimal first ∷ operand_word signed_decimal second ∷ []
+wanted_words (want.Stat kind number links) =
+    codes "stat" ∷ operand_word (λ kind. decimal (kind_code kind)) kind
+    ∷ operand_word decimal number ∷ operand_word decimal links ∷ []
+wanted_words want.Done = codes "done" ∷ []
+wanted_words (want.Fail error) = codes "fail" ∷ operand_word name_of error ∷ []
+wanted_words want.NotFail = codes "not" ∷ codes "fail" ∷ []
+
+abbrev pub wanted_text : Wanted → List ℕ
+wanted_text wanted = join_with_byte 32 (wanted_words wanted)
