@@ -2,7 +2,8 @@ ghost use Rattle.std.specs.Prelude.{◌≡◌, ◌<◌, ◌≤◌, [], length, m
 ghost use Rattle.std.specs.FinMap as fin;
 ghost use Rattle.sequential_object.specs.Object.{path_cmp, FileNode, Directory as a_directory};
 ghost use Rattle.sequential_object.specs.Paths.{components_of, node_at, resolved, walked};
-ghost use Rattle.sequential_object.specs.Names.{added, removed, renamed, removed_dir, removed_dir_at, has_entries, links_of};
+ghost use Rattle.sequential_object.specs.Names.{added, has_entries, links_of, removed, renamed};
+ghost use Rattle.sequential_object.specs.Names.{removed_dir, removed_dir_at};
 ghost use Rattle.directories.specs.Lookup.{NamesFile, looked_up, moved_name, renaming};
 ghost use Rattle.directories.specs.Entries.{node_of, entry_of, IsAt};
 

@@ -104,8 +104,9 @@ pub fn one_event()
     ensures { EventLaws }
 {}
 
-/// Attempts that fail can be skipped: where each turn before a given one is for an attempt that fails, they lead,
-/// one after another, to the state in which no thread that wants a lock comes before that turn any more.
+/// Attempts that fail can be skipped: where each turn before a given one is for an attempt that
+/// fails, they lead, one after another, to the state in which no thread that wants a lock comes
+/// before that turn any more.
 pub fn failing_attempts()
     ensures { SkipLaw }
 {}
