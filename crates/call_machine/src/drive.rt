@@ -5,9 +5,10 @@ ghost use Rattle.call_machine.specs.Playing.{Attempted, Makes, played_of};
 ghost use Rattle.call_machine.specs.Setup.{Inputs};
 ghost use Rattle.lock_machine.specs.Refusals.{Comes, has_answer, is_outside, phase_at, works};
 ghost use Rattle.lock_machine.specs.Shows.{AsksFor, ClocksShown};
+ghost use Rattle.lock_machine.specs.Views.{clocks_of};
 ghost use Rattle.lock_model.specs.Events.{EventLaws};
 ghost use Rattle.lock_model.specs.Laws.{ArisesAtStart, ArisesByEvent, HolderHasTurn};
-ghost use Rattle.logical_clocks.specs.TurnOrder.{LeastIsFound};
+ghost use Rattle.logical_clocks.specs.TurnOrder.{LeastIsFound, has_turn};
 ghost use Rattle.thread_scripts.specs.Laws.{RunsEnd};
 ghost use Rattle.call_machine.specs.Starting.{first_played};
 ghost use Rattle.lock_machine.specs.declared.outside.Progress.TheVariants as progress;
@@ -85,14 +86,14 @@ impl Driver {
     }
 
     // Where no thread can go on without the turn: the attempts that fail are skipped, and the next
-    // one is made by the thread that has the turn then. It is told, if there is one and it could.
+    // one is made by the thread that has the turn then. Returns that thread, if there is one and it
+    // could.
     fn attempt_next(&mut self) -> Result<Option<usize>, AllocError>
         ensures event { IfOk result (λ made. AttemptsNext made (played_of self.old) (played_of self.new)) }
         ensures count { length self.new.players.items ≡ length self.old.players.items }
     {
         laws();
-        self.machine.skip_failures();
-        let Some(i) = self.machine.turn_holder() else {
+        let Some(i) = self.machine.skip_failures() else {
             return Ok(None);
         };
         if self.attempt(i)? {
@@ -181,9 +182,10 @@ impl Driver {
         Ok(made.unwrap_or(Progress::Stays))
     }
 
-    // Thread i attempts the lock that it wants, where it has the turn, and tells whether it could.
+    // Thread i, which has the turn, attempts the lock that it wants. Returns whether it could.
     fn attempt(&mut self, i: usize) -> Result<bool, AllocError>
-        requires { i < length self.old.players.items }
+        requires inside { i < length self.old.players.items }
+        requires turn { has_turn (clocks_of self.old.machine.threads) i ≡ true }
         ensures event { IfOk result (λ made. Attempted made i (played_of self.old) (played_of self.new)) }
         ensures count { length self.new.players.items ≡ length self.old.players.items }
     {

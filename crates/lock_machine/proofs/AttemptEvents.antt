@@ -29,7 +29,7 @@ use Rattle.lock_machine.specs.Views.{clocks_of, item_at}
 use Rattle.lock_machine.specs.declared.thread.Phase.{Phase}
 use Rattle.lock_machine.specs.declared.thread.Phase.TheVariants as phase
 use Rattle.lock_machine.specs.declared.thread.Thread as declared
-use Rattle.lock_machine.proofs.AttemptShows.{attempt_idle, attempt_waits, attempt_whole, table_parts, table_tried}
+use Rattle.lock_machine.proofs.AttemptShows.{attempt_idle, attempt_whole, table_parts, table_tried}
 use Rattle.lock_machine.proofs.EventShows.{Item, item_phase, item_thread, joined_inside, run_at, turn_shown}
 use Rattle.lock_machine.proofs.Joining.{joined-kept}
 use Rattle.lock_machine.proofs.ReachShows.{lock_at, object_tried, reach_whole}
@@ -58,9 +58,6 @@ object_past w i n clock call carried is past terms s (arises, h) =
   where
     too_far : (n m : ℕ) → n < limit.OBJECTS → m ≡ limit.OBJECTS → m ≤ n → ⊥
     too_far n m few e past = omega arith
-
-pub no_attempt_event : (w : Whole) (i : ℕ) → has_turn (clocks_of w.threads) i ≡ false → Attempts false i w w
-no_attempt_event w i late terms s (arises, h) = let a = attempt_waits terms w s i h (ap (λ cs. has_turn cs i) (clocks_shown terms w s h) ∙ late) in (a.0, a.1)
 
 -- threads in other phases want no lock
 abbrev pub Idles : Phase → Type 0

@@ -51,10 +51,6 @@ wants_none : (terms : Conditions) (s : State) (i : ℕ) → wants (thread_of s i
 unfolding can_attempt
 wants_none terms s i h = and_left _ _ h
 
-turn_none : (terms : Conditions) (s : State) (i : ℕ) → has_turn (live_clocks s) i ≡ false → can_attempt (setup_under terms) s i ≡ false
-unfolding can_attempt
-turn_none terms s i h = and_right _ _ (and_left _ _ h)
-
 abbrev pub Attempted : Conditions → State → ℕ → Bool → Whole → Type 0
 Attempted terms s i made z = (can_attempt (setup_under terms) s i ≡ made) × Shows terms z (attempt (setup_under terms) i s)
 
@@ -423,10 +419,6 @@ attempt_whole outside numbers terms w s i call carried made new inside h turn is
     let g = subst P is (h.threads i).phase in
     time_tried outside numbers terms w s i call carried made new (in_time (table_parts w i) 1) (record { inside = inside; shows = h; turn = turn; wanting = is; phase = g }) refl (subst Q is tries)
 
--- without the turn there is no attempt
-pub attempt_waits : (terms : Conditions) (w : Whole) (s : State) (i : ℕ) → Shows terms w s → has_turn (live_clocks s) i ≡ false → (can_attempt (setup_under terms) s i ≡ false) × Shows terms w (attempt (setup_under terms) i s)
-attempt_waits terms w s i h shut = not_attempted terms w s i h (turn_none terms s i shut)
-
--- nor in a phase that wants nothing
+-- in a phase that wants nothing there is no attempt
 pub attempt_idle : (terms : Conditions) (w : Whole) (s : State) (i : ℕ) → Shows terms w s → wants (thread_of s i).phase ≡ false → (can_attempt (setup_under terms) s i ≡ false) × Shows terms w (attempt (setup_under terms) i s)
 attempt_idle terms w s i h idle = not_attempted terms w s i h (wants_none terms s i idle)

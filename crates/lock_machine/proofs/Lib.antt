@@ -22,4 +22,5 @@ pub mod ShownPhases
 pub mod Wanting
 pub mod SkipShows
 pub mod Openings
+pub mod DueTurn
 pub mod Passing

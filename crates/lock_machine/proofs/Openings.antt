@@ -10,13 +10,10 @@ use Rattle.logical_clocks.specs.declared.clocks.ThreadClock.{ThreadClock}
 use Rattle.lock_model.specs.Skipping.{first_from, turn_at}
 use Rattle.posix_terms.specs.declared.limits.TheConstants.Limits as limit
 use Rattle.posix_terms.specs.declared.transcript.Turn.{Turn}
-use Rattle.lock_machine.specs.Skipping.{FailsUntil}
-use Rattle.lock_machine.specs.Views.{item_at, no_item}
+use Rattle.lock_machine.specs.Skipping.{FailsUntil, IsDue, Opens, phase_of}
+use Rattle.lock_machine.specs.Views.{no_item}
 use Rattle.lock_machine.specs.declared.thread.Phase.{Phase}
 use Rattle.lock_machine.specs.declared.thread.Thread.{Thread}
-
-abbrev pub phase_of : List Thread → ℕ → Phase
-phase_of ts j = let t : Thread = item_at ts j in t.phase
 
 -- thread j does nothing but fail before any turn that is no later than this one
 abbrev pub FailsBefore : DetLock → List DetLock → Turn → ℕ → ℕ → Phase → Type 0
@@ -28,6 +25,7 @@ pub record IsLeast (table : DetLock) (objects : List DetLock) (ts : List Thread)
   pub within : (j : ℕ) → first_from turn j ≤ limit.CLOCK
   pub below : turn.thread ≤ n
   pub fails : (j : ℕ) → j < n → FailsBefore table objects turn j (clock_at cs j) (phase_of ts j)
+  pub due : turn.clock < limit.CLOCK → IsDue table objects ts cs turn
 
 no_later : (a b c : Turn) → is_before a b ≡ false → is_before b c ≡ false → is_before a c ≡ false
 no_later a b c h g = grind arith
@@ -36,7 +34,7 @@ not_itself : (a : Turn) → is_before a a ≡ false
 not_itself a = grind arith
 
 pub none_least : (table : DetLock) (objects : List DetLock) (ts : List Thread) (cs : List ThreadClock) → IsLeast table objects ts cs 0 (record { clock = limit.CLOCK; thread = 0 })
-none_least table objects ts cs = record { in_time = omega arith; within = at_limit; below = omega arith; fails = λ j l. absurd (omega arith) }
+none_least table objects ts cs = record { in_time = omega arith; within = at_limit; below = omega arith; fails = λ j l. absurd (omega arith); due = λ l. absurd (omega arith) }
   where
     at_limit : (j : ℕ) → first_from (record { clock = limit.CLOCK; thread = 0 }) j ≤ limit.CLOCK
     at_limit j = grind arith
@@ -59,6 +57,7 @@ later_opens table objects ts cs n turn o h opening late =
       within = h.within;
       below = let l = h.below in omega arith;
       fails = below_more table objects ts cs n turn h.fails (λ t room before. opening t n room (by_opening o late t before));
+      due = h.due;
     }
   where
     behind : (a b t : Turn) → a.clock ≤ b.clock → a.thread ≤ b.thread → is_before a t ≡ false → is_before b t ≡ false
@@ -68,8 +67,8 @@ later_opens table objects ts cs n turn o h opening late =
     by_opening None late t before = tt
     by_opening (Some c) late t before = behind turn (turn_at n c) t late h.below before
 
-pub earlier_opens : (table : DetLock) (objects : List DetLock) (ts : List Thread) (cs : List ThreadClock) (n clock : ℕ) (turn : Turn) → IsLeast table objects ts cs n turn → IsOpening table objects (clock_at cs n) (phase_of ts n) (Some clock) → clock < turn.clock → IsLeast table objects ts cs (n + 1) (turn_at n clock)
-earlier_opens table objects ts cs n clock turn h opening early =
+pub earlier_opens : (table : DetLock) (objects : List DetLock) (ts : List Thread) (cs : List ThreadClock) (n clock : ℕ) (turn : Turn) → IsLeast table objects ts cs n turn → IsOpening table objects (clock_at cs n) (phase_of ts n) (Some clock) → n < length ts → Opens table objects (clock_at cs n) clock (phase_of ts n) → clock < turn.clock → IsLeast table objects ts cs (n + 1) (turn_at n clock)
+earlier_opens table objects ts cs n clock turn h opening inside opens early =
     let in_time = h.in_time in
     record {
       in_time = omega arith;
@@ -78,6 +77,7 @@ earlier_opens table objects ts cs n clock turn h opening early =
       fails = below_more table objects ts cs n (turn_at n clock)
           (λ j l t room before. h.fails j l t room (no_later turn (turn_at n clock) t (later turn n clock early) before))
           (λ t room before. opening t n room before);
+      due = λ l. record { inside = inside; opens = opens };
     }
   where
     next_fits : (clock most j : ℕ) → clock < most → most ≤ limit.CLOCK → first_from (turn_at n clock) j ≤ limit.CLOCK
@@ -91,3 +91,7 @@ least_fails table objects ts cs n turn h j l = h.fails j l turn h.in_time (not_i
 
 pub opening_at : (table : DetLock) (objects : List DetLock) (ts : List Thread) (n clock : ℕ) (d : Thread) (o : Option ℕ) → IsOpening table objects clock (let t : Thread = get_or ts n d in t.phase) o → n < length ts → IsOpening table objects clock (phase_of ts n) o
 opening_at table objects ts n clock d o h inside = subst (λ (x : Thread). IsOpening table objects clock x.phase o) (get_or_default ts n d no_item inside) h
+
+-- what a thread opens at, by its place
+pub opens_at : (table : DetLock) (objects : List DetLock) (ts : List Thread) (n clock : ℕ) (d : Thread) (o : Option ℕ) → IfSome o (λ opens. Opens table objects clock opens (let t : Thread = get_or ts n d in t.phase)) → n < length ts → IfSome o (λ opens. Opens table objects clock opens (phase_of ts n))
+opens_at table objects ts n clock d o h inside = subst (λ (x : Thread). IfSome o (λ opens. Opens table objects clock opens x.phase)) (get_or_default ts n d no_item inside) h

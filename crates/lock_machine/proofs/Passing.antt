@@ -11,7 +11,7 @@ use Rattle.lock_machine.specs.Births.{time_of}
 use Rattle.lock_machine.specs.Refusals.{wants_lock}
 use Rattle.lock_machine.specs.Skipping.{ArePassed, passed}
 use Rattle.lock_machine.specs.declared.thread.Thread.{Thread}
-use Rattle.lock_machine.proofs.Openings.{phase_of}
+use Rattle.lock_machine.specs.Skipping.{phase_of}
 
 -- those of the first n threads
 pub record ArePassedBelow (turn : Turn) (ts : List Thread) (n : ℕ) (old now : List ThreadClock) : Type 0 where

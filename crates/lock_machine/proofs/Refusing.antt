@@ -1,18 +1,15 @@
 -- Which phase a thread is at, by the tests that an event makes; and what its event is, refused or not.
-use Rattle.std.proofs.Common.{◌≡◌, ◌⊎◌, ℕ, Bool, true, false, ◌&&◌, Option, Some, None, is_some, inl, inr, sym, refl, ap, subst, ⊎_elim}
+use Rattle.std.proofs.Common.{◌≡◌, Bool, true, false, Option, Some, None, is_some, sym, refl, ap, subst}
 use Rattle.std.proofs.lemmas.Bool.{false≢true, true≢false}
 use Rattle.std.specs.Prelude.{Result, Ok, Err, IfErr, OnErr, is_ok, ok_or}
 use Rattle.posix_terms.specs.Calls.{Call}
-use Rattle.logical_clocks.specs.TurnOrder.{has_turn}
-use Rattle.lock_machine.specs.Refusals.{Comes, Rests, Tried, WantsNone, phase_at, wants_object, wants_table}
-use Rattle.lock_machine.specs.Shows.{Attempts}
-use Rattle.lock_machine.specs.Views.{clocks_of}
+use Rattle.lock_machine.specs.Refusals.{Comes, Rests, WantsNone, wants_object, wants_table}
 use Rattle.lock_machine.specs.Whole.{Whole}
 use Rattle.lock_machine.specs.declared.refused.Refused.{Refused}
 use Rattle.lock_machine.specs.declared.refused.Refused.TheVariants as refused
 use Rattle.lock_machine.specs.declared.thread.Phase.{Phase}
 use Rattle.lock_machine.specs.declared.thread.Phase.TheVariants as phase
-use Rattle.lock_machine.proofs.AttemptEvents.{Idles, idle_event, no_attempt_event}
+use Rattle.lock_machine.proofs.AttemptEvents.{Idles}
 use Rattle.sequential_object.specs.Step.{Carried}
 
 -- ## Phases
@@ -24,7 +21,7 @@ pub table_phase : (p : Phase) → wants_table p ≡ true → IsTable p
 table_phase (phase.WantsTable call carried) h = (call, carried, refl)
 table_phase p h = absurd (false≢true h)
 
-idles_by : (p : Phase) → wants_table p ≡ false → wants_object p ≡ false → Idles p
+pub idles_by : (p : Phase) → wants_table p ≡ false → wants_object p ≡ false → Idles p
 idles_by (phase.WantsTable call carried) table object = absurd (true≢false table)
 idles_by (phase.WantsObject call carried clock n) table object = absurd (true≢false object)
 idles_by p table object = tt
@@ -62,35 +59,3 @@ given_rests None old new rests = rests
 pub given_wants_none : {A : Type 0} (o : Option A) → WantsNone (ok_or o refused.ClockFull)
 given_wants_none (Some a) = tt
 given_wants_none None = tt
-
--- ## Attempts
-
-and_false : (a b : Bool) → a ≡ true → (a && b) ≡ false → b ≡ false
-and_false true b h e = e
-and_false false b h e = absurd (false≢true h)
-
-or_false : (a b : Bool) → (a && b) ≡ false → (a ≡ false) ⊎ (b ≡ false)
-or_false true b e = inr e
-or_false false b e = inl refl
-
-stays_put : (i : ℕ) (old new : Whole) → Attempts false i old old → new ≡ old → Attempts false i old new
-stays_put i old new h same = subst (λ (w : Whole). Attempts false i old w) (sym same) h
-
-pub tried_table : {A : Type 0} (i : ℕ) (old new : Whole) (r : Result A Refused) → wants_table (phase_at old i) ≡ true → Comes (wants_table (phase_at old i) && has_turn (clocks_of old.threads) i) r old new (λ (o : Option A). Attempts (is_some o) i old new)
-    → Tried r (λ made. Attempts made i old new)
-tried_table i old new (Ok a) wants h = h.1
-tried_table i old new (Err refused.WrongPhase) wants h = stays_put i old new (no_attempt_event old i (and_false (wants_table (phase_at old i)) (has_turn (clocks_of old.threads) i) wants h.0)) h.1
-tried_table i old new (Err refused.ClockFull) wants h = h.2
-tried_table i old new (Err refused.Memory) wants h = tt
-
-pub tried_node : {A : Type 0} (i : ℕ) (old new : Whole) (r : Result A Refused) → wants_table (phase_at old i) ≡ false → Comes (wants_object (phase_at old i) && has_turn (clocks_of old.threads) i) r old new (λ (o : Option A). Attempts (is_some o) i old new)
-    → Tried r (λ made. Attempts made i old new)
-tried_node i old new (Ok a) table h = h.1
-tried_node i old new (Err refused.WrongPhase) table h =
-    stays_put i old new
-    (⊎_elim
-    (λ (object : wants_object (phase_at old i) ≡ false). idle_event old i (idles_by (phase_at old i) table object))
-    (λ (late : has_turn (clocks_of old.threads) i ≡ false). no_attempt_event old i late)
-    (or_false (wants_object (phase_at old i)) (has_turn (clocks_of old.threads) i) h.0)) h.1
-tried_node i old new (Err refused.ClockFull) table h = h.2
-tried_node i old new (Err refused.Memory) table h = tt

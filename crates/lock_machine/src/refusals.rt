@@ -1,7 +1,8 @@
 ghost use Rattle.std.specs.Prelude.{◌≡◌, ◌<◌, ◌&&◌, not, true, false, Ok, Err, IfErr, IfOk, OnErr, is_ok, is_some, length, unwrap_or};
 ghost use Rattle.logical_clocks.specs.TurnOrder.{has_turn};
 ghost use Rattle.lock_machine.specs.Refusals.{Comes, OnMemory, Rests, Tried, WantsNone, attempted, goes_outside, has_answer, is_blocked, is_end, is_outside, outlook, phase_at, recorded_as, still_wants, wants_lock, wants_object, wants_table, works};
-ghost use Rattle.lock_machine.specs.Shows.{AdvancesQuietly, AsksFor, Attempts, MayAdvance, MayAsk, RecordsGiven, Tells, has_moved};
+ghost use Rattle.lock_machine.specs.Shows.{AdvancesQuietly, AsksFor, Attempts, MayAdvance, MayAsk, RecordsGiven, Tells};
+ghost use Rattle.lock_machine.specs.Shows.{WantsAt, has_moved};
 ghost use Rattle.lock_machine.specs.Views.{clocks_of};
 ghost use Rattle.lock_machine.specs.Whole.{settings_in};
 ghost use Rattle.lock_machine.specs.declared.outside.Progress.TheVariants as progress;
@@ -60,10 +61,7 @@ impl LockMachine {
         if !self.phase(i).wants_table() || !self.has_turn(i) {
             return Err(Refused::WrongPhase);
         }
-        if !self.attempt_table(i) {
-            return Err(Refused::ClockFull);
-        }
-        Ok(attempted(self.phase(i).wants_table()))
+        self.take_table(i)
     }
 
     /// Thread i, which wants an object and has the turn, attempts its lock. It costs 1 either way, and 1 more where it has
@@ -82,27 +80,27 @@ impl LockMachine {
         if !self.has_turn(i) {
             return Err(Refused::WrongPhase);
         }
-        if !self.attempt_object(i, object) {
-            return Err(Refused::ClockFull);
-        }
-        Ok(attempted(self.phase(i).wants_object()))
+        self.take_object(i, object)
     }
 
-    /// Thread i attempts the lock that it wants, that of the table or that of an object. It is refused where it wants none or
-    /// lacks the turn; the machine's own attempt then changes nothing either (`event`).
+    /// Thread i, which has the turn, attempts the lock that it wants, that of the table or that of an
+    /// object. It is refused where it wants none, and changes nothing then.
     pub fn attempt(&mut self, i: usize) -> Result<Attempt, Refused>
-        requires { i < length self.old.threads }
+        requires inside { i < length self.old.threads }
+        requires turn { has_turn (clocks_of self.old.threads) i ≡ true }
         ensures event { Tried result (λ made. Attempts made i self.old self.new) }
-        ensures refused { Comes (wants_lock (phase_at self.old i) && has_turn (clocks_of self.old.threads) i) result self.old self.new (λ o. Attempts (is_some o) i self.old self.new) }
-        ensures got { IfOk result (λ a. a ≡ attempted (still_wants (phase_at self.old i) (phase_at self.new i))) }
+        ensures refused { Comes (wants_lock (phase_at self.old i)) result self.old self.new
+            (λ o. Attempts (is_some o) i self.old self.new) }
+        ensures got { IfOk result (λ a.
+            a ≡ attempted (still_wants (phase_at self.old i) (phase_at self.new i))) }
         ensures memory { WantsNone result }
         ensures count { length self.new.threads ≡ length self.old.threads }
         ensures settings { settings_in self.new ≡ settings_in self.old }
     {
-        if self.phase(i).wants_table() {
-            self.try_table(i)
-        } else {
-            self.try_node(i)
+        match *self.phase(i) {
+            Phase::WantsTable { .. } => self.take_table(i),
+            Phase::WantsObject { object, .. } => self.take_object(i, object),
+            _ => Err(Refused::WrongPhase),
         }
     }
 
@@ -185,6 +183,42 @@ impl LockMachine {
             return Err(Refused::WrongPhase);
         }
         moved(self.go_again(i)?)
+    }
+
+    // The attempt of thread i, which wants the table and has the turn.
+    fn take_table(&mut self, i: usize) -> Result<Attempt, Refused>
+        requires inside { i < length self.old.threads }
+        requires turn { has_turn (clocks_of self.old.threads) i ≡ true }
+        requires wants { wants_table (phase_at self.old i) ≡ true }
+        ensures event { Comes true result self.old self.new
+            (λ o. Attempts (is_some o) i self.old self.new) }
+        ensures got { IfOk result (λ a. a ≡ attempted (wants_table (phase_at self.new i))) }
+        ensures memory { WantsNone result }
+        ensures count { length self.new.threads ≡ length self.old.threads }
+        ensures settings { settings_in self.new ≡ settings_in self.old }
+    {
+        if !self.attempt_table(i) {
+            return Err(Refused::ClockFull);
+        }
+        Ok(attempted(self.phase(i).wants_table()))
+    }
+
+    // The attempt of thread i, which wants this object and has the turn.
+    fn take_object(&mut self, i: usize, object: usize) -> Result<Attempt, Refused>
+        requires inside { i < length self.old.threads }
+        requires turn { has_turn (clocks_of self.old.threads) i ≡ true }
+        requires wants { WantsAt self.old i object }
+        ensures event { Comes true result self.old self.new
+            (λ o. Attempts (is_some o) i self.old self.new) }
+        ensures got { IfOk result (λ a. a ≡ attempted (wants_object (phase_at self.new i))) }
+        ensures memory { WantsNone result }
+        ensures count { length self.new.threads ≡ length self.old.threads }
+        ensures settings { settings_in self.new ≡ settings_in self.old }
+    {
+        if !self.attempt_object(i, object) {
+            return Err(Refused::ClockFull);
+        }
+        Ok(attempted(self.phase(i).wants_object()))
     }
 }
 

@@ -4,7 +4,7 @@ use Rattle.logical_clocks.specs.declared.clocks.ThreadClock.{ThreadClock}
 use Rattle.lock_machine.specs.Refusals.{wants_lock}
 use Rattle.lock_machine.specs.Views.{no_item}
 use Rattle.lock_machine.specs.declared.thread.Thread.{Thread}
-use Rattle.lock_machine.proofs.Openings.{phase_of}
+use Rattle.lock_machine.specs.Skipping.{phase_of}
 use Rattle.lock_machine.proofs.Passing.{ArePassedBelow, all_passed, none_more, none_passed, one_more}
 use Rattle.lock_machine.proofs.skipping.pass.Goals as goal
 use Rattle.lock_machine.proofs.skipping.pass.Goals.{then-wants_lock, else-wants_lock}
