@@ -2,7 +2,7 @@
 use Rattle.logged_machine.proofs.Recording.{record_laws}
 use Rattle.std.proofs.lemmas.Option.{slice_get-map}
 use Rattle.logged_machine.specs.Records.{as_logged, outcomes_of}
-use Rattle.std.proofs.Common.{◌≡◌, ℕ, ◌<◌, ◌≤◌, List, [], ◌∷◌, length, map, filter_map, Option, Some, None, Bool, true, false, is_none, ◌==◌, if◌then◌else◌, sym, refl, ap, ◌∙◌, subst, ⊎_elim, inl, slice_get, option_map}
+use Rattle.std.proofs.Common.{◌≡◌, ℕ, ◌<◌, ◌≤◌, List, [], ◌∷◌, length, map, filter_map, Option, Some, None, Bool, true, false, is_none, ◌==◌, if◌then◌else◌, sym, refl, ap, ◌∙◌, subst, ⊎_elim, slice_get, option_map}
 use Rattle.std.proofs.lemmas.Bool.{cases_lt}
 use Rattle.std.proofs.lemmas.List.{get_or_past, map-append}
 use Rattle.lock_machine.specs.Conditions.{setup_under, start_under}
@@ -19,7 +19,7 @@ use Rattle.lock_model.specs.Programs.{Supply, listed}
 use Rattle.sequential_object.specs.Answers.{outcome_in}
 use Rattle.lock_model.specs.Rising as rising
 use Rattle.lock_model.specs.Rows.{shown, shown_answer}
-use Rattle.lock_model.specs.Runs.{own, Becomes, Follows, supplied, Keeps}
+use Rattle.lock_model.specs.Runs.{own, Follows, supplied, Keeps}
 use Rattle.lock_model.specs.Schedule.{EndsIn}
 use Rattle.lock_model.specs.State.{Row, State, nobody, thread_of}
 use Rattle.lock_model.specs.State.Phase.{Ended}

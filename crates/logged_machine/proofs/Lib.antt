@@ -17,3 +17,4 @@ pub mod Naming
 pub mod DoorsHeld
 pub mod DoorEvents
 pub mod DoorsKept
+pub mod Skipping

@@ -1,8 +1,7 @@
 -- Believed: a contract of the headline stands on it.
 -- When a machine refuses an event, and what it makes of one.
-use Rattle.posix_terms.specs.declared.transcript.HistoryRow.{HistoryRow}
 use Rattle.posix_terms.specs.declared.outcome.Given.{Given}
-use Rattle.std.specs.Prelude.{◌≡◌, ℕ, Bool, true, false, Option, Some, None, Result, Ok, Err, slice_get}
+use Rattle.std.specs.Prelude.{◌≡◌, ℕ, Bool, true, false, Option, Some, None, Result, Ok, Err}
 use Rattle.input_log.specs.Format.{record_text}
 use Rattle.input_log.specs.Writing.{FailsInside, with_record}
 use Rattle.lock_machine.specs.declared.refused.Refused as calls

@@ -13,3 +13,4 @@ pub mod Begins
 pub mod Faithful
 pub mod Finishing
 pub mod Requests
+pub mod Skipping

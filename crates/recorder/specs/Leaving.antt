@@ -4,6 +4,8 @@ use Rattle.std.specs.Prelude.{◌≡◌, ◌⊎◌, ℕ, Bool, true, false, Opti
 use Rattle.host_doors.specs.Opening.{HasDoor}
 use Rattle.host_doors.specs.declared.stop.DoorStop.{DoorStop}
 use Rattle.host_doors.specs.declared.stop.DoorStop.TheVariants as door_stop
+use Rattle.logged_machine.specs.declared.refused.Refused.{Refused}
+use Rattle.logged_machine.specs.declared.refused.Refused.TheVariants as refused
 use Rattle.logged_machine.specs.declared.stop.Stop.{Stop}
 use Rattle.logged_machine.specs.declared.stop.Stop.TheVariants as stop
 use Rattle.posix_terms.specs.declared.outcome.Outcome.{Outcome}
@@ -23,6 +25,14 @@ abbrev pub left_for : ℕ → ℕ → DoorStop → Leave
 left_for i number door_stop.EndOfLog = leave.EndOfLog i
 left_for i number door_stop.Diverged = leave.Diverged i number
 left_for i number door_stop.Memory = leave.Memory
+
+-- why a worker leaves whose event the machine refused for this. A sink that failed has stopped it
+abbrev pub left_on : Refused → Leave
+left_on (refused.Stopped cause) = leave.Stopped
+left_on refused.Sink = leave.Stopped
+left_on refused.ClockFull = leave.ClockFull
+left_on refused.WrongPhase = leave.Memory
+left_on refused.Memory = leave.Memory
 
 -- thread i left since its outside gave no outcome of this number, or since there was no memory
 abbrev pub IsLeft : ℕ → ℕ → Leave → Type 0

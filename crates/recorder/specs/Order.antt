@@ -16,7 +16,8 @@ lets_go row (Some o) = not (nat_lt o.row row)
 abbrev pub all_let_go : ℕ → List Thread → Bool
 all_let_go row threads = all_true (map (λ (t : Thread). lets_go row (out_of t.phase)) threads)
 
--- a thread at this phase is about to go outside, and each call that was granted before its own and goes outside has its record
+-- a thread at this phase is about to go outside, and each call that was granted before its own and
+-- goes outside has its record
 abbrev pub is_next_outside : List Thread → Phase → Bool
 is_next_outside threads (phase.ToOutside o) = all_let_go o.row threads
 is_next_outside threads p = false

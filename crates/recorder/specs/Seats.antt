@@ -1,6 +1,7 @@
 -- Believed: a contract of the headline stands on it.
 -- A worker at its thread: its actor, its outside and its notes.
-use Rattle.std.specs.Prelude.{◌≡◌, ℕ, ◌≤◌, Bool, true, false, not, List, [], ◌∷◌, length, Option, None}
+use Rattle.std.specs.Prelude.{◌≡◌, ℕ, ◌≤◌, Bool, true, false, not, List, [], ◌∷◌, length}
+use Rattle.std.specs.Prelude.{Option, None}
 use Rattle.lock_machine.specs.Waiting.{is_call}
 use Rattle.posix_terms.specs.declared.limits.TheConstants.Limits as limit
 use Rattle.thread_scripts.specs.declared.actor.ScriptState.{ScriptState}
@@ -15,8 +16,8 @@ use Rattle.worker_notes.specs.declared.own.Own.{Own}
 use Rattle.recorder.specs.declared.asked.Asked.{Asked}
 use Rattle.recorder.specs.declared.asked.Asked.TheVariants as asked
 
--- where actor and outside stood at entry and stand now, the notes, how many calls were made outside, and whether the actor or the outside
--- may be ahead of the notes
+-- where actor and outside stood at entry and stand now, the notes, how many calls were made
+-- outside, and whether the actor or the outside may be ahead of the notes
 pub record Sitting (O : Type 0) : Type 0 where
   pub from : ScriptState
   pub began : O
@@ -34,7 +35,8 @@ ahead_in false notes = None
 ahead_in true notes = open_call notes
 
 -- the notes lead from where both stood to where they stand
-pub record IsSeated (O : Type 0) (gives : Giving O) (count faults : O → ℕ) (v : Sitting O) : Type 0 where
+pub record IsSeated (O : Type 0) (gives : Giving O) (count faults : O → ℕ) (v : Sitting O)
+    : Type 0 where
   pub plays : PlaysTo v.ahead v.from v.steps v.now
   pub heard : AreHeardSoFar v.steps
   pub leads : LeadsTo gives (ahead_in v.ahead v.steps) v.began v.brought v.outside
@@ -77,9 +79,11 @@ StandsBehind asked.End v = Unit {0}
 
 -- ## What it brings back
 
--- it is true to its notes: they lead from its actor's state at entry to its state at the end, or one step further, though no further where the
--- actor gave its end; and from its outside at entry to its outside at the end, or one call further: that in which the steps end
-pub record IsTrueTo (O : Type 0) (gives : Giving O) (from : ScriptState) (began : O) (own : Own) (now : ScriptState) (outside : O) : Type 0 where
+-- it is true to its notes: they lead from its actor's state at entry to its state at the end, or
+-- one step further, though no further where the actor gave its end; and from its outside at entry
+-- to its outside at the end, or one call further: that in which the steps end
+pub record IsTrueTo (O : Type 0) (gives : Giving O) (from : ScriptState) (began : O) (own : Own)
+    (now : ScriptState) (outside : O) : Type 0 where
   pub plays : PlaysTo (not own.ended) from own.steps.items now
   pub heard : AreHeardSoFar own.steps.items
   pub leads : LeadsTo gives (open_call own.steps.items) began own.outcomes.items outside

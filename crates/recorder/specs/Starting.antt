@@ -1,6 +1,7 @@
 -- Believed: a contract of the headline stands on it.
 -- Which runs are started, and what they are given back that are not.
-use Rattle.std.specs.Prelude.{◌≡◌, ◌⊎◌, ℕ, ◌&&◌, ◌==◌, nat_lt, if◌then◌else◌, List, Option, Some, None}
+use Rattle.std.specs.Prelude.{◌≡◌, ◌⊎◌, ℕ, ◌&&◌, ◌==◌, nat_lt, if◌then◌else◌, List}
+use Rattle.std.specs.Prelude.{Option, Some, None}
 use Rattle.input_log.specs.Format.{header_text}
 use Rattle.logged_machine.specs.Starting.{are_settings, header_for}
 use Rattle.posix_terms.specs.declared.limits.TheConstants.Limits as limit
@@ -17,8 +18,13 @@ refusal actors outsides settings =
     else Some fault.Settings
 
 abbrev pub IsRefusal : StartFault → ℕ → ℕ → Settings → Type 0
-IsRefusal f actors outsides settings = (refusal actors outsides settings ≡ Some f) ⊎ ((refusal actors outsides settings ≡ None) × (f ≡ fault.Memory))
+IsRefusal f actors outsides settings =
+    (refusal actors outsides settings ≡ Some f)
+    ⊎ ((refusal actors outsides settings ≡ None) × (f ≡ fault.Memory))
 
 -- the sink as it was; or, where there was no memory, with the header
-abbrev pub IsBack : {S : Type 0} → (S → List ℕ) → (S → ℕ) → StartFault → ℕ → Settings → S → S → Type 0
-IsBack taken failures f actors settings sink back = (back ≡ sink) ⊎ ((f ≡ fault.Memory) × (taken back ≡ header_text (header_for settings actors)) × (failures back ≡ 0))
+abbrev pub IsBack : {S : Type 0} → (S → List ℕ) → (S → ℕ)
+    → StartFault → ℕ → Settings → S → S → Type 0
+IsBack taken failures f actors settings sink back =
+    let text = header_text (header_for settings actors) in
+    (back ≡ sink) ⊎ ((f ≡ fault.Memory) × (taken back ≡ text) × (failures back ≡ 0))

@@ -1,4 +1,5 @@
-ghost use Rattle.std.specs.Prelude.{◌≡◌, ◌≤◌, ◌⊎◌, ◌↔◌, IsTrue, true, false, [], Some, None, is_some, vec_capacity, if◌then◌else◌};
+ghost use Rattle.std.specs.Prelude.{◌≡◌, ◌≤◌, ◌⊎◌, ◌↔◌, IsTrue, true, false, [], Some, None};
+ghost use Rattle.std.specs.Prelude.{is_some, vec_capacity, if◌then◌else◌};
 ghost use Rattle.logged_machine.specs.Finishing.{have_ended};
 ghost use Rattle.logged_machine.specs.Kept.{header_of};
 ghost use Rattle.logged_machine.specs.declared.stop.Stop.TheVariants as cause;
@@ -15,7 +16,7 @@ use posix_terms::{HistoryRow, Transcript};
 use std::alloc::Global;
 use worker_notes::{Own, agree};
 
-// What is told of a run whose workers have all come back.
+// What is reported of a run whose workers have all come back.
 pub fn conclude<A: Drop, O: Drop, S: LogSink + Drop, D: Drop>(
     alloc: Global,
     header: Header,
@@ -28,9 +29,12 @@ pub fn conclude<A: Drop, O: Drop, S: LogSink + Drop, D: Drop>(
     ensures actors { result.actors ≡ gathered.actors }
     ensures outsides { result.outsides ≡ gathered.outsides }
     ensures own { result.own ≡ gathered.own }
-    ensures run { IsRun D header result.history gathered.own.items result.transcripts (S.taken result.sink) (S.failures result.sink) result.stop }
-    ensures agrees { (result.stop ≡ Some cause.Strayed) ⊎ Agree result.history.rows result.history.asked gathered.own.items }
-    ensures transcripts { AreTold header.threads result.history.rows result.stop result.transcripts }
+    ensures run { IsRun D header result.history gathered.own.items result.transcripts
+        (S.taken result.sink) (S.failures result.sink) result.stop }
+    ensures agrees { (result.stop ≡ Some cause.Strayed)
+        ⊎ Agree result.history.rows result.history.asked gathered.own.items }
+    ensures transcripts { AreTold header.threads result.history.rows
+        result.stop result.transcripts }
     ensures ended { result.stop ≡ None → AreEnded gathered.own.items }
     ensures answered { result.stop ≡ None → AreAnswered result.history.rows }
 {
@@ -73,8 +77,8 @@ fn is_complete<S: LogSink, D: Drop>(whole: bool, machine: &Machine<S, D>, own: &
     whole && has_ended(machine, own)
 }
 
-// Stops the machine of a run that did not come to its end, if it is not stopped already. It is, unless there was no
-// memory for the transcripts.
+// Stops the machine of a run that did not come to its end, if it is not stopped already. It is,
+// unless there was no memory for the transcripts.
 fn stop_unless<S: LogSink, D: Drop>(complete: bool, machine: &mut Machine<S, D>)
     ensures stopped { complete ≡ false → is_some machine.new.stop ≡ true }
     ensures rest { machine.new.whole ≡ machine.old.whole }
@@ -84,9 +88,11 @@ fn stop_unless<S: LogSink, D: Drop>(complete: bool, machine: &mut Machine<S, D>)
     }
 }
 
-// Whether the machine was that of these threads and settings, and its history agrees with the notes.
+// Whether the machine was that of these threads and settings, and its history agrees with the
+// notes.
 fn agrees<S: LogSink>(header: Header, finished: &Finished<S>, own: &[Own]) -> bool
-    ensures { IsTrue result ↔ ((finished.now.header ≡ header) × Agree finished.now.history.rows.items finished.now.history.asked own.now) }
+    ensures { IsTrue result ↔ ((finished.now.header ≡ header)
+        × Agree finished.now.history.rows.items finished.now.history.asked own.now) }
 {
     let history = &finished.history;
     same_header(finished.header, header) && agree(history.rows.as_slice(), &history.asked, own)
@@ -100,10 +106,11 @@ fn same_header(one: Header, other: Header) -> bool
             && (one.patience == other.patience && one.door_cost == other.door_cost))
 }
 
-// Why the run stopped. Where the notes do not agree it is that the threads strayed; else, where what they saw is not
-// whole, that there was no memory.
+// Why the run stopped. Where the notes do not agree it is that the threads strayed; else, where
+// what they saw is not whole, that there was no memory.
 fn judged(agrees: bool, whole: bool, stop: Option<Stop>) -> Option<Stop>
-    ensures { result ≡ (if agrees then (if whole then stop else Some cause.Memory) else Some cause.Strayed) }
+    ensures { result ≡ (if agrees then (if whole then stop else Some cause.Memory)
+        else Some cause.Strayed) }
 {
     match (agrees, whole) {
         (true, true) => stop,
@@ -114,7 +121,9 @@ fn judged(agrees: bool, whole: bool, stop: Option<Stop>) -> Option<Stop>
 
 // What the machine leaves, and what is true of it.
 fn finish<S: LogSink, D: Drop>(machine: Machine<S, D>) -> Finished<S>
-    ensures shows { Shows D machine (record { rows = result.history.rows.items; asked = result.history.asked }) (S.taken result.sink) (S.failures result.sink) result.stop }
+    ensures shows { Shows D machine
+        (record { rows = result.history.rows.items; asked = result.history.asked })
+        (S.taken result.sink) (S.failures result.sink) result.stop }
     ensures header { result.header ≡ header_of machine.whole }
 {
     machine.finish()

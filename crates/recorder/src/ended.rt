@@ -8,8 +8,8 @@ use worker_notes::Own;
 /// A recorded run that is over.
 #[derive(Drop)]
 pub struct Ended<A: Drop, O: Drop, S: LogSink + Drop> {
-    /// What each thread saw: the replies of its rows. Where there was no memory for all of them each is a beginning,
-    /// and the stop is `Memory`, unless it is `Strayed`.
+    /// What each thread saw: the replies of its rows. Where there was no memory for all of them
+    /// each is a beginning, and the stop is `Memory`, unless it is `Strayed`.
     pub transcripts: Transcripts,
     /// What the worker of each thread noted itself.
     pub own: Vec<Own>,
@@ -17,7 +17,8 @@ pub struct Ended<A: Drop, O: Drop, S: LogSink + Drop> {
     pub outsides: Vec<O>,
     pub history: History,
     pub sink: S,
-    /// Why the run is not whole: none where all threads ended, the log has its end, and all that they saw is here.
+    /// Why the run is not whole: none where all threads ended, the log has its end, and all that
+    /// they saw is here.
     pub stop: Option<Stop>,
 }
 
@@ -28,7 +29,8 @@ pub enum StartFault {
     NoThreads,
     #[error("needs at most {} actors", Limits::THREADS)]
     TooManyThreads,
-    /// The patience or the door cost is not 1 to 1,000,000, or there is not one outside for each actor.
+    /// The patience or the door cost is not 1 to 1,000,000, or there is not one outside for each
+    /// actor.
     #[error("patience and door cost must be 1 to 1,000,000, with an outside for each actor")]
     Settings,
     /// Of the log its sink has taken the header at most.

@@ -5,8 +5,8 @@ use posix_terms::{HistoryRow, Step};
 use std::alloc::Global;
 use std::marker::Model;
 
-/// What happened in a run: a row for each granted turn, in the order of the turns, and the steps that each thread asked, with `End` last once
-/// it has ended.
+/// What happened in a run: a row for each granted turn, in the order of the turns, and the steps
+/// that each thread asked, with `End` last once it has ended.
 #[derive(Debug, Drop)]
 pub struct History {
     rows: Vec<HistoryRow>,

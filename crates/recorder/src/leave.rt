@@ -1,6 +1,7 @@
 ghost use Rattle.std.specs.Prelude.{◌≡◌, false, Some};
 ghost use Rattle.logged_machine.specs.Kept.{is_sink, is_strayed};
-ghost use Rattle.recorder.specs.Leaving.{cause_of, is_of_outside};
+ghost use Rattle.recorder.specs.Leaving.{cause_of, is_of_outside, left_on};
+ghost use Rattle.recorder.specs.declared.leave.Leave.TheVariants as why;
 
 use logged_machine::{Refused, Stop};
 use std::alloc::{AllocError, AllocFailed};
@@ -35,13 +36,15 @@ impl Leave {
 }
 
 impl From<Refused> for Leave {
-    ghost from_gives = { λ _ leave. is_of_outside leave ≡ false };
+    ghost from_gives = { λ refused leave.
+        (leave ≡ left_on refused) × (is_of_outside leave ≡ false) };
 
     fn from(refused: Refused) -> Leave {
         match refused {
             Refused::Stopped(_) | Refused::Sink => Leave::Stopped,
             Refused::ClockFull => Leave::ClockFull,
-            // No event is made here at a phase that it is not for, so this one does not come: a run that met it would stop.
+            // No event is made here at a phase that it is not for, so this one does not come: a run
+            // that met it would stop.
             Refused::WrongPhase => Leave::Memory,
             Refused::Memory => Leave::Memory,
         }
@@ -49,7 +52,7 @@ impl From<Refused> for Leave {
 }
 
 impl From<AllocError> for Leave {
-    ghost from_gives = { λ _ leave. is_of_outside leave ≡ false };
+    ghost from_gives = { λ _ leave. leave ≡ why.Memory };
 
     fn from(_error: AllocError) -> Leave {
         Leave::Memory
@@ -57,7 +60,7 @@ impl From<AllocError> for Leave {
 }
 
 impl<T: Drop> From<AllocFailed<T>> for Leave {
-    ghost from_gives = { λ _ leave. is_of_outside leave ≡ false };
+    ghost from_gives = { λ _ leave. leave ≡ why.Memory };
 
     fn from(_failed: AllocFailed<T>) -> Leave {
         Leave::Memory
@@ -65,7 +68,7 @@ impl<T: Drop> From<AllocFailed<T>> for Leave {
 }
 
 impl From<thread_scripts::Memory> for Leave {
-    ghost from_gives = { λ _ leave. is_of_outside leave ≡ false };
+    ghost from_gives = { λ _ leave. leave ≡ why.Memory };
 
     fn from(_memory: thread_scripts::Memory) -> Leave {
         Leave::Memory

@@ -2,11 +2,11 @@
 //! a thread of its own, all make their events at one machine under one lock, and calls to the
 //! outside are made while other threads go on.
 //!
-//! [`run_recorded`] takes 1 to 16 actors, an outside for each that gave nothing yet, and a sink that
-//! took nothing yet; [`hosts`] makes outsides over the real host. It waits until all have ended or
-//! the run was stopped, and gives [`Ended`]: the transcripts, the history, the sink with the log,
-//! and the stop. By the contract the history is legal, its turns rise, and what the sink took
-//! covers it; the transcripts are those of its rows, and beginnings of them where the stop is
+//! [`run_recorded`] takes 1 to 16 actors, an outside for each that gave nothing yet, and a sink
+//! that took nothing yet; [`hosts`] makes outsides over the real host. It waits until all have
+//! ended or the run was stopped, and gives [`Ended`]: the transcripts, the history, the sink with
+//! the log, and the stop. By the contract the history is legal, its turns rise, and what the sink
+//! took covers it; the transcripts are those of its rows, and beginnings of them where the stop is
 //! `Memory`; unless the stop is `Strayed`, the workers' own notes say the same. Out of memory stops
 //! a run, and so do a sink that fails, a full clock and a thread that cannot be started. Where no
 //! run was started, [`NotStarted`] says why and hands all back. Nothing is promised of time.

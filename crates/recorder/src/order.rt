@@ -8,13 +8,13 @@ use input_log::LogSink;
 use lock_machine::Phase;
 use logged_machine::Machine;
 
-// Where calls go outside in the order of the turns, they go one after the other, by the numbers of their rows.
-// Nobody waits for ever for that: of the calls that are about to go outside, or are there, the one with the
-// least number waits for none of the others, and each record wakes the worker whose number is the least then.
-// Whether a call comes back is its outside's.
+// Where calls go outside in the order of the turns, they go one after the other, by the numbers of
+// their rows. Nobody waits forever for that: of the calls that are about to go outside, or are
+// there, the one with the least number waits for none of the others, and each record wakes the
+// worker whose number is the least then. Whether a call comes back is its outside's.
 
-// Whether thread i is about to go outside, and each call that was granted before its own and goes outside has
-// its record.
+// Whether thread i is about to go outside, and each call that was granted before its own and goes
+// outside has its record.
 pub fn is_next_outside<S: LogSink, D: Drop>(machine: &Machine<S, D>, i: usize) -> bool
     requires { i < length machine.now.whole.threads }
     ensures { result ≡ is_next_outside machine.now.whole.threads (phase_at machine.now.whole i) }

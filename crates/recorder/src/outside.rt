@@ -7,7 +7,8 @@ use crate::leave::Leave;
 use host_doors::{DoorStop, Opened, Outside};
 use posix_terms::{OutKind, Outcome, Request};
 
-// What came of a request outside, with the door that went out, unless it was closed, and the one that was opened, if any.
+// What came of a request outside, with the door that went out, unless it was closed, and the one
+// that was opened, if any.
 #[derive(Drop)]
 pub struct Reached<D> {
     pub outcome: Outcome,
@@ -15,8 +16,8 @@ pub struct Reached<D> {
     pub opened: Option<D>,
 }
 
-// Makes the request of thread i outside, which is to get the outcome of this number. EAGAIN makes the call wait, or is
-// its reply.
+// Makes the request of thread i outside, which is to get the outcome of this number. EAGAIN makes
+// the call wait, or is its reply.
 pub fn reach<O: Outside>(
     outside: &mut O,
     i: usize,
@@ -26,7 +27,8 @@ pub fn reach<O: Outside>(
     waits: bool,
 ) -> Result<Reached<O::Door>, Leave>
     requires count { CanCount (O.given outside.old) (O.failures outside.old) }
-    ensures gives { IfOk result (λ r. O.gives outside.old number request.now r.outcome outside.new) }
+    ensures gives { IfOk result (λ r.
+        O.gives outside.old number request.now r.outcome outside.new) }
     ensures given { O.given outside.new ≤ O.given outside.old + 1 }
     ensures failures { O.failures outside.new ≤ O.failures outside.old + 1 }
     ensures same { OnErr result (outside.new ≡ outside.old) }
@@ -49,7 +51,8 @@ fn open<O: Outside>(
     request: &Request,
 ) -> Result<Reached<O::Door>, Leave>
     requires count { CanCount (O.given outside.old) (O.failures outside.old) }
-    ensures gives { IfOk result (λ r. O.gives outside.old number request.now r.outcome outside.new) }
+    ensures gives { IfOk result (λ r.
+        O.gives outside.old number request.now r.outcome outside.new) }
     ensures given { O.given outside.new ≤ O.given outside.old + 1 }
     ensures failures { O.failures outside.new ≤ O.failures outside.old + 1 }
     ensures same { OnErr result (outside.new ≡ outside.old) }
@@ -61,7 +64,8 @@ fn open<O: Outside>(
         OutKind::Open => outside.open(i, number as u64, request),
         OutKind::Listen => outside.listen(i, number as u64, request),
         OutKind::Connect => outside.connect(i, number as u64, request),
-        // A machine gives a door out with each other request. It stands behind the lock, so this is not known here.
+        // A machine gives a door out with each other request. It is under the lock, so this is not
+        // known here.
         _ => Err(DoorStop::Diverged),
     };
     match opened {
@@ -84,7 +88,8 @@ fn pass<O: Outside>(
     waits: bool,
 ) -> Result<Reached<O::Door>, Leave>
     requires count { CanCount (O.given outside.old) (O.failures outside.old) }
-    ensures gives { IfOk result (λ r. O.gives outside.old number request.now r.outcome outside.new) }
+    ensures gives { IfOk result (λ r.
+        O.gives outside.old number request.now r.outcome outside.new) }
     ensures given { O.given outside.new ≤ O.given outside.old + 1 }
     ensures failures { O.failures outside.new ≤ O.failures outside.old + 1 }
     ensures same { OnErr result (outside.new ≡ outside.old) }
@@ -116,7 +121,8 @@ fn accept<O: Outside>(
     waits: bool,
 ) -> Result<Reached<O::Door>, Leave>
     requires count { CanCount (O.given outside.old) (O.failures outside.old) }
-    ensures gives { IfOk result (λ r. O.gives outside.old number request.now r.outcome outside.new) }
+    ensures gives { IfOk result (λ r.
+        O.gives outside.old number request.now r.outcome outside.new) }
     ensures given { O.given outside.new ≤ O.given outside.old + 1 }
     ensures failures { O.failures outside.new ≤ O.failures outside.old + 1 }
     ensures same { OnErr result (outside.new ≡ outside.old) }
@@ -145,7 +151,8 @@ fn lend<O: Outside>(
     waits: bool,
 ) -> Result<Reached<O::Door>, Leave>
     requires count { CanCount (O.given outside.old) (O.failures outside.old) }
-    ensures gives { IfOk result (λ r. O.gives outside.old number request.now r.outcome outside.new) }
+    ensures gives { IfOk result (λ r.
+        O.gives outside.old number request.now r.outcome outside.new) }
     ensures given { O.given outside.new ≤ O.given outside.old + 1 }
     ensures failures { O.failures outside.new ≤ O.failures outside.old + 1 }
     ensures same { OnErr result (outside.new ≡ outside.old) }

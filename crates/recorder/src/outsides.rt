@@ -5,8 +5,8 @@ use host_doors::HostDoors;
 use std::alloc::{AllocError, Global};
 use std::time::Duration;
 
-/// An outside for each of so many threads: the host's files, and TCP on its loopback address. Reads and writes of a
-/// stream wait for as long as the peer likes; accepts never wait.
+/// An outside for each of so many threads: the host's files, and TCP on its loopback address. Reads
+/// and writes of a stream wait for as long as the peer likes; accepts never wait.
 #[tactic(auto, using(crate::proofs::Alike::all_unused))]
 pub fn hosts<R: Copy + Drop>(
     rt: R,
@@ -14,14 +14,15 @@ pub fn hosts<R: Copy + Drop>(
     threads: usize,
 ) -> Result<Vec<HostDoors<R>>, AllocError>
     ensures one_each { IfOk result (λ hosts. length hosts.items ≡ threads) }
-    ensures unused { IfOk result (λ hosts. All (IsUnused (λ h. h.given) (λ h. h.failures)) hosts.items) }
+    ensures unused { IfOk result (λ hosts.
+        All (IsUnused (λ h. h.given) (λ h. h.failures)) hosts.items) }
 {
     unused_hosts(rt, alloc, threads, None)
 }
 
-/// The same, but a read or a write of a stream and an accept wait at the host no longer than `wait`. After that the
-/// call is blocked, and made again at a later turn of its thread: so the other threads go on, and the patience of the
-/// run counts.
+/// The same, but a read or a write of a stream and an accept wait at the host no longer than
+/// `wait`. After that the call is blocked, and made again at a later turn of its thread: so the
+/// other threads go on, and the patience of the run counts.
 #[tactic(auto, using(crate::proofs::Alike::all_unused))]
 pub fn hosts_waiting<R: Copy + Drop>(
     rt: R,
@@ -30,7 +31,8 @@ pub fn hosts_waiting<R: Copy + Drop>(
     wait: Duration,
 ) -> Result<Vec<HostDoors<R>>, AllocError>
     ensures one_each { IfOk result (λ hosts. length hosts.items ≡ threads) }
-    ensures unused { IfOk result (λ hosts. All (IsUnused (λ h. h.given) (λ h. h.failures)) hosts.items) }
+    ensures unused { IfOk result (λ hosts.
+        All (IsUnused (λ h. h.given) (λ h. h.failures)) hosts.items) }
 {
     unused_hosts(rt, alloc, threads, Some(wait))
 }
@@ -42,7 +44,8 @@ fn unused_hosts<R: Copy + Drop>(
     threads: usize,
     longest: Option<Duration>,
 ) -> Result<Vec<HostDoors<R>>, AllocError>
-    ensures { IfOk result (λ hosts. hosts.items ≡ replicate threads (record { given = 0; failures = 0 })) }
+    ensures { IfOk result (λ hosts.
+        hosts.items ≡ replicate threads (record { given = 0; failures = 0 })) }
 {
     let mut hosts = Vec::new(alloc);
     for _ in 0..threads {

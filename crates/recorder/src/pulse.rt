@@ -71,13 +71,16 @@ impl Stillness {
         self.beats
     }
 
-    // Another look finds so many beats. True once for each time of stillness: at the last of so many looks in a row.
+    // Another look finds so many beats. True once for each time of stillness: at the last of so
+    // many looks in a row.
     pub fn has_come(&mut self, beats: u64) -> bool
         ensures told { IsTrue result ↔ ((beats ≡ self.old.beats) × (self.old.looks + 1 ≡ LOOKS)) }
         ensures beats { self.new.beats ≡ beats }
         ensures moved { beats ≢ self.old.beats → self.new.looks ≡ 0 }
-        ensures still { beats ≡ self.old.beats → self.old.looks < LOOKS → self.new.looks ≡ self.old.looks + 1 }
-        ensures shown { beats ≡ self.old.beats → LOOKS ≤ self.old.looks → self.new.looks ≡ self.old.looks }
+        ensures still { beats ≡ self.old.beats → self.old.looks < LOOKS
+            → self.new.looks ≡ self.old.looks + 1 }
+        ensures shown { beats ≡ self.old.beats → LOOKS ≤ self.old.looks
+            → self.new.looks ≡ self.old.looks }
     {
         if beats != self.beats {
             self.beats = beats;

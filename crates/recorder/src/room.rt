@@ -11,7 +11,8 @@ use std::alloc::{AllocError, Global};
 use std::sync::Condvar;
 use worker_notes::Own;
 
-// What is reserved before a run is started: for each worker a place for its notes, for its transcript, for its reply, and to wait.
+// What is reserved before a run is started: for each worker a place for its notes, for its
+// transcript, for its reply, and to wait.
 #[derive(Drop)]
 pub struct Room {
     pub own: Vec<Own>,

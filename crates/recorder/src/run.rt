@@ -1,4 +1,5 @@
-ghost use Rattle.std.specs.Prelude.{◌≡◌, ◌≤◌, ◌⊎◌, true, [], All, IfOk, IfErr, OnOk, None, Some, is_some, vec_len, vec_capacity};
+ghost use Rattle.std.specs.Prelude.{◌≡◌, ◌≤◌, ◌⊎◌, true, [], All, IfOk, IfErr, OnOk, None, Some};
+ghost use Rattle.std.specs.Prelude.{is_some, vec_len, vec_capacity};
 ghost use Rattle.input_log.specs.Format.{header_text};
 ghost use Rattle.input_log.specs.Grammar.{in_range};
 ghost use Rattle.logged_machine.specs.Starting.{header_for};
@@ -6,7 +7,8 @@ ghost use Rattle.logged_machine.specs.declared.stop.Stop.TheVariants as stop;
 ghost use Rattle.posix_terms.specs.declared.limits.TheConstants.Limits as limit;
 ghost use Rattle.recorder.specs.Each.{AreLedFrom, ArePlayedFrom, AreTrue, IsUnused};
 ghost use Rattle.input_log.specs.Writing.{TakesPart};
-ghost use Rattle.recorder.specs.Recorded.{AreAnswered, AreEnded, AreTold, HasNoLog, IsRecorded, IsRun, transcripts_of};
+ghost use Rattle.recorder.specs.Recorded.{AreAnswered, AreEnded, AreTold, HasNoLog, IsRecorded};
+ghost use Rattle.recorder.specs.Recorded.{IsRun, transcripts_of};
 ghost use Rattle.recorder.specs.Starting.{IsBack, IsRefusal, refusal};
 ghost use Rattle.worker_notes.specs.Agrees.{Agree};
 
@@ -28,29 +30,33 @@ use std::thread::Threads;
 use thread_scripts::{Actor, BoxedActor};
 use worker_notes::Own;
 
-/// Runs 1 to 16 actors, each in a thread of its own and with its own outside, against one table of descriptors, and
-/// records what comes from outside into a log. It waits until all have ended, or until the run was stopped. Calls to the
-/// outside are made while other threads go on.
+/// Runs 1 to 16 actors, each in a thread of its own and with its own outside, against one table of
+/// descriptors, and records what comes from outside into a log. It waits until all have ended, or
+/// until the run was stopped. Calls to the outside are made while other threads go on.
 ///
-/// The run is that of a machine: its history is legal, its turns rise, and what the sink took covers it (`run`). Where
-/// the sink failed at the log's header nobody is started, the stop is `Sink`, and actors and outsides are as they were
-/// (`unstarted`). The stop is `Sink` only where the sink failed (`fails`).
+/// The run is that of a machine: its history is legal, its turns rise, and what the sink took
+/// covers it (`run`). Where the sink failed at the log's header nobody is started, the stop is
+/// `Sink`, and actors and outsides are as they were (`unstarted`). The stop is `Sink` only where
+/// the sink failed (`fails`).
 ///
-/// What each thread saw is the replies of its rows (`transcripts`). The stop is the machine's own. `Memory` takes its
-/// place exactly where there was no memory for all that the threads saw: then each saw a beginning. `Strayed` takes the
-/// place of both exactly where the machine had other threads or settings, or its history says of a thread something else
-/// than its worker noted: the steps that were asked, the replies, and what came from outside, with the requests of the
-/// rows' calls.
+/// What each thread saw is the replies of its rows (`transcripts`). The stop is the machine's own.
+/// `Memory` takes its place exactly where there was no memory for all that the threads saw: then
+/// each saw a beginning. `Strayed` takes the place of both exactly where the machine had other
+/// threads or settings, or its history says of a thread something else than its worker noted: the
+/// steps that were asked, the replies, and what came from outside, with the requests of the rows'
+/// calls.
 ///
-/// Unless the stop is `Strayed`, the steps that each thread asked are those that its actor's script gives under the
-/// replies of its rows, and the actor stands after them (`steps`); the requests of its rows' calls, with their outcomes,
-/// are calls that its outside gave, and this stands after them (`calls`). Where the run was stopped, an actor may stand
-/// one step further, and an outside one call further: the one in which its thread's steps end. Whatever the stop is, the
-/// same is true of the notes (`told`). Where nothing stopped the run, all actors gave their end, all calls were
-/// answered, and the log has its end.
+/// Unless the stop is `Strayed`, the steps that each thread asked are those that its actor's script
+/// gives under the replies of its rows, and the actor stands after them (`steps`); the requests of
+/// its rows' calls, with their outcomes, are calls that its outside gave, and this stands after
+/// them (`calls`). Where the run was stopped, an actor may stand one step further, and an outside
+/// one call further: the one in which its thread's steps end. Whatever the stop is, the same is
+/// true of the notes (`told`). Where nothing stopped the run, all actors gave their end, all calls
+/// were answered, and the log has its end.
 ///
-/// A thread that cannot be started stops the run, and so it does whenever memory runs out from then on; all others then
-/// leave at their next event. Nothing is promised of time, nor that an actor or an outside returns.
+/// A thread that cannot be started stops the run, and so it does whenever memory runs out from then
+/// on; all others then leave at their next event. Nothing is promised of time, nor that an actor or
+/// an outside returns.
 pub fn run_recorded<O: Outside + Send + Drop, S: LogSink + Send + Drop, R: Threads + Wait + Sync>(
     rt: &R,
     alloc: Global,
@@ -63,19 +69,30 @@ pub fn run_recorded<O: Outside + Send + Drop, S: LogSink + Send + Drop, R: Threa
     requires sound { S.failures sink ≡ 0 }
     requires unused { All (IsUnused O.given O.failures) outsides.items }
     ensures started { OnOk result (refusal (vec_len actors) (vec_len outsides) settings ≡ None) }
-    ensures run { IfOk result (λ e. IsRecorded O.Door settings (vec_len actors) e.history e.own.items e.transcripts (S.taken e.sink) (S.failures e.sink) e.stop) }
-    ensures agrees { IfOk result (λ e. (e.stop ≡ Some stop.Strayed) ⊎ Agree e.history.rows e.history.asked e.own.items) }
-    ensures transcripts { IfOk result (λ e. AreTold (vec_len actors) e.history.rows e.stop e.transcripts) }
+    ensures run { IfOk result (λ e. IsRecorded O.Door settings (vec_len actors)
+        e.history e.own.items e.transcripts (S.taken e.sink) (S.failures e.sink) e.stop) }
+    ensures agrees { IfOk result (λ e. (e.stop ≡ Some stop.Strayed)
+        ⊎ Agree e.history.rows e.history.asked e.own.items) }
+    ensures transcripts { IfOk result (λ e.
+        AreTold (vec_len actors) e.history.rows e.stop e.transcripts) }
     ensures ended { IfOk result (λ e. e.stop ≡ None → AreEnded e.own.items) }
     ensures answered { IfOk result (λ e. e.stop ≡ None → AreAnswered e.history.rows) }
     ensures fails { IfOk result (λ e. e.stop ≡ Some stop.Sink → S.failures e.sink ≡ 1) }
-    ensures steps { IfOk result (λ e. (e.stop ≡ Some stop.Strayed) ⊎ ArePlayedFrom ⟦<BoxedActor as Actor>⟧.state (is_some e.stop) 0 e.history.rows e.history.asked actors.items e.actors.items) }
-    ensures calls { IfOk result (λ e. (e.stop ≡ Some stop.Strayed) ⊎ AreLedFrom O.gives 0 e.history.rows e.history.asked outsides.items e.outsides.items) }
-    ensures told { IfOk result (λ e. AreTrue O.gives ⟦<BoxedActor as Actor>⟧.state actors.items outsides.items e.own.items e.actors.items e.outsides.items) }
-    ensures unstarted { IfOk result (λ e. TakesPart [] (header_text (header_for settings (vec_len actors))) (S.taken e.sink) → (e.actors ≡ actors) × (e.outsides ≡ outsides)) }
+    ensures steps { IfOk result (λ e. (e.stop ≡ Some stop.Strayed)
+        ⊎ ArePlayedFrom ⟦<BoxedActor as Actor>⟧.state (is_some e.stop) 0
+        e.history.rows e.history.asked actors.items e.actors.items) }
+    ensures calls { IfOk result (λ e. (e.stop ≡ Some stop.Strayed)
+        ⊎ AreLedFrom O.gives 0 e.history.rows e.history.asked outsides.items e.outsides.items) }
+    ensures told { IfOk result (λ e. AreTrue O.gives ⟦<BoxedActor as Actor>⟧.state
+        actors.items outsides.items e.own.items e.actors.items e.outsides.items) }
+    ensures unstarted { IfOk result (λ e.
+        TakesPart [] (header_text (header_for settings (vec_len actors))) (S.taken e.sink)
+        → (e.actors ≡ actors) × (e.outsides ≡ outsides)) }
     ensures back { IfErr result (λ n. (n.actors ≡ actors) × (n.outsides ≡ outsides)) }
-    ensures fault { IfErr result (λ n. IsRefusal n.fault (vec_len actors) (vec_len outsides) settings) }
-    ensures sink { IfErr result (λ n. IsBack S.taken S.failures n.fault (vec_len actors) settings sink n.sink) }
+    ensures fault { IfErr result (λ n.
+        IsRefusal n.fault (vec_len actors) (vec_len outsides) settings) }
+    ensures sink { IfErr result (λ n.
+        IsBack S.taken S.failures n.fault (vec_len actors) settings sink n.sink) }
 {
     record_actors(rt, alloc, actors, outsides, sink, settings)
 }
@@ -98,19 +115,30 @@ pub fn record_actors<
     requires sound { S.failures sink ≡ 0 }
     requires unused { All (IsUnused O.given O.failures) outsides.items }
     ensures started { OnOk result (refusal (vec_len actors) (vec_len outsides) settings ≡ None) }
-    ensures run { IfOk result (λ e. IsRecorded O.Door settings (vec_len actors) e.history e.own.items e.transcripts (S.taken e.sink) (S.failures e.sink) e.stop) }
-    ensures agrees { IfOk result (λ e. (e.stop ≡ Some stop.Strayed) ⊎ Agree e.history.rows e.history.asked e.own.items) }
-    ensures transcripts { IfOk result (λ e. AreTold (vec_len actors) e.history.rows e.stop e.transcripts) }
+    ensures run { IfOk result (λ e. IsRecorded O.Door settings (vec_len actors)
+        e.history e.own.items e.transcripts (S.taken e.sink) (S.failures e.sink) e.stop) }
+    ensures agrees { IfOk result (λ e. (e.stop ≡ Some stop.Strayed)
+        ⊎ Agree e.history.rows e.history.asked e.own.items) }
+    ensures transcripts { IfOk result (λ e.
+        AreTold (vec_len actors) e.history.rows e.stop e.transcripts) }
     ensures ended { IfOk result (λ e. e.stop ≡ None → AreEnded e.own.items) }
     ensures answered { IfOk result (λ e. e.stop ≡ None → AreAnswered e.history.rows) }
     ensures fails { IfOk result (λ e. e.stop ≡ Some stop.Sink → S.failures e.sink ≡ 1) }
-    ensures steps { IfOk result (λ e. (e.stop ≡ Some stop.Strayed) ⊎ ArePlayedFrom A.state (is_some e.stop) 0 e.history.rows e.history.asked actors.items e.actors.items) }
-    ensures calls { IfOk result (λ e. (e.stop ≡ Some stop.Strayed) ⊎ AreLedFrom O.gives 0 e.history.rows e.history.asked outsides.items e.outsides.items) }
-    ensures told { IfOk result (λ e. AreTrue O.gives A.state actors.items outsides.items e.own.items e.actors.items e.outsides.items) }
-    ensures unstarted { IfOk result (λ e. TakesPart [] (header_text (header_for settings (vec_len actors))) (S.taken e.sink) → (e.actors ≡ actors) × (e.outsides ≡ outsides)) }
+    ensures steps { IfOk result (λ e. (e.stop ≡ Some stop.Strayed)
+        ⊎ ArePlayedFrom A.state (is_some e.stop) 0
+        e.history.rows e.history.asked actors.items e.actors.items) }
+    ensures calls { IfOk result (λ e. (e.stop ≡ Some stop.Strayed)
+        ⊎ AreLedFrom O.gives 0 e.history.rows e.history.asked outsides.items e.outsides.items) }
+    ensures told { IfOk result (λ e. AreTrue O.gives A.state actors.items outsides.items
+        e.own.items e.actors.items e.outsides.items) }
+    ensures unstarted { IfOk result (λ e.
+        TakesPart [] (header_text (header_for settings (vec_len actors))) (S.taken e.sink)
+        → (e.actors ≡ actors) × (e.outsides ≡ outsides)) }
     ensures back { IfErr result (λ n. (n.actors ≡ actors) × (n.outsides ≡ outsides)) }
-    ensures fault { IfErr result (λ n. IsRefusal n.fault (vec_len actors) (vec_len outsides) settings) }
-    ensures sink { IfErr result (λ n. IsBack S.taken S.failures n.fault (vec_len actors) settings sink n.sink) }
+    ensures fault { IfErr result (λ n.
+        IsRefusal n.fault (vec_len actors) (vec_len outsides) settings) }
+    ensures sink { IfErr result (λ n.
+        IsBack S.taken S.failures n.fault (vec_len actors) settings sink n.sink) }
 {
     let manner = Manner {
         in_turn: false,
@@ -140,19 +168,30 @@ pub fn record_as<
     requires sound { S.failures sink ≡ 0 }
     requires unused { All (IsUnused O.given O.failures) outsides.items }
     ensures started { OnOk result (refusal (vec_len actors) (vec_len outsides) settings ≡ None) }
-    ensures run { IfOk result (λ e. IsRecorded O.Door settings (vec_len actors) e.history e.own.items e.transcripts (S.taken e.sink) (S.failures e.sink) e.stop) }
-    ensures agrees { IfOk result (λ e. (e.stop ≡ Some stop.Strayed) ⊎ Agree e.history.rows e.history.asked e.own.items) }
-    ensures transcripts { IfOk result (λ e. AreTold (vec_len actors) e.history.rows e.stop e.transcripts) }
+    ensures run { IfOk result (λ e. IsRecorded O.Door settings (vec_len actors)
+        e.history e.own.items e.transcripts (S.taken e.sink) (S.failures e.sink) e.stop) }
+    ensures agrees { IfOk result (λ e. (e.stop ≡ Some stop.Strayed)
+        ⊎ Agree e.history.rows e.history.asked e.own.items) }
+    ensures transcripts { IfOk result (λ e.
+        AreTold (vec_len actors) e.history.rows e.stop e.transcripts) }
     ensures ended { IfOk result (λ e. e.stop ≡ None → AreEnded e.own.items) }
     ensures answered { IfOk result (λ e. e.stop ≡ None → AreAnswered e.history.rows) }
     ensures fails { IfOk result (λ e. e.stop ≡ Some stop.Sink → S.failures e.sink ≡ 1) }
-    ensures steps { IfOk result (λ e. (e.stop ≡ Some stop.Strayed) ⊎ ArePlayedFrom A.state (is_some e.stop) 0 e.history.rows e.history.asked actors.items e.actors.items) }
-    ensures calls { IfOk result (λ e. (e.stop ≡ Some stop.Strayed) ⊎ AreLedFrom O.gives 0 e.history.rows e.history.asked outsides.items e.outsides.items) }
-    ensures told { IfOk result (λ e. AreTrue O.gives A.state actors.items outsides.items e.own.items e.actors.items e.outsides.items) }
-    ensures unstarted { IfOk result (λ e. TakesPart [] (header_text (header_for settings (vec_len actors))) (S.taken e.sink) → (e.actors ≡ actors) × (e.outsides ≡ outsides)) }
+    ensures steps { IfOk result (λ e. (e.stop ≡ Some stop.Strayed)
+        ⊎ ArePlayedFrom A.state (is_some e.stop) 0
+        e.history.rows e.history.asked actors.items e.actors.items) }
+    ensures calls { IfOk result (λ e. (e.stop ≡ Some stop.Strayed)
+        ⊎ AreLedFrom O.gives 0 e.history.rows e.history.asked outsides.items e.outsides.items) }
+    ensures told { IfOk result (λ e. AreTrue O.gives A.state actors.items outsides.items
+        e.own.items e.actors.items e.outsides.items) }
+    ensures unstarted { IfOk result (λ e.
+        TakesPart [] (header_text (header_for settings (vec_len actors))) (S.taken e.sink)
+        → (e.actors ≡ actors) × (e.outsides ≡ outsides)) }
     ensures back { IfErr result (λ n. (n.actors ≡ actors) × (n.outsides ≡ outsides)) }
-    ensures fault { IfErr result (λ n. IsRefusal n.fault (vec_len actors) (vec_len outsides) settings) }
-    ensures sink { IfErr result (λ n. IsBack S.taken S.failures n.fault (vec_len actors) settings sink n.sink) }
+    ensures fault { IfErr result (λ n.
+        IsRefusal n.fault (vec_len actors) (vec_len outsides) settings) }
+    ensures sink { IfErr result (λ n.
+        IsBack S.taken S.failures n.fault (vec_len actors) settings sink n.sink) }
 {
     let crew = Crew { actors, outsides };
     run_crew(rt, alloc, crew, sink, settings, manner)
@@ -176,17 +215,26 @@ fn run_crew<
     requires taken { S.taken sink ≡ [] }
     requires sound { S.failures sink ≡ 0 }
     requires unused { All (IsUnused O.given O.failures) crew.outsides.items }
-    ensures started { OnOk result (refusal (vec_len crew.actors) (vec_len crew.outsides) settings ≡ None) }
-    ensures run { IfOk result (λ e. IsRecorded O.Door settings (vec_len crew.actors) e.history e.own.items e.transcripts (S.taken e.sink) (S.failures e.sink) e.stop) }
-    ensures agrees { IfOk result (λ e. (e.stop ≡ Some stop.Strayed) ⊎ Agree e.history.rows e.history.asked e.own.items) }
-    ensures transcripts { IfOk result (λ e. AreTold (vec_len crew.actors) e.history.rows e.stop e.transcripts) }
+    ensures started { OnOk result (
+        refusal (vec_len crew.actors) (vec_len crew.outsides) settings ≡ None) }
+    ensures run { IfOk result (λ e. IsRecorded O.Door settings (vec_len crew.actors)
+        e.history e.own.items e.transcripts (S.taken e.sink) (S.failures e.sink) e.stop) }
+    ensures agrees { IfOk result (λ e. (e.stop ≡ Some stop.Strayed)
+        ⊎ Agree e.history.rows e.history.asked e.own.items) }
+    ensures transcripts { IfOk result (λ e.
+        AreTold (vec_len crew.actors) e.history.rows e.stop e.transcripts) }
     ensures ended { IfOk result (λ e. e.stop ≡ None → AreEnded e.own.items) }
     ensures answered { IfOk result (λ e. e.stop ≡ None → AreAnswered e.history.rows) }
-    ensures told { IfOk result (λ e. AreTrue O.gives A.state crew.actors.items crew.outsides.items e.own.items e.actors.items e.outsides.items) }
-    ensures unstarted { IfOk result (λ e. TakesPart [] (header_text (header_for settings (vec_len crew.actors))) (S.taken e.sink) → (e.actors ≡ crew.actors) × (e.outsides ≡ crew.outsides)) }
+    ensures told { IfOk result (λ e. AreTrue O.gives A.state crew.actors.items crew.outsides.items
+        e.own.items e.actors.items e.outsides.items) }
+    ensures unstarted { IfOk result (λ e.
+        TakesPart [] (header_text (header_for settings (vec_len crew.actors))) (S.taken e.sink)
+        → (e.actors ≡ crew.actors) × (e.outsides ≡ crew.outsides)) }
     ensures back { IfErr result (λ n. (n.actors ≡ crew.actors) × (n.outsides ≡ crew.outsides)) }
-    ensures fault { IfErr result (λ n. IsRefusal n.fault (vec_len crew.actors) (vec_len crew.outsides) settings) }
-    ensures sink { IfErr result (λ n. IsBack S.taken S.failures n.fault (vec_len crew.actors) settings sink n.sink) }
+    ensures fault { IfErr result (λ n.
+        IsRefusal n.fault (vec_len crew.actors) (vec_len crew.outsides) settings) }
+    ensures sink { IfErr result (λ n.
+        IsBack S.taken S.failures n.fault (vec_len crew.actors) settings sink n.sink) }
 {
     match room_for(alloc, crew.actors.len(), crew.outsides.len(), settings) {
         Ok(room) => start(rt, alloc, room, crew, sink, settings, manner),
@@ -194,7 +242,8 @@ fn run_crew<
     }
 }
 
-// Starts a run that has its room: writes the log's header, makes the machine, and lets the actors run.
+// Starts a run that has its room: writes the log's header, makes the machine, and lets the actors
+// run.
 fn start<
     A: Actor + Send + Drop,
     O: Outside + Send + Drop,
@@ -222,16 +271,24 @@ fn start<
     requires own { vec_len crew.actors ≤ vec_capacity room.own }
     requires no_transcripts { room.transcripts.items ≡ [] }
     requires transcripts { vec_len crew.actors ≤ vec_capacity room.transcripts }
-    ensures run { IfOk result (λ e. IsRecorded O.Door settings (vec_len crew.actors) e.history e.own.items e.transcripts (S.taken e.sink) (S.failures e.sink) e.stop) }
-    ensures agrees { IfOk result (λ e. (e.stop ≡ Some stop.Strayed) ⊎ Agree e.history.rows e.history.asked e.own.items) }
-    ensures transcripts { IfOk result (λ e. AreTold (vec_len crew.actors) e.history.rows e.stop e.transcripts) }
+    ensures run { IfOk result (λ e. IsRecorded O.Door settings (vec_len crew.actors)
+        e.history e.own.items e.transcripts (S.taken e.sink) (S.failures e.sink) e.stop) }
+    ensures agrees { IfOk result (λ e. (e.stop ≡ Some stop.Strayed)
+        ⊎ Agree e.history.rows e.history.asked e.own.items) }
+    ensures transcripts { IfOk result (λ e.
+        AreTold (vec_len crew.actors) e.history.rows e.stop e.transcripts) }
     ensures ended { IfOk result (λ e. e.stop ≡ None → AreEnded e.own.items) }
     ensures answered { IfOk result (λ e. e.stop ≡ None → AreAnswered e.history.rows) }
-    ensures told { IfOk result (λ e. AreTrue O.gives A.state crew.actors.items crew.outsides.items e.own.items e.actors.items e.outsides.items) }
-    ensures unstarted { IfOk result (λ e. TakesPart [] (header_text (header_for settings (vec_len crew.actors))) (S.taken e.sink) → (e.actors ≡ crew.actors) × (e.outsides ≡ crew.outsides)) }
+    ensures told { IfOk result (λ e. AreTrue O.gives A.state crew.actors.items crew.outsides.items
+        e.own.items e.actors.items e.outsides.items) }
+    ensures unstarted { IfOk result (λ e.
+        TakesPart [] (header_text (header_for settings (vec_len crew.actors))) (S.taken e.sink)
+        → (e.actors ≡ crew.actors) × (e.outsides ≡ crew.outsides)) }
     ensures back { IfErr result (λ n. (n.actors ≡ crew.actors) × (n.outsides ≡ crew.outsides)) }
-    ensures fault { IfErr result (λ n. IsRefusal n.fault (vec_len crew.actors) (vec_len crew.outsides) settings) }
-    ensures sink { IfErr result (λ n. IsBack S.taken S.failures n.fault (vec_len crew.actors) settings sink n.sink) }
+    ensures fault { IfErr result (λ n.
+        IsRefusal n.fault (vec_len crew.actors) (vec_len crew.outsides) settings) }
+    ensures sink { IfErr result (λ n.
+        IsBack S.taken S.failures n.fault (vec_len crew.actors) settings sink n.sink) }
 {
     let header = Header::new(crew.actors.len() as u16, settings);
     let log = match LogWriter::begin(sink, header) {
@@ -250,7 +307,12 @@ fn not_started<A: Drop, O: Drop, S: LogSink + Drop>(
     crew: Crew<A, O>,
     sink: S,
 ) -> NotStarted<A, O, S>
-    ensures { result ≡ record { fault = fault; actors = crew.actors; outsides = crew.outsides; sink = sink } }
+    ensures { result ≡ record {
+      fault = fault;
+      actors = crew.actors;
+      outsides = crew.outsides;
+      sink = sink;
+    } }
 {
     let Crew { actors, outsides } = crew;
     NotStarted {
@@ -278,10 +340,12 @@ fn without_log<A: Actor + Drop, O: Outside + Drop, S: LogSink + Drop>(
     requires transcripts { vec_len crew.actors ≤ vec_capacity room.transcripts }
     requires part { TakesPart [] (header_text header) (S.taken sink) }
     requires failed { S.failures sink ≡ 1 }
-    ensures log { HasNoLog header result.history (S.taken result.sink) (S.failures result.sink) result.stop }
+    ensures log { HasNoLog header result.history
+        (S.taken result.sink) (S.failures result.sink) result.stop }
     ensures agrees { Agree result.history.rows result.history.asked result.own.items }
     ensures transcripts { result.transcripts ≡ transcripts_of (vec_len crew.actors) [] }
-    ensures told { AreTrue O.gives A.state crew.actors.items crew.outsides.items result.own.items result.actors.items result.outsides.items }
+    ensures told { AreTrue O.gives A.state crew.actors.items crew.outsides.items
+        result.own.items result.actors.items result.outsides.items }
     ensures actors { result.actors ≡ crew.actors }
     ensures outsides { result.outsides ≡ crew.outsides }
 {
@@ -335,12 +399,16 @@ fn run_with<
     requires own { vec_len crew.actors ≤ vec_capacity room.own }
     requires no_transcripts { room.transcripts.items ≡ [] }
     requires transcripts { vec_len crew.actors ≤ vec_capacity room.transcripts }
-    ensures run { IsRun O.Door header result.history result.own.items result.transcripts (S.taken result.sink) (S.failures result.sink) result.stop }
-    ensures agrees { (result.stop ≡ Some stop.Strayed) ⊎ Agree result.history.rows result.history.asked result.own.items }
-    ensures transcripts { AreTold header.threads result.history.rows result.stop result.transcripts }
+    ensures run { IsRun O.Door header result.history result.own.items result.transcripts
+        (S.taken result.sink) (S.failures result.sink) result.stop }
+    ensures agrees { (result.stop ≡ Some stop.Strayed)
+        ⊎ Agree result.history.rows result.history.asked result.own.items }
+    ensures transcripts { AreTold header.threads result.history.rows
+        result.stop result.transcripts }
     ensures ended { result.stop ≡ None → AreEnded result.own.items }
     ensures answered { result.stop ≡ None → AreAnswered result.history.rows }
-    ensures told { AreTrue O.gives A.state crew.actors.items crew.outsides.items result.own.items result.actors.items result.outsides.items }
+    ensures told { AreTrue O.gives A.state crew.actors.items crew.outsides.items
+        result.own.items result.actors.items result.outsides.items }
 {
     let Room {
         own,

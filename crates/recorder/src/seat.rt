@@ -16,8 +16,8 @@ use std::sync::Wait;
 use thread_scripts::Actor;
 use worker_notes::{Own, note_reply};
 
-// A worker at its thread: its actor, its outside, and what it notes. A note is made just where the machine took the event; its copies and its
-// room are made before.
+// A worker at its thread: its actor, its outside, and what it notes. A note is made exactly when
+// the machine took the event; its copies and its room are made before.
 pub struct Seat<A: Actor, O: Outside> {
     actor: A,
     outside: O,
@@ -35,9 +35,29 @@ impl<A: Actor, O: Outside> Model for Seat<A, O> {
 
     ghost Value = { Sitting O };
 
-    ghost view = { λ s. record { from = A.state s.actor_from.value; began = s.outside_from.value; now = A.state s.actor; outside = s.outside; steps = s.own.steps.items; brought = s.own.outcomes.items; ended = s.own.ended; number = s.number; ahead = s.ahead } };
+    ghost view = { λ s. record {
+      from = A.state s.actor_from.value;
+      began = s.outside_from.value;
+      now = A.state s.actor;
+      outside = s.outside;
+      steps = s.own.steps.items;
+      brought = s.own.outcomes.items;
+      ended = s.own.ended;
+      number = s.number;
+      ahead = s.ahead;
+    } };
 
-    ghost invariant = { λ s. IsSeated O O.gives O.given O.failures (record { from = A.state s.actor_from.value; began = s.outside_from.value; now = A.state s.actor; outside = s.outside; steps = s.own.steps.items; brought = s.own.outcomes.items; ended = s.own.ended; number = s.number; ahead = s.ahead }) };
+    ghost invariant = { λ s. IsSeated O O.gives O.given O.failures (record {
+      from = A.state s.actor_from.value;
+      began = s.outside_from.value;
+      now = A.state s.actor;
+      outside = s.outside;
+      steps = s.own.steps.items;
+      brought = s.own.outcomes.items;
+      ended = s.own.ended;
+      number = s.number;
+      ahead = s.ahead;
+    }) };
 }
 
 // What a worker brings back.
@@ -48,7 +68,8 @@ pub struct Returned<A, O> {
     pub own: Own,
 }
 
-// Plays the actor of thread i to its end, or until the machine is stopped; and where the worker itself cannot go on, it stops the machine.
+// Plays the actor of thread i to its end, or until the machine is stopped; and where the worker
+// itself cannot go on, it stops the machine.
 pub fn work<A: Actor, O: Outside, S: LogSink, R: Wait>(
     rt: &R,
     alloc: Global,
@@ -59,7 +80,8 @@ pub fn work<A: Actor, O: Outside, S: LogSink, R: Wait>(
 ) -> Returned<A, O>
     requires given { O.given outside ≡ 0 }
     requires failures { O.failures outside ≡ 0 }
-    ensures { IsTrueTo O O.gives (A.state actor) outside result.own (A.state result.actor) result.outside }
+    ensures { IsTrueTo O O.gives (A.state actor) outside
+        result.own (A.state result.actor) result.outside }
 {
     let mut seat = Seat::new(alloc, actor, outside);
     if let Err(why) = seat.play(rt, shared, i) {
@@ -196,7 +218,8 @@ impl<A: Actor, O: Outside> Seat<A, O> {
 
     // What the worker brings back.
     fn leave(self) -> Returned<A, O>
-        ensures { IsTrueTo O O.gives self.from self.began result.own (A.state result.actor) result.outside }
+        ensures { IsTrueTo O O.gives self.from self.began
+            result.own (A.state result.actor) result.outside }
     {
         let Seat {
             actor,

@@ -1,4 +1,6 @@
-ghost use Rattle.std.specs.Prelude.{◌≡◌, ◌<◌, is_some, length, true};
+ghost use Rattle.std.specs.Prelude.{◌≡◌, ◌<◌, Some, length, replicate, true, unwrap_or};
+ghost use Rattle.posix_terms.specs.declared.limits.TheConstants.Limits as limit;
+ghost use Rattle.recorder.specs.Leaving.{cause_of};
 
 use crate::leave::Leave;
 use crate::shared::{Held, Wakes};
@@ -8,12 +10,13 @@ use logged_machine::{Machine, Refused};
 use posix_terms::Answer;
 
 // Makes every attempt that can be made, for whichever thread has the turn, and answers each call
-// that is granted then, so that its worker need only take the reply. Whoever made an event does so
-// before it lets the machine go, so nobody has to hunt for its turn. A refusal stops the machine.
+// that is granted then, so that its worker need only take the reply. Attempts that must fail are
+// skipped. Whoever made an event does so before it lets the machine go, so nobody has to hunt for
+// its turn. A refusal stops the machine.
 pub fn settle<S: LogSink, D: Drop>(held: &mut Held<S, D>) {
     // It ends long before: each attempt adds to a clock, and a full one stops the machine.
     for _ in 0..u64::MAX {
-        let Some(holder) = held.machine.turn_holder() else {
+        let Ok(Some(holder)) = held.machine.skip_failures() else {
             return;
         };
         match turn(held, holder) {
@@ -30,15 +33,19 @@ pub fn settle<S: LogSink, D: Drop>(held: &mut Held<S, D>) {
 
 // Stops the machine. All workers are to be woken: each is to see it.
 pub fn stop<S: LogSink, D: Drop>(held: &mut Held<S, D>, leave: Leave)
-    ensures { is_some held.new.machine.stop ≡ true }
+    ensures machine { held.new.machine ≡ record held.old.machine {
+      stop = Some (unwrap_or held.old.machine.stop (cause_of leave));
+    } }
+    ensures told { held.new.told.items ≡ held.old.told.items }
+    ensures woken { held.new.wakes.of ≡ replicate limit.THREADS true }
 {
     // Refused where it is stopped already: the first cause stands.
     let _first = held.machine.stop(leave.cause());
     held.wakes = Wakes::all();
 }
 
-// The attempt of thread i, which has the turn; and the answer, if its call is granted then. A worker
-// whose call goes outside is to be woken for that.
+// The attempt of thread i, which has the turn; and the answer, if its call is granted then. A
+// worker whose call goes outside is to be woken for that.
 fn turn<S: LogSink, D: Drop>(held: &mut Held<S, D>, i: usize) -> Result<(), Refused>
     requires { i < length held.old.machine.whole.threads }
 {
@@ -55,7 +62,8 @@ fn turn<S: LogSink, D: Drop>(held: &mut Held<S, D>, i: usize) -> Result<(), Refu
     Ok(())
 }
 
-// The attempt of thread i, which has the turn: at the lock that it wants, or again at the call in which it was blocked.
+// The attempt of thread i, which has the turn: at the lock that it wants, or again at the call in
+// which it was blocked.
 fn attempt<S: LogSink, D: Drop>(machine: &mut Machine<S, D>, i: usize) -> Result<(), Refused>
     requires { i < length machine.old.whole.threads }
     ensures { length machine.new.whole.threads ≡ length machine.old.whole.threads }

@@ -1,3 +1,7 @@
+ghost use Rattle.std.specs.Prelude.{◌≡◌, ◌↔◌, All, IsTrue, None, Some, false, replicate, true};
+ghost use Rattle.std.specs.Prelude.{slice_index_or, slice_set};
+ghost use Rattle.posix_terms.specs.declared.limits.TheConstants.Limits as limit;
+
 use crate::pulse::Pulse;
 use input_log::LogSink;
 use logged_machine::Machine;
@@ -16,12 +20,21 @@ pub struct Held<S: LogSink, D: Drop> {
 
 impl<S: LogSink, D: Drop> Held<S, D> {
     // The reply that the call of thread i was given, if its worker has not taken it yet.
-    pub fn take_reply(&mut self, i: usize) -> Option<Reply> {
+    pub fn take_reply(&mut self, i: usize) -> Option<Reply>
+        ensures reply { result ≡ slice_index_or self.old.told.items i None }
+        ensures taken { self.new.told.items ≡ slice_set self.old.told.items i None }
+        ensures machine { self.new.machine ≡ self.old.machine }
+        ensures wakes { self.new.wakes ≡ self.old.wakes }
+    {
         self.told.get_mut(i)?.take()
     }
 
     // The call of thread i has this reply: its worker is to be woken.
-    pub fn tell(&mut self, i: usize, reply: Reply) {
+    pub fn tell(&mut self, i: usize, reply: Reply)
+        ensures told { self.new.told.items ≡ slice_set self.old.told.items i (Some reply) }
+        ensures machine { self.new.machine ≡ self.old.machine }
+        ensures wakes { self.new.wakes.of ≡ slice_set self.old.wakes.of i true }
+    {
         if let Some(told) = self.told.get_mut(i) {
             *told = Some(reply);
         }
@@ -32,43 +45,56 @@ impl<S: LogSink, D: Drop> Held<S, D> {
 // The workers that are to be woken once the machine is let go.
 #[derive(Clone, Copy)]
 pub struct Wakes {
-    // by thread
-    wakes: [bool; Limits::THREADS],
+    // by thread whether its worker is among them
+    of: [bool; Limits::THREADS],
 }
 
 impl Wakes {
-    pub fn none() -> Wakes {
+    pub fn none() -> Wakes
+        ensures { result.of ≡ replicate limit.THREADS false }
+    {
         Wakes {
-            wakes: [false; Limits::THREADS],
+            of: [false; Limits::THREADS],
         }
     }
 
-    pub fn all() -> Wakes {
+    pub fn all() -> Wakes
+        ensures { result.of ≡ replicate limit.THREADS true }
+    {
         Wakes {
-            wakes: [true; Limits::THREADS],
+            of: [true; Limits::THREADS],
         }
     }
 
-    pub fn add(&mut self, i: usize) {
+    pub fn add(&mut self, i: usize)
+        ensures { self.new.of ≡ slice_set self.old.of i true }
+    {
         self.set(i, true);
     }
 
-    pub fn remove(&mut self, i: usize) {
+    pub fn remove(&mut self, i: usize)
+        ensures { self.new.of ≡ slice_set self.old.of i false }
+    {
         self.set(i, false);
     }
 
-    fn set(&mut self, i: usize, is_woken: bool) {
-        if let Some(wakes) = self.wakes.get_mut(i) {
-            *wakes = is_woken;
+    fn set(&mut self, i: usize, is_woken: bool)
+        ensures { self.new.of ≡ slice_set self.old.of i is_woken }
+    {
+        if i < self.of.len() {
+            self.of[i] = is_woken;
         }
     }
 
-    fn is_empty(&self) -> bool {
-        !self.wakes.contains(&true)
+    fn is_empty(&self) -> bool
+        ensures { IsTrue result ↔ All (λ is_woken. is_woken ≡ false) self.now.of }
+    {
+        !self.of.contains(&true)
     }
 }
 
-// What the workers of a run share: the one machine, and for each worker a place to wait for its own next event.
+// What the workers of a run share: the one machine, and for each worker a place to wait for its own
+// next event.
 #[derive(Drop)]
 pub struct Shared<S: LogSink, D: Drop> {
     pub held: Mutex<Held<S, D>>,
@@ -84,15 +110,15 @@ impl<S: LogSink, D: Drop> Shared<S, D> {
         let mut held = held;
         let wakes = mem::replace(&mut held.wakes, Wakes::none());
         drop(held);
-        for (turn, wakes) in self.turns.iter().zip(wakes.wakes) {
+        for (turn, wakes) in self.turns.iter().zip(wakes.of) {
             if wakes {
                 turn.notify_all();
             }
         }
     }
 
-    // Worker i waits until it is woken. Where others are to be woken it lets the machine go for that,
-    // and does not wait: what it waits for may have come meanwhile.
+    // Worker i waits until it is woken. Where others are to be woken it lets the machine go for
+    // that, and does not wait: what it waits for may have come meanwhile.
     pub fn rest<'a, R: Wait>(
         &'a self,
         rt: &R,

@@ -40,11 +40,12 @@ pub struct Promised<A, O> {
 }
 
 impl<A: Actor, O: Outside> Promise<Returned<A, O>> for Promised<A, O> {
-    ghost kept_by = { λ p r. IsTrueTo O O.gives (A.state p.actor.value) p.outside.value r.own (A.state r.actor) r.outside };
+    ghost kept_by = { λ p r. IsTrueTo O O.gives (A.state p.actor.value) p.outside.value
+        r.own (A.state r.actor) r.outside };
 }
 
-// Runs each actor in a thread of its own, to its end or until the machine is stopped, and beside them the watcher. Once there is room for
-// the notes it takes no memory itself.
+// Runs each actor in a thread of its own, to its end or until the machine is stopped, and beside
+// them the watcher. Once there is room for the notes it takes no memory itself.
 pub fn run_all<
     A: Actor + Send + Drop,
     O: Outside + Send + Drop,
@@ -63,7 +64,8 @@ pub fn run_all<
     requires unused { All (IsUnused O.given O.failures) crew.outsides.items }
     requires none { own.items ≡ [] }
     requires room { vec_len crew.actors ≤ vec_capacity own }
-    ensures { AreTrue O.gives A.state crew.actors.items crew.outsides.items result.own.items result.actors.items result.outsides.items }
+    ensures { AreTrue O.gives A.state crew.actors.items crew.outsides.items
+        result.own.items result.actors.items result.outsides.items }
 {
     thread::scope(
         thread::scope_env(),
@@ -73,7 +75,8 @@ pub fn run_all<
             requires unused { All (IsUnused O.given O.failures) crew.outsides.items }
             requires none { own.items ≡ [] }
             requires room { vec_len crew.actors ≤ vec_capacity own }
-            ensures { AreTrue O.gives A.state crew.actors.items crew.outsides.items result.own.items result.actors.items result.outsides.items }
+            ensures { AreTrue O.gives A.state crew.actors.items crew.outsides.items
+                result.own.items result.actors.items result.outsides.items }
         { run_watched(scope, rt, alloc, shared, crew, own, watch) },
     )
 }
@@ -100,7 +103,8 @@ fn run_watched<
     requires unused { All (IsUnused O.given O.failures) crew.outsides.items }
     requires none { own.items ≡ [] }
     requires room { vec_len crew.actors ≤ vec_capacity own }
-    ensures { AreTrue O.gives A.state crew.actors.items crew.outsides.items result.own.items result.actors.items result.outsides.items }
+    ensures { AreTrue O.gives A.state crew.actors.items crew.outsides.items
+        result.own.items result.actors.items result.outsides.items }
 {
     let watcher = start_watcher(scope, rt, shared, watch);
     let gathered = run_in(scope, rt, alloc, shared, crew, own);
@@ -111,7 +115,8 @@ fn run_watched<
     gathered
 }
 
-// Starts the thread of the watcher, if there is one. Where no thread can be made the run goes on unwatched.
+// Starts the thread of the watcher, if there is one. Where no thread can be made the run goes on
+// unwatched.
 fn start_watcher<
     's,
     E,
@@ -146,7 +151,8 @@ fn run_in<
     requires unused { All (IsUnused O.given O.failures) crew.outsides.items }
     requires none { own.items ≡ [] }
     requires room { vec_len crew.actors ≤ vec_capacity own }
-    ensures { AreTrue O.gives A.state crew.actors.items crew.outsides.items result.own.items result.actors.items result.outsides.items }
+    ensures { AreTrue O.gives A.state crew.actors.items crew.outsides.items
+        result.own.items result.actors.items result.outsides.items }
 {
     let Crew { actors, outsides } = crew;
     let mut actors = actors;
@@ -168,7 +174,8 @@ fn run_in<
     }
 }
 
-// Starts the last worker, runs those before it, and joins it. What each brings back stands where it was.
+// Starts the last worker, runs those before it, and joins it. What each brings back stands where it
+// was.
 #[tactic(auto, using(crate::proofs::Gathering::each_last))]
 fn run_rest<
     's,
@@ -190,7 +197,8 @@ fn run_rest<
     requires unused { All (IsUnused O.given O.failures) outsides.old.items }
     requires none { own.old.items ≡ [] }
     requires room { vec_len actors.old ≤ vec_capacity own.old }
-    ensures told { AreTrue O.gives A.state actors.old.items outsides.old.items own.new.items actors.new.items outsides.new.items }
+    ensures told { AreTrue O.gives A.state actors.old.items outsides.old.items
+        own.new.items actors.new.items outsides.new.items }
     ensures actors_count { vec_len actors.new ≡ vec_len actors.old }
     ensures outsides_count { vec_len outsides.new ≡ vec_len outsides.old }
     ensures own_count { vec_len own.new ≡ vec_len actors.old }
@@ -222,7 +230,8 @@ fn run_rest<
     };
 }
 
-// Starts the worker of thread i. Where no thread can be made the machine is stopped, and the worker runs here: it leaves at its first event.
+// Starts the worker of thread i. Where no thread can be made the machine is stopped, and the worker
+// runs here: it leaves at its first event.
 fn start_one<
     's,
     E,
@@ -242,7 +251,8 @@ fn start_one<
     requires unused { IsUnused O.given O.failures outside }
     ensures actor { IfOk result (λ h. h.promise.actor.value ≡ actor) }
     ensures outside { IfOk result (λ h. h.promise.outside.value ≡ outside) }
-    ensures here { IfErr result (λ r. IsTrueTo O O.gives (A.state actor) outside r.own (A.state r.actor) r.outside) }
+    ensures here { IfErr result (λ r.
+        IsTrueTo O O.gives (A.state actor) outside r.own (A.state r.actor) r.outside) }
 {
     let promise = Promised {
         actor: Snapshot::of(&actor),
@@ -252,7 +262,8 @@ fn start_one<
         promise,
         move || -> Returned<A, O>
             requires unused { IsUnused O.given O.failures outside }
-            ensures { IsTrueTo O O.gives (A.state actor) outside result.own (A.state result.actor) result.outside }
+            ensures { IsTrueTo O O.gives (A.state actor) outside
+                result.own (A.state result.actor) result.outside }
         { work(rt, alloc, shared, i, actor, outside) },
     ) {
         Ok(handle) => Ok(handle),

@@ -1,11 +1,13 @@
-ghost use Rattle.std.specs.Prelude.{◌≡◌, ◌≤◌, ◌↔◌, ◌&&◌, [], IsTrue, OnOk, OnErr, is_ok, vec_capacity};
+ghost use Rattle.std.specs.Prelude.{◌≡◌, ◌≤◌, ◌↔◌, ◌&&◌, [], IsTrue, OnOk, OnErr, is_ok};
+ghost use Rattle.std.specs.Prelude.{vec_capacity};
 ghost use Rattle.logged_machine.specs.History.{transcript_of};
 ghost use Rattle.recorder.specs.Recorded.{AreBeginnings, IsCutShort, IsWhole, transcripts_of};
 
 use posix_terms::{Answer, HistoryRow, Row, Transcript, Transcripts};
 use std::alloc::{AllocError, Global};
 
-// What the threads of a run saw, and whether that is all: where there is no memory it is a beginning.
+// What the threads of a run saw, and whether that is all: where there is no memory it is a
+// beginning.
 #[derive(Drop)]
 pub struct Seen {
     pub transcripts: Transcripts,
