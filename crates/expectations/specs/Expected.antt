@@ -1,6 +1,8 @@
 -- Internal: no contract of the headline or of a command stands on it.
 -- The expectations of a text: which lines have one, of which call, and which is the first bad one.
-use Rattle.std.specs.Prelude.{◌≡◌, ◌≢◌, ℕ, ◌+◌, ◌-◌, ◌<◌, Bool, true, false, not, ◌&&◌, List, [], ◌∷◌, length, map, take, count_by, filter_map, slice_index_or, ◌==◌, if◌then◌else◌, Option, Some, None, option_map, Result, Ok, Err}
+use Rattle.std.specs.Prelude.{◌≡◌, ◌≢◌, ℕ, ◌+◌, ◌-◌, ◌<◌, Bool, true, false, not, ◌&&◌, List, []}
+use Rattle.std.specs.Prelude.{◌∷◌, length, map, take, count_by, filter_map, slice_index_or, ◌==◌}
+use Rattle.std.specs.Prelude.{if◌then◌else◌, Option, Some, None, option_map, Result, Ok, Err}
 use Rattle.std.specs.List.{range_with_len, suffix_len}
 use Rattle.std.specs.Option.{is_some}
 use Rattle.posix_terms.specs.Text.{pieces_of}

@@ -1,6 +1,7 @@
 -- Internal: no contract of the headline or of a command stands on it.
 -- What expectations and places keep to.
-use Rattle.std.specs.Prelude.{◌≡◌, ℕ, ◌-◌, ◌<◌, ◌^◌, ℤ, pos, negsuc, IfSome, All, List, slice_get, slice_index_or, [], Some, Ok}
+use Rattle.std.specs.Prelude.{◌≡◌, ℕ, ◌-◌, ◌<◌, ◌^◌, ℤ, pos, negsuc, IfSome, All, List, slice_get}
+use Rattle.std.specs.Prelude.{slice_index_or, [], Some, Ok}
 use Rattle.posix_terms.specs.Errors.{name_of}
 use Rattle.posix_terms.specs.Text.{pieces_of}
 use Rattle.posix_terms.specs.Replies.{kind_code}

@@ -1,5 +1,6 @@
 ghost use Rattle.std.specs.Prelude.{◌≡◌, ◌+◌, ◌<◌, ◌≤◌, ◌^◌, IfOk, IfErr, map, option_map};
-ghost use Rattle.expectations.specs.Expected.{IsFaultBelow, call_first, expectation_below, expected_below, with_line, words_expected};
+ghost use Rattle.expectations.specs.Expected.{IsFaultBelow, call_first, expectation_below};
+ghost use Rattle.expectations.specs.Expected.{expected_below, with_line, words_expected};
 
 use crate::expected::Expectation;
 use crate::fault::{ExpectationFault, Reason};

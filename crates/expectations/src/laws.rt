@@ -1,4 +1,6 @@
-ghost use Rattle.expectations.specs.Laws.{CallsHavePlaces, NamesLeadBack, NoneWhereMet, NotBoth, NumbersLeadBack, OneFirst, OneFirstBad, OneList, StandForCalls, TextsReadBack};
+ghost use Rattle.expectations.specs.Laws.{CallsHavePlaces, NamesLeadBack, NoneWhereMet, NotBoth};
+ghost use Rattle.expectations.specs.Laws.{NumbersLeadBack, OneFirst, OneFirstBad, OneList};
+ghost use Rattle.expectations.specs.Laws.{StandForCalls, TextsReadBack};
 
 use thread_scripts::{accepted_exactly, script_stays};
 

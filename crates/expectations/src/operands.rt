@@ -1,6 +1,7 @@
 ghost use Rattle.std.specs.Prelude.{◌≡◌, IfOk, bytes_eq, codes};
 ghost use Rattle.thread_scripts.specs.Numbers.{number_of};
-ghost use Rattle.expectations.specs.Words.{data_of, error_among, error_of, kind_numbered, kind_of, operand, size_of};
+ghost use Rattle.expectations.specs.Words.{data_of, error_among, error_of, kind_numbered, kind_of};
+ghost use Rattle.expectations.specs.Words.{operand, size_of};
 
 use hex::FromHexError;
 use posix_terms::{Bytes, Errno, ObjectKind, errno_name};

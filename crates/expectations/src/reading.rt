@@ -1,5 +1,7 @@
 ghost use Rattle.std.specs.Prelude.{◌≡◌, IfOk, map};
-ghost use Rattle.expectations.specs.Words.{count_wanted, data_wanted, done_wanted, fail_wanted, not_fail_wanted, number_wanted, pair_wanted, stat_wanted, wanted_by, wanted_of};
+ghost use Rattle.expectations.specs.Words.{count_wanted, data_wanted, done_wanted, fail_wanted};
+ghost use Rattle.expectations.specs.Words.{not_fail_wanted, number_wanted, pair_wanted};
+ghost use Rattle.expectations.specs.Words.{stat_wanted, wanted_by, wanted_of};
 
 use crate::operands::{data, error, kind, signed, size};
 use crate::wanted::Wanted;

@@ -1,4 +1,5 @@
-ghost use Rattle.std.specs.Prelude.{◌≡◌, All, IfOk, MatchBool, MatchOption, Some, None, if◌then◌else◌, map, option_copied};
+ghost use Rattle.std.specs.Prelude.{◌≡◌, All, IfOk, MatchBool, MatchOption, Some, None};
+ghost use Rattle.std.specs.Prelude.{if◌then◌else◌, map, option_copied};
 ghost use Rattle.expectations.specs.Places.{call_after, calls_of};
 ghost use Rattle.expectations.specs.Unmet.{AreMet, IsFirstOfCall, IsFirstUnmet, IsMet, IsUnmet};
 
