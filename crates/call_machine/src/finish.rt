@@ -8,7 +8,7 @@ use crate::history::History;
 use crate::plain::Plain;
 use lock_machine::Phase;
 use logged_machine::Stop;
-use posix_terms::{Answer, HistoryRow, Row, Transcript, Transcripts};
+use posix_terms::{PackedRow, Row, Transcript, Transcripts};
 use std::alloc::{AllocError, Global};
 
 impl Driver {
@@ -67,7 +67,7 @@ fn stuck_for(phase: &Phase, i: usize) -> Stop
 fn transcripts(
     alloc: Global,
     threads: usize,
-    rows: &[HistoryRow],
+    rows: &[PackedRow],
 ) -> Result<Vec<Transcript>, AllocError>
     ensures { IfOk result (λ transcripts. transcripts.items ≡ transcripts_of threads rows.now) }
 {
@@ -79,25 +79,27 @@ fn transcripts(
 }
 
 // What one thread saw.
-fn transcript(alloc: Global, thread: usize, rows: &[HistoryRow]) -> Result<Transcript, AllocError>
+fn transcript(alloc: Global, thread: usize, rows: &[PackedRow]) -> Result<Transcript, AllocError>
     ensures { IfOk result (λ transcript. transcript ≡ transcript_of thread rows.now) }
 {
     let mut own = Vec::with_capacity(alloc, replies(thread, rows))?;
     for row in rows {
-        if let (true, Some(Answer::Reply(reply))) = (row.turn.thread == thread, &row.answer) {
-            own.push(Row {
-                call: row.call.try_clone()?,
-                turn: row.turn,
-                reply: reply.try_clone()?,
-            })?;
+        if row.turn().thread == thread && row.has_reply() {
+            if let Some(reply) = row.reply()? {
+                own.push(Row {
+                    call: row.call().try_clone()?,
+                    turn: row.turn(),
+                    reply,
+                })?;
+            }
         }
     }
     Ok(Transcript::from_vec(own))
 }
 
 // How many replies one thread got.
-fn replies(thread: usize, rows: &[HistoryRow]) -> usize {
+fn replies(thread: usize, rows: &[PackedRow]) -> usize {
     rows.iter()
-        .filter(|row| row.turn.thread == thread && matches!(row.answer, Some(Answer::Reply(_))))
+        .filter(|row| row.turn().thread == thread && row.has_reply())
         .count()
 }

@@ -1,6 +1,6 @@
 -- Internal: no contract of the headline or of a command stands on it.
 -- How much memory a thread has for the bytes of its reply, and how much it needs.
-use Rattle.std.specs.Prelude.{◌≤◌, ℕ}
+use Rattle.std.specs.Prelude.{◌≡◌, ◌≤◌, ℕ, Bool, true, false, not, ◌||◌}
 use Rattle.descriptor_table.specs.Plans.{bytes_asked, read_count}
 use Rattle.object_store.specs.Patience.{turn_bytes}
 use Rattle.object_store.specs.Space.{Space}
@@ -26,6 +26,16 @@ row_needed (phase.Outside o) told = told
 row_needed (phase.Recorded o) told = told
 row_needed p told = 0
 
+-- its call may go outside, and no outcome came yet
+abbrev pub awaits_outcome : Phase → Bool
+awaits_outcome (phase.WantsTable call carried) = true
+awaits_outcome (phase.WantsObject call carried clock object) = true
+awaits_outcome (phase.ToOutside o) = true
+awaits_outcome (phase.Outside o) = true
+awaits_outcome p = false
+
 -- a thread in this phase has the room that its call needs
 abbrev pub HasSpace : Phase → Space → Type 0
-HasSpace p s = (told_needed p ≤ s.told) × (row_needed p s.told ≤ s.row)
+HasSpace p s =
+    (told_needed p ≤ s.told)
+    × ((row_needed p s.told ≤ s.row) × ((not (awaits_outcome p) || s.outcome) ≡ true))

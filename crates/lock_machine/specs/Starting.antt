@@ -1,6 +1,6 @@
 -- Believed: a contract of the headline stands on it.
 -- A lock machine at its start.
-use Rattle.std.specs.Prelude.{ℕ, [], replicate}
+use Rattle.std.specs.Prelude.{ℕ, [], replicate, refl}
 use Rattle.det_mutex.specs.Attempt.{new_lock}
 use Rattle.object_store.specs.Store.{first_stored}
 use Rattle.posix_terms.specs.declared.limits.TheConstants.Limits as limit
@@ -16,7 +16,7 @@ use Rattle.lock_machine.specs.declared.thread.Thread as declared
 
 -- a thread before its first step, without its clock
 abbrev pub first_item : declared.Thread
-first_item = record { phase = phase.Working; asked = []; came = 0; room = no_space; roomy = (le_refl 0, le_refl 0) }
+first_item = record { phase = phase.Working; asked = []; came = 0; room = no_space; roomy = (le_refl 0, (le_refl 0, refl)) }
 
 abbrev pub first_thread : Thread
 first_thread = record { phase = phase.Working; clock = 1; asked = []; came = 0 }

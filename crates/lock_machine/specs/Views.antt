@@ -1,6 +1,6 @@
 -- Believed: a contract of the headline stands on it.
 -- The clocks of a run's live threads.
-use Rattle.std.specs.Prelude.{ℕ, List, [], get_or, map, Option, Some, None}
+use Rattle.std.specs.Prelude.{ℕ, List, [], get_or, map, Option, Some, None, refl}
 use Rattle.std.proofs.Math.Nat.{le_refl}
 use Rattle.object_store.specs.Space.{no_space}
 use Rattle.lock_machine.specs.Threads.{Thread, timed}
@@ -21,7 +21,7 @@ clocks_of threads = map live_clock_of threads
 
 -- past the last thread
 abbrev pub no_item : declared.Thread
-no_item = record { phase = phase.Ended; asked = []; came = 0; room = no_space; roomy = (le_refl 0, le_refl 0) }
+no_item = record { phase = phase.Ended; asked = []; came = 0; room = no_space; roomy = (le_refl 0, (le_refl 0, refl)) }
 
 abbrev pub no_thread : Thread
 no_thread = timed no_item 0

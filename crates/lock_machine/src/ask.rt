@@ -11,7 +11,7 @@ ghost use Rattle.lock_machine.specs.Waiting.{HasRoom, KeepsRoom, is_call, rows_d
 use crate::growth::make_room;
 use crate::thread::{Phase, Thread};
 use logical_clocks::Clocks;
-use posix_terms::{Call, Carried, HistoryRow, Limits, Step};
+use posix_terms::{Call, Carried, Limits, PackedRow, Step};
 use std::alloc::AllocError;
 
 impl Thread {
@@ -118,7 +118,7 @@ fn last_call(asked: &[Step]) -> Result<Option<Call>, AllocError>
 pub fn reserve_rows(
     step: &Step,
     threads: usize,
-    rows: &mut Vec<HistoryRow>,
+    rows: &mut Vec<PackedRow>,
 ) -> Result<(), AllocError>
     ensures items { rows.new.items ≡ rows.old.items }
     ensures kept { KeepsRoom 0 rows.old 0 rows.new }

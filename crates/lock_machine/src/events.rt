@@ -19,7 +19,7 @@ use crate::thread::{Outing, Phase, Thread};
 use det_mutex::DetLock;
 use logical_clocks::Clocks;
 use object_store::{AtTable, Locking, Room, TurnEnd, TurnStart, keeps_table};
-use posix_terms::{Answer, Call, Carried, HistoryRow, Turn};
+use posix_terms::{Answer, Call, Carried, PackedRow, Turn};
 use std::mem;
 
 // `answer`: the call of thread i, which has this row, has its reply, or is to be made again where it was blocked; this is
@@ -31,7 +31,7 @@ pub fn answer(
     clocks: &mut Clocks,
     row: usize,
     lock: &mut DetLock,
-    rows: &mut Vec<HistoryRow>,
+    rows: &mut Vec<PackedRow>,
 ) -> Option<Answer>
     requires inside { i < length clocks.old }
     requires live { is_live thread.old.phase ≡ true }
@@ -56,7 +56,7 @@ pub fn answer(
     if clocks.add(i, 1).is_err() {
         return None;
     }
-    row.answer = Some(answer_copied(ends, &mut thread.room));
+    row.answer(answer_copied(ends, &mut thread.room));
     lock.free(i, clock);
     let behind = phase_behind(ends);
     let ends = mem::replace(ends, TurnEnd::Blocked(Carried::NOTHING));
@@ -159,6 +159,7 @@ fn plan(
     thread: &mut Thread,
     shared: &mut Shared,
 )
+    requires thread { turn.thread < limit.THREADS }
     requires born { BornWithin (2 ^ 126) shared.old.store }
     requires row { HasRoom 1 shared.old.rows }
     requires room { HasSpaceFor call thread.old.room }
@@ -247,6 +248,7 @@ fn wants_to_keep(phase: &Phase) -> bool
 
 // Grants the call of thread i that wants an object.
 fn grant_object(patience: u32, i: usize, thread: &mut Thread, shared: &mut Shared)
+    requires thread { i < limit.THREADS }
     requires born { BornWithin (2 ^ 126) shared.old.store }
     requires row { HasRoom 1 shared.old.rows }
     requires decided { HasDecided thread.old.phase shared.old.rows.items shared.old.store shared.old.wanted }
@@ -300,6 +302,7 @@ fn grant(
     thread: &mut Thread,
     shared: &mut Shared,
 )
+    requires thread { turn.thread < limit.THREADS }
     requires born { BornWithin (2 ^ 126) shared.old.store }
     requires row { HasRoom 1 shared.old.rows }
     requires room { HasSpaceFor call thread.old.room }
@@ -325,8 +328,9 @@ fn seat(
     carried: Carried,
     object: Option<usize>,
     start: TurnStart,
-    history: &mut Vec<HistoryRow>,
+    history: &mut Vec<PackedRow>,
 ) -> Phase
+    requires thread { turn.thread < limit.THREADS }
     requires row { HasRoom 1 history.old }
     ensures phase { result ≡ phase_started (length history.old.items) object call carried start }
     ensures row { history.new.items ≡ history.old.items ++ granted_row turn call ∷ [] }
@@ -339,15 +343,11 @@ fn seat(
 }
 
 // The row of a call that got its turn, before it has an outcome or an answer.
-fn granted_row(turn: Turn, call: Call) -> HistoryRow
+fn granted_row(turn: Turn, call: Call) -> PackedRow
+    requires { turn.thread < limit.THREADS }
     ensures { result ≡ granted_row turn call }
 {
-    HistoryRow {
-        call,
-        turn,
-        outcome: None,
-        answer: None,
-    }
+    PackedRow::granted(call, turn)
 }
 
 // The phase of a thread whose turn started so, which has this row.

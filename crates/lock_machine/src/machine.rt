@@ -15,7 +15,7 @@ use crate::thread::{Phase, Thread};
 use det_mutex::DetLock;
 use logical_clocks::Clocks;
 use object_store::{Locking, Store};
-use posix_terms::{HistoryRow, Settings, Step};
+use posix_terms::{PackedRow, Settings, Step};
 use std::marker::Model;
 
 // The table with its lock and the bodies of the objects, and the rows of what was granted so far.
@@ -23,7 +23,7 @@ use std::marker::Model;
 pub struct Shared {
     pub lock: DetLock,
     pub store: Store,
-    pub rows: Vec<HistoryRow>,
+    pub rows: Vec<PackedRow>,
     // what was decided of the last call that was to lock an object: it holds as long as that call's thread keeps the table
     pub wanted: Option<Locking>,
 }
@@ -66,7 +66,7 @@ impl Model for LockMachine {
 /// What a machine leaves that is over: the rows of its history, and the steps that each thread asked.
 #[derive(Drop)]
 pub struct Left {
-    pub rows: Vec<HistoryRow>,
+    pub rows: Vec<PackedRow>,
     pub asked: Asked,
 }
 
@@ -143,11 +143,11 @@ impl LockMachine {
             return None;
         };
         let row = self.shared.rows.get(outing.row)?;
-        Some(row.turn.clock)
+        Some(row.turn().clock)
     }
 
     /// The rows of what was granted so far.
-    pub fn rows(&self) -> &[HistoryRow]
+    pub fn rows(&self) -> &[PackedRow]
         ensures { result.now ≡ self.now.rows }
     {
         self.shared.rows.as_slice()

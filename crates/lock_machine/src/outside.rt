@@ -23,7 +23,7 @@ use descriptor_table::Errand;
 use det_mutex::DetLock;
 use logical_clocks::Clocks;
 use object_store::{Locking, Room, Store, TurnEnd};
-use posix_terms::{Answer, Call, Given, HistoryRow, Limits, Outcome, Turn};
+use posix_terms::{Answer, Call, Given, Limits, Outcome, PackedRow, Turn};
 
 /// How far an event comes that needs no turn.
 #[derive(Clone, Copy)]
@@ -70,14 +70,14 @@ fn answers(errand: Errand, turn: Turn, given: &Given) -> bool
 }
 
 // What comes of this outcome, for a thread that got so many.
-pub fn outlook(outing: Outing, given: &Given, came: u32, rows: &[HistoryRow]) -> Progress
+pub fn outlook(outing: Outing, given: &Given, came: u32, rows: &[PackedRow]) -> Progress
     ensures { result ≡ progress_at (slice_get rows.now outing.row) outing given.now
         (nat_lt (came + 1) (2 ^ 32)) }
 {
     let Some(row) = rows.get(outing.row) else {
         return Progress::Stays;
     };
-    if !answers(outing.errand, row.turn, given) {
+    if !answers(outing.errand, row.turn(), given) {
         Progress::Diverges
     } else if came < u32::MAX {
         Progress::Moves
@@ -91,7 +91,7 @@ pub fn record(
     outing: Outing,
     given: Given,
     thread: &mut Thread,
-    rows: &mut Vec<HistoryRow>,
+    rows: &mut Vec<PackedRow>,
 ) -> Progress
     requires outside { thread.old.phase ≡ phase.Outside outing }
     ensures event { (clock : ℕ) → Records result outing given (recorded_parts (timed thread.old clock) rows.old.items) (recorded_parts (timed thread.new clock) rows.new.items) }
@@ -104,7 +104,7 @@ pub fn record(
         Progress::Moves => {}
         stays => return stays,
     }
-    rows[outing.row].outcome = Some(given.outcome);
+    rows[outing.row].bring(thread.room.for_outcome(), given.outcome);
     thread.came += 1;
     thread.phase = Phase::Recorded(outing);
     Progress::Moves
@@ -139,7 +139,7 @@ pub fn answer_outside(
     let Some(row) = shared.rows.get_mut(outing.row) else {
         return None;
     };
-    let Some(outcome) = row.outcome.as_ref() else {
+    let Some(outcome) = row.outcome() else {
         return None;
     };
     let now = clocks.clock(i);
@@ -148,14 +148,14 @@ pub fn answer_outside(
     }
     let end = end_turn(
         outing,
-        &row.call,
+        row.call(),
         shared.wanted,
         outcome,
         patience,
         &mut shared.store,
         &mut thread.room,
     );
-    row.answer = Some(answer_copied(&end, &mut thread.room));
+    row.answer(answer_copied(&end, &mut thread.room));
     thread.phase = phase_behind(&end);
     lock.free(i, now);
     free_table(outing.keeps_table, i, now + 1, &mut shared.lock);

@@ -11,7 +11,7 @@ use lock_machine::requests_asked;
 use lock_model::{
     arising_states, one_event, outcomes_that_came, plain_run_ends, prefix_law, real_runs,
 };
-use posix_terms::{HistoryRow, Step};
+use posix_terms::{PackedRow, Step};
 
 impl<S: LogSink, D: Drop> Machine<S, D> {
     /// The granted turns so far, in their order, each with its outcome once it came and its answer once it was given.
@@ -21,7 +21,7 @@ impl<S: LogSink, D: Drop> Machine<S, D> {
     /// answer (`legal`). Its turns rise (`rising`). The bytes that the log's writer handed to its sink cover it, kinds too (`covered`). And what
     /// each thread saw is a beginning of what it sees in the plain run of those steps and outcomes, and so are all rows together; once all threads
     /// have ended it is all of it (`begins`).
-    pub fn history(&self) -> &[HistoryRow]
+    pub fn history(&self) -> &[PackedRow]
         ensures rows { result.now ≡ self.now.whole.rows }
         ensures faithful { IsFaithful D self.now }
     {

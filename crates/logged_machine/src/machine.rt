@@ -15,7 +15,7 @@ use crate::stop::Stop;
 use input_log::{LogSink, LogWriter};
 use lock_machine::{LockMachine, Phase, machines_show};
 use lock_model::arising_states;
-use posix_terms::{HistoryRow, Limits, Settings, Step};
+use posix_terms::{Limits, PackedRow, Settings, Step};
 use std::alloc::{AllocError, Global};
 use std::marker::Model;
 

@@ -26,8 +26,8 @@ impl<S: LogSink, D: Drop> Machine<S, D> {
         Ok(Some(Request {
             kind: outing.errand.kind,
             asked: outing.errand.asked,
-            call: row.call.try_clone()?,
-            turn: row.turn,
+            call: row.call().try_clone()?,
+            turn: row.turn(),
         }))
     }
 
@@ -38,7 +38,7 @@ impl<S: LogSink, D: Drop> Machine<S, D> {
         ensures { IsOutsideTurn self.now.whole i result }
     {
         let outing = out_of(self.calls.phase(i))?;
-        Some(self.calls.rows()[outing.row].turn)
+        Some(self.calls.rows()[outing.row].turn())
     }
 
     /// What thread i asked outside, if it is there: its kind and how much.

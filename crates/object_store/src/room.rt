@@ -1,35 +1,41 @@
-ghost use Rattle.std.specs.Prelude.{◌≡◌, ◌+◌, ◌≤◌, ◌<◌, ◌^◌, Ok, None, IfOk, IfSome, true, unwrap_or};
+ghost use Rattle.std.specs.Prelude.{◌≡◌, ◌+◌, ◌≤◌, ◌<◌, ◌^◌, Ok, None, IfOk, IfSome, false, not, true};
 ghost use Rattle.descriptor_table.specs.Plans.{bytes_asked, read_count, reply_bytes};
 ghost use Rattle.descriptor_table.specs.declared.plan.NewNumbers.TheVariants as numbers;
 ghost use Rattle.posix_terms.specs.Outcomes.{fits};
 ghost use Rattle.object_store.specs.Patience.{EndsOutside, turn_bytes};
-ghost use Rattle.object_store.specs.Space.{HasSpaceFor, LeavesSpace, no_space};
+ghost use Rattle.object_store.specs.Space.{HasSpaceFor, LeavesSpace, changed, no_space};
 ghost use Rattle.sequential_object.specs.Locked.{keeps_table};
 ghost use Rattle.object_store.specs.Store.{IsDecided, KeepsStore, Makes};
 
 use crate::patience::{Locking, TurnStart, copied, end_outside};
 use crate::store::Store;
 use descriptor_table::{Errand, read_count};
-use posix_terms::{Call, Carried, Outcome, Reply};
+use posix_terms::{Call, Carried, Outcome, OutcomeRoom, Reply};
 use sequential_object::TurnEnd;
 use std::alloc::{AllocError, Global};
 use std::marker::Model;
 
-/// The memory that a thread has for the bytes of its reply: for the one that is told, and for its copy in the row of the history.
-/// Contracts see how many bytes each has.
+/// The memory that a thread has for the bytes of its reply, for the one that is told and for its
+/// copy in the row of the history; and for an outcome in that row. Contracts see how many bytes
+/// each has, and whether there is room for an outcome.
 #[derive(Drop)]
 pub struct Room {
     told: Vec<u8>,
     row: Vec<u8>,
+    outcome: Option<OutcomeRoom>,
 }
 
 impl Model for Room {
-    ghost use Rattle.std.specs.Prelude.{length};
+    ghost use Rattle.std.specs.Prelude.{is_some, length};
     ghost use Rattle.object_store.specs.Space.{Space};
 
     ghost Value = { Space };
 
-    ghost view = { λ r. record { told = length r.told.items; row = length r.row.items } };
+    ghost view = { λ r. record {
+      told = length r.told.items;
+      row = length r.row.items;
+      outcome = is_some r.outcome;
+    } };
 }
 
 impl Room {
@@ -40,32 +46,47 @@ impl Room {
         Room {
             told: Vec::new(alloc),
             row: Vec::new(alloc),
+            outcome: None,
         }
     }
 
-    /// Another, for just as many bytes as a call may read; none where there is room for them here.
+    /// What takes this one's place for a call, with room for just as many bytes as it may read; none
+    /// where there is room for the call here.
     pub fn for_call(&self, call: &Call) -> Result<Option<Room>, AllocError>
-        ensures room { IfOk result (λ other. HasSpaceFor call.now (unwrap_or other self.now)) }
+        ensures room { IfOk result (λ other. HasSpaceFor call.now (changed other self.now)) }
         ensures none { HasSpaceFor call.now self.now → result ≡ Ok None }
-        ensures other { IfOk result (λ other. IfSome other (λ r. r ≡ record { told = read_count call.now; row = read_count call.now })) }
+        ensures other { IfOk result (λ other. IfSome other (λ r. r ≡ record {
+          told = read_count call.now;
+          row = read_count call.now;
+          outcome = not self.now.outcome;
+        })) }
     {
         let count = read_count(call);
-        if count <= self.told.len() && self.told.len() <= self.row.len() {
+        if count <= self.told.len() && self.told.len() <= self.row.len() && self.outcome.is_some() {
             return Ok(None);
         }
         let alloc = *self.told.allocator();
         Ok(Some(Room {
             told: vec![in alloc; 0; count]?,
             row: vec![in alloc; 0; count]?,
+            outcome: if self.outcome.is_some() {
+                None
+            } else {
+                Some(OutcomeRoom::new(alloc)?)
+            },
         }))
     }
 
-    /// Takes the place of another, if there is one.
+    /// Has another take its place, if there is one, and keeps what room it has for an outcome.
     pub fn change(&mut self, other: Option<Room>)
-        ensures { self.new ≡ unwrap_or other self.old }
+        ensures { self.new ≡ changed other self.old }
     {
         if let Some(other) = other {
-            *self = other;
+            self.told = other.told;
+            self.row = other.row;
+            if other.outcome.is_some() {
+                self.outcome = other.outcome;
+            }
         }
     }
 
@@ -104,6 +125,14 @@ impl Room {
         ensures copy { turn_bytes result ≤ self.new.row }
     {
         end_outside(errand, outcome, patience, carried, &mut self.told)
+    }
+
+    /// The room for an outcome, which is used up.
+    pub fn for_outcome(&mut self) -> OutcomeRoom
+        requires { self.old.outcome ≡ true }
+        ensures { self.new ≡ record self.old { outcome = false } }
+    {
+        self.outcome.take().unwrap()
     }
 
     /// A copy of a reply, for the row.

@@ -4,4 +4,5 @@ pub mod Replies
 pub mod Text
 pub mod Ends
 pub mod Outcomes
+pub mod Packed
 pub mod Queries

@@ -5,8 +5,8 @@
 //! [`Reply`] is what comes back, and an [`Outcome`] is what came from outside; `Outcome::fits` tells
 //! whether it answers what was asked. [`Carried`] is what a blocked call hands on to its next turn,
 //! and [`Moved`] what of its bytes went before.
-//! A [`Transcript`] is what one thread saw, a [`HistoryRow`] one granted turn of a run, and
-//! [`Limits`] has the limits of the profile. Contracts see plain values: of [`Bytes`] and of
+//! A [`Transcript`] is what one thread saw, a [`HistoryRow`] one granted turn of a run, which is
+//! kept as a [`PackedRow`], and [`Limits`] has the limits of the profile. Contracts see plain values: of [`Bytes`] and of
 //! [`SharedBytes`] the list of bytes, of a transcript the list of its rows. Copies and
 //! `Transcript::push` take memory, and fail only where it runs out; a copy of shared bytes takes
 //! none, and `from_vec` takes none but for shared bytes.
@@ -38,6 +38,7 @@ mod laws;
 mod limits;
 mod object;
 mod outcome;
+mod packed_row;
 mod reply;
 mod request;
 mod shared_bytes;
@@ -53,6 +54,7 @@ pub use laws::equal_ones_are_the_same;
 pub use limits::Limits;
 pub use object::{Door, End, Side};
 pub use outcome::{Given, OutKind, Outcome, Outcomes};
+pub use packed_row::{OutcomeRoom, PackedRow};
 pub use reply::{Answer, ObjectKind, Reply};
 pub use request::Request;
 pub use shared_bytes::SharedBytes;

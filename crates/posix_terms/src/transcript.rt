@@ -33,7 +33,8 @@ pub struct Row {
 }
 
 /// One granted turn of a run: which call, when and by which thread, what came from outside, and how it
-/// was answered. The last two stay out until they come.
+/// was answered. The last two stay out until they come. A run keeps it as a
+/// [`PackedRow`](crate::PackedRow).
 #[derive(Debug, PartialEq, Eq, Drop)]
 pub struct HistoryRow {
     pub call: Call,

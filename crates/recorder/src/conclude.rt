@@ -12,7 +12,7 @@ use crate::threads::Gathered;
 use crate::transcripts::{Seen, seen_by};
 use input_log::{Header, LogSink};
 use logged_machine::{Finished, Machine, Stop};
-use posix_terms::{HistoryRow, Transcript};
+use posix_terms::{PackedRow, Transcript};
 use std::alloc::Global;
 use worker_notes::{Own, agree};
 
@@ -138,11 +138,11 @@ fn has_ended<S: LogSink, D: Drop>(machine: &Machine<S, D>, own: &[Own]) -> bool
     machine.have_ended() && (are_answered(machine.history()) && are_ended(own))
 }
 
-fn are_answered(rows: &[HistoryRow]) -> bool
+fn are_answered(rows: &[PackedRow]) -> bool
     ensures { result ≡ true → AreAnswered rows.now }
 {
     for row in rows {
-        if row.answer.is_none() {
+        if !row.is_answered() {
             return false;
         }
     }

@@ -1,7 +1,7 @@
 ghost use Rattle.std.specs.Prelude.{◌≡◌, ◌<◌, [], get_or, length, replicate};
 
 use lock_machine::{Asked, Left};
-use posix_terms::{HistoryRow, Step};
+use posix_terms::{PackedRow, Step};
 use std::alloc::Global;
 use std::marker::Model;
 
@@ -9,7 +9,7 @@ use std::marker::Model;
 /// that each thread asked, with `End` last once it has ended.
 #[derive(Debug, Drop)]
 pub struct History {
-    rows: Vec<HistoryRow>,
+    rows: Vec<PackedRow>,
     // none where there was no machine
     asked: Option<Asked>,
     // how many threads there would have been then
@@ -48,7 +48,7 @@ impl History {
     }
 
     /// The granted turns, in their order.
-    pub fn rows(&self) -> &[HistoryRow]
+    pub fn rows(&self) -> &[PackedRow]
         ensures { result.now ≡ self.now.rows }
     {
         self.rows.as_slice()

@@ -3,7 +3,7 @@ ghost use Rattle.std.specs.Prelude.{vec_capacity};
 ghost use Rattle.logged_machine.specs.History.{transcript_of};
 ghost use Rattle.recorder.specs.Recorded.{AreBeginnings, IsCutShort, IsWhole, transcripts_of};
 
-use posix_terms::{Answer, HistoryRow, Row, Transcript, Transcripts};
+use posix_terms::{PackedRow, Row, Transcript, Transcripts};
 use std::alloc::{AllocError, Global};
 
 // What the threads of a run saw, and whether that is all: where there is no memory it is a
@@ -15,7 +15,7 @@ pub struct Seen {
 }
 
 // What each of the first threads saw, as far as there is memory for it.
-pub fn seen_by(alloc: Global, threads: usize, rows: &[HistoryRow], room: Vec<Transcript>) -> Seen
+pub fn seen_by(alloc: Global, threads: usize, rows: &[PackedRow], room: Vec<Transcript>) -> Seen
     requires none { room.items ≡ [] }
     requires room { threads ≤ vec_capacity room }
     ensures begin { AreBeginnings result.transcripts (transcripts_of threads rows.now) }
@@ -43,18 +43,20 @@ fn still(whole: bool, filled: &Result<(), AllocError>) -> bool
 }
 
 // Fills in what one thread saw; where there is no memory, a beginning of it.
-fn fill(transcript: &mut Transcript, thread: usize, rows: &[HistoryRow]) -> Result<(), AllocError>
+fn fill(transcript: &mut Transcript, thread: usize, rows: &[PackedRow]) -> Result<(), AllocError>
     requires { transcript.old ≡ [] }
     ensures ok { OnOk result (transcript.new ≡ transcript_of thread rows.now) }
     ensures err { OnErr result (IsCutShort transcript.new (transcript_of thread rows.now)) }
 {
     for row in rows {
-        if let (true, Some(Answer::Reply(reply))) = (row.turn.thread == thread, &row.answer) {
-            transcript.push(Row {
-                call: row.call.try_clone()?,
-                turn: row.turn,
-                reply: reply.try_clone()?,
-            })?;
+        if row.turn().thread == thread && row.has_reply() {
+            if let Some(reply) = row.reply()? {
+                transcript.push(Row {
+                    call: row.call().try_clone()?,
+                    turn: row.turn(),
+                    reply,
+                })?;
+            }
         }
     }
     Ok(())

@@ -3,7 +3,7 @@ use crate::record::{Over, Run, record, scripts};
 use crate::replay::is_replayed;
 use call_machine::{Plain, plain_run};
 use comparator::{Verdict, compare};
-use posix_terms::{Errno, OutKind};
+use posix_terms::{Errno, OutKind, PackedRow};
 use std::alloc::{AllocError, Global};
 use std::sync::Wait;
 use std::test::Fail;
@@ -145,11 +145,19 @@ pub(crate) fn plain(alloc: Global, run: Run<'_>) -> Result<Plain, AllocError> {
     }
 }
 
+fn are_same_rows(ones: &[PackedRow], others: &[PackedRow]) -> bool {
+    ones.len() == others.len()
+        && ones
+            .iter()
+            .zip(others)
+            .all(|(one, other)| one.is_same(other))
+}
+
 // Whether a recorded run tells the same as the plain one: transcripts, rows with their turns, and log; and nothing stopped it, and all its actors
 // gave their end.
 fn is_as_plain(plain: &Plain, over: &Over) -> bool {
     compare(&plain.transcripts, &over.transcripts) == Verdict::Same
-        && plain.history.rows() == over.history.rows()
+        && are_same_rows(plain.history.rows(), over.history.rows())
         && plain.log.as_slice() == over.sink.bytes()
         && over.stop.is_none()
         && over.own.iter().all(|own| own.ended)

@@ -13,7 +13,7 @@ use crate::unused::unused_record;
 use call_machine::Stop;
 use host_doors::LogDoors;
 use input_log::{LogText, MemorySink, decode_front};
-use posix_terms::HistoryRow;
+use posix_terms::PackedRow;
 use recorder::{Ended, record_actors};
 use std::alloc::{AllocError, Global};
 use std::sync::Wait;
@@ -151,7 +151,7 @@ fn told<A: Drop>(
 }
 
 // The stop of a run that nothing stopped: at a record that it did not use.
-fn unused_stop(log: &LogText, rows: &[HistoryRow]) -> Option<Stop>
+fn unused_stop(log: &LogText, rows: &[PackedRow]) -> Option<Stop>
     requires log { IsLog log.now }
     ensures { result ≡ stop_told None (first_unused log.now.header.threads log.now.records rows.now) }
 {

@@ -1,12 +1,12 @@
-ghost use Rattle.std.specs.Prelude.{◌≡◌};
+ghost use Rattle.std.specs.Prelude.{◌≡◌, option_copied};
 ghost use Rattle.input_log.specs.Grammar.{IsLog, number_of};
 ghost use Rattle.replayer.specs.Outcomes.{came_for, first_unused, is_there};
 
 use input_log::{LogText, Record};
-use posix_terms::{HistoryRow, Outcome};
+use posix_terms::{Outcome, PackedRow};
 
 // The least thread of a log with a record that was not used by these rows, and the number of its first.
-pub fn unused_record(log: &LogText, rows: &[HistoryRow]) -> Option<(usize, u32)>
+pub fn unused_record(log: &LogText, rows: &[PackedRow]) -> Option<(usize, u32)>
     requires log { IsLog log.now }
     ensures { result ≡ first_unused log.now.header.threads log.now.records rows.now }
 {
@@ -17,7 +17,7 @@ pub fn unused_record(log: &LogText, rows: &[HistoryRow]) -> Option<(usize, u32)>
 
 // Of the first threads, so many, the least that has more records than outcomes came for it, with the number of the
 // first of its records that was not used.
-fn first_unused(threads: usize, records: &[Record], rows: &[HistoryRow]) -> Option<(usize, usize)>
+fn first_unused(threads: usize, records: &[Record], rows: &[PackedRow]) -> Option<(usize, usize)>
     ensures { result ≡ first_unused threads records.now rows.now }
 {
     for thread in 0..threads {
@@ -30,20 +30,20 @@ fn first_unused(threads: usize, records: &[Record], rows: &[HistoryRow]) -> Opti
 }
 
 // How many outcomes came for a thread: so many of its rows have one.
-fn came_for(thread: usize, rows: &[HistoryRow]) -> usize
+fn came_for(thread: usize, rows: &[PackedRow]) -> usize
     ensures { result ≡ came_for thread rows.now }
 {
     let mut count = 0;
     for row in rows {
-        if row.turn.thread == thread && is_there(&row.outcome) {
+        if row.turn().thread == thread && is_there(row.outcome()) {
             count += 1;
         }
     }
     count
 }
 
-fn is_there(outcome: &Option<Outcome>) -> bool
-    ensures { result ≡ is_there outcome.now }
+fn is_there(outcome: Option<&Outcome>) -> bool
+    ensures { result ≡ is_there (option_copied outcome.entry) }
 {
     match outcome {
         Some(_) => true,

@@ -1,7 +1,7 @@
 use crate::plain_runs::{Came, NotRun, SHORT_TEXT, SHORT_WRITE_LOG, plain};
 use crate::seen::{Seen, replied, was_blocked};
 use call_machine::{History, Plain, Stop};
-use posix_terms::{Errno, HistoryRow, OutKind, Outcome, Settings, Step, Transcripts};
+use posix_terms::{Errno, OutKind, Outcome, PackedRow, Settings, Step, Transcripts};
 use std::alloc::Global;
 
 const NOTHING: &[Came] = &[];
@@ -60,14 +60,14 @@ enum Wanted {
     Log(&'static [u8]),
 }
 
-fn is_row(row: &HistoryRow, wanted: WantedRow) -> bool {
+fn is_row(row: &PackedRow, wanted: WantedRow) -> bool {
     match wanted {
         (clock, thread, Some(seen)) => replied(row, thread, clock, seen),
         (clock, thread, None) => was_blocked(row, thread, clock),
     }
 }
 
-fn are_rows(rows: &[HistoryRow], wanted: &[WantedRow]) -> bool {
+fn are_rows(rows: &[PackedRow], wanted: &[WantedRow]) -> bool {
     rows.len() == wanted.len()
         && rows
             .iter()
@@ -93,13 +93,13 @@ fn has_asked(history: &History, steps: usize) -> bool {
     asked.len() == 1 && has_steps(asked.steps(0), steps)
 }
 
-fn stayed_inside(rows: &[HistoryRow]) -> bool {
-    rows.iter().all(|row| row.outcome.is_none())
+fn stayed_inside(rows: &[PackedRow]) -> bool {
+    rows.iter().all(|row| row.outcome().is_none())
 }
 
-fn failed_outside(row: Option<&HistoryRow>, error: Errno) -> bool {
+fn failed_outside(row: Option<&PackedRow>, error: Errno) -> bool {
     match row {
-        Some(row) => row.outcome == Some(Outcome::Fail(error)),
+        Some(row) => matches!(row.outcome(), Some(Outcome::Fail(came)) if *came == error),
         None => false,
     }
 }

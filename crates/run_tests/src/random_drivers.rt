@@ -7,9 +7,7 @@ use crate::random_scripts::{made_up, script_texts};
 use call_machine::{Finished, Refused};
 use input_log::MemorySink;
 use lock_machine::{Attempt, Phase};
-use posix_terms::{
-    Answer, HistoryRow, OutKind, Outcome, Reply, Request, Row, Settings, Transcript,
-};
+use posix_terms::{Answer, OutKind, Outcome, PackedRow, Reply, Request, Row, Settings, Transcript};
 use replayer::{ReplayFault, replay};
 use std::alloc::{AllocError, Global};
 use std::process::Abort;
@@ -257,20 +255,15 @@ fn record(
 // ## What threads saw
 
 // Whether a row of a thread's transcript is this one.
-fn is_row(row: &Row, wanted: &HistoryRow) -> bool {
-    match &wanted.answer {
-        Some(Answer::Reply(reply)) => {
-            row.call == wanted.call && row.turn == wanted.turn && row.reply == *reply
-        }
-        _ => false,
-    }
+fn is_row(row: &Row, wanted: &PackedRow) -> bool {
+    row.call == *wanted.call() && row.turn == wanted.turn() && wanted.is_reply(&row.reply)
 }
 
 // Whether these are the rows of this thread that have a reply.
-fn saw(seen: &[Row], thread: usize, rows: &[HistoryRow]) -> bool {
+fn saw(seen: &[Row], thread: usize, rows: &[PackedRow]) -> bool {
     let mut seen = seen;
     for row in rows {
-        if row.turn.thread != thread || !matches!(row.answer, Some(Answer::Reply(_))) {
+        if row.turn().thread != thread || !row.has_reply() {
             continue;
         }
         match seen.split_first() {
@@ -282,7 +275,7 @@ fn saw(seen: &[Row], thread: usize, rows: &[HistoryRow]) -> bool {
 }
 
 // Whether each thread saw what these rows say.
-fn all_saw(transcripts: &[Transcript], threads: usize, rows: &[HistoryRow]) -> bool {
+fn all_saw(transcripts: &[Transcript], threads: usize, rows: &[PackedRow]) -> bool {
     if transcripts.len() != threads {
         return false;
     }
@@ -420,13 +413,12 @@ struct Met {
     contended: usize,
 }
 
-fn went_outside(rows: &[HistoryRow]) -> bool {
-    rows.iter().any(|row| row.outcome.is_some())
+fn went_outside(rows: &[PackedRow]) -> bool {
+    rows.iter().any(|row| row.outcome().is_some())
 }
 
-fn was_blocked(rows: &[HistoryRow]) -> bool {
-    rows.iter()
-        .any(|row| matches!(row.answer, Some(Answer::Again)))
+fn was_blocked(rows: &[PackedRow]) -> bool {
+    rows.iter().any(|row| row.is_answered() && !row.has_reply())
 }
 
 fn contended(players: &[Player]) -> bool {
@@ -434,7 +426,7 @@ fn contended(players: &[Player]) -> bool {
 }
 
 impl Met {
-    fn count(&mut self, rows: &[HistoryRow], players: &[Player]) {
+    fn count(&mut self, rows: &[PackedRow], players: &[Player]) {
         self.outside = self.outside.saturating_add(usize::from(went_outside(rows)));
         self.blocked = self.blocked.saturating_add(usize::from(was_blocked(rows)));
         self.contended = self

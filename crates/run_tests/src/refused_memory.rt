@@ -2,7 +2,7 @@ use crate::driven::{CREATE, Driven, SETTINGS, machine, open, write};
 use crate::seen::{Seen, replied, was_blocked};
 use call_machine::Refused;
 use lock_machine::Phase;
-use posix_terms::{Access, Call, HistoryRow, Step};
+use posix_terms::{Access, Call, PackedRow, Step};
 use std::alloc::{AllocError, Global};
 use std::test::Fail;
 
@@ -125,6 +125,14 @@ fn same_phase(one: &Phase, other: &Phase) -> bool {
     }
 }
 
+fn are_same(ones: &[PackedRow], others: &[PackedRow]) -> bool {
+    ones.len() == others.len()
+        && ones
+            .iter()
+            .zip(others)
+            .all(|(one, other)| one.is_same(other))
+}
+
 impl Twins {
     // Whether both show the same of thread i.
     fn are_alike_at(&self, i: usize) -> bool {
@@ -138,7 +146,7 @@ impl Twins {
     // Whether both show the same. No thread goes outside here.
     fn are_alike(&self) -> bool {
         self.first.turn_holder() == self.second.turn_holder()
-            && self.first.history() == self.second.history()
+            && are_same(self.first.history(), self.second.history())
             && self.are_alike_at(0)
             && self.are_alike_at(1)
     }
@@ -180,7 +188,7 @@ impl Twins {
 // ## What comes of it
 
 // Whether these are blocked turns of the second thread, from 6 on, each 4 behind the one before.
-fn were_blocked(rows: &[HistoryRow]) -> bool {
+fn were_blocked(rows: &[PackedRow]) -> bool {
     let mut clock = 6_u64;
     for row in rows {
         if !was_blocked(row, 1, clock) {
@@ -192,7 +200,7 @@ fn were_blocked(rows: &[HistoryRow]) -> bool {
 }
 
 // A pipe at 1. The read is made at 6 and again at 10, 14, 18 and 22. The write behind the work is at 25, and so the read has its byte at 28.
-fn is_whole(rows: &[HistoryRow]) -> bool {
+fn is_whole(rows: &[PackedRow]) -> bool {
     match rows {
         [pipe, blocked @ .., write, read, open] => {
             replied(pipe, 0, 1, Seen::Pair(0, 1))

@@ -9,8 +9,8 @@ fn is_short_write(history: &History) -> bool {
     let asked = history.asked();
     match history.rows() {
         [opened, _, failed] => {
-            matches!(opened.call, Call::HostOpen { .. })
-                && failed.outcome == Some(Outcome::Fail(Errno::EIO))
+            matches!(opened.call(), Call::HostOpen { .. })
+                && matches!(failed.outcome(), Some(Outcome::Fail(Errno::EIO)))
                 && asked.len() == 1
                 && asked.steps(0).len() == 4
         }

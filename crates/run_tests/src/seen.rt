@@ -1,4 +1,4 @@
-use posix_terms::{Answer, Errno, HistoryRow, Reply};
+use posix_terms::{Errno, PackedRow, Reply, Turn};
 
 // A reply, in short.
 #[derive(Clone, Copy)]
@@ -11,39 +11,29 @@ pub(crate) enum Seen {
     Fail(Errno),
 }
 
-fn is_reply(reply: &Reply, seen: Seen) -> bool {
-    match (reply, seen) {
-        (Reply::Count(count), Seen::Count(wanted)) => *count == wanted,
-        (Reply::Data(data), Seen::Data(wanted)) => data.as_slice() == wanted,
-        (Reply::Number(number), Seen::Number(wanted)) => *number == wanted,
-        (Reply::Pair(one, other), Seen::Pair(first, second)) => {
-            *one == first && *other == second
-        }
-        (Reply::Done, Seen::Done) => true,
-        (Reply::Fail(error), Seen::Fail(wanted)) => *error == wanted,
-        _ => false,
-    }
-}
-
 // Whether a row was answered with this reply.
-fn has_reply(row: &HistoryRow, seen: Seen) -> bool {
-    match &row.answer {
-        Some(Answer::Reply(reply)) => is_reply(reply, seen),
-        _ => false,
+fn has_reply(row: &PackedRow, seen: Seen) -> bool {
+    match seen {
+        Seen::Count(count) => row.is_reply(&Reply::Count(count)),
+        Seen::Data(bytes) => row.bytes() == Some(bytes),
+        Seen::Number(number) => row.is_reply(&Reply::Number(number)),
+        Seen::Pair(first, second) => row.is_reply(&Reply::Pair(first, second)),
+        Seen::Done => row.is_reply(&Reply::Done),
+        Seen::Fail(error) => row.is_reply(&Reply::Fail(error)),
     }
 }
 
 // Whether a row is this thread's, and was granted at this clock.
-fn granted(row: &HistoryRow, thread: usize, clock: u64) -> bool {
-    row.turn.thread == thread && row.turn.clock == clock
+fn granted(row: &PackedRow, thread: usize, clock: u64) -> bool {
+    row.turn() == Turn { clock, thread }
 }
 
 // Whether it also has this reply.
-pub(crate) fn replied(row: &HistoryRow, thread: usize, clock: u64, seen: Seen) -> bool {
+pub(crate) fn replied(row: &PackedRow, thread: usize, clock: u64, seen: Seen) -> bool {
     granted(row, thread, clock) && has_reply(row, seen)
 }
 
 // Whether it was blocked.
-pub(crate) fn was_blocked(row: &HistoryRow, thread: usize, clock: u64) -> bool {
-    granted(row, thread, clock) && matches!(row.answer, Some(Answer::Again))
+pub(crate) fn was_blocked(row: &PackedRow, thread: usize, clock: u64) -> bool {
+    granted(row, thread, clock) && row.is_answered() && !row.has_reply()
 }

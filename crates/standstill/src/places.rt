@@ -2,8 +2,8 @@ ghost use Rattle.std.specs.Prelude.{◌<◌, length};
 
 use input_log::LogSink;
 use logged_machine::Machine;
-use posix_terms::{Answer, HistoryRow, Reply};
-use std::alloc::Global;
+use posix_terms::{PackedRow, Reply};
+use std::alloc::{AllocError, Global};
 use thread_scripts::{Actor, Memory, Script, ScriptActor, Step, parse};
 
 /// The line of its script's text at which thread i is: that of the step that it asked last, from 1. None where there is
@@ -35,11 +35,11 @@ fn place_of<S: LogSink, D: Drop>(
 {
     let mut actor = ScriptActor::new(script);
     let mut rows = machine.history();
-    let mut last: Option<&Reply> = None;
+    let mut last = None;
     for step in machine.asked(i) {
-        let _asked = actor.next(last)?;
+        let _asked = actor.next(last.as_ref())?;
         last = match step {
-            Step::Call(_) => next_reply(&mut rows, i),
+            Step::Call(_) => next_reply(&mut rows, i)?,
             Step::Work(_) | Step::End => None,
         };
     }
@@ -47,16 +47,16 @@ fn place_of<S: LogSink, D: Drop>(
 }
 
 // The reply of thread i that is the first in these rows; what is left are the rows after it.
-fn next_reply<'a>(rows: &mut &'a [HistoryRow], i: usize) -> Option<&'a Reply> {
-    let all: &'a [HistoryRow] = *rows;
+fn next_reply<'a>(rows: &mut &'a [PackedRow], i: usize) -> Result<Option<Reply>, AllocError> {
+    let all: &'a [PackedRow] = *rows;
     for at in 0..all.len() {
-        if let (true, Some(Answer::Reply(reply))) = (all[at].turn.thread == i, &all[at].answer) {
+        if all[at].turn().thread == i && all[at].has_reply() {
             *rows = &all[at + 1..];
-            return Some(reply);
+            return all[at].reply();
         }
     }
     *rows = &[];
-    None
+    Ok(None)
 }
 
 // The number, from 1, of the line of this text that has so many lines of a script up to it and itself. Empty lines, lines of spaces and

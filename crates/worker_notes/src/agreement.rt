@@ -3,14 +3,14 @@ ghost use Rattle.worker_notes.specs.Agrees.{Agree, AgreesWith, brought_by, broug
 
 use crate::own::{Brought, Noted, Own};
 use crate::requests::{is_request_of, kind_asked};
-use crate::same::{same_outcome, same_reply, same_step};
+use crate::same::{same_outcome, same_step};
 use lock_machine::Asked;
-use posix_terms::{Answer, HistoryRow, Reply, Step};
+use posix_terms::{PackedRow, Reply, Step};
 
 /// Whether what the workers noted is what a history says of their threads: the steps that each asked, the replies of its rows, and what
 /// these brought from outside, each with the request of its call.
 #[tactic(auto, using(crate::proofs::Agreeing::agree_more, crate::proofs::Agreeing::agree_count))]
-pub fn agree(rows: &[HistoryRow], asked: &Asked, own: &[Own]) -> bool
+pub fn agree(rows: &[PackedRow], asked: &Asked, own: &[Own]) -> bool
     ensures { IsTrue result ↔ Agree rows.now asked.now own.now }
 {
     if asked.len() != own.len() {
@@ -25,7 +25,7 @@ pub fn agree(rows: &[HistoryRow], asked: &Asked, own: &[Own]) -> bool
 }
 
 // Whether the notes of this thread agree with its rows and the steps that it asked.
-fn agrees(thread: usize, rows: &[HistoryRow], asked: &[Step], notes: &Own) -> bool
+fn agrees(thread: usize, rows: &[PackedRow], asked: &[Step], notes: &Own) -> bool
     ensures { IsTrue result ↔ AgreesWith thread rows.now asked.now notes.now }
 {
     are_steps(notes.steps.as_slice(), asked)
@@ -51,16 +51,16 @@ fn are_steps(notes: &[Noted], asked: &[Step]) -> bool
 }
 
 // Whether the replies that were noted are those of the rows of this thread.
-fn are_replies(thread: usize, rows: &[HistoryRow], notes: &[Noted]) -> bool
+fn are_replies(thread: usize, rows: &[PackedRow], notes: &[Noted]) -> bool
     ensures { IsTrue result ↔ (replies_noted notes.now ≡ replies_in thread rows.now) }
 {
     let mut rest = notes;
     for row in rows {
-        if let (true, Some(Answer::Reply(reply))) = (row.turn.thread == thread, &row.answer) {
+        if row.turn().thread == thread && row.has_reply() {
             let Some((noted, more)) = next_reply(rest) else {
                 return false;
             };
-            if !same_reply(noted, reply) {
+            if !row.is_reply(noted) {
                 return false;
             }
             rest = more;
@@ -84,12 +84,12 @@ fn next_reply(notes: &[Noted]) -> Option<(&Reply, &[Noted])>
 }
 
 // Whether what was noted from outside is what the rows of this thread brought.
-fn are_brought(thread: usize, rows: &[HistoryRow], notes: &[Brought]) -> bool
+fn are_brought(thread: usize, rows: &[PackedRow], notes: &[Brought]) -> bool
     ensures { IsTrue result ↔ (notes.now ≡ brought_in thread rows.now) }
 {
     let mut rest = notes;
     for row in rows {
-        if row.turn.thread == thread && brings(row) {
+        if row.turn().thread == thread && brings(row) {
             let Some((noted, more)) = rest.split_first() else {
                 return false;
             };
@@ -103,19 +103,19 @@ fn are_brought(thread: usize, rows: &[HistoryRow], notes: &[Brought]) -> bool
 }
 
 // Whether a row brought something from outside.
-fn brings(row: &HistoryRow) -> bool
+fn brings(row: &PackedRow) -> bool
     ensures { result ≡ is_some (brought_by row.now) }
 {
-    kind_asked(&row.call).is_some() && row.outcome.is_some()
+    kind_asked(row.call()).is_some() && row.outcome().is_some()
 }
 
 // Whether a row brought this.
-fn is_brought_by(noted: &Brought, row: &HistoryRow) -> bool
+fn is_brought_by(noted: &Brought, row: &PackedRow) -> bool
     ensures { IsTrue result ↔ (brought_by row.now ≡ Some noted.now) }
 {
-    match &row.outcome {
+    match row.outcome() {
         Some(outcome) => {
-            is_request_of(&noted.request, row.turn, &row.call)
+            is_request_of(&noted.request, row.turn(), row.call())
                 && same_outcome(&noted.outcome, outcome)
         }
         None => false,

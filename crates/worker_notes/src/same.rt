@@ -1,6 +1,6 @@
 ghost use Rattle.std.specs.Prelude.{◌≡◌, ◌↔◌, IsTrue};
 
-use posix_terms::{Call, Outcome, Reply, Step, equal_ones_are_the_same};
+use posix_terms::{Call, Outcome, Step, equal_ones_are_the_same};
 
 // Each says that `==` tells which values are equal.
 
@@ -20,12 +20,6 @@ pub fn same_step(one: &Step, other: &Step) -> bool
         (Step::End, Step::End) => true,
         _ => false,
     }
-}
-
-pub fn same_reply(one: &Reply, other: &Reply) -> bool
-    ensures { IsTrue result ↔ (one.now ≡ other.now) }
-{
-    one == other
 }
 
 pub fn same_outcome(one: &Outcome, other: &Outcome) -> bool

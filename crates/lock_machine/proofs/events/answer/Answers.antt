@@ -31,10 +31,12 @@ returns-clause-event c table =
     let lock : c.free.new.self ≡ freed start = c.free.ensures ∙ ap freed c.clock-clock.ensures.value in
     let told : Some c.told_as.result ≡ Some (told_as e) = search rules in
     let behind : c.phase_behind-behind.result ≡ phase_behind e = c.phase_behind-behind.ensures.phase in
+    let row : c.answer.new.self ≡ record q { answer = Some (told_as e) } =
+    c.answer.ensures ∙ ap (λ a. record q { answer = Some a }) c.answer_copied.ensures in
     answers_made c.args.i c.args.row (Some c.told_as.result) old _ e q held room ends there told
     (λ k. record {
       thread = record (timed c.args.thread.now (at k)) { phase = behind k };
       lock = lock k;
       table = table;
-      rows = set rows.items c.args.row (record q { answer = Some (c.answer_copied.ensures k) });
+      rows = set rows.items c.args.row (row k);
     })

@@ -13,16 +13,16 @@ use Rattle.det_mutex.specs.Attempt.{freed}
 use Rattle.logical_clocks.specs.ThreadClocks.{clock_at, no_thread, with_clock}
 use Rattle.logical_clocks.specs.declared.clocks.ThreadClock.{ThreadClock}
 use Rattle.posix_terms.specs.declared.transcript.HistoryRow.{HistoryRow}
-use Rattle.lock_machine.specs.Outings.{AnswersOutside, answer_cost, outside_parts, table_freed}
-use Rattle.lock_machine.specs.Held.{phase_behind}
+use Rattle.lock_machine.specs.Outings.{AnswersOutside, EndsTurn, answer_cost, outside_parts, table_freed}
+use Rattle.lock_machine.specs.Held.{phase_behind, told_as}
 use Rattle.lock_machine.specs.declared.machine.Shared.{Shared}
 use Rattle.lock_machine.specs.Threads.{timed}
 use Rattle.lock_machine.proofs.Parting.{concludes_made, concludes_pending, holds_locks, got_set, object_holder}
 use Rattle.lock_machine.proofs.Bearing.{few_born}
 use Rattle.lock_machine.proofs.outside.answer_outside.Goals as goal
 
-pub returns-in_default-as_ref-clause-event : goal.returns-in_default-as_ref-clause-event
-returns-in_default-as_ref-clause-event c =
+pub returns-in_default-outcome-clause-event : goal.returns-in_default-outcome-clause-event
+returns-in_default-outcome-clause-event c =
     let old = outside_parts (timed c.args.thread.now (clock_at c.args.clocks.now c.args.i)) c.args.lock.now c.args.shared.now.lock c.args.shared.now.store c.args.shared.now.rows.items in
     let held : holds_locks c.args.i c.args.outing old ≡ true = search rules in
     let rows = c.args.shared.now.rows in
@@ -45,22 +45,25 @@ returns-clause-event c =
     let rows = c.args.shared.now.rows in
     let size : rows.len ≡ length rows.items = search rules in
     let there : slice_get rows.items c.args.outing.row ≡ Some c.in-Some.row.now = slice_get_read rows.items rows.len c.args.outing.row c.in-Some.row.now size (c.in-Some.ensures.variant.0 refl) c.in-Some.ensures.value in
-    let came : c.in-Some.row.now.outcome ≡ Some c.in-Some-as_ref.outcome.now = search rules in
+    let came : c.in-Some.row.now.outcome ≡ Some c.in-Some-outcome.outcome.now = search rules in
     let room : nat_le (old.thread.clock + answer_cost c.args.outing.keeps_table) (2 ^ 62) ≡ true = search rules in
     let clocks : c.add.new.self ≡ with_clock c.args.clocks.now c.args.i (clock_at c.args.clocks.now c.args.i + c.answer_cost.result) = search rules in
     let at : clock_at c.add.new.self c.args.i ≡ old.thread.clock + answer_cost c.args.outing.keeps_table =
     ap (λ (cs : List ThreadClock). clock_at cs c.args.i) clocks ∙ ap (λ (x : ThreadClock). x.clock) (get_or-set_same c.args.clocks.now c.args.i _ no_thread c.requires.inside) ∙ ap (λ n. old.thread.clock + n) c.answer_cost.ensures in
     let behind : c.phase_behind.result ≡ phase_behind c.end_turn-end.result = c.phase_behind.ensures.phase in
+    let row : c.answer.new.self ≡ record c.in-Some.row.now { answer = Some (told_as c.end_turn-end.result) } =
+    c.answer.ensures ∙ ap (λ a. record c.in-Some.row.now { answer = Some a }) c.answer_copied.ensures in
     let object : c.free.new.self ≡ freed old.thread.clock = c.free.ensures ∙ ap freed c.clock-now.ensures.value in
     let lock : c.free_table.new.table ≡ table_freed c.args.outing.keeps_table (old.thread.clock + 1) c.args.shared.now.lock = c.free_table.ensures ∙ ap (λ n. table_freed c.args.outing.keeps_table (n + 1) c.args.shared.now.lock) c.clock-now.ensures.value in
-    concludes_made c.args.patience c.args.i c.args.outing (Some c.told_as.result) old _ c.in-Some.row.now c.in-Some-as_ref.outcome.now c.end_turn-end.result held there came room (ap Some c.told_as.ensures)
-    c.end_turn-end.ensures.event
+    concludes_made c.args.patience c.args.i c.args.outing (Some c.told_as.result) old _ c.in-Some.row.now c.in-Some-outcome.outcome.now c.end_turn-end.result held there came room (ap Some c.told_as.ensures)
+    (subst (λ (k : Call). EndsTurn c.args.outing.keeps_table c.args.patience c.args.outing k c.in-Some-outcome.outcome.now c.end_turn-end.result c.args.shared.now.store c.end_turn-end.new.store)
+    c.call.ensures c.end_turn-end.ensures.event)
     (λ k. record {
       thread = record (timed c.args.thread.now (at k)) { phase = behind k };
       object = object k;
       lock = lock k;
       table = c.end_turn-end.new.store;
-      rows = set rows.items c.args.outing.row (record c.in-Some.row.now { answer = Some (c.answer_copied.ensures k) });
+      rows = set rows.items c.args.outing.row (row k);
     })
 
 pub end_turn-end-requires-clause-born : goal.end_turn-end-requires-clause-born
@@ -80,7 +83,8 @@ end_turn-end-requires-clause-decided c keeps =
     ap (λ (p : Phase). wanted_call p rows.items) c.requires.recorded
     ∙ ap (λ (b : Bool). kept_call b (call_at rows.items outing.row) outing.carried.moved) keeps
     ∙ ap (λ (o : Option Call). kept_call true o outing.carried.moved) call in
-    c.requires.decided held (c.in-Some.row.now.call, outing.carried.moved) its
+    c.requires.decided held (c.call.result.now, outing.carried.moved)
+    (its ∙ ap (λ (k : Call). Some (k, outing.carried.moved)) (sym c.call.ensures))
 
 pub returns-clause-others : goal.returns-clause-others
 returns-clause-others c = record { others = search rules; forward = search rules; live = search rules }
@@ -96,11 +100,11 @@ returns-clause-wanted c = by_keep c.args.outing.keeps_table refl
         let size : old.rows.len ≡ length old.rows.items = search rules in
         slice_get_read old.rows.items old.rows.len c.args.outing.row c.in-Some.row.now size (c.in-Some.ensures.variant.0 refl) c.in-Some.ensures.value
 
-    calls : KeepsCalls old.rows.items (set old.rows.items c.args.outing.row (record c.in-Some.row.now { answer = Some c.answer_copied.result }))
-    calls = calls_set old.rows.items c.args.outing.row c.in-Some.row.now (record c.in-Some.row.now { answer = Some c.answer_copied.result }) there refl
+    calls : KeepsCalls old.rows.items (set old.rows.items c.args.outing.row c.answer.new.self)
+    calls = calls_set old.rows.items c.args.outing.row c.in-Some.row.now c.answer.new.self there (ap (λ (r : HistoryRow). r.call) c.answer.ensures)
 
     by_keep : (b : Bool) → c.args.outing.keeps_table ≡ b → (k : ℕ) → c.free_table.new.table.holder ≡ Some k
-        → LeavesWanted k old.lock old.rows.items old.store old.wanted (set old.rows.items c.args.outing.row (record c.in-Some.row.now { answer = Some c.answer_copied.result })) c.end_turn-end.new.store old.wanted
+        → LeavesWanted k old.lock old.rows.items old.store old.wanted (set old.rows.items c.args.outing.row c.answer.new.self) c.end_turn-end.new.store old.wanted
     by_keep true is k held =
         let free : c.free_table.new.table.holder ≡ None = ap (λ (l : DetLock). l.holder) (c.free_table.ensures ∙ ap (λ (b : Bool). table_freed b (c.clock-now.result + 1) old.lock) is) in
         absurd (none-some k (sym free ∙ held))

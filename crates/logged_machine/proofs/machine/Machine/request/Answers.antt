@@ -1,5 +1,7 @@
 use Rattle.std.proofs.Common.{List, Some, get_or, sym, ap, ◌∙◌, subst}
 use Rattle.posix_terms.specs.declared.transcript.HistoryRow.{HistoryRow}
+use Rattle.posix_terms.specs.declared.request.Request.{Request}
+use Rattle.posix_terms.specs.declared.transcript.Turn.{Turn}
 use Rattle.logged_machine.specs.Requests.{IsRequest, out_of}
 use Rattle.logged_machine.specs.Shown.{Shown}
 use Rattle.logged_machine.proofs.Asking.{is_request}
@@ -13,6 +15,8 @@ returns g c =
     let out = sym c.in-Some.ensures in
     let phase = c.phase.ensures in
     let at = c.index-rows-outing.is ∙ ap (λ (rows : List HistoryRow). get_or rows o.row row) c.rows.ensures in
-    let copy = c.in_ok-try_clone.ensures in
-    subst (λ (x : Shown g.row.D.Denot). IsRequest x.whole c.args.i (Some (record { kind = o.errand.kind; asked = o.errand.asked; call = c.in_ok-try_clone.field-0; turn = row.turn }))) c.self.view_is
-    (is_request m.calls c.args.i o row c.in_ok-try_clone.field-0 (sym (ap out_of phase) ∙ out) at copy)
+    let copy = c.in_ok-try_clone.ensures ∙ c.call.ensures in
+    let request : Turn → Request = λ turn. record { kind = o.errand.kind; asked = o.errand.asked; call = c.in_ok-try_clone.field-0; turn = turn } in
+    subst (λ (x : Shown g.row.D.Denot). IsRequest x.whole c.args.i (Some (request c.turn.result))) c.self.view_is
+    (subst (λ (turn : Turn). IsRequest m.calls c.args.i (Some (request turn))) (sym c.turn.ensures)
+    (is_request m.calls c.args.i o row c.in_ok-try_clone.field-0 (sym (ap out_of phase) ∙ out) at copy))
