@@ -1,4 +1,4 @@
-use expectations::{ExpectationFault, Reason, Unmet, expectations_of, first_unmet};
+use expectations::{Expectation, ExpectationFault, Reason, Unmet, expectations_of, first_unmet};
 use posix_terms::{Call, Errno, Reply, Row, Turn};
 use std::alloc::{AllocError, Global};
 use std::test::Fail;
@@ -48,15 +48,20 @@ getfl 0
 jump a
 ";
 
-/// Whether the words are an expectation of the line above, and are written again.
-fn is_written_again(alloc: Global, words: &str) -> Result<bool, Fail> {
-    let text = format!(in alloc; "close 0\n\n#= {words}\n")?;
-    let expectations = expectations_of(alloc, text.as_bytes())?;
+/// Whether the one expectation of a text is of its first line, and is written as these words.
+fn is_written(alloc: Global, text: &[u8], words: &str) -> Result<bool, Fail> {
+    let expectations = expectations_of(alloc, text)?;
     let [expectation] = expectations.as_slice() else {
         return Ok(false);
     };
     let written = expectation.wanted.text(alloc)?;
     Ok(expectation.call == 1 && written.as_str() == words)
+}
+
+/// Whether the words are an expectation of the line above, and are written again.
+fn is_written_again(alloc: Global, words: &str) -> Result<bool, Fail> {
+    let text = format!(in alloc; "close 0\n\n#= {words}\n")?;
+    is_written(alloc, text.as_bytes(), words)
 }
 
 #[test]
@@ -101,19 +106,32 @@ fn rows(alloc: Global) -> Result<Vec<Row>, AllocError> {
     Ok(rows)
 }
 
+/// The first of these that the rows do not meet.
+fn first_of(alloc: Global, expectations: &[Expectation]) -> Result<Option<Unmet>, Fail> {
+    let rows = rows(alloc)?;
+    let script = parse(alloc, JUMPS)?;
+    Ok(first_unmet(script, expectations, &rows)?)
+}
+
+/// The same of all that the script expects, but for so many.
+fn first_behind(alloc: Global, count: usize) -> Result<Option<Unmet>, Fail> {
+    let expectations = expectations_of(alloc, JUMPS)?;
+    match expectations.split_at_checked(count) {
+        Some((_, rest)) => first_of(alloc, rest),
+        None => Ok(None),
+    }
+}
+
+const FIRST: Unmet = Unmet {
+    row: 0,
+    expectation: 0,
+};
+
 #[test]
 fn follows_the_script_by_its_replies(rt: HostRuntime) -> Result<(), Fail> {
-    let expectations = expectations_of(rt.alloc(), JUMPS)?;
-    let rows = rows(rt.alloc())?;
-    let first = first_unmet(parse(rt.alloc(), JUMPS)?, &expectations, &rows)?;
-    assert_eq!(rt;
-        first,
-        Some(Unmet {
-            row: 0,
-            expectation: 0
-        })
-    );
-    let first = first_unmet(parse(rt.alloc(), JUMPS)?, &expectations[1..], &rows)?;
+    let first = first_behind(rt.alloc(), 0)?;
+    assert_eq!(rt; first, Some(FIRST));
+    let first = first_behind(rt.alloc(), 1)?;
     assert_eq!(rt; first, None);
     Ok(())
 }

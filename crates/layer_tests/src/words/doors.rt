@@ -1,7 +1,6 @@
 use host_doors::DoorStop;
 use posix_terms::{Bytes, Call, Errno, OutKind, Outcome, Request, Turn};
 use std::alloc::{AllocError, Global};
-use std::test::Fail;
 
 /// A success with this value and these bytes.
 pub(crate) fn success(alloc: Global, value: u64, bytes: &[u8]) -> Result<Outcome, AllocError> {
@@ -44,14 +43,4 @@ pub(crate) fn is_so(came: &Result<Outcome, DoorStop>, wanted: &Came) -> bool {
         (Ok(Outcome::Fail(found)), Came::Failure(error)) => found == error,
         _ => false,
     }
-}
-
-fn is_copied(request: &Request) -> Result<bool, AllocError> {
-    Ok(request.try_clone()? == *request)
-}
-
-#[test]
-fn a_request_is_copied(rt: HostRuntime) -> Result<(), Fail> {
-    assert!(rt; is_copied(&plain(OutKind::Read, 2))?);
-    Ok(())
 }

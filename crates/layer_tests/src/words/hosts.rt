@@ -167,15 +167,22 @@ fn opening(alloc: Global, path: &[u8], access: Access) -> Result<Request, AllocE
     })
 }
 
+/// The door of a host file that opens for this access.
+fn file_door(rt: HostRuntime, path: &str, access: Access) -> Result<Option<HostDoor>, AllocError> {
+    let request = opening(rt.alloc(), path.as_bytes(), access)?;
+    Ok(door_of(opened(rt, UNBOUNDED, &request)))
+}
+
 /// Whether a host file opens for this access, gives these answers, and is closed.
 fn file_answers(
     rt: HostRuntime,
     path: &str,
     access: Access,
     asks: &[(Ask, Came)],
-) -> Result<bool, Fail> {
-    let request = opening(rt.alloc(), path.as_bytes(), access)?;
-    let mut file = door_of(opened(rt, UNBOUNDED, &request)).ok_or("the file opens")?;
+) -> Result<bool, AllocError> {
+    let Some(mut file) = file_door(rt, path, access)? else {
+        return Ok(false);
+    };
     let all = all_answer(rt, &mut file, asks);
     Ok(closes(rt, file) && all)
 }
@@ -202,12 +209,18 @@ fn a_host_file_is_used_by_its_access(rt: HostRuntime) -> Result<(), Fail> {
     Ok(())
 }
 
-// No script spells such a path.
+/// No script spells such a path.
+const REFUSED: &[&[u8]] = &[b"/tmp/\xff", b"/tmp/a\0b"];
+
+fn is_refused(rt: HostRuntime, path: &[u8]) -> Result<bool, AllocError> {
+    let request = opening(rt.alloc(), path, Access::ReadOnly)?;
+    Ok(refuses(&opened(rt, UNBOUNDED, &request), Errno::EINVAL))
+}
+
 #[test]
 fn paths_that_are_refused(rt: HostRuntime) -> Result<(), Fail> {
-    for path in &[b"/tmp/\xff".as_slice(), b"/tmp/a\0b".as_slice()] {
-        let request = opening(rt.alloc(), path, Access::ReadOnly)?;
-        assert!(rt; refuses(&opened(rt, UNBOUNDED, &request), Errno::EINVAL));
+    for path in REFUSED {
+        assert!(rt; is_refused(rt, path)?);
     }
     Ok(())
 }
@@ -542,13 +555,18 @@ const NO_STREAM: &[(Ask, Came)] = &[
     (Ask::Shut(ShutdownHow::Both), Came::Failure(Errno::EINVAL)),
 ];
 
+/// Whether a listener refuses what no listener does, and others its port as long as it is there.
+fn refuses_all(rt: HostRuntime, mut listener: HostDoor, port: u64) -> bool {
+    all_answer(rt, &mut listener, NO_STREAM)
+        && refuses(&listen(rt, port), Errno::EADDRINUSE)
+        && closes(rt, listener)
+        && refuses(&connect(rt, UNBOUNDED, port), Errno::ECONNREFUSED)
+}
+
 #[test]
 fn what_listeners_and_ports_refuse(rt: HostRuntime) -> Result<(), Fail> {
-    let (mut listener, port) = any_listener(rt)?;
-    assert!(rt; all_answer(rt, &mut listener, NO_STREAM));
-    assert!(rt; refuses(&listen(rt, port), Errno::EADDRINUSE));
+    let (listener, port) = any_listener(rt)?;
+    assert!(rt; refuses_all(rt, listener, port));
     assert!(rt; refuses(&listen(rt, 65_536), Errno::EINVAL));
-    assert!(rt; closes(rt, listener));
-    assert!(rt; refuses(&connect(rt, UNBOUNDED, port), Errno::ECONNREFUSED));
     Ok(())
 }
