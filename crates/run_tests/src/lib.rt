@@ -15,8 +15,6 @@ mod random_drivers;
 #[cfg(test)]
 mod random_scripts;
 #[cfg(test)]
-mod refusals;
-#[cfg(test)]
 mod refused_memory;
 #[cfg(test)]
 mod replays;

@@ -7,7 +7,7 @@ use crate::random_scripts::{made_up, script_texts};
 use call_machine::{Finished, Refused};
 use input_log::MemorySink;
 use lock_machine::{Attempt, Phase};
-use posix_terms::{Answer, OutKind, Outcome, PackedRow, Reply, Request, Row, Settings, Transcript};
+use posix_terms::{Answer, OutKind, Outcome, PackedRow, Reply, Request, Settings};
 use replayer::{ReplayFault, replay};
 use std::alloc::{AllocError, Global};
 use std::process::Abort;
@@ -252,41 +252,6 @@ fn record(
     }
 }
 
-// ## What threads saw
-
-// Whether a row of a thread's transcript is this one.
-fn is_row(row: &Row, wanted: &PackedRow) -> bool {
-    row.call == *wanted.call() && row.turn == wanted.turn() && wanted.is_reply(&row.reply)
-}
-
-// Whether these are the rows of this thread that have a reply.
-fn saw(seen: &[Row], thread: usize, rows: &[PackedRow]) -> bool {
-    let mut seen = seen;
-    for row in rows {
-        if row.turn().thread != thread || !row.has_reply() {
-            continue;
-        }
-        match seen.split_first() {
-            Some((first, rest)) if is_row(first, row) => seen = rest,
-            _ => return false,
-        }
-    }
-    seen.is_empty()
-}
-
-// Whether each thread saw what these rows say.
-fn all_saw(transcripts: &[Transcript], threads: usize, rows: &[PackedRow]) -> bool {
-    if transcripts.len() != threads {
-        return false;
-    }
-    for (thread, transcript) in transcripts.iter().enumerate() {
-        if !saw(transcript.rows(), thread, rows) {
-            return false;
-        }
-    }
-    true
-}
-
 // ## A run
 
 fn players(alloc: Global, texts: &[Vec<u8>], dice: &mut Dice) -> Result<Vec<Player>, ScriptFault> {
@@ -377,7 +342,7 @@ impl Run {
         Err(Fault::WithoutEnd)
     }
 
-    // Whether all threads ended, and the replay of the machine's log gives what they saw.
+    // Whether all threads ended, and the replay of the machine's log has the same rows.
     fn is_replayed(self, alloc: Global) -> Result<bool, Fault> {
         let are_ended = self.machine.turn_holder().is_none();
         let Run { texts, machine, .. } = self;
@@ -386,17 +351,24 @@ impl Run {
     }
 }
 
-// Whether what is left came to its end, and the replay of its log gives what its threads saw.
+fn are_same(ones: &[PackedRow], others: &[PackedRow]) -> bool {
+    ones.len() == others.len()
+        && ones
+            .iter()
+            .zip(others)
+            .all(|(one, other)| one.is_same(other))
+}
+
+// Whether what is left came to its end, and the replay of its log has the same rows.
 fn is_replayed(
     alloc: Global,
     texts: &[Vec<u8>],
     left: &Finished<MemorySink>,
 ) -> Result<bool, Fault> {
     let scripts = parsed(alloc, texts)?;
-    let rows = left.history.rows.as_slice();
     match replay(alloc, left.sink.bytes(), scripts) {
         Ok(replayed) => Ok(
-            left.stop.is_none() && all_saw(replayed.transcripts.threads(), texts.len(), rows),
+            left.stop.is_none() && are_same(replayed.history.rows(), left.history.rows.as_slice()),
         ),
         Err(ReplayFault::Memory) => Err(Fault::Memory),
         Err(_) => Ok(false),
@@ -406,7 +378,7 @@ fn is_replayed(
 // ## What the runs met
 
 // How many runs had a call that went outside, one that was blocked, and an attempt that failed.
-#[derive(Clone, Copy, Debug, Default)]
+#[derive(Clone, Copy)]
 struct Met {
     outside: usize,
     blocked: usize,
@@ -435,8 +407,8 @@ impl Met {
     }
 }
 
-// Whether the log of the run of this seed is replayed to what its threads saw. That this is what the plain run gives is
-// proved of each machine (`faithful`).
+// Whether the log of the run of this seed is replayed to the same rows: calls, turns, outcomes and replies. That they are
+// those of the plain run is proved of each machine (`faithful`).
 fn is_same_again(alloc: Global, choice: Choice, seed: u64, met: &mut Met) -> Result<bool, Fault> {
     let mut dice = Dice::new(seed);
     let mut run = Run::new(alloc, &mut dice)?;
@@ -452,10 +424,14 @@ fn are_same_again(
     choice: Choice,
     first: u64,
 ) -> Result<(), Fail> {
-    let mut met = Met::default();
+    let mut met = Met {
+        outside: 0,
+        blocked: 0,
+        contended: 0,
+    };
     for seed in first..first.saturating_add(RUNS) {
         match is_same_again(alloc, choice, seed, &mut met) {
-            Ok(same) => assert!(rt; same, "what the threads saw, at seed {seed}"),
+            Ok(same) => assert!(rt; same, "the rows of the runs, at seed {seed}"),
             Err(fault) => {
                 let _ = eprintln!(rt; "seed {seed}");
                 return Err(fault.into());
@@ -464,7 +440,10 @@ fn are_same_again(
     }
     assert!(rt;
         met.outside >= 150 && met.blocked >= 50 && met.contended >= 100,
-        "at least 150, 50 and 100 runs: {met:?}"
+        "at least 150, 50 and 100 runs: {} {} {}",
+        met.outside,
+        met.blocked,
+        met.contended
     );
     Ok(())
 }

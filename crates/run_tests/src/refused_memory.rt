@@ -6,14 +6,6 @@ use posix_terms::{Access, Call, PackedRow, Step};
 use std::alloc::{AllocError, Global};
 use std::test::Fail;
 
-// Two machines that make the same events, the second each one behind the first. So where an event of the first is refused, the second
-// shows how the first stood before.
-#[derive(Drop)]
-struct Twins {
-    first: Driven,
-    second: Driven,
-}
-
 fn two_threads(alloc: Global) -> Result<Driven, AllocError> {
     machine(alloc, 2, SETTINGS, 21)
 }
@@ -81,108 +73,27 @@ fn ask(alloc: Global, machine: &mut Driven, i: usize) -> Result<(), Refused> {
     }
 }
 
-// ## What a machine shows
-
-fn same_phase(one: &Phase, other: &Phase) -> bool {
-    match (one, other) {
-        (Phase::Working, Phase::Working) | (Phase::Ended, Phase::Ended) => true,
-        (
-            Phase::WantsTable { call, carried },
-            Phase::WantsTable {
-                call: other_call,
-                carried: other_carried,
-            },
-        ) => call == other_call && carried == other_carried,
-        (
-            Phase::WantsObject {
-                call,
-                carried,
-                clock,
-                object,
-            },
-            Phase::WantsObject {
-                call: other_call,
-                carried: other_carried,
-                clock: other_clock,
-                object: other_object,
-            },
-        ) => {
-            call == other_call
-                && carried == other_carried
-                && clock == other_clock
-                && object == other_object
-        }
-        (
-            Phase::Granted { row, object, .. },
-            Phase::Granted {
-                row: other_row,
-                object: other_object,
-                ..
-            },
-        ) => row == other_row && object == other_object,
-        (Phase::Blocked { carried }, Phase::Blocked { carried: other }) => carried == other,
-        _ => false,
+// The event of thread i; whether it could be made. What lacked its memory is made again: a refused event changes nothing (`Comes`).
+fn advance(alloc: Global, machine: &mut Driven, i: usize) -> Result<bool, Refused> {
+    let mut made = event(alloc, machine, i);
+    if made == Err(Refused::Memory) {
+        made = event(alloc, machine, i);
+    }
+    match made {
+        Ok(()) => Ok(true),
+        Err(Refused::WrongPhase) => Ok(false),
+        Err(refused) => Err(refused),
     }
 }
 
-fn are_same(ones: &[PackedRow], others: &[PackedRow]) -> bool {
-    ones.len() == others.len()
-        && ones
-            .iter()
-            .zip(others)
-            .all(|(one, other)| one.is_same(other))
-}
-
-impl Twins {
-    // Whether both show the same of thread i.
-    fn are_alike_at(&self, i: usize) -> bool {
-        if i >= self.first.len() || i >= self.second.len() {
-            return false;
-        }
-        same_phase(self.first.phase(i), self.second.phase(i))
-            && self.first.asked(i) == self.second.asked(i)
-    }
-
-    // Whether both show the same. No thread goes outside here.
-    fn are_alike(&self) -> bool {
-        self.first.turn_holder() == self.second.turn_holder()
-            && are_same(self.first.history(), self.second.history())
-            && self.are_alike_at(0)
-            && self.are_alike_at(1)
-    }
-
-    // The event of thread i by both; whether it could be made. One that was refused for memory changed nothing, and is made again.
-    fn advance(&mut self, alloc: Global, i: usize) -> Result<bool, Fail> {
-        let mut made = event(alloc, &mut self.first, i);
-        if made == Err(Refused::Memory) {
-            if !self.are_alike() {
-                return Err("a refused event changed the machine".into());
-            }
-            made = event(alloc, &mut self.first, i);
-        }
-        let mut behind = event(alloc, &mut self.second, i);
-        if behind == Err(Refused::Memory) {
-            behind = event(alloc, &mut self.second, i);
-        }
-        if made != behind || !self.are_alike() {
-            return Err("the machines differ".into());
-        }
-        match made {
-            Ok(()) => Ok(true),
-            Err(Refused::WrongPhase) => Ok(false),
-            Err(refused) => Err(refused.into()),
+// Events of both threads, as far as there are any; whether the run has an end.
+fn run(alloc: Global, machine: &mut Driven) -> Result<bool, Refused> {
+    for _ in 0..200_u32 {
+        if !advance(alloc, machine, 0)? && !advance(alloc, machine, 1)? {
+            return Ok(true);
         }
     }
-
-    // Events of both threads, as far as there are any.
-    fn run(&mut self, alloc: Global) -> Result<(), Fail> {
-        for _ in 0..200_u32 {
-            if !self.advance(alloc, 0)? && !self.advance(alloc, 1)? {
-                return Ok(());
-            }
-        }
-        Err("a run without end".into())
-    }
+    Ok(false)
 }
 
 // ## What comes of it
@@ -221,28 +132,19 @@ fn is_over(machine: Driven) -> bool {
     is_whole && left.stop.is_none()
 }
 
-// Two machines at their start.
-fn started_twins(alloc: Global) -> Result<Twins, AllocError> {
-    Ok(Twins {
-        first: started(alloc)?,
-        second: started(alloc)?,
-    })
-}
-
-// Whether the twins are both so, once they ran.
-fn are_over(alloc: Global) -> Result<bool, Fail> {
-    let mut twins = started_twins(alloc)?;
-    twins.run(alloc)?;
-    let Twins { first, second } = twins;
-    let is_first_over = is_over(first);
-    let is_second_over = is_over(second);
-    Ok(is_first_over && is_second_over)
+// Whether a machine of both threads has that once it ran.
+fn comes_to_its_end(alloc: Global) -> Result<bool, Fail> {
+    let mut machine = started(alloc)?;
+    Ok(run(alloc, &mut machine)? && is_over(machine))
 }
 
 // Whichever allocation is refused, by `rt try --test --fail-alloc`, the run is the same: `ask` and `again` say that there is no memory, change
 // nothing, and are made when they are asked again. See tools/refused-allocations.
 #[test]
 fn asks_again_where_memory_was_refused(rt: HostRuntime) -> Result<(), Fail> {
-    assert!(rt; are_over(rt.alloc())?, "each has its nine rows, and ended");
+    assert!(rt;
+        comes_to_its_end(rt.alloc())?,
+        "it has its nine rows, and ended"
+    );
     Ok(())
 }
