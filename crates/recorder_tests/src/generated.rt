@@ -217,51 +217,27 @@ fn are_replayed<R: Threads + Wait + Sync>(
     Ok(true)
 }
 
-// A thousand runs, in eight tests, so that none takes long.
+// A thousand runs, in four tests, so that none takes long.
 #[test]
 fn the_first_runs_are_replayed(rt: HostRuntime) -> Result<(), Fail> {
-    assert!(rt; are_replayed(&rt, rt.alloc(), 0..125)?);
+    assert!(rt; are_replayed(&rt, rt.alloc(), 0..250)?);
     Ok(())
 }
 
 #[test]
 fn the_second_runs_are_replayed(rt: HostRuntime) -> Result<(), Fail> {
-    assert!(rt; are_replayed(&rt, rt.alloc(), 125..250)?);
+    assert!(rt; are_replayed(&rt, rt.alloc(), 250..500)?);
     Ok(())
 }
 
 #[test]
 fn the_third_runs_are_replayed(rt: HostRuntime) -> Result<(), Fail> {
-    assert!(rt; are_replayed(&rt, rt.alloc(), 250..375)?);
-    Ok(())
-}
-
-#[test]
-fn the_fourth_runs_are_replayed(rt: HostRuntime) -> Result<(), Fail> {
-    assert!(rt; are_replayed(&rt, rt.alloc(), 375..500)?);
-    Ok(())
-}
-
-#[test]
-fn the_fifth_runs_are_replayed(rt: HostRuntime) -> Result<(), Fail> {
-    assert!(rt; are_replayed(&rt, rt.alloc(), 500..625)?);
-    Ok(())
-}
-
-#[test]
-fn the_sixth_runs_are_replayed(rt: HostRuntime) -> Result<(), Fail> {
-    assert!(rt; are_replayed(&rt, rt.alloc(), 625..750)?);
-    Ok(())
-}
-
-#[test]
-fn the_seventh_runs_are_replayed(rt: HostRuntime) -> Result<(), Fail> {
-    assert!(rt; are_replayed(&rt, rt.alloc(), 750..875)?);
+    assert!(rt; are_replayed(&rt, rt.alloc(), 500..750)?);
     Ok(())
 }
 
 #[test]
 fn the_last_runs_are_replayed(rt: HostRuntime) -> Result<(), Fail> {
-    assert!(rt; are_replayed(&rt, rt.alloc(), 875..1000)?);
+    assert!(rt; are_replayed(&rt, rt.alloc(), 750..1000)?);
     Ok(())
 }

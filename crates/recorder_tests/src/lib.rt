@@ -1,6 +1,6 @@
 //! The tests of recorded runs, over outsides that are lists of outcomes; of replays by threads, of
 //! runs that were recorded and of logs that are written down here; of runs in which something goes
-//! wrong (`hostile`); of runs in turn, and of runs that are watched.
+//! wrong (`hostile`).
 #![tactic(auto)]
 
 #[cfg(test)]
@@ -9,8 +9,6 @@ mod full_clock;
 mod generated;
 #[cfg(test)]
 mod hostile;
-#[cfg(test)]
-mod in_turn;
 #[cfg(test)]
 mod outcomes;
 #[cfg(test)]
@@ -22,12 +20,8 @@ mod runs;
 #[cfg(test)]
 mod seen;
 #[cfg(test)]
-mod short_write;
-#[cfg(test)]
 mod sockets;
 #[cfg(test)]
 mod stopped;
 #[cfg(test)]
 mod stops;
-#[cfg(test)]
-mod watched;

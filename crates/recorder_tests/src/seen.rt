@@ -1,5 +1,3 @@
-use input_log::LogFault;
-use logged_machine::Stop;
 use posix_terms::{Errno, Reply, Row, Transcripts};
 
 // A reply, in short.
@@ -18,22 +16,6 @@ pub(crate) enum Seen {
 
 // What each thread saw: replies with the clocks at which they were granted.
 pub(crate) type Rows = &'static [&'static [(u64, Seen)]];
-
-// How a run or a replay ends: to its end, or stopped; or the bytes are no log, or that of another number of threads.
-#[derive(Clone, Copy, PartialEq, Eq)]
-pub(crate) enum End {
-    Whole,
-    Stop(Stop),
-    NoLog(LogFault),
-    OtherNumber,
-}
-
-pub(crate) fn end_of(stop: Option<Stop>) -> End {
-    match stop {
-        None => End::Whole,
-        Some(stop) => End::Stop(stop),
-    }
-}
 
 pub(crate) fn is_reply(reply: &Reply, seen: Seen) -> bool {
     match (reply, seen) {

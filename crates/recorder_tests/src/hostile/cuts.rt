@@ -1,6 +1,6 @@
 use crate::hostile::runs::{SHORT_HOST_WRITE, SHORT_LOG, SHORT_ROWS, SHORT_SEEN, Wanted};
 use crate::hostile::ways::{Told, recorded, recorded_short};
-use crate::seen::{End, Rows, Seen};
+use crate::seen::{Rows, Seen};
 use logged_machine::Stop;
 use std::alloc::{AllocError, Global};
 use std::sync::Wait;
@@ -31,11 +31,7 @@ fn filled(taken: usize) -> Wanted {
         _ => SHORT_ROWS,
     };
     Wanted {
-        end: if taken < 78 {
-            End::Stop(Stop::Sink)
-        } else {
-            End::Whole
-        },
+        end: if taken < 78 { Some(Stop::Sink) } else { None },
         rows,
         log: front(taken),
     }
@@ -70,7 +66,7 @@ fn a_sink_takes_little_at_a_time(rt: HostRuntime) -> Result<(), Fail> {
     let all = recorded_short(&rt, rt.alloc(), SHORT_HOST_WRITE, 1, None, SHORT_SEEN)?;
     assert!(rt; all == Told::Whole);
     let wanted = Wanted {
-        end: End::Stop(Stop::Sink),
+        end: Some(Stop::Sink),
         rows: NOTHING,
         log: front(21),
     };

@@ -1,7 +1,7 @@
 use crate::hostile::runs::{Run, SHORT_HOST_WRITE, Wanted};
 use crate::hostile::ways::is_run;
 use crate::outcomes::Came;
-use crate::seen::{End, Seen};
+use crate::seen::Seen;
 use logged_machine::Stop;
 use posix_terms::{Errno, OutKind};
 use std::test::Fail;
@@ -33,7 +33,7 @@ const CASES: &[Case] = &[
             Came::Fail(OutKind::Write, Errno::EIO),
         ]],
         seen: Wanted {
-            end: End::Whole,
+            end: None,
             rows: &[&[
                 (1, Seen::Number(0)),
                 (105, Seen::Fail(Errno::EINTR)),
@@ -55,7 +55,7 @@ const CASES: &[Case] = &[
             Came::Fail(OutKind::Write, Errno::EIO),
         ]],
         seen: Wanted {
-            end: End::Whole,
+            end: None,
             rows: &[&[
                 (1, Seen::Number(0)),
                 (105, Seen::Count(0)),
@@ -73,7 +73,7 @@ const CASES: &[Case] = &[
         patience: 1000,
         came: WOULD_BLOCK,
         seen: Wanted {
-            end: End::Whole,
+            end: None,
             rows: &[&[
                 (1, Seen::Number(0)),
                 (209, Seen::Count(3)),
@@ -92,7 +92,7 @@ const CASES: &[Case] = &[
         patience: 1,
         came: WOULD_BLOCK,
         seen: Wanted {
-            end: End::Stop(Stop::Diverged(0, 2)),
+            end: Some(Stop::Diverged(0, 2)),
             rows: &[&[(1, Seen::Number(0)), (105, Seen::Fail(Errno::EINTR))]],
             log: b"DIOL\0\x01\0\x01\0\0\0\x01\0\0\0\x64\
                 R\0\0\0\0\0\0\x01\0\0\0\0\0\0\0\0\0\0\0\

@@ -1,10 +1,9 @@
 use crate::outcomes::{Came, outcomes};
-use crate::record::script;
 use crate::runs::{SHORT_WRITE, WRITTEN};
-use crate::seen::{End, Rows, Seen};
+use crate::seen::{Rows, Seen};
+use logged_machine::Stop;
 use posix_terms::{Errno, Outcomes};
 use std::alloc::{AllocError, Global};
-use thread_scripts::ScriptActor;
 
 // ## Runs and what is wanted of them
 
@@ -14,7 +13,7 @@ pub(crate) type Run = crate::record::Run<'static>;
 // How a run is to end, what its threads are to see, and the log that it is to write.
 #[derive(Clone, Copy)]
 pub(crate) struct Wanted {
-    pub end: End,
+    pub end: Option<Stop>,
     pub rows: Rows,
     pub log: &'static [u8],
 }
@@ -29,7 +28,7 @@ pub(crate) const PATIENCE_ON_A_PIPE: Run = Run {
 };
 
 pub(crate) const PATIENCE_SEEN: Wanted = Wanted {
-    end: End::Whole,
+    end: None,
     rows: &[&[
         (1, Seen::Pair(0, 1)),
         (13, Seen::Fail(Errno::EINTR)),
@@ -56,7 +55,7 @@ pub(crate) const SHORT_LOG: &[u8] = b"DIOL\0\x01\0\x01\0\0\x03\xe8\0\0\0\x64\
     E\0\0\0\x03";
 
 pub(crate) const SHORT_SEEN: Wanted = Wanted {
-    end: End::Whole,
+    end: None,
     rows: SHORT_ROWS,
     log: SHORT_LOG,
 };
@@ -76,7 +75,7 @@ pub(crate) const LOG_WITH_CLOCKS: &[u8] = b"DIOL\0\x02\0\x01\0\0\x03\xe8\0\0\0\x
     E\0\0\0\x03";
 
 pub(crate) const SEEN_WITH_CLOCKS: Wanted = Wanted {
-    end: End::Whole,
+    end: None,
     rows: SHORT_ROWS,
     log: LOG_WITH_CLOCKS,
 };
@@ -98,7 +97,7 @@ pub(crate) const READER_WAITS: Run = Run {
 };
 
 pub(crate) const READER_SEEN: Wanted = Wanted {
-    end: End::Whole,
+    end: None,
     rows: &[
         &[(1, Seen::Pair(0, 1)), (25, Seen::Count(1))],
         &[(28, Seen::Byte(b'z'))],
@@ -111,12 +110,4 @@ pub(crate) const READER_SEEN: Wanted = Wanted {
 // What comes for each thread.
 pub(crate) fn lists(alloc: Global, run: Run) -> Result<Vec<Outcomes>, AllocError> {
     outcomes(alloc, run.scripts.len(), run.came)
-}
-
-pub(crate) fn actors(alloc: Global, texts: &[&[u8]]) -> Result<Vec<ScriptActor>, AllocError> {
-    let mut actors = Vec::new(alloc);
-    for text in texts {
-        actors.push(ScriptActor::new(script(alloc, text)?))?;
-    }
-    Ok(actors)
 }

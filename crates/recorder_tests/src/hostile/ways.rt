@@ -1,9 +1,9 @@
 ghost use Rattle.std.specs.Prelude.{◌≤◌};
 
-use crate::hostile::runs::{Run, Wanted, actors, lists};
+use crate::hostile::runs::{Run, Wanted, lists};
 use crate::outcomes::doors;
-use crate::record::{NoRun, Over, actors as boxed, record, scripts};
-use crate::seen::{End, end_of, saw, saw_beginning};
+use crate::record::{actors, record, scripts};
+use crate::seen::{saw, saw_beginning};
 use call_machine::{PlainFault, plain_run};
 use input_log::ShortSink;
 use logged_machine::Stop;
@@ -37,7 +37,7 @@ fn shows(wanted: Wanted, stop: Option<Stop>, transcripts: &Transcripts, log: &[u
     if stop == Some(Stop::Memory) {
         return memory_if(saw_beginning(transcripts, wanted.rows) && wanted.log.starts_with(log));
     }
-    whole_if(end_of(stop) == wanted.end && saw(transcripts, wanted.rows) && log == wanted.log)
+    whole_if(stop == wanted.end && saw(transcripts, wanted.rows) && log == wanted.log)
 }
 
 // The plain run.
@@ -50,26 +50,6 @@ pub(crate) fn plain(alloc: Global, run: Run, wanted: Wanted) -> Result<Told, All
     })
 }
 
-// Of a recorded run that is over all actors and outsides come back.
-fn told_at_end(wanted: Wanted, threads: usize, over: &Over) -> Told {
-    if over.actors.len() != threads || over.outsides.len() != threads {
-        return Told::Wrong;
-    }
-    shows(wanted, over.stop, &over.transcripts, over.sink.bytes())
-}
-
-// Where it was not started, they do too, and the sink, which has the log's header at most.
-fn not_started(wanted: Wanted, threads: usize, refused: &NoRun) -> Told {
-    let taken = refused.sink.bytes();
-    memory_if(
-        refused.fault == StartFault::Memory
-            && refused.actors.len() == threads
-            && refused.outsides.len() == threads
-            && taken.len() <= 16
-            && wanted.log.starts_with(taken),
-    )
-}
-
 // The recorded run, into a log that has so much room.
 pub(crate) fn recorded<R: Threads + Wait + Sync>(
     rt: &R,
@@ -78,10 +58,9 @@ pub(crate) fn recorded<R: Threads + Wait + Sync>(
     room: usize,
     wanted: Wanted,
 ) -> Result<Told, AllocError> {
-    let threads = run.scripts.len();
-    Ok(match record(rt, alloc, run, threads, room)? {
-        Ok(over) => told_at_end(wanted, threads, &over),
-        Err(refused) => not_started(wanted, threads, &refused),
+    Ok(match record(rt, alloc, run, run.scripts.len(), room)? {
+        Ok(over) => shows(wanted, over.stop, &over.transcripts, over.sink.bytes()),
+        Err(refused) => memory_if(refused.fault == StartFault::Memory),
     })
 }
 
@@ -96,31 +75,12 @@ pub(crate) fn recorded_short<R: Threads + Wait + Sync>(
 ) -> Result<Told, AllocError>
     requires { 1 ≤ most }
 {
-    let actors = boxed(alloc, run.scripts)?;
+    let actors = actors(alloc, run.scripts)?;
     let doors = doors(alloc, lists(alloc, run)?)?;
     let sink = ShortSink::new(alloc, 100, most, fail_at)?;
     match run_recorded(rt, alloc, actors, doors, sink, run.settings()) {
         Ok(over) => Ok(shows(wanted, over.stop, &over.transcripts, over.sink.bytes())),
         Err(_) => Err(AllocError),
-    }
-}
-
-// What a replay tells that ended so.
-fn ends(wanted: Wanted, end: End, transcripts: &Transcripts) -> Told {
-    whole_if(end == wanted.end && saw(transcripts, wanted.rows))
-}
-
-fn fault(wanted: Wanted, fault: &ReplayFault) -> Told {
-    match fault {
-        ReplayFault::Memory => Told::Memory,
-        ReplayFault::Log(fault) => whole_if(End::NoLog(*fault) == wanted.end),
-        ReplayFault::EndOfLog(thread, seen) => {
-            ends(wanted, End::Stop(Stop::EndOfLog(*thread)), seen)
-        }
-        ReplayFault::Diverged(thread, number, seen) => {
-            ends(wanted, End::Stop(Stop::Diverged(*thread, *number)), seen)
-        }
-        _ => Told::Wrong,
     }
 }
 
@@ -132,8 +92,8 @@ pub(crate) fn replayed(
     wanted: Wanted,
 ) -> Result<Told, AllocError> {
     Ok(match replay(alloc, log, scripts(alloc, run.scripts)?) {
-        Ok(replayed) => ends(wanted, End::Whole, &replayed.transcripts),
-        Err(told) => fault(wanted, &told),
+        Ok(replayed) => whole_if(saw(&replayed.transcripts, wanted.rows)),
+        Err(fault) => memory_if(matches!(fault, ReplayFault::Memory)),
     })
 }
 
@@ -145,12 +105,12 @@ pub(crate) fn replayed_by_threads<R: Threads + Wait + Sync>(
     run: Run,
     wanted: Wanted,
 ) -> Result<Told, AllocError> {
-    let actors = actors(alloc, run.scripts)?;
-    Ok(match replay_threads(rt, alloc, log, actors) {
-        Ok(over) => shows(wanted, over.stop, &over.transcripts, over.sink.bytes()),
-        Err(refused) if refused.actors.len() == run.scripts.len() => fault(wanted, &refused.fault),
-        Err(_) => Told::Wrong,
-    })
+    Ok(
+        match replay_threads(rt, alloc, log, actors(alloc, run.scripts)?) {
+            Ok(over) => shows(wanted, over.stop, &over.transcripts, over.sink.bytes()),
+            Err(refused) => memory_if(matches!(refused.fault, ReplayFault::Memory)),
+        },
+    )
 }
 
 // Whether the plain run and the recorded one are all that is wanted.
