@@ -1,6 +1,6 @@
 use crate::devices::{Device, numbered, sources};
 use crate::told::{Told, plain};
-use commands::{DEFAULTS, cannot_write, no_memory, plain_over};
+use commands::{DEFAULTS, plain_over};
 use posix_terms::Settings;
 use std::alloc::Global;
 use std::io;
@@ -113,20 +113,5 @@ fn plain_to_full_device(alloc: Global) -> io::Result<Told> {
 #[test]
 fn full_device(rt: HostRuntime) -> Result<(), Fail> {
     assert!(rt; plain_to_full_device(rt.alloc())?.is(4, "", "cannot write -\n"));
-    Ok(())
-}
-
-// Whether both messages are written, one behind the other, with their status.
-fn are_written(alloc: Global) -> io::Result<bool> {
-    let mut errors: Vec<u8> = Vec::new(alloc);
-    let first = no_memory(&mut errors)?;
-    let second = cannot_write(&mut errors)?;
-    let wanted = b"no memory\ncannot write -\n".as_slice();
-    Ok(first == 4 && second == 4 && errors.as_slice() == wanted)
-}
-
-#[test]
-fn messages(rt: HostRuntime) -> Result<(), Fail> {
-    assert!(rt; are_written(rt.alloc())?);
     Ok(())
 }

@@ -131,28 +131,16 @@ fn are_replayed(
     Ok(true)
 }
 
-// A thousand runs, in four tests.
+// A thousand runs, in two tests.
 #[test]
 fn recorded_runs_are_replayed(rt: HostRuntime) -> Result<(), Fail> {
-    assert!(rt; are_replayed(&rt, rt, "generated", 0..250, false)?);
+    assert!(rt; are_replayed(&rt, rt, "generated", 0..500, false)?);
     Ok(())
 }
 
 #[test]
 fn more_recorded_runs_are_replayed(rt: HostRuntime) -> Result<(), Fail> {
-    assert!(rt; are_replayed(&rt, rt, "generated_more", 250..500, false)?);
-    Ok(())
-}
-
-#[test]
-fn yet_more_recorded_runs_are_replayed(rt: HostRuntime) -> Result<(), Fail> {
-    assert!(rt; are_replayed(&rt, rt, "generated_yet_more", 500..750, false)?);
-    Ok(())
-}
-
-#[test]
-fn the_last_recorded_runs_are_replayed(rt: HostRuntime) -> Result<(), Fail> {
-    assert!(rt; are_replayed(&rt, rt, "generated_last", 750..1000, false)?);
+    assert!(rt; are_replayed(&rt, rt, "generated_more", 500..1000, false)?);
     Ok(())
 }
 

@@ -3,7 +3,7 @@ ghost use Rattle.recorder.specs.Each.{IsUnused};
 
 use crate::devices::sources;
 use crate::logs::{SHORT_WRITE, THREE_RECORDS, WITH_CLOCKS};
-use crate::recording::{LogFile, file_has, record, replayed};
+use crate::recording::{LogFile, file_has, record};
 use commands::DEFAULTS;
 use host_doors::{NoGate, ScriptDoors};
 use posix_terms::{Bytes, Errno, Given, OutKind, Outcome, Outcomes, Settings};
@@ -76,23 +76,6 @@ fn short_write_is_recorded(rt: HostRuntime) -> Result<(), Fail> {
         assert!(rt; is_recorded(&rt, settings, log, 0, printed)?);
         assert!(rt; file_has(rt, log.path, bytes)?);
     }
-    remove_file(&rt, log.path)?;
-    Ok(())
-}
-
-// Of the second record 7 bytes are taken: its call has no reply, and a replay goes as far as the first.
-#[test]
-fn room_of_the_log_runs_out(rt: HostRuntime) -> Result<(), Fail> {
-    let log = LogFile {
-        host: rt,
-        path: "/tmp/detio_record_full_log",
-        room: 42,
-    };
-    let printed = "0 0 1 host_open number 0\nstop sink\n";
-    assert!(rt; is_recorded(&rt, WITHOUT_CLOCKS, log, 4, printed)?);
-    assert!(rt; file_has(rt, log.path, THREE_RECORDS.split_at(42).0)?);
-    let printed = "0 0 1 host_open number 0\nstop end of log 0\n";
-    assert!(rt; replayed(rt, log.path, SCRIPTS)?.is(1, printed, ""));
     remove_file(&rt, log.path)?;
     Ok(())
 }

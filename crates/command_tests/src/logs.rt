@@ -1,6 +1,5 @@
 use crate::devices::{Device, Text};
-use crate::told::{Told, log_at, show};
-use commands::show_over;
+use crate::told::show;
 use std::alloc::Global;
 use std::io;
 use std::test::Fail;
@@ -34,20 +33,5 @@ fn is_unreadable(alloc: Global, log: Device) -> io::Result<bool> {
 fn unreadable_logs(rt: HostRuntime) -> Result<(), Fail> {
     assert!(rt; is_unreadable(rt.alloc(), Device::Broken)?);
     assert!(rt; is_unreadable(rt.alloc(), Device::Endless)?);
-    Ok(())
-}
-
-// What `show` tells where its output cannot be written.
-fn shown_to_full_device(alloc: Global) -> io::Result<Told> {
-    let log = log_at("a.log", Text::Script(THREE_RECORDS));
-    let mut full = Device::Broken;
-    let mut errors: Vec<u8> = Vec::new(alloc);
-    let status = show_over(alloc, log, &mut full, &mut errors);
-    Told::new(status, Vec::new(alloc), errors)
-}
-
-#[test]
-fn full_device(rt: HostRuntime) -> Result<(), Fail> {
-    assert!(rt; shown_to_full_device(rt.alloc())?.is(4, "", "cannot write -\n"));
     Ok(())
 }

@@ -90,21 +90,6 @@ pub(crate) fn record<O: Outside + Send + Drop>(
 {
     let alloc = log.host.alloc();
     let log = LogTo { path: "a.log", log };
-    record_to(rt, alloc, settings, log, outsides, scripts)
-}
-
-/// The same, with the log at any place.
-pub(crate) fn record_to<O: Outside + Send + Drop, L: NewLog<FileSink> + Drop>(
-    rt: &(impl Threads + Wait + Sync),
-    alloc: Global,
-    settings: Settings,
-    log: LogTo<'_, L>,
-    outsides: Vec<O>,
-    scripts: Sources<'_>,
-) -> io::Result<Told>
-    requires one_each { length outsides.items ≡ length scripts.items }
-    requires unused { All (IsUnused O.given O.failures) outsides.items }
-{
     let mut output: Vec<u8> = Vec::new(alloc);
     let mut errors: Vec<u8> = Vec::new(alloc);
     let notices: Vec<u8> = Vec::new(alloc);

@@ -1,7 +1,6 @@
-use crate::devices::{Device, Text, numbered, sources};
-use crate::logs::{SHORT_WRITE, THREE_RECORDS};
-use crate::told::{Told, log_at, replay};
-use commands::replay_over;
+use crate::devices::{Device, Text, numbered};
+use crate::logs::THREE_RECORDS;
+use crate::told::replay;
 use std::alloc::Global;
 use std::io;
 use std::test::Fail;
@@ -44,21 +43,5 @@ fn devices_of_replays(rt: HostRuntime) -> Result<(), Fail> {
     for (log, scripts, status, line) in UNREADABLE {
         assert!(rt; tells(rt.alloc(), *log, scripts, *status, line)?, "{line}");
     }
-    Ok(())
-}
-
-// What `replay` tells where its output cannot be written.
-fn replay_to_full_device(alloc: Global) -> io::Result<Told> {
-    let scripts = sources(alloc, &[SHORT_WRITE])?;
-    let log = log_at("a.log", Text::Script(THREE_RECORDS));
-    let mut full = Device::Broken;
-    let mut errors: Vec<u8> = Vec::new(alloc);
-    let status = replay_over(alloc, true, log, scripts, &mut full, &mut errors);
-    Told::new(status, Vec::new(alloc), errors)
-}
-
-#[test]
-fn full_device_of_a_replay(rt: HostRuntime) -> Result<(), Fail> {
-    assert!(rt; replay_to_full_device(rt.alloc())?.is(4, "", "cannot write -\n"));
     Ok(())
 }

@@ -1,43 +1,13 @@
 use crate::devices::Text;
-use crate::recording::{LogFile, free_path, is_replayed, record_by_host};
+use crate::recording::{LogFile, free_path, is_replayed};
 use crate::told::show;
 use commands::DEFAULTS;
 use std::fs::{self, remove_file};
 use std::io;
 use std::test::Fail;
 
-// Room for the logs of these runs.
+// Room for the log of this run.
 const ROOM: usize = 1_000_000;
-
-// Opens a file and closes it 1,600 times.
-const OPENER: &str = "set r2 -1600
-label more
-open /a rw create
-close r0
-add r2 1
-jzero r2 done
-jump more
-label done
-";
-
-const OPENERS: &[&str] = &[OPENER, OPENER, OPENER, OPENER];
-
-#[test]
-fn six_thousand_descriptions_are_made(rt: HostRuntime) -> Result<(), Fail> {
-    let path = free_path(rt, "openers")?;
-    let log = LogFile {
-        host: rt,
-        path: path.as_str(),
-        room: ROOM,
-    };
-    // a line for each open and each close, and the end
-    assert_eq!(rt;
-        record_by_host(&rt, DEFAULTS, log, OPENERS)?.lines(),
-        Some(4 * 3200 + 1)
-    );
-    remove_file(&rt, path.as_str())?;
-    Ok(())
-}
 
 // Opens a device of the host, writes to it 1,500 times and closes it: 1,502 outcomes.
 const WRITER: &str = "host_open /dev/null w

@@ -1,12 +1,6 @@
-ghost use Rattle.std.specs.Prelude.{◌≡◌};
-ghost use Rattle.commands.specs.declared.record.NotCreated.TheVariants as not_created;
-
-use crate::devices::sources;
-use crate::recording::{LogFile, file_has, record_by_host, record_to};
-use commands::{DEFAULTS, LogTo, NewLog, NotCreated};
-use input_log::FileSink;
+use crate::recording::{LogFile, file_has, record_by_host};
+use commands::DEFAULTS;
 use posix_terms::Settings;
-use recorder::hosts;
 use std::fs::{self, remove_file};
 use std::test::Fail;
 
@@ -51,53 +45,3 @@ const NO_PATIENCE: Settings = Settings {
     door_cost: 100,
     version: 1,
 };
-
-#[test]
-fn a_log_that_cannot_be_made(rt: HostRuntime) -> Result<(), Fail> {
-    let log = LogFile::at(rt, "/nowhere/a.log");
-    let line = "cannot write a.log\n";
-    assert!(rt; record_by_host(&rt, DEFAULTS, log, &["close 0\n"])?.is(4, "", line));
-    Ok(())
-}
-
-// A device that takes nothing: no thread is started.
-#[test]
-fn a_log_on_a_full_device(rt: HostRuntime) -> Result<(), Fail> {
-    let log = LogFile::at(rt, "/dev/full");
-    let told = record_by_host(&rt, DEFAULTS, log, &["open /a rw create\n"])?;
-    assert!(rt; told.is(4, "stop sink\n", ""));
-    Ok(())
-}
-
-// A place where something else than a log stands.
-#[derive(Drop)]
-struct Kept;
-
-impl NewLog<FileSink> for Kept {
-    ghost refuses = { λ _ reason. reason ≡ not_created.NotALog };
-
-    fn create(self) -> Result<FileSink, NotCreated> {
-        Err(NotCreated::NotALog)
-    }
-}
-
-#[test]
-fn a_file_that_is_not_a_log_stays(rt: HostRuntime) -> Result<(), Fail> {
-    let log = LogTo {
-        path: "a.log",
-        log: Kept,
-    };
-    let outsides = hosts(rt, rt.alloc(), 1)?;
-    let told = record_to(
-        &rt,
-        rt.alloc(),
-        DEFAULTS,
-        log,
-        outsides,
-        sources(rt.alloc(), &["close 0\n"])?,
-    )?;
-    let lines =
-        "cannot write a.log\nthe file there is not empty and is not a log: --force replaces it\n";
-    assert!(rt; told.is(4, "", lines));
-    Ok(())
-}

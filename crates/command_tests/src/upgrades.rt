@@ -9,33 +9,24 @@ use std::alloc::Global;
 use std::io;
 use std::test::Fail;
 
-// A new file in memory, which may be refused.
+// A new file, which is refused.
 #[derive(Drop)]
 struct Place {
-    alloc: Global,
-    refused: Option<NotCreated>,
+    refused: NotCreated,
 }
 
 impl NewFile<Vec<u8>> for Place {
     ghost refuses = { λ _ _. Unit {0} };
 
-    fn write(self, bytes: &[u8]) -> Result<Vec<u8>, NotCreated> {
-        if let Some(why) = self.refused {
-            return Err(why);
-        }
-        let mut file = Vec::new(self.alloc);
-        match file.extend_from_slice(bytes) {
-            Ok(()) => Ok(file),
-            Err(_) => Err(NotCreated::Memory),
-        }
+    fn write(self, _bytes: &[u8]) -> Result<Vec<u8>, NotCreated> {
+        Err(self.refused)
     }
 }
 
-// What `upgrade` told, and what its file has; none where it was not asked for or refused.
+// What `upgrade` told, and whether it asked for no file.
 #[derive(Drop)]
 struct Done {
     told: Told,
-    file: Option<Vec<u8>>,
     unused: bool,
 }
 
@@ -48,19 +39,7 @@ impl Done {
         let Upgraded { status, file } = upgraded?;
         let unused = matches!(file, OutFile::Unused(_));
         let told = Told::new(Ok(status), output, errors)?;
-        let file = match file {
-            OutFile::Written(file) => Some(file),
-            _ => None,
-        };
-        Ok(Done { told, file, unused })
-    }
-
-    // Whether the file has just these bytes, and nothing was printed.
-    fn has(&self, bytes: &[u8]) -> bool {
-        match &self.file {
-            Some(file) => file.as_slice() == bytes && self.told.is(0, "", ""),
-            None => false,
-        }
+        Ok(Done { told, unused })
     }
 }
 
@@ -68,12 +47,12 @@ impl Done {
 fn upgrade<'a>(
     alloc: Global,
     log: Text<'a>,
-    refused: Option<NotCreated>,
+    refused: NotCreated,
     scripts: Sources<'a>,
 ) -> io::Result<Done> {
     let out = LogTo {
         path: "b.log",
-        log: Place { alloc, refused },
+        log: Place { refused },
     };
     let mut output: Vec<u8> = Vec::new(alloc);
     let mut errors: Vec<u8> = Vec::new(alloc);
@@ -82,16 +61,11 @@ fn upgrade<'a>(
     Done::new(upgraded, output, errors)
 }
 
-// The upgrade of the short write.
-fn upgraded(alloc: Global, refused: Option<NotCreated>) -> io::Result<Done> {
+// Whether the upgrade of the short write, whose file is refused so, says this.
+fn is_refused(alloc: Global, refused: NotCreated, line: &str) -> io::Result<bool> {
     let scripts = sources(alloc, &[SHORT_WRITE])?;
-    upgrade(alloc, Text::Script(THREE_RECORDS), refused, scripts)
-}
-
-#[test]
-fn a_log_is_upgraded(rt: HostRuntime) -> Result<(), Fail> {
-    assert!(rt; upgraded(rt.alloc(), None)?.has(WITH_CLOCKS));
-    Ok(())
+    let done = upgrade(alloc, Text::Script(THREE_RECORDS), refused, scripts)?;
+    Ok(!done.unused && done.told.is(4, "", line))
 }
 
 // Why a file is not made, and what is told of it.
@@ -107,11 +81,7 @@ const REFUSED: &[(NotCreated, &str)] = &[
 #[test]
 fn a_file_is_refused(rt: HostRuntime) -> Result<(), Fail> {
     for (why, line) in REFUSED {
-        let done = upgraded(rt.alloc(), Some(*why))?;
-        assert!(rt;
-            done.told.is(4, "", line) && !done.unused && done.file.is_none(),
-            "{line}"
-        );
+        assert!(rt; is_refused(rt.alloc(), *why, line)?, "{line}");
     }
     Ok(())
 }
@@ -159,7 +129,12 @@ fn is_fault(
     output: &str,
     errors: &str,
 ) -> io::Result<bool> {
-    let done = upgrade(alloc, Text::Device(log), None, numbered(alloc, scripts)?)?;
+    let done = upgrade(
+        alloc,
+        Text::Device(log),
+        NotCreated::Failed,
+        numbered(alloc, scripts)?,
+    )?;
     Ok(done.unused && done.told.may_be(status, output, errors))
 }
 
