@@ -3,3 +3,4 @@ pub mod Printing
 pub mod Reading
 pub mod FirstFaults
 pub mod LogTexts
+pub mod Expecting

@@ -2,11 +2,13 @@
 //! and the lines of faults.
 //!
 //! [`read_all`] reads the texts of [`Source`]s, or names the first that cannot be read; [`scripts`]
-//! reads the scripts, or tells the [`FirstFault`]. A [`Printed`] is what goes to standard output
-//! and standard error, with the exit status: [`run_printed`] makes that of a run, and [`bad_line`],
-//! [`cannot_read`] and the like that of a fault; [`log_text`] is the text of a log. [`print`]
-//! writes it and answers the status. By the contracts the bytes are those of the definitions in
-//! `specs/`. What makes a text takes memory, and fails only for want of it.
+//! reads the scripts, or tells the [`FirstFault`], and [`first_bad_expectation`] looks at what
+//! their texts expect. A [`Printed`] is what goes to standard output and standard error, with the
+//! exit status: [`run_printed`] makes that of a run, [`with_unmet`] adds the line of a reply that
+//! is not as expected ([`unmet_line`]), and [`bad_line`], [`cannot_read`] and the like make that of
+//! a fault; [`log_text`] is the text of a log. [`print`] writes it and answers the status. By the
+//! contracts the bytes are those of the definitions in `specs/`. What makes a text takes memory,
+//! and fails only for want of it.
 //!
 //! ```rust
 //! use call_machine::Plain;
@@ -31,6 +33,7 @@
 //! ```
 #![tactic(auto)]
 
+mod expecting;
 mod first_fault;
 mod log_fault;
 mod log_lines;
@@ -40,6 +43,9 @@ mod source;
 mod text_parts;
 mod transcripts;
 
+pub use expecting::{
+    BadExpectation, bad_expectation, first_bad_expectation, unmet_line, with_unmet,
+};
 pub use first_fault::FirstFault;
 pub use log_fault::{bad_magic, bad_record, bad_version, torn_line};
 pub use log_lines::{items_text, log_text};

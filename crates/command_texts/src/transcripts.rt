@@ -87,8 +87,9 @@ fn push_call(text: &mut Vec<u8>, row: &Row) -> Result<(), AllocError>
     push_word(text, "\n")
 }
 
+// Adds a reply, in the words of a row.
 #[tactic(auto, unfolding(crate::specs::Transcripts::reply_text))]
-fn push_reply(text: &mut Vec<u8>, reply: &Reply) -> Result<(), AllocError>
+pub fn push_reply(text: &mut Vec<u8>, reply: &Reply) -> Result<(), AllocError>
     ensures { OnOk result (text.new.items ≡ text.old.items ++ reply_text reply.now) }
 {
     match reply {
