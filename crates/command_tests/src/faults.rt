@@ -1,5 +1,5 @@
 use crate::devices::{Device, numbered, sources};
-use crate::told::{Told, plain};
+use crate::told::{Told, plain, with_turns};
 use commands::{DEFAULTS, plain_over};
 use posix_terms::Settings;
 use std::alloc::Global;
@@ -106,7 +106,8 @@ fn plain_to_full_device(alloc: Global) -> io::Result<Told> {
     let scripts = sources(alloc, &["close 0"])?;
     let mut full = Device::Broken;
     let mut errors: Vec<u8> = Vec::new(alloc);
-    let status = plain_over(alloc, DEFAULTS, false, scripts, &mut full, &mut errors);
+    let options = with_turns(false);
+    let status = plain_over(alloc, DEFAULTS, options, scripts, &mut full, &mut errors);
     Told::new(status, Vec::new(alloc), errors)
 }
 

@@ -2,6 +2,7 @@
 
 use crate::devices::sources;
 use crate::recording::{LogFile, free_path};
+use crate::told::with_turns;
 use commands::{LogTo, RecordOptions, record_over};
 use posix_terms::Settings;
 use recorder::hosts_waiting;
@@ -35,7 +36,7 @@ fn run(rt: &(impl Threads + Wait + Sync), log: LogFile<'_>, notices: File) -> io
     let alloc = log.host.alloc();
     let options = RecordOptions {
         settings: PATIENCE,
-        turns: false,
+        run: with_turns(false),
         in_turn: false,
         pause: Duration::from_millis(300),
     };

@@ -3,7 +3,7 @@ ghost use Rattle.commands.specs.declared.record.NotCreated.TheVariants as not_cr
 ghost use Rattle.recorder.specs.Each.{IsUnused};
 
 use crate::devices::{Sources, Text, sources};
-use crate::told::{Told, replay};
+use crate::told::{Told, replay, with_turns};
 use commands::{LogTo, NewLog, NotCreated, RecordOptions, Recorded, record_over};
 use host_doors::Outside;
 use input_log::FileSink;
@@ -66,7 +66,7 @@ pub(crate) fn file_has(rt: HostRuntime, path: &str, bytes: &[u8]) -> io::Result<
 fn options(settings: Settings) -> RecordOptions {
     RecordOptions {
         settings,
-        turns: true,
+        run: with_turns(true),
         in_turn: false,
         pause: Duration::from_secs(2),
     }

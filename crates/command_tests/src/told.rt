@@ -1,5 +1,7 @@
 use crate::devices::{Sources, Text};
-use commands::{Source, compare_over, plain_over, replay_over, replay_threads_over, show_over};
+use commands::{
+    RunOptions, Source, compare_over, plain_over, replay_over, replay_threads_over, show_over,
+};
 use posix_terms::Settings;
 use std::alloc::Global;
 use std::io;
@@ -56,6 +58,14 @@ impl Told {
     }
 }
 
+/// A run with the clocks of its turns, or without. What the replies are held to is in `examples/`.
+pub(crate) fn with_turns(turns: bool) -> RunOptions {
+    RunOptions {
+        turns,
+        expect: false,
+    }
+}
+
 /// What `plain` tells of scripts.
 pub(crate) fn plain(
     alloc: Global,
@@ -65,7 +75,8 @@ pub(crate) fn plain(
 ) -> io::Result<Told> {
     let mut output: Vec<u8> = Vec::new(alloc);
     let mut errors: Vec<u8> = Vec::new(alloc);
-    let status = plain_over(alloc, settings, turns, scripts, &mut output, &mut errors);
+    let options = with_turns(turns);
+    let status = plain_over(alloc, settings, options, scripts, &mut output, &mut errors);
     Told::new(status, output, errors)
 }
 
@@ -84,7 +95,8 @@ pub(crate) fn replay<'a>(
     let log = log_at("a.log", log);
     let mut output: Vec<u8> = Vec::new(alloc);
     let mut errors: Vec<u8> = Vec::new(alloc);
-    let status = replay_over(alloc, turns, log, scripts, &mut output, &mut errors);
+    let options = with_turns(turns);
+    let status = replay_over(alloc, options, log, scripts, &mut output, &mut errors);
     Told::new(status, output, errors)
 }
 
@@ -98,7 +110,8 @@ pub(crate) fn replay_by_threads<'a>(
     let log = log_at("a.log", log);
     let mut output: Vec<u8> = Vec::new(alloc);
     let mut errors: Vec<u8> = Vec::new(alloc);
-    let status = replay_threads_over(rt, alloc, true, log, scripts, &mut output, &mut errors);
+    let options = with_turns(true);
+    let status = replay_threads_over(rt, alloc, options, log, scripts, &mut output, &mut errors);
     Told::new(status, output, errors)
 }
 

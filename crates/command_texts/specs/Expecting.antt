@@ -1,4 +1,4 @@
--- Internal: no contract of the headline or of a command stands on it.
+-- Believed: a contract of a command stands on it.
 -- Which of the texts of scripts has the first bad expectation, and what is printed of expectations:
 -- the line of that fault, and the line of a reply that is not as expected.
 use Rattle.std.specs.Prelude.{◌≡◌, ℕ, All, List, ◌++◌, take, slice_get, Some, codes}

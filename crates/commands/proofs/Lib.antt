@@ -1,3 +1,4 @@
 pub mod Scripts
 pub mod Playing
 pub mod Printing
+pub mod Unmets

@@ -11,7 +11,8 @@ use Rattle.command_texts.specs.Reading.{AreRead, AreTexts, script_before, script
 use Rattle.command_texts.specs.declared.printed.Printed.{Printed}
 use Rattle.commands.specs.Plains.{CountPrints, PlainPrints, ReadPrints}
 use Rattle.commands.specs.declared.record.NotCreated.{NotCreated}
-use Rattle.commands.specs.Records.{CountRecords, RecordPrints, Taken, TextsRecord}
+use Rattle.commands.specs.declared.settings.RunOptions.{RunOptions}
+use Rattle.commands.specs.Records.{CountRecords, ReadRecords, RecordPrints, Taken}
 
 pub replicate_push : {A : Type 0} (n : ℕ) (x : A) → replicate n x ++ x ∷ [] ≡ replicate (suc n) x
 replicate_push zero x = refl
@@ -61,12 +62,19 @@ pub texts_count : {S : Type 0} (view : S → List ℕ × Option (List ℕ)) (sou
 texts_count view sources texts read = texts_length (map view sources) texts read ∙ length-map sources view
 
 -- what was read of sources that fit is printed
-pub read_prints : (settings : Settings) (turns : Bool) (sources : List (List ℕ × Option (List ℕ))) (outcome : Result (List (List ℕ)) (List ℕ)) (printed : Printed)
-    → Fits sources → AreRead sources outcome → ReadPrints settings turns outcome printed → PlainPrints settings turns sources printed
-read_prints settings turns sources outcome printed fits read prints =
-    subst (λ b. CountPrints b settings turns sources printed) (sym fits) (outcome, read, prints)
+pub read_prints : (settings : Settings) (options : RunOptions)
+    (sources : List (List ℕ × Option (List ℕ))) (outcome : Result (List (List ℕ)) (List ℕ))
+    (printed : Printed) → Fits sources → AreRead sources outcome
+    → ReadPrints settings options outcome printed → PlainPrints settings options sources printed
+read_prints settings options sources outcome printed fits read prints =
+    subst (λ b. CountPrints b settings options sources printed) (sym fits) (outcome, read, prints)
 
-pub read_records : (D : Type 0) (Refuses : NotCreated → Type 0) (settings : Settings) (turns : Bool) (path : List ℕ) (sources : List (List ℕ × Option (List ℕ))) (outcome : Result (List (List ℕ)) (List ℕ)) (log : Option Taken) (printed : Printed)
-    → Fits sources → AreRead sources outcome → TextsRecord D Refuses settings turns path outcome log printed → RecordPrints D Refuses settings turns path sources log printed
-read_records D Refuses settings turns path sources outcome log printed fits read prints =
-    subst (λ b. CountRecords D Refuses b settings turns path sources log printed) (sym fits) (outcome, read, prints)
+pub read_records : (D : Type 0) (Refuses : NotCreated → Type 0) (settings : Settings)
+    (options : RunOptions) (path : List ℕ) (sources : List (List ℕ × Option (List ℕ)))
+    (outcome : Result (List (List ℕ)) (List ℕ)) (log : Option Taken) (printed : Printed)
+    → Fits sources → AreRead sources outcome
+    → ReadRecords D Refuses settings options path outcome log printed
+    → RecordPrints D Refuses settings options path sources log printed
+read_records D Refuses settings options path sources outcome log printed fits read prints =
+    subst (λ b. CountRecords D Refuses b settings options path sources log printed) (sym fits)
+    (outcome, read, prints)

@@ -13,7 +13,7 @@ use Rattle.command_texts.specs.Printing.{cannot_read, needs_scripts}
 use Rattle.command_texts.specs.Reading.{AreRead, IsText, IsUnreadable, scripts_from}
 use Rattle.command_texts.specs.Transcripts.{◌+++◌}
 use Rattle.command_texts.specs.declared.printed.Printed.{Printed}
-use Rattle.commands.specs.Tells.{RunTells, ScriptsTell}
+use Rattle.commands.specs.Tells.{ScriptsTell}
 use Rattle.commands.specs.declared.told.Told.{Told}
 use Rattle.commands.specs.declared.told.Told.TheVariants as tells
 
@@ -37,7 +37,8 @@ BothPrint seen (tells.Fault fault) printed = printed ≡ fault
 
 -- what is printed for a second log, where this was seen by the first
 abbrev pub SeenCompares : List (List Row) → List ℕ → Result (List (List Line)) (ℕ × Fault) → Printed → Type 0
-SeenCompares seen other scripts printed = (told : Told) × ScriptsTell RunTells other scripts told × BothPrint seen told printed
+SeenCompares seen other scripts printed =
+    (told : Told) × ScriptsTell other scripts told × BothPrint seen told printed
 
 -- what is printed for a second log, where this is told of the first
 abbrev pub ToldCompares : Told → List ℕ → Result (List (List Line)) (ℕ × Fault) → Printed → Type 0
@@ -46,7 +47,8 @@ ToldCompares (tells.Fault fault) other scripts printed = printed ≡ fault
 
 -- what is printed for two logs with these scripts, or for the first fault among the scripts
 abbrev pub ScriptsCompare : List ℕ → List ℕ → Result (List (List Line)) (ℕ × Fault) → Printed → Type 0
-ScriptsCompare log other scripts printed = (told : Told) × ScriptsTell RunTells log scripts told × ToldCompares told other scripts printed
+ScriptsCompare log other scripts printed =
+    (told : Told) × ScriptsTell log scripts told × ToldCompares told other scripts printed
 
 -- what is printed once the scripts were read, or one could not be read
 abbrev pub TextsCompare : List ℕ → List ℕ → Result (List (List ℕ)) (List ℕ) → Printed → Type 0

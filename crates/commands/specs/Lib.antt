@@ -1,3 +1,4 @@
+pub mod Expects
 pub mod Plains
 pub mod Shows
 pub mod Tells

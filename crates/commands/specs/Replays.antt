@@ -3,19 +3,23 @@
 use Rattle.std.specs.Prelude.{◌≡◌, ℕ, ◌⊎◌, Bool, true, false, List, length, Option}
 use Rattle.call_machine.specs.Plain.{counts_fit}
 use Rattle.thread_scripts.specs.declared.line.Line.{Line}
-use Rattle.command_texts.specs.Printing.{cannot_read, needs_scripts, run_printed}
-use Rattle.command_texts.specs.Reading.{AreTexts, IsFirstUnread, IsText, IsUnreadable, scripts_from}
+use Rattle.command_texts.specs.Printing.{cannot_read, needs_scripts}
+use Rattle.command_texts.specs.Reading.{AreTexts, IsFirstUnread, IsText, IsUnreadable}
 use Rattle.command_texts.specs.declared.printed.Printed.{Printed}
-use Rattle.commands.specs.Tells.{ScriptsTell}
+use Rattle.commands.specs.Expects.{IsToRun, RunShows}
 use Rattle.commands.specs.declared.replay.ToReplay.{ToReplay}
 use Rattle.commands.specs.declared.replay.ToReplay.TheVariants as reads
+use Rattle.commands.specs.declared.settings.RunOptions.{RunOptions}
+use Rattle.commands.specs.declared.to_run.ToRun.{ToRun}
+use Rattle.commands.specs.declared.to_run.ToRun.TheVariants as runs
 use Rattle.commands.specs.declared.told.Told.{Told}
 use Rattle.commands.specs.declared.told.Told.TheVariants as tells
 
--- what is printed for what is told of a replay
-abbrev pub ToldPrints : Bool → Told → Printed → Type 0
-ToldPrints turns (tells.Run transcripts stop) printed = printed ≡ run_printed turns transcripts stop
-ToldPrints turns (tells.Fault fault) printed = printed ≡ fault
+-- what is printed for what is told of a replay with the scripts of these texts
+abbrev pub ToldPrints : RunOptions → List (List ℕ) → Told → Printed → Type 0
+ToldPrints options texts (tells.Run transcripts stop) printed =
+    RunShows options texts transcripts stop printed
+ToldPrints options texts (tells.Fault fault) printed = printed ≡ fault
 
 -- what was read of the scripts, once the log was: their texts, or what is printed for the first that could not be read
 abbrev pub LogIsRead : List ℕ → List (List ℕ × Option (List ℕ)) → ToReplay → Type 0
@@ -32,12 +36,31 @@ CountIsRead true log sources read =
 abbrev pub IsToReplay : List ℕ × Option (List ℕ) → List (List ℕ × Option (List ℕ)) → ToReplay → Type 0
 IsToReplay log sources read = CountIsRead (counts_fit (length sources) (length sources)) log sources read
 
--- what is printed for what was read
-abbrev pub ReadReplays : (List ℕ → List (List Line) → Told → Type 0) → Bool → ToReplay → Printed → Type 0
-ReadReplays Tells turns (reads.Texts text texts) printed = (told : Told) × ScriptsTell Tells text (scripts_from 0 texts.items) told × ToldPrints turns told printed
-ReadReplays Tells turns (reads.Fault fault) printed = printed ≡ fault
+-- what is printed for what is to be run of these texts
+abbrev pub ToRunReplays : (List ℕ → List (List Line) → Told → Type 0) → RunOptions → List ℕ
+    → List (List ℕ) → ToRun → Printed → Type 0
+ToRunReplays Tells options text texts (runs.Scripts scripts) printed =
+    (told : Told) × Tells text scripts.items told × ToldPrints options texts told printed
+ToRunReplays Tells options text texts (runs.Fault fault) printed = printed ≡ fault
 
--- What `detio replay` prints for the log and the sources of these paths, by a replay that tells so. The first of its faults counts: the number of scripts,
--- a log that cannot be read, a script that cannot be read, one that is no script, the log's, another number of threads
-abbrev pub ReplayPrints : (List ℕ → List (List Line) → Told → Type 0) → Bool → List ℕ × Option (List ℕ) → List (List ℕ × Option (List ℕ)) → Printed → Type 0
-ReplayPrints Tells turns log sources printed = (read : ToReplay) × IsToReplay log sources read × ReadReplays Tells turns read printed
+-- what is printed for the text of a log and those of scripts
+abbrev pub TextsReplay : (List ℕ → List (List Line) → Told → Type 0) → RunOptions → List ℕ
+    → List (List ℕ) → Printed → Type 0
+TextsReplay Tells options text texts printed =
+    (run : ToRun) × IsToRun options.expect texts run
+    × ToRunReplays Tells options text texts run printed
+
+-- what is printed for what was read
+abbrev pub ReadReplays : (List ℕ → List (List Line) → Told → Type 0) → RunOptions → ToReplay
+    → Printed → Type 0
+ReadReplays Tells options (reads.Texts text texts) printed =
+    TextsReplay Tells options text texts.items printed
+ReadReplays Tells options (reads.Fault fault) printed = printed ≡ fault
+
+-- What `detio replay` prints for the log and the sources of these paths, by a replay that tells so.
+-- The first of its faults counts: the number of scripts, a log that cannot be read, a script that
+-- cannot be read, one that is no script, a bad expectation, the log's, another number of threads
+abbrev pub ReplayPrints : (List ℕ → List (List Line) → Told → Type 0) → RunOptions
+    → List ℕ × Option (List ℕ) → List (List ℕ × Option (List ℕ)) → Printed → Type 0
+ReplayPrints Tells options log sources printed =
+    (read : ToReplay) × IsToReplay log sources read × ReadReplays Tells options read printed

@@ -70,7 +70,7 @@ ThreadsTell text scripts told =
     ((last : AtEnd ScriptState) × (stop : Option Stop) × IsByThreads text scripts last stop × (told ≡ tells.Run last.transcripts stop))
     ⊎ ((fault : ReplayFault) × IsNoReplay text (length scripts) fault × FaultTells text (length scripts) fault told)
 
--- what is told of scripts, by a replay of one kind or the other, or of the first fault among them
-abbrev pub ScriptsTell : (List ℕ → List (List Line) → Told → Type 0) → List ℕ → Result (List (List Line)) (ℕ × Fault) → Told → Type 0
-ScriptsTell Tells text (Ok scripts) told = Tells text scripts told
-ScriptsTell Tells text (Err (i, fault)) told = told ≡ tells.Fault (script_fault i fault)
+-- what is told of scripts, or of the first fault among them
+abbrev pub ScriptsTell : List ℕ → Result (List (List Line)) (ℕ × Fault) → Told → Type 0
+ScriptsTell text (Ok scripts) told = RunTells text scripts told
+ScriptsTell text (Err (i, fault)) told = told ≡ tells.Fault (script_fault i fault)

@@ -7,32 +7,40 @@
 //! error of the writer `errors`. [`record_over`] makes its log, a [`LogTo`], just before the run,
 //! and asks for one outside for each script, of which none gave anything yet. [`upgrade_over`] makes
 //! its file, a [`NewFile`], only when it has the bytes of the upgraded log. [`DEFAULTS`] are the
-//! settings where no option says otherwise.
+//! settings where no option says otherwise. By [`RunOptions`] a run is held to what the texts of
+//! its scripts expect: a bad expectation is a fault, and the first unmet one has a line after the
+//! run's own last one.
 //!
 //! ```rust
-//! use commands::{DEFAULTS, Source, plain_over};
+//! use commands::{DEFAULTS, RunOptions, Source, plain_over};
 //!
 //! let mut sources = Vec::new(alloc);
 //! sources.push(Source {
 //!     path: "a.script",
-//!     reader: "open /a rw create\n".as_bytes(),
+//!     reader: "open /a r\n#= fail ENOENT\n".as_bytes(),
 //! })?;
 //! let mut output: Vec<u8> = Vec::new(alloc);
 //! let mut errors: Vec<u8> = Vec::new(alloc);
-//! let status = plain_over(alloc, DEFAULTS, false, sources, &mut output, &mut errors)?;
+//! let options = RunOptions {
+//!     turns: false,
+//!     expect: true,
+//! };
+//! let status = plain_over(alloc, DEFAULTS, options, sources, &mut output, &mut errors)?;
 //! // Another status would say that there was no memory.
 //! if status == 0 {
-//!     assert!(rt; output.as_slice() == b"0 0 open number 0\nend\n".as_slice());
+//!     assert!(rt; output.as_slice() == b"0 0 open fail ENOENT\nend\n".as_slice());
 //! }
 //! ```
 #![tactic(auto)]
 
 mod compare;
+mod expecting;
 mod plain;
 mod record;
 mod replay;
 mod settings;
 mod show;
+mod to_run;
 mod told;
 mod upgrade;
 
@@ -43,6 +51,6 @@ pub use compare::compare_over;
 pub use plain::plain_over;
 pub use record::{LogTo, NewLog, NotCreated, RecordOptions, Recorded, log_sink, record_over};
 pub use replay::{replay_over, replay_threads_over};
-pub use settings::{DEFAULTS, settings_of};
+pub use settings::{DEFAULTS, RunOptions, settings_of};
 pub use show::show_over;
 pub use upgrade::{NewFile, OutFile, Upgraded, upgrade_over};

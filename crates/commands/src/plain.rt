@@ -2,13 +2,15 @@ ghost use Rattle.std.specs.Prelude.{◌≡◌, [], length, map, IfOk, replicate,
 ghost use Rattle.call_machine.specs.Plain.{counts_fit};
 ghost use Rattle.logged_machine.specs.Starting.{are_settings};
 ghost use Rattle.command_texts.specs.Printing.{Prints, needs_scripts};
-ghost use Rattle.command_texts.specs.Reading.{scripts_from};
-ghost use Rattle.commands.specs.Plains.{PlainPrints, RunPrints, ScriptsPrint, bad_settings, inputs_of};
+ghost use Rattle.commands.specs.Plains.{PlainPrints, RunPrints, TextsPrint, bad_settings};
+ghost use Rattle.commands.specs.Plains.{inputs_of};
 
+use crate::expecting::run_shown;
+use crate::settings::RunOptions;
+use crate::to_run::{ToRun, to_run};
 use call_machine::{PlainFault, plain_run};
 use command_texts::{
-    FirstFault, Printed, Source, TextReader, Unread, bad_line, cannot_read, fault, fits, no_memory,
-    print, read_all, run_printed, scripts, too_long,
+    Printed, Source, TextReader, Unread, cannot_read, fault, fits, no_memory, print, read_all,
 };
 use posix_terms::{Bytes, Limits, Outcomes, Settings};
 use std::alloc::{AllocError, Global};
@@ -16,21 +18,27 @@ use std::io;
 use std::io::Write;
 use thread_scripts::Script;
 
-/// `detio plain`: runs the scripts on the plain schedule and prints their transcripts, with the clocks of
-/// the turns if that is asked, or one line for the first fault; the answer is the exit status. Where there
-/// is no memory, a script cannot be read or the output cannot be written, that is the fault. An error is
+/// `detio plain`: runs the scripts on the plain schedule and prints their transcripts, with the
+/// clocks of the turns if that is asked, and the first reply that is not as its script expects if
+/// that is; or one line for the first fault; the answer is the exit status. Where there is no
+/// memory, a script cannot be read or the output cannot be written, that is the fault. An error is
 /// one of the writer `errors`.
 pub fn plain_over<R: TextReader + Drop, W: Write, E: Write>(
     alloc: Global,
     settings: Settings,
-    turns: bool,
+    options: RunOptions,
     sources: Vec<Source<'_, R>>,
     output: &mut W,
     errors: &mut E,
 ) -> io::Result<u8>
-    ensures { IfOk result (λ status. Prints (PlainPrints settings turns (map (λ s. (s.path.now, R.remaining s.reader)) sources.entry.items)) status (W.contents output.old) (W.contents output.new) (E.contents errors.old) (E.contents errors.new)) }
+    ensures { IfOk result (λ status.
+        Prints
+        (PlainPrints settings options
+        (map (λ s. (s.path.now, R.remaining s.reader)) sources.entry.items))
+        status (W.contents output.old) (W.contents output.new)
+        (E.contents errors.old) (E.contents errors.new)) }
 {
-    match plain_printed(alloc, settings, turns, sources) {
+    match plain_printed(alloc, settings, options, sources) {
         Ok(printed) => print(&printed, output, errors),
         Err(AllocError) => no_memory(errors),
     }
@@ -40,16 +48,18 @@ pub fn plain_over<R: TextReader + Drop, W: Write, E: Write>(
 fn plain_printed<R: TextReader + Drop>(
     alloc: Global,
     settings: Settings,
-    turns: bool,
+    options: RunOptions,
     sources: Vec<Source<'_, R>>,
 ) -> Result<Printed, AllocError>
-    ensures { IfOk result (PlainPrints settings turns (map (λ s. (s.path.now, R.remaining s.reader)) sources.entry.items)) }
+    ensures { IfOk result (
+        PlainPrints settings options
+        (map (λ s. (s.path.now, R.remaining s.reader)) sources.entry.items)) }
 {
     if !fits(sources.len()) {
         return needs_scripts(alloc);
     }
     match read_all(alloc, sources) {
-        Ok(texts) => texts_printed(alloc, settings, turns, &texts),
+        Ok(texts) => texts_printed(alloc, settings, options, &texts),
         Err(Unread::Script(path)) => cannot_read(alloc, path),
         Err(Unread::Memory) => Err(AllocError),
     }
@@ -59,33 +69,33 @@ fn plain_printed<R: TextReader + Drop>(
 fn texts_printed(
     alloc: Global,
     settings: Settings,
-    turns: bool,
+    options: RunOptions,
     texts: &[Bytes],
 ) -> Result<Printed, AllocError>
     requires { counts_fit (length texts.now) (length texts.now) ≡ true }
-    ensures { IfOk result (ScriptsPrint settings turns (scripts_from 0 texts.now)) }
+    ensures { IfOk result (TextsPrint settings options texts.now) }
 {
-    match scripts(alloc, texts) {
-        Ok(scripts) => scripts_run(alloc, settings, turns, scripts),
-        Err(FirstFault::BadLine(script, line)) => bad_line(alloc, script, line),
-        Err(FirstFault::TooLong(script)) => too_long(alloc, script),
-        Err(FirstFault::Memory) => Err(AllocError),
+    match to_run(alloc, options.expect, texts)? {
+        ToRun::Scripts(scripts) => scripts_run(alloc, settings, options, texts, scripts),
+        ToRun::Fault(printed) => Ok(printed),
     }
 }
 
-// What is to be printed for the run of scripts.
+// What is to be printed for the run of the scripts of these texts.
 fn scripts_run(
     alloc: Global,
     settings: Settings,
-    turns: bool,
+    options: RunOptions,
+    texts: &[Bytes],
     scripts: Vec<Script>,
 ) -> Result<Printed, AllocError>
     requires { counts_fit (length scripts.items) (length scripts.items) ≡ true }
-    ensures { IfOk result (RunPrints (are_settings settings) turns (inputs_of settings scripts.items)) }
+    ensures { IfOk result (
+        RunPrints (are_settings settings) options texts.now (inputs_of settings scripts.items)) }
 {
     let outcomes = no_outcomes(alloc, scripts.len())?;
     match plain_run(alloc, scripts, outcomes, settings) {
-        Ok(plain) => run_printed(alloc, turns, &plain.transcripts, plain.stop),
+        Ok(plain) => run_shown(alloc, options, texts, &plain.transcripts, plain.stop),
         Err(PlainFault::Memory) => Err(AllocError),
         Err(PlainFault::Threads) => unreachable!(),
         Err(PlainFault::Settings) => bad_settings(alloc),

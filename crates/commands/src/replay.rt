@@ -1,13 +1,17 @@
 ghost use Rattle.std.specs.Prelude.{◌≡◌, IfOk, map};
 ghost use Rattle.command_texts.specs.Printing.{Prints};
-ghost use Rattle.commands.specs.Replays.{IsToReplay, LogIsRead, ReplayPrints, ToldPrints};
+ghost use Rattle.commands.specs.Replays.{IsToReplay, LogIsRead, ReplayPrints, TextsReplay};
+ghost use Rattle.commands.specs.Replays.{ToldPrints};
 ghost use Rattle.commands.specs.Tells.{RunTells, ThreadsTell};
 
+use crate::expecting::run_shown;
 use crate::plain::needs_scripts;
-use crate::told::{Told, threads_told_of, told_of};
+use crate::settings::RunOptions;
+use crate::to_run::{ToRun, to_run};
+use crate::told::{Told, run_told, threads_told};
 use command_texts::{
     Printed, ReadFault, Source, TextReader, Unread, cannot_read, fits, no_memory, print, read_all,
-    read_text, run_printed,
+    read_text,
 };
 use posix_terms::Bytes;
 use std::alloc::{AllocError, Global};
@@ -16,23 +20,28 @@ use std::io::Write;
 use std::sync::Wait;
 use std::thread::Threads;
 
-/// `detio replay`: runs the scripts by the log of what came from outside and prints their transcripts, with the
-/// clocks of the turns if that is asked, and how that ended; or one line for the first fault; the answer is the exit
-/// status. Where there is no memory, a file cannot be read or the output cannot be written, that is the fault. An
-/// error is one of the writer `errors`.
+/// `detio replay`: runs the scripts by the log of what came from outside and prints their
+/// transcripts, with the clocks of the turns if that is asked, and how that ended, with the first
+/// reply that is not as its script expects if that is; or one line for the first fault; the answer
+/// is the exit status. Where there is no memory, a file cannot be read or the output cannot be
+/// written, that is the fault. An error is one of the writer `errors`.
 pub fn replay_over<R: TextReader + Drop, W: Write, E: Write>(
     alloc: Global,
-    turns: bool,
+    options: RunOptions,
     log: Source<'_, R>,
     sources: Vec<Source<'_, R>>,
     output: &mut W,
     errors: &mut E,
 ) -> io::Result<u8>
     ensures { IfOk result (λ status.
-        Prints (ReplayPrints RunTells turns (log.entry.path.now, R.remaining log.entry.reader) (map (λ s. (s.path.now, R.remaining s.reader)) sources.entry.items))
-        status (W.contents output.old) (W.contents output.new) (E.contents errors.old) (E.contents errors.new)) }
+        Prints
+        (ReplayPrints RunTells options
+        (log.entry.path.now, R.remaining log.entry.reader)
+        (map (λ s. (s.path.now, R.remaining s.reader)) sources.entry.items))
+        status (W.contents output.old) (W.contents output.new)
+        (E.contents errors.old) (E.contents errors.new)) }
 {
-    match replay_printed(alloc, turns, log, sources) {
+    match replay_printed(alloc, options, log, sources) {
         Ok(printed) => print(&printed, output, errors),
         Err(AllocError) => no_memory(errors),
     }
@@ -42,17 +51,21 @@ pub fn replay_over<R: TextReader + Drop, W: Write, E: Write>(
 pub fn replay_threads_over<R: TextReader + Drop, W: Write, E: Write, T: Threads + Wait + Sync>(
     rt: &T,
     alloc: Global,
-    turns: bool,
+    options: RunOptions,
     log: Source<'_, R>,
     sources: Vec<Source<'_, R>>,
     output: &mut W,
     errors: &mut E,
 ) -> io::Result<u8>
     ensures { IfOk result (λ status.
-        Prints (ReplayPrints ThreadsTell turns (log.entry.path.now, R.remaining log.entry.reader) (map (λ s. (s.path.now, R.remaining s.reader)) sources.entry.items))
-        status (W.contents output.old) (W.contents output.new) (E.contents errors.old) (E.contents errors.new)) }
+        Prints
+        (ReplayPrints ThreadsTell options
+        (log.entry.path.now, R.remaining log.entry.reader)
+        (map (λ s. (s.path.now, R.remaining s.reader)) sources.entry.items))
+        status (W.contents output.old) (W.contents output.new)
+        (E.contents errors.old) (E.contents errors.new)) }
 {
-    match replay_threads_printed(rt, alloc, turns, log, sources) {
+    match replay_threads_printed(rt, alloc, options, log, sources) {
         Ok(printed) => print(&printed, output, errors),
         Err(AllocError) => no_memory(errors),
     }
@@ -61,19 +74,17 @@ pub fn replay_threads_over<R: TextReader + Drop, W: Write, E: Write, T: Threads 
 // What is to be printed.
 fn replay_printed<R: TextReader + Drop>(
     alloc: Global,
-    turns: bool,
+    options: RunOptions,
     log: Source<'_, R>,
     sources: Vec<Source<'_, R>>,
 ) -> Result<Printed, AllocError>
     ensures { IfOk result (
-        ReplayPrints RunTells turns
+        ReplayPrints RunTells options
         (log.entry.path.now, R.remaining log.entry.reader)
         (map (λ s. (s.path.now, R.remaining s.reader)) sources.entry.items)) }
 {
     match to_replay(alloc, log, sources)? {
-        ToReplay::Texts(log, texts) => {
-            told_printed(alloc, turns, told_of(alloc, &log, texts.as_slice())?)
-        }
+        ToReplay::Texts(log, texts) => texts_replayed(alloc, options, &log, &texts),
         ToReplay::Fault(printed) => Ok(printed),
     }
 }
@@ -82,21 +93,55 @@ fn replay_printed<R: TextReader + Drop>(
 fn replay_threads_printed<R: TextReader + Drop, T: Threads + Wait + Sync>(
     rt: &T,
     alloc: Global,
-    turns: bool,
+    options: RunOptions,
     log: Source<'_, R>,
     sources: Vec<Source<'_, R>>,
 ) -> Result<Printed, AllocError>
     ensures { IfOk result (
-        ReplayPrints ThreadsTell turns
+        ReplayPrints ThreadsTell options
         (log.entry.path.now, R.remaining log.entry.reader)
         (map (λ s. (s.path.now, R.remaining s.reader)) sources.entry.items)) }
 {
     match to_replay(alloc, log, sources)? {
-        ToReplay::Texts(log, texts) => {
-            let told = threads_told_of(rt, alloc, &log, texts.as_slice())?;
-            told_printed(alloc, turns, told)
-        }
+        ToReplay::Texts(log, texts) => texts_replayed_by_threads(rt, alloc, options, &log, &texts),
         ToReplay::Fault(printed) => Ok(printed),
+    }
+}
+
+// What is to be printed for texts that were read.
+fn texts_replayed(
+    alloc: Global,
+    options: RunOptions,
+    log: &Bytes,
+    texts: &[Bytes],
+) -> Result<Printed, AllocError>
+    ensures { IfOk result (TextsReplay RunTells options log.now texts.now) }
+{
+    match to_run(alloc, options.expect, texts)? {
+        ToRun::Scripts(scripts) => {
+            let told = run_told(alloc, log.as_slice(), scripts)?;
+            told_printed(alloc, options, texts, told)
+        }
+        ToRun::Fault(printed) => Ok(printed),
+    }
+}
+
+// The same, of a replay by threads.
+fn texts_replayed_by_threads<T: Threads + Wait + Sync>(
+    rt: &T,
+    alloc: Global,
+    options: RunOptions,
+    log: &Bytes,
+    texts: &[Bytes],
+) -> Result<Printed, AllocError>
+    ensures { IfOk result (TextsReplay ThreadsTell options log.now texts.now) }
+{
+    match to_run(alloc, options.expect, texts)? {
+        ToRun::Scripts(scripts) => {
+            let told = threads_told(rt, alloc, log.as_slice(), scripts)?;
+            told_printed(alloc, options, texts, told)
+        }
+        ToRun::Fault(printed) => Ok(printed),
     }
 }
 
@@ -146,11 +191,16 @@ fn log_read<R: TextReader + Drop>(
 }
 
 // What is to be printed for what is told of a replay.
-fn told_printed(alloc: Global, turns: bool, told: Told) -> Result<Printed, AllocError>
-    ensures { IfOk result (ToldPrints turns told) }
+fn told_printed(
+    alloc: Global,
+    options: RunOptions,
+    texts: &[Bytes],
+    told: Told,
+) -> Result<Printed, AllocError>
+    ensures { IfOk result (ToldPrints options texts.now told) }
 {
     match told {
-        Told::Run(transcripts, stop) => run_printed(alloc, turns, &transcripts, stop),
+        Told::Run(transcripts, stop) => run_shown(alloc, options, texts, &transcripts, stop),
         Told::Fault(printed) => Ok(printed),
     }
 }

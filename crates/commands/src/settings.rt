@@ -2,6 +2,15 @@ ghost use Rattle.std.specs.Prelude.{◌≡◌, unwrap_or};
 
 use posix_terms::Settings;
 
+/// What is asked of a run, beside its settings.
+#[derive(Clone, Copy, Debug, PartialEq, Eq)]
+pub struct RunOptions {
+    /// Whether the clocks of the turns are printed.
+    pub turns: bool,
+    /// Whether the replies are held to what the texts of the scripts expect.
+    pub expect: bool,
+}
+
 /// What scripts run under where no option says otherwise.
 pub const DEFAULTS: Settings = Settings {
     patience: 1_000,

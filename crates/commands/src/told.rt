@@ -28,7 +28,7 @@ pub enum Told {
 
 // What is told of the replay of a log with the scripts of these texts.
 pub fn told_of(alloc: Global, log: &Bytes, texts: &[Bytes]) -> Result<Told, AllocError>
-    ensures { IfOk result (ScriptsTell RunTells log.now (scripts_from 0 texts.now)) }
+    ensures { IfOk result (ScriptsTell log.now (scripts_from 0 texts.now)) }
 {
     match scripts(alloc, texts) {
         Ok(scripts) => run_told(alloc, log.as_slice(), scripts),
@@ -38,25 +38,8 @@ pub fn told_of(alloc: Global, log: &Bytes, texts: &[Bytes]) -> Result<Told, Allo
     }
 }
 
-// The same, of a replay by threads.
-pub fn threads_told_of<T: Threads + Wait + Sync>(
-    rt: &T,
-    alloc: Global,
-    log: &Bytes,
-    texts: &[Bytes],
-) -> Result<Told, AllocError>
-    ensures { IfOk result (ScriptsTell ThreadsTell log.now (scripts_from 0 texts.now)) }
-{
-    match scripts(alloc, texts) {
-        Ok(scripts) => threads_told(rt, alloc, log.as_slice(), scripts),
-        Err(FirstFault::BadLine(script, line)) => Ok(Told::Fault(bad_line(alloc, script, line)?)),
-        Err(FirstFault::TooLong(script)) => Ok(Told::Fault(too_long(alloc, script)?)),
-        Err(FirstFault::Memory) => Err(AllocError),
-    }
-}
-
 // What is told of the replay of a log with these scripts.
-fn run_told(alloc: Global, log: &[u8], scripts: Vec<Script>) -> Result<Told, AllocError>
+pub fn run_told(alloc: Global, log: &[u8], scripts: Vec<Script>) -> Result<Told, AllocError>
     ensures { IfOk result (RunTells log.now scripts.items) }
 {
     let count = scripts.len();
@@ -67,7 +50,7 @@ fn run_told(alloc: Global, log: &[u8], scripts: Vec<Script>) -> Result<Told, All
 }
 
 // What is told of the replay of a log with these scripts, each in a thread of its own.
-fn threads_told<T: Threads + Wait + Sync>(
+pub fn threads_told<T: Threads + Wait + Sync>(
     rt: &T,
     alloc: Global,
     log: &[u8],

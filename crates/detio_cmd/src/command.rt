@@ -21,9 +21,9 @@ prints
 
 Exit statuses:
   0  the run came to its end, the logs gave the same, or the log was printed or upgraded
-  1  a difference, a divergence or the end of a log
+  1  a difference, a divergence, the end of a log, or a reply that is not as expected
   2  wrong usage
-  3  a bad script or log
+  3  a bad script, expectation or log
   4  a file that cannot be read or written, no memory, a full clock, threads that strayed
 
 It runs scripts, not programs. Each command's --help has its limits, its statuses and an example.";
@@ -97,6 +97,18 @@ the last line is
   stop end of log THREAD
 Under detio record they get what the host gives, and by its log detio replay runs the scripts again.
 
+A line that begins with #= says what the call above it is to get, in the words of a printed reply. _
+is any operand, and #= not fail is any reply but a failure:
+  open /a r
+  #= fail ENOENT
+  read 0 9
+  #= fail _
+With --expect the first reply that is not so, of the least thread, has a line after the last one,
+with the number of the call's line in its script. The status is then 1 in place of 0:
+  expected THREAD LINE WANTED GOT
+A line #= that says nothing of the kind, or has no call above, is then a fault before anything runs.
+Without --expect it is a comment. So it is with detio record and detio replay.
+
 Threads that contend take turns by their clocks, and a thread that makes one call after another may be served
 each time before one of a greater number. work before a call, or in a loop, lets others go first.
 
@@ -104,9 +116,9 @@ The path /dev/stdin reads a script from standard input.
 
 Exit statuses:
   0  all threads came to their end
-  1  end of log: a thread is at a call that goes outside
+  1  end of log: a thread is at a call that goes outside; or a reply is not as expected
   2  wrong usage
-  3  a bad script
+  3  a bad script or expectation
   4  a script that cannot be read, output that cannot be written, no memory, a full clock";
 
 const PLAIN_AFTER_HELP: &str = "Example:
@@ -163,10 +175,14 @@ The last line is end where all threads came to their end, or one of
   stop strayed                  what the threads noted is not what the history says: a fault of this program
 after which the lines before are what each thread saw until then.
 
+With --expect replies are held to the lines #= of the scripts, as detio plain --help says. The log
+is the same.
+
 Exit statuses:
   0  all threads came to their end
+  1  a reply is not as expected
   2  wrong usage
-  3  a bad script
+  3  a bad script or expectation
   4  a file that cannot be read or written, no memory, a full clock, threads that strayed";
 
 const RECORD_AFTER_HELP: &str = "Example:
@@ -218,11 +234,13 @@ What is not a log, and a log of another number of threads, has one line on stand
   log: torn at 0 after 0 records
   log has COUNT threads, COUNT scripts given
 
+With --expect replies are held to the lines #= of the scripts, as detio plain --help says.
+
 Exit statuses:
   0  all threads came to their end, and every record was used
-  1  the end of the log, or a divergence
+  1  the end of the log, a divergence, or a reply that is not as expected
   2  wrong usage
-  3  a bad script or log
+  3  a bad script, expectation or log
   4  a file that cannot be read, output that cannot be written, no memory, a full clock, threads that strayed";
 
 const REPLAY_AFTER_HELP: &str = "Example:
@@ -541,7 +559,8 @@ fn upgrade<'a>(alloc: Global) -> Result<Command<'a>, AllocError> {
 
 // A subcommand that runs scripts.
 fn with_scripts<'a>(alloc: Global, command: Command<'a>) -> Result<Command<'a>, AllocError> {
-    command.arg(turns(alloc))?.arg(scripts(alloc))
+    let command = command.arg(turns(alloc))?.arg(expect(alloc))?;
+    command.arg(scripts(alloc))
 }
 
 // An option for a number from 1 to a million.
@@ -572,6 +591,13 @@ fn turns<'a>(alloc: Global) -> Arg<'a> {
         .long("turns")
         .action(ArgAction::SetTrue)
         .help("Prints the clock of each turn")
+}
+
+fn expect<'a>(alloc: Global) -> Arg<'a> {
+    Arg::new(alloc, "expect")
+        .long("expect")
+        .action(ArgAction::SetTrue)
+        .help("Holds each reply to the lines #= below its call, as #= fail ENOENT")
 }
 
 fn scripts<'a>(alloc: Global) -> Arg<'a> {

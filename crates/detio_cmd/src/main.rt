@@ -10,8 +10,8 @@ use clap::ArgMatches;
 use clap::error::ErrorKind;
 use command::command;
 use commands::{
-    LogTo, cannot_write, compare_over, no_memory, plain_over, replay_over, replay_threads_over,
-    settings_of, show_over, upgrade_over,
+    LogTo, RunOptions, cannot_write, compare_over, no_memory, plain_over, replay_over,
+    replay_threads_over, settings_of, show_over, upgrade_over,
 };
 use host_doors::Outside;
 use input::{open_scripts, open_source};
@@ -108,6 +108,14 @@ fn other_usage(rt: &HostRuntime, error: clap::Error) -> Result<u8, AllocError> {
     }
 }
 
+// What is asked of any run of scripts.
+pub(crate) fn run_options(matches: &ArgMatches<'_>) -> RunOptions {
+    RunOptions {
+        turns: matches.get_flag("turns"),
+        expect: matches.get_flag("expect"),
+    }
+}
+
 // `detio plain`, as the command line has it.
 fn run_plain(rt: &HostRuntime, matches: &ArgMatches<'_>) -> Result<u8, AllocError> {
     let settings = settings_of(
@@ -115,12 +123,11 @@ fn run_plain(rt: &HostRuntime, matches: &ArgMatches<'_>) -> Result<u8, AllocErro
         matches.get_one::<u32>("door-cost"),
         None,
     );
-    let turns = matches.get_flag("turns");
     let sources = open_scripts(rt, matches.get_strs("script").unwrap_or(&[]))?;
     let status = plain_over(
         rt.alloc(),
         settings,
-        turns,
+        run_options(matches),
         sources,
         &mut rt.stdout(),
         &mut rt.stderr(),
@@ -137,7 +144,7 @@ fn run_replay<T: Threads + Wait + Sync>(
     let Some(path) = matches.get_str("log") else {
         return Ok(2);
     };
-    let turns = matches.get_flag("turns");
+    let options = run_options(matches);
     let log = open_source(rt, path);
     let sources = open_scripts(rt, matches.get_strs("script").unwrap_or(&[]))?;
     let alloc = rt.alloc();
@@ -146,14 +153,14 @@ fn run_replay<T: Threads + Wait + Sync>(
         replay_threads_over(
             handles,
             alloc,
-            turns,
+            options,
             log,
             sources,
             &mut output,
             &mut errors,
         )
     } else {
-        replay_over(alloc, turns, log, sources, &mut output, &mut errors)
+        replay_over(alloc, options, log, sources, &mut output, &mut errors)
     };
     Ok(status.unwrap_or(4))
 }

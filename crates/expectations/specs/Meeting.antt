@@ -1,4 +1,4 @@
--- Internal: no contract of the headline or of a command stands on it.
+-- Believed: a contract of a command stands on it.
 -- Which replies meet what is wanted.
 use Rattle.std.specs.Prelude.{◌≡◌, Option, Some, None}
 use Rattle.posix_terms.specs.declared.reply.Reply.{Reply}

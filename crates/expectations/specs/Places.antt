@@ -1,4 +1,4 @@
--- Internal: no contract of the headline or of a command stands on it.
+-- Believed: a contract of a command stands on it.
 -- Where the calls of a thread stand in its script, by the replies that it had.
 use Rattle.std.specs.Prelude.{ℕ, zero, suc, ◌+◌, List, [], ◌∷◌, Option, Some, None}
 use Rattle.posix_terms.specs.declared.reply.Reply.{Reply}

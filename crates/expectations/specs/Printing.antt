@@ -1,4 +1,4 @@
--- Internal: no contract of the headline or of a command stands on it.
+-- Believed: a contract of a command stands on it.
 -- How what is wanted is written: in the words by which it is read, one space apart.
 use Rattle.std.specs.Prelude.{ℕ, List, [], ◌∷◌, length, ◌==◌, if◌then◌else◌, Option, Some, None}
 use Rattle.std.specs.Prelude.{codes, decimal}

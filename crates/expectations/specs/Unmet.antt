@@ -1,4 +1,4 @@
--- Internal: no contract of the headline or of a command stands on it.
+-- Believed: a contract of a command stands on it.
 -- The first reply that does not meet an expectation of its call's line.
 use Rattle.std.specs.Prelude.{◌≡◌, ℕ, List, All, take, slice_get, Some}
 use Rattle.posix_terms.specs.declared.reply.Reply.{Reply}

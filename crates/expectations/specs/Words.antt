@@ -1,4 +1,4 @@
--- Internal: no contract of the headline or of a command stands on it.
+-- Believed: a contract of a command stands on it.
 -- The words of an expectation: those of a reply in a transcript, with `_` for any operand.
 use Rattle.std.specs.Prelude.{ℕ, ◌-◌, ◌^◌, List, [], ◌∷◌, ◌==◌, if◌then◌else◌, Option, Some, None}
 use Rattle.std.specs.Prelude.{option_map, option_and_then, bytes_eq, codes, find}

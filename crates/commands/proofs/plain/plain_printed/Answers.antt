@@ -19,9 +19,16 @@ returns-in-Ok g c =
     let sources : List (List ℕ × Option (List ℕ)) = map (λ s. (s.path.now, g.R.TextReader.remaining s.reader)) c.args.sources.items in
     let count : c.len.result ≡ length c.args.sources.items = omega (arith, c.len.ensures) in
     let fits : Fits sources = view_fits (λ s. (s.path.now, g.R.TextReader.remaining s.reader)) c.args.sources.items c.len.result c.fits.result count c.fits.ensures (search rules) in
-    let P : List (List ℕ) → Type 0 = λ texts. IfOk c.texts_printed.result (ReadPrints c.args.settings c.args.turns (Ok texts)) in
-    IfOk-weaker c.texts_printed.result (ReadPrints c.args.settings c.args.turns (Ok c.in-Ok.texts.items)) (PlainPrints c.args.settings c.args.turns sources)
-    (λ printed prints. read_prints c.args.settings c.args.turns sources (Ok c.in-Ok.texts.items) printed fits c.in-Ok.ensures.texts prints) (subst P c.deref.ensures.value c.texts_printed.ensures)
+    let settings = c.args.settings in
+    let options = c.args.options in
+    let texts = c.in-Ok.texts.items in
+    let P : List (List ℕ) → Type 0 =
+    λ texts. IfOk c.texts_printed.result (ReadPrints settings options (Ok texts)) in
+    IfOk-weaker c.texts_printed.result (ReadPrints settings options (Ok texts))
+    (PlainPrints settings options sources)
+    (λ printed prints.
+    read_prints settings options sources (Ok texts) printed fits c.in-Ok.ensures.texts prints)
+    (subst P c.deref.ensures.value c.texts_printed.ensures)
 
 pub returns-in-Err-Script : goal.returns-in-Err-Script
 returns-in-Err-Script g c =
@@ -29,5 +36,11 @@ returns-in-Err-Script g c =
     let count : c.len.result ≡ length c.args.sources.items = omega (arith, c.len.ensures) in
     let fits : Fits sources = view_fits (λ s. (s.path.now, g.R.TextReader.remaining s.reader)) c.args.sources.items c.len.result c.fits.result count c.fits.ensures (search rules) in
     let unread = subst (λ e. IsUnread (map (λ s. (s.path.now, g.R.TextReader.remaining s.reader)) c.args.sources.items) e) c.in-Err-Script.field-0-is c.in-Err-Script.ensures.unread in
-    IfOk-weaker c.cannot_read.result (ReadPrints c.args.settings c.args.turns (Err c.in-Err-Script.path.now)) (PlainPrints c.args.settings c.args.turns sources)
-    (λ printed prints. read_prints c.args.settings c.args.turns sources (Err c.in-Err-Script.path.now) printed fits unread prints) (search rules)
+    let settings = c.args.settings in
+    let options = c.args.options in
+    let path = c.in-Err-Script.path.now in
+    IfOk-weaker c.cannot_read.result (ReadPrints settings options (Err path))
+    (PlainPrints settings options sources)
+    (λ printed prints.
+    read_prints settings options sources (Err path) printed fits unread prints)
+    (search rules)
