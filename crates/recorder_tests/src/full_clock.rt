@@ -1,5 +1,5 @@
 use crate::outcomes::{doors, outcomes};
-use crate::record::{Over, push_actor};
+use crate::record::{NoRun, Over, push_actor};
 use input_log::MemorySink;
 use logged_machine::Stop;
 use posix_terms::{Call, Settings};
@@ -104,16 +104,24 @@ fn has_filled(over: &Over, has_rows: bool) -> bool {
     over.stop == Some(Stop::ClockFull) && over.history.rows().is_empty() != has_rows
 }
 
+fn record_filled<R: Threads + Wait + Sync>(
+    rt: &R,
+    alloc: Global,
+    filled: Filled,
+) -> Result<Result<Over, NoRun>, AllocError> {
+    let actors = actors(alloc, filled)?;
+    let doors = doors(alloc, outcomes(alloc, filled.threads, &[])?)?;
+    let sink = MemorySink::new(alloc, 100)?;
+    Ok(run_recorded(rt, alloc, actors, doors, sink, SETTINGS))
+}
+
 // Whether the recorded run stops for a full clock.
 fn fills_a_clock<R: Threads + Wait + Sync>(
     rt: &R,
     alloc: Global,
     filled: Filled,
 ) -> Result<bool, AllocError> {
-    let actors = actors(alloc, filled)?;
-    let doors = doors(alloc, outcomes(alloc, filled.threads, &[])?)?;
-    let sink = MemorySink::new(alloc, 100)?;
-    match run_recorded(rt, alloc, actors, doors, sink, SETTINGS) {
+    match record_filled(rt, alloc, filled)? {
         Ok(over) => Ok(has_filled(&over, filled.has_rows)),
         Err(_) => Ok(false),
     }

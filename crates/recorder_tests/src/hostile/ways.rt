@@ -1,14 +1,15 @@
 ghost use Rattle.std.specs.Prelude.{◌≤◌};
 
 use crate::hostile::runs::{Run, Wanted, lists};
-use crate::outcomes::doors;
+use crate::outcomes::{OfThread, doors};
 use crate::record::{actors, record, scripts};
 use crate::seen::{saw, saw_beginning};
 use call_machine::{PlainFault, plain_run};
+use host_doors::ScriptDoors;
 use input_log::ShortSink;
 use logged_machine::Stop;
 use posix_terms::Transcripts;
-use recorder::{StartFault, run_recorded};
+use recorder::{BoxedActor, Ended, NotStarted, StartFault, run_recorded};
 use replayer::{ReplayFault, replay, replay_threads};
 use std::alloc::{AllocError, Global};
 use std::sync::Wait;
@@ -64,6 +65,25 @@ pub(crate) fn recorded<R: Threads + Wait + Sync>(
     })
 }
 
+type Ends = Ended<BoxedActor, ScriptDoors<OfThread>, ShortSink>;
+
+type NoShortRun = NotStarted<BoxedActor, ScriptDoors<OfThread>, ShortSink>;
+
+fn record_short<R: Threads + Wait + Sync>(
+    rt: &R,
+    alloc: Global,
+    run: Run,
+    most: usize,
+    fail_at: Option<u64>,
+) -> Result<Result<Ends, NoShortRun>, AllocError>
+    requires { 1 ≤ most }
+{
+    let actors = actors(alloc, run.scripts)?;
+    let doors = doors(alloc, lists(alloc, run)?)?;
+    let sink = ShortSink::new(alloc, 100, most, fail_at)?;
+    Ok(run_recorded(rt, alloc, actors, doors, sink, run.settings()))
+}
+
 // The recorded run, into a sink that takes at most so many bytes at a time, and fails at the write with this number.
 pub(crate) fn recorded_short<R: Threads + Wait + Sync>(
     rt: &R,
@@ -75,10 +95,7 @@ pub(crate) fn recorded_short<R: Threads + Wait + Sync>(
 ) -> Result<Told, AllocError>
     requires { 1 ≤ most }
 {
-    let actors = actors(alloc, run.scripts)?;
-    let doors = doors(alloc, lists(alloc, run)?)?;
-    let sink = ShortSink::new(alloc, 100, most, fail_at)?;
-    match run_recorded(rt, alloc, actors, doors, sink, run.settings()) {
+    match record_short(rt, alloc, run, most, fail_at)? {
         Ok(over) => Ok(shows(wanted, over.stop, &over.transcripts, over.sink.bytes())),
         Err(_) => Err(AllocError),
     }
