@@ -84,14 +84,14 @@ fn transcript(alloc: Global, thread: usize, rows: &[PackedRow]) -> Result<Transc
 {
     let mut own = Vec::with_capacity(alloc, replies(thread, rows))?;
     for row in rows {
-        if row.turn().thread == thread && row.has_reply() {
-            if let Some(reply) = row.reply()? {
-                own.push(Row {
-                    call: row.call().try_clone()?,
-                    turn: row.turn(),
-                    reply,
-                })?;
-            }
+        if row.turn().thread == thread
+            && let Some(reply) = row.reply()?
+        {
+            own.push(Row {
+                call: row.call().try_clone()?,
+                turn: row.turn(),
+                reply,
+            })?;
         }
     }
     Ok(Transcript::from_vec(own))

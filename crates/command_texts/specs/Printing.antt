@@ -26,7 +26,7 @@ cannot_read path = fault_printed 4 (codes "cannot read " +++ path +++ codes "\n"
 abbrev pub cannot_write : List ℕ → Printed
 cannot_write path = fault_printed 4 (codes "cannot write " +++ path +++ codes "\n")
 
--- script i is no script
+-- script i is not a script
 abbrev pub script_fault : ℕ → Fault → Printed
 script_fault i (bad_line n) = fault_printed 3 (codes "script " +++ decimal i +++ codes ": bad line " +++ decimal n +++ codes "\n")
 script_fault i too_long = fault_printed 3 (codes "script " +++ decimal i +++ codes ": too long\n")

@@ -67,7 +67,8 @@ abbrev pub CountCompares : Bool → List ℕ × Option (List ℕ) → List ℕ �
 CountCompares false log other sources printed = printed ≡ needs_scripts
 CountCompares true log other sources printed = (IsUnreadable log.1 × (printed ≡ cannot_read log.0)) ⊎ ((text : List ℕ) × IsText log.1 text × LogCompares text other sources printed)
 
--- What `detio compare` prints for two logs and the sources of these paths. The first of its faults counts: the number of scripts,
--- a log that cannot be read, a script that cannot be read, one that is no script, what a replay of the first log cannot run, what one of the second cannot
+-- What `detio compare` prints for two logs and the sources of these paths. The first of its faults
+-- counts: the number of scripts, a log that cannot be read, a script that cannot be read, one that
+-- is not a script, what a replay of the first log cannot run, what one of the second cannot
 abbrev pub ComparePrints : List ℕ × Option (List ℕ) → List ℕ × Option (List ℕ) → List (List ℕ × Option (List ℕ)) → Printed → Type 0
 ComparePrints log other sources printed = CountCompares (counts_fit (length sources) (length sources)) log other sources printed

@@ -29,7 +29,7 @@ use Rattle.commands.specs.declared.to_run.ToRun.TheVariants as runs
 
 -- ---- what is run
 
--- this is printed for the first of these texts that is no script
+-- this is printed for the first of these texts that is not a script
 pub record HasNoScript (texts : List (List ℕ)) (printed : Printed) : Type 0 where
   pub script : ℕ
   pub fault : Fault

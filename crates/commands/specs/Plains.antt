@@ -56,7 +56,7 @@ CountPrints true settings options sources printed =
     × ReadPrints settings options outcome printed
 
 -- What `detio plain` prints for these sources. The first of its faults counts: the number of
--- scripts, one that cannot be read, one that is no script, a bad expectation, the settings
+-- scripts, one that cannot be read, one that is not a script, a bad expectation, the settings
 abbrev pub PlainPrints : Settings → RunOptions → List (List ℕ × Option (List ℕ)) → Printed → Type 0
 PlainPrints settings options sources printed =
     CountPrints (counts_fit (length sources) (length sources)) settings options sources printed

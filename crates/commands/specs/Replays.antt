@@ -59,7 +59,7 @@ ReadReplays Tells options (reads.Fault fault) printed = printed ≡ fault
 
 -- What `detio replay` prints for the log and the sources of these paths, by a replay that tells so.
 -- The first of its faults counts: the number of scripts, a log that cannot be read, a script that
--- cannot be read, one that is no script, a bad expectation, the log's, another number of threads
+-- cannot be read, one that is not a script, a bad expectation, the log's, another number of threads
 abbrev pub ReplayPrints : (List ℕ → List (List Line) → Told → Type 0) → RunOptions
     → List ℕ × Option (List ℕ) → List (List ℕ × Option (List ℕ)) → Printed → Type 0
 ReplayPrints Tells options log sources printed =

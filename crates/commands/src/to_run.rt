@@ -17,8 +17,8 @@ pub enum ToRun {
     Fault(Printed),
 }
 
-// The scripts of texts or, where one is no script or, if expectations are asked for, has a bad one,
-// what is printed for that.
+// The scripts of texts; or what is printed for the first text that is not a script or, where all
+// are and expectations are asked for, for the first bad expectation.
 pub fn to_run(alloc: Global, expect: bool, texts: &[Bytes]) -> Result<ToRun, AllocError>
     ensures { IfOk result (IsToRun expect texts.now) }
 {

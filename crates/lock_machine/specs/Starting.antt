@@ -16,7 +16,13 @@ use Rattle.lock_machine.specs.declared.thread.Thread as declared
 
 -- a thread before its first step, without its clock
 abbrev pub first_item : declared.Thread
-first_item = record { phase = phase.Working; asked = []; came = 0; room = no_space; roomy = (le_refl 0, (le_refl 0, refl)) }
+first_item = record {
+  phase = phase.Working;
+  asked = [];
+  came = 0;
+  room = no_space;
+  roomy = (le_refl 0, (le_refl 0, refl));
+}
 
 abbrev pub first_thread : Thread
 first_thread = record { phase = phase.Working; clock = 1; asked = []; came = 0 }

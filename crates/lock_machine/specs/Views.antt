@@ -21,7 +21,13 @@ clocks_of threads = map live_clock_of threads
 
 -- past the last thread
 abbrev pub no_item : declared.Thread
-no_item = record { phase = phase.Ended; asked = []; came = 0; room = no_space; roomy = (le_refl 0, (le_refl 0, refl)) }
+no_item = record {
+  phase = phase.Ended;
+  asked = [];
+  came = 0;
+  room = no_space;
+  roomy = (le_refl 0, (le_refl 0, refl));
+}
 
 abbrev pub no_thread : Thread
 no_thread = timed no_item 0

@@ -29,4 +29,5 @@ HasSpaceFor call s = (read_count call ≤ s.told) × (s.told ≤ s.row) × (s.ou
 -- what a turn leaves of it: for the copy of its reply, or for what comes from outside
 abbrev pub LeavesSpace : TurnStart → Space → Type 0
 LeavesSpace (start.Ended e) s = turn_bytes e ≤ s.row
-LeavesSpace (start.GoesOut errand) s = (bytes_asked errand ≤ s.told) × (s.told ≤ s.row) × (s.outcome ≡ true)
+LeavesSpace (start.GoesOut errand) s =
+    (bytes_asked errand ≤ s.told) × (s.told ≤ s.row) × (s.outcome ≡ true)

@@ -1,4 +1,5 @@
-ghost use Rattle.std.specs.Prelude.{◌≡◌, ◌+◌, ◌≤◌, ◌<◌, ◌^◌, Ok, None, IfOk, IfSome, false, not, true};
+ghost use Rattle.std.specs.Prelude.{◌≡◌, ◌+◌, ◌≤◌, ◌<◌, ◌^◌, Ok, None, IfOk, IfSome};
+ghost use Rattle.std.specs.Prelude.{false, not, true};
 ghost use Rattle.descriptor_table.specs.Plans.{bytes_asked, read_count, reply_bytes};
 ghost use Rattle.descriptor_table.specs.declared.plan.NewNumbers.TheVariants as numbers;
 ghost use Rattle.posix_terms.specs.Outcomes.{fits};
@@ -50,8 +51,8 @@ impl Room {
         }
     }
 
-    /// What takes this one's place for a call, with room for just as many bytes as it may read; none
-    /// where there is room for the call here.
+    /// What takes this one's place for a call, with room for just as many bytes as it may read;
+    /// none where there is room for the call here.
     pub fn for_call(&self, call: &Call) -> Result<Option<Room>, AllocError>
         ensures room { IfOk result (λ other. HasSpaceFor call.now (changed other self.now)) }
         ensures none { HasSpaceFor call.now self.now → result ≡ Ok None }

@@ -1,5 +1,5 @@
 -- `==` of two calls, and of two rows, tells whether they are the same.
-use Rattle.std.proofs.Common.{◌≡◌, ℕ, List, Bool, true, ◌&&◌, nat_eq, refl, subst, ap, rules}
+use Rattle.std.proofs.Common.{◌≡◌, ℕ, List, Bool, true, ◌&&◌, nat_eq, refl, subst, rules}
 use Rattle.std.proofs.lemmas.Bool.{and_parts, false≢true}
 use Rattle.std.proofs.lemmas.Slice.Eq.{bytes_eq-Decides}
 use Rattle.std.specs.Bool.{Decides}
@@ -22,7 +22,6 @@ use Rattle.posix_terms.specs.declared.call.Call.TheVariants as call
 use Rattle.posix_terms.specs.declared.call.OpenFlags.{OpenFlags}
 use Rattle.posix_terms.specs.declared.reply.Reply.{Reply}
 use Rattle.posix_terms.specs.declared.reply.Reply.TheVariants as reply_of
-use Rattle.posix_terms.specs.declared.transcript.HistoryRow.{HistoryRow}
 use Rattle.posix_terms.specs.declared.transcript.Row.{Row}
 use Rattle.posix_terms.specs.declared.transcript.Turn.{Turn}
 
@@ -110,11 +109,3 @@ equal_refl a = (and_parts _ _ (rows.laws-law.refl (record { call = a; turn = rec
 
 pub call_Decides : (a b : Call) → Decides (equal a b) (a ≡ b)
 call_Decides a b = (call_is a b, λ h. subst (λ c. equal a c ≡ true) h (equal_refl a))
-
--- ## Rows of a history, by their parts
-
-pub history_row_is : (a b : HistoryRow) → a.call ≡ b.call → a.turn ≡ b.turn → a.outcome ≡ b.outcome → a.answer ≡ b.answer → a ≡ b
-history_row_is a b call turn outcome answer = λ i. record { call = call i; turn = turn i; outcome = outcome i; answer = answer i }
-
-pub history_row_parts : (a b : HistoryRow) → a ≡ b → (a.call ≡ b.call) × (a.turn ≡ b.turn) × (a.outcome ≡ b.outcome) × (a.answer ≡ b.answer)
-history_row_parts a b is = (ap (λ (r : HistoryRow). r.call) is, ap (λ (r : HistoryRow). r.turn) is, ap (λ (r : HistoryRow). r.outcome) is, ap (λ (r : HistoryRow). r.answer) is)

@@ -6,3 +6,4 @@ pub mod Ends
 pub mod Outcomes
 pub mod Packed
 pub mod Queries
+pub mod Answers

@@ -7,7 +7,6 @@ use Rattle.posix_terms.specs.declared.packed_row.Course.{Course}
 use Rattle.posix_terms.specs.declared.packed_row.Course.TheVariants as course
 use Rattle.posix_terms.specs.declared.reply.Answer.{Answer}
 use Rattle.posix_terms.specs.declared.reply.Answer.TheVariants as answer
-use Rattle.posix_terms.specs.declared.reply.Reply.{Reply}
 use Rattle.posix_terms.specs.declared.reply.Reply.TheVariants as reply
 use Rattle.posix_terms.specs.declared.transcript.HistoryRow.{HistoryRow}
 
@@ -34,7 +33,8 @@ answer_packed (course.Count thread count) = Some (answer.Reply (reply.Count coun
 answer_packed (course.Data thread bytes) = Some (answer.Reply (reply.Data bytes))
 answer_packed (course.Number thread number) = Some (answer.Reply (reply.Number number))
 answer_packed (course.Pair thread first second) = Some (answer.Reply (reply.Pair first second))
-answer_packed (course.Stat thread kind number links) = Some (answer.Reply (reply.Stat kind number links))
+answer_packed (course.Stat thread kind number links) =
+    Some (answer.Reply (reply.Stat kind number links))
 answer_packed (course.Done thread) = Some (answer.Reply reply.Done)
 answer_packed (course.Fail thread error) = Some (answer.Reply (reply.Fail error))
 answer_packed (course.Outside thread passage) = passage.value.answer
@@ -46,11 +46,6 @@ unpacked call clock c = record {
   outcome = outcome_packed c;
   answer = answer_packed c;
 }
-
--- the reply of an answer that is one
-abbrev pub reply_in : Option Answer → Option Reply
-reply_in (Some (answer.Reply r)) = Some r
-reply_in _ = None
 
 -- the bytes of a reply that has some
 abbrev pub bytes_in : Option Answer → Option (List ℕ)

@@ -6,10 +6,10 @@
 //! whether it answers what was asked. [`Carried`] is what a blocked call hands on to its next turn,
 //! and [`Moved`] what of its bytes went before.
 //! A [`Transcript`] is what one thread saw, a [`HistoryRow`] one granted turn of a run, which is
-//! kept as a [`PackedRow`], and [`Limits`] has the limits of the profile. Contracts see plain values: of [`Bytes`] and of
-//! [`SharedBytes`] the list of bytes, of a transcript the list of its rows. Copies and
-//! `Transcript::push` take memory, and fail only where it runs out; a copy of shared bytes takes
-//! none, and `from_vec` takes none but for shared bytes.
+//! kept as a [`PackedRow`], and [`Limits`] has the limits of the profile. Contracts see plain
+//! values: of [`Bytes`] and of [`SharedBytes`] the list of bytes, of a transcript the list of its
+//! rows. Copies and `Transcript::push` take memory, and fail only where it runs out; a copy of
+//! shared bytes takes none, and `from_vec` takes none but for shared bytes.
 //!
 //! ```rust
 //! use posix_terms::{Call, Errno, OutKind, Outcome, Reply, Row, SharedBytes, Transcript, Turn};

@@ -1,5 +1,7 @@
-ghost use Rattle.std.specs.Prelude.{◌≡◌, ◌↔◌, ◌<◌, ◌^◌, Some, None, IfOk, IsTrue, is_some, option_copied};
-ghost use Rattle.posix_terms.specs.Packed.{answer_packed, bytes_in, outcome_packed, reply_in, thread_packed};
+ghost use Rattle.std.specs.Prelude.{◌≡◌, ◌↔◌, ◌<◌, ◌^◌, Some, None, IfOk, IsTrue};
+ghost use Rattle.std.specs.Prelude.{is_some, option_copied};
+ghost use Rattle.posix_terms.specs.Answers.{reply_of};
+ghost use Rattle.posix_terms.specs.Packed.{answer_packed, bytes_in, outcome_packed, thread_packed};
 ghost use Rattle.posix_terms.specs.declared.reply.Answer.TheVariants as answer;
 
 use crate::bytes::Bytes;
@@ -104,8 +106,8 @@ impl OutcomeRoom {
 }
 
 impl PackedRow {
-    /// The row of a call that got this turn: nothing came from outside for it yet, and it has no
-    /// answer. It takes no memory.
+    /// The row of a call that got this turn, of a thread below 256: nothing came from outside for
+    /// it yet, and it has no answer. It takes no memory.
     pub fn granted(call: Call, turn: Turn) -> PackedRow
         requires { turn.thread < 2 ^ 8 }
         ensures { result ≡ record { call = call; turn = turn; outcome = None; answer = None } }
@@ -159,7 +161,7 @@ impl PackedRow {
 
     /// Whether it was answered with a reply, and not blocked.
     pub fn has_reply(&self) -> bool
-        ensures { result ≡ is_some (reply_in self.now.answer) }
+        ensures { result ≡ is_some (reply_of self.now.answer) }
     {
         match &self.course {
             Course::Granted { .. } | Course::Again { .. } => false,
@@ -170,7 +172,7 @@ impl PackedRow {
 
     /// A copy of its reply, if it was answered with one.
     pub fn reply(&self) -> Result<Option<Reply>, AllocError>
-        ensures { IfOk result (λ reply. reply ≡ reply_in self.now.answer) }
+        ensures { IfOk result (λ reply. reply ≡ reply_of self.now.answer) }
     {
         Ok(Some(match &self.course {
             Course::Granted { .. } | Course::Again { .. } => return Ok(None),
@@ -249,7 +251,7 @@ impl PackedRow {
     }
 
     /// Whether two rows are the same.
-    #[tactic(auto, using(crate::proofs::Equality::history_row_is, crate::proofs::Equality::history_row_parts))]
+    #[tactic(auto, using(crate::proofs::Rows::row_is, crate::proofs::Rows::row_parts))]
     pub fn is_same(&self, other: &PackedRow) -> bool
         ensures { IsTrue result ↔ (self.now ≡ other.now) }
     {

@@ -152,7 +152,8 @@ fn are_same(ones: &[PackedRow], others: &[PackedRow]) -> bool {
             .all(|(one, other)| one.is_same(other))
 }
 
-// Whether a recorded run tells the same as the plain one: rows with their turns, and log; and nothing stopped it.
+// Whether a recorded run says the same as the plain one: rows with their turns, and log; and
+// nothing stopped it.
 fn is_as_plain(plain: &Plain, over: &Over) -> bool {
     are_same(plain.history.rows(), over.history.rows())
         && plain.log.as_slice() == over.sink.bytes()

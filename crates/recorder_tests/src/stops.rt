@@ -25,7 +25,8 @@ const SCRIPTS: &[&[u8]] = &[
     READER, WAITER, WAITER, WAITER, WAITER, WAITER, WAITER, WAITER,
 ];
 
-// Whether a recorded run of them stops so, where this comes for the first, and the log has so much room.
+// Whether a recorded run of them stops so, where this comes for the first, and the log has so
+// much room.
 fn stops<R: Threads + Wait + Sync>(
     rt: &R,
     alloc: Global,

@@ -21,6 +21,7 @@ use Rattle.sequential_object.specs.declared.turn_end.TurnEnd.TheVariants as turn
 use Rattle.logged_machine.specs.Kept.{IsKept}
 use Rattle.logged_machine.specs.Runs.{terms_with}
 use Rattle.logged_machine.specs.Shown.{Shown}
+use Rattle.posix_terms.specs.Answers.{reply_of}
 use Rattle.posix_terms.specs.declared.limits.TheConstants.Limits as limit
 use Rattle.posix_terms.specs.declared.outcome.Given.{Given}
 use Rattle.posix_terms.specs.declared.reply.Reply.{Reply}
@@ -32,7 +33,7 @@ use Rattle.thread_scripts.specs.declared.actor.ScriptState.{ScriptState}
 use Rattle.posix_terms.specs.declared.step.Step.{Step}
 use Rattle.posix_terms.specs.declared.step.Step.TheVariants as step
 use Rattle.thread_scripts.specs.declared.line.Line.{Line}
-use Rattle.worker_notes.specs.Agrees.{before, replies_in, reply_of}
+use Rattle.worker_notes.specs.Agrees.{before, replies_in}
 use Rattle.worker_notes.specs.Plays.{Plays, PlaysTo, noted}
 use Rattle.replayer.specs.Known.{KnownOfThreads}
 

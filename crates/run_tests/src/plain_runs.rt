@@ -17,7 +17,7 @@ pub(crate) const SHORT_WRITE_LOG: &[u8] = b"DIOL\0\x01\0\x01\0\0\x03\xe8\0\0\0\x
 // Why there is no plain run of some texts.
 #[derive(Clone, Copy, Debug, PartialEq, Eq)]
 pub(crate) enum NotRun {
-    // a text is no script, or there was no memory for one
+    // a text is not a script, or there was no memory for one
     Script(ScriptFault),
     Plain(PlainFault),
 }

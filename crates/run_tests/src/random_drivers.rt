@@ -407,8 +407,8 @@ impl Met {
     }
 }
 
-// Whether the log of the run of this seed is replayed to the same rows: calls, turns, outcomes and replies. That they are
-// those of the plain run is proved of each machine (`faithful`).
+// Whether the log of the run of this seed is replayed to the same rows: calls, turns, outcomes and
+// replies. That they are those of the plain run is proved of each machine (`faithful`).
 fn is_same_again(alloc: Global, choice: Choice, seed: u64, met: &mut Met) -> Result<bool, Fault> {
     let mut dice = Dice::new(seed);
     let mut run = Run::new(alloc, &mut dice)?;

@@ -73,7 +73,8 @@ fn ask(alloc: Global, machine: &mut Driven, i: usize) -> Result<(), Refused> {
     }
 }
 
-// The event of thread i; whether it could be made. What lacked its memory is made again: a refused event changes nothing (`Comes`).
+// The event of thread i; whether it could be made. What lacked its memory is made again: a refused
+// event changes nothing (`Comes`).
 fn advance(alloc: Global, machine: &mut Driven, i: usize) -> Result<bool, Refused> {
     let mut made = event(alloc, machine, i);
     if made == Err(Refused::Memory) {

@@ -5,7 +5,7 @@ ghost use Rattle.thread_scripts.specs.declared.fault.LineFault.TheVariants as li
 use std::alloc::{AllocError, AllocFailed};
 use thiserror::Error;
 
-/// Why a text is no script, or why it could not be read.
+/// Why a text is not a script, or why it could not be read.
 #[derive(Clone, Copy, Debug, PartialEq, Eq, Error)]
 pub enum ScriptFault {
     /// The first bad line, counted from 1.

@@ -1,9 +1,8 @@
 -- Believed: a contract of the headline stands on it.
 -- When the notes of the workers agree with a history.
 use Rattle.std.specs.Prelude.{◌≡◌, ℕ, ◌+◌, List, [], ◌∷◌, Option, Some, None, if◌then◌else◌, ◌==◌}
+use Rattle.posix_terms.specs.Answers.{reply_of}
 use Rattle.posix_terms.specs.declared.outcome.Outcome.{Outcome}
-use Rattle.posix_terms.specs.declared.reply.Answer.{Answer}
-use Rattle.posix_terms.specs.declared.reply.Answer.TheVariants as answer
 use Rattle.posix_terms.specs.declared.reply.Reply.{Reply}
 use Rattle.posix_terms.specs.declared.request.Request.{Request}
 use Rattle.posix_terms.specs.declared.transcript.HistoryRow.{HistoryRow}
@@ -25,12 +24,6 @@ before None xs = xs
 abbrev pub replies_noted : List Noted → List Reply
 replies_noted [] = []
 replies_noted (n ∷ notes) = before n.reply (replies_noted notes)
-
--- the reply of an answer, unless the call was blocked
-abbrev pub reply_of : Option Answer → Option Reply
-reply_of (Some (answer.Reply r)) = Some r
-reply_of (Some answer.Again) = None
-reply_of None = None
 
 -- the replies that the rows of a thread have, in order
 abbrev pub replies_in : ℕ → List HistoryRow → List Reply

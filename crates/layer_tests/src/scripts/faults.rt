@@ -60,7 +60,7 @@ const BAD_LINES: &[u8] = b"fly 1\n\
     read 0 1 1\n\
     close r16\n\
     close r01\n\
-    close R1\n\
+    close R\x31\n\
     close r\n\
     close b0\n\
     write 0 b4\n\

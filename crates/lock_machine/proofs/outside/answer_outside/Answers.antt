@@ -50,13 +50,20 @@ returns-clause-event c =
     let clocks : c.add.new.self ≡ with_clock c.args.clocks.now c.args.i (clock_at c.args.clocks.now c.args.i + c.answer_cost.result) = search rules in
     let at : clock_at c.add.new.self c.args.i ≡ old.thread.clock + answer_cost c.args.outing.keeps_table =
     ap (λ (cs : List ThreadClock). clock_at cs c.args.i) clocks ∙ ap (λ (x : ThreadClock). x.clock) (get_or-set_same c.args.clocks.now c.args.i _ no_thread c.requires.inside) ∙ ap (λ n. old.thread.clock + n) c.answer_cost.ensures in
-    let behind : c.phase_behind.result ≡ phase_behind c.end_turn-end.result = c.phase_behind.ensures.phase in
-    let row : c.answer.new.self ≡ record c.in-Some.row.now { answer = Some (told_as c.end_turn-end.result) } =
+    let end = c.end_turn-end.result in
+    let behind : c.phase_behind.result ≡ phase_behind end = c.phase_behind.ensures.phase in
+    let row : c.answer.new.self ≡ record c.in-Some.row.now { answer = Some (told_as end) } =
     c.answer.ensures ∙ ap (λ a. record c.in-Some.row.now { answer = Some a }) c.answer_copied.ensures in
     let object : c.free.new.self ≡ freed old.thread.clock = c.free.ensures ∙ ap freed c.clock-now.ensures.value in
     let lock : c.free_table.new.table ≡ table_freed c.args.outing.keeps_table (old.thread.clock + 1) c.args.shared.now.lock = c.free_table.ensures ∙ ap (λ n. table_freed c.args.outing.keeps_table (n + 1) c.args.shared.now.lock) c.clock-now.ensures.value in
-    concludes_made c.args.patience c.args.i c.args.outing (Some c.told_as.result) old _ c.in-Some.row.now c.in-Some-outcome.outcome.now c.end_turn-end.result held there came room (ap Some c.told_as.ensures)
-    (subst (λ (k : Call). EndsTurn c.args.outing.keeps_table c.args.patience c.args.outing k c.in-Some-outcome.outcome.now c.end_turn-end.result c.args.shared.now.store c.end_turn-end.new.store)
+    let outcome = c.in-Some-outcome.outcome.now in
+    let patience = c.args.patience in
+    let outing = c.args.outing in
+    let store = c.args.shared.now.store in
+    concludes_made patience c.args.i outing (Some c.told_as.result) old _ c.in-Some.row.now outcome
+    end held there came room (ap Some c.told_as.ensures)
+    (subst (λ (k : Call).
+    EndsTurn outing.keeps_table patience outing k outcome end store c.end_turn-end.new.store)
     c.call.ensures c.end_turn-end.ensures.event)
     (λ k. record {
       thread = record (timed c.args.thread.now (at k)) { phase = behind k };
@@ -100,11 +107,18 @@ returns-clause-wanted c = by_keep c.args.outing.keeps_table refl
         let size : old.rows.len ≡ length old.rows.items = search rules in
         slice_get_read old.rows.items old.rows.len c.args.outing.row c.in-Some.row.now size (c.in-Some.ensures.variant.0 refl) c.in-Some.ensures.value
 
-    calls : KeepsCalls old.rows.items (set old.rows.items c.args.outing.row c.answer.new.self)
-    calls = calls_set old.rows.items c.args.outing.row c.in-Some.row.now c.answer.new.self there (ap (λ (r : HistoryRow). r.call) c.answer.ensures)
+    rows : List HistoryRow
+    rows = set old.rows.items c.args.outing.row c.answer.new.self
 
-    by_keep : (b : Bool) → c.args.outing.keeps_table ≡ b → (k : ℕ) → c.free_table.new.table.holder ≡ Some k
-        → LeavesWanted k old.lock old.rows.items old.store old.wanted (set old.rows.items c.args.outing.row c.answer.new.self) c.end_turn-end.new.store old.wanted
+    calls : KeepsCalls old.rows.items rows
+    calls =
+        calls_set old.rows.items c.args.outing.row c.in-Some.row.now c.answer.new.self there
+        (ap (λ (r : HistoryRow). r.call) c.answer.ensures)
+
+    by_keep : (b : Bool) → c.args.outing.keeps_table ≡ b → (k : ℕ)
+        → c.free_table.new.table.holder ≡ Some k
+        → LeavesWanted k old.lock old.rows.items old.store old.wanted rows c.end_turn-end.new.store
+        old.wanted
     by_keep true is k held =
         let free : c.free_table.new.table.holder ≡ None = ap (λ (l : DetLock). l.holder) (c.free_table.ensures ∙ ap (λ (b : Bool). table_freed b (c.clock-now.result + 1) old.lock) is) in
         absurd (none-some k (sym free ∙ held))

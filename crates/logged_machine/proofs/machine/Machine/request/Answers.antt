@@ -16,7 +16,12 @@ returns g c =
     let phase = c.phase.ensures in
     let at = c.index-rows-outing.is ∙ ap (λ (rows : List HistoryRow). get_or rows o.row row) c.rows.ensures in
     let copy = c.in_ok-try_clone.ensures ∙ c.call.ensures in
-    let request : Turn → Request = λ turn. record { kind = o.errand.kind; asked = o.errand.asked; call = c.in_ok-try_clone.field-0; turn = turn } in
+    let request : Turn → Request = λ turn. record {
+      kind = o.errand.kind;
+      asked = o.errand.asked;
+      call = c.in_ok-try_clone.field-0;
+      turn = turn;
+    } in
     subst (λ (x : Shown g.row.D.Denot). IsRequest x.whole c.args.i (Some (request c.turn.result))) c.self.view_is
     (subst (λ (turn : Turn). IsRequest m.calls c.args.i (Some (request turn))) (sym c.turn.ensures)
     (is_request m.calls c.args.i o row c.in_ok-try_clone.field-0 (sym (ap out_of phase) ∙ out) at copy))
