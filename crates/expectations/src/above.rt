@@ -1,5 +1,6 @@
 ghost use Rattle.std.specs.Prelude.{◌≡◌, ◌+◌, ◌<◌, ◌≤◌, ◌^◌, IfOk, IfErr, map, option_map};
 ghost use Rattle.expectations.specs.Expected.{IsFaultBelow, call_first, expectation_below};
+ghost use Rattle.expectations.specs.Expected.{is_call};
 ghost use Rattle.expectations.specs.Expected.{expected_below, with_line, words_expected};
 
 use crate::expected::Expectation;
@@ -45,6 +46,13 @@ fn call_first(words: &Option<Vec<&[u8]>>) -> bool
         },
         None => false,
     }
+}
+
+/// Whether a line of a script is that of a call: its first word names one.
+pub fn is_call_line(alloc: Global, line: &[u8]) -> Result<bool, AllocError>
+    ensures { IfOk result (λ is. is ≡ is_call line.now) }
+{
+    Ok(call_first(&line_words(alloc, line)?))
 }
 
 impl Above {

@@ -47,6 +47,7 @@ mod reading;
 mod unmet;
 mod wanted;
 
+pub use above::is_call_line;
 pub use expected::{Expectation, expectations_of};
 pub use fault::{ExpectationFault, Reason};
 pub use laws::{
