@@ -30,6 +30,10 @@ reply_text (reply.Stat kind number links) = codes "stat " +++ decimal (kind_code
 reply_text reply.Done = codes "done"
 reply_text (reply.Fail e) = codes "fail " +++ name_of e
 
+-- a call and its reply
+abbrev pub call_text : Row → List ℕ
+call_text row = word_of (kind_of row.call) +++ codes " " +++ reply_text row.reply
+
 -- thread, number of the row, with turns the clock of its turn, call and reply
 unfoldable pub row_text : Bool → ℕ → ℕ → Row → List ℕ
 row_text false thread number row = decimal thread +++ codes " " +++ decimal number +++ codes " " +++ word_of (kind_of row.call) +++ codes " " +++ reply_text row.reply +++ codes "\n"
@@ -45,15 +49,19 @@ abbrev pub transcripts_text : Bool → ℕ → List (List Row) → List ℕ
 transcripts_text turns thread [] = []
 transcripts_text turns thread (rows ∷ transcripts) = rows_text turns thread 0 rows ++ transcripts_text turns (thread + 1) transcripts
 
+-- how a run ended
+unfoldable pub end_words : Option Stop → List ℕ
+end_words None = codes "end"
+end_words (Some stop.Memory) = codes "stop memory"
+end_words (Some stop.Sink) = codes "stop sink"
+end_words (Some stop.ClockFull) = codes "stop clock full"
+end_words (Some stop.Strayed) = codes "stop strayed"
+end_words (Some (stop.EndOfLog thread)) = codes "stop end of log " +++ decimal thread
+end_words (Some (stop.Diverged thread number)) = codes "stop diverged " +++ decimal thread +++ codes " " +++ decimal number
+
 -- the last line
-unfoldable pub end_text : Option Stop → List ℕ
-end_text None = codes "end\n"
-end_text (Some stop.Memory) = codes "stop memory\n"
-end_text (Some stop.Sink) = codes "stop sink\n"
-end_text (Some stop.ClockFull) = codes "stop clock full\n"
-end_text (Some stop.Strayed) = codes "stop strayed\n"
-end_text (Some (stop.EndOfLog thread)) = codes "stop end of log " +++ decimal thread +++ codes "\n"
-end_text (Some (stop.Diverged thread number)) = codes "stop diverged " +++ decimal thread +++ codes " " +++ decimal number +++ codes "\n"
+abbrev pub end_text : Option Stop → List ℕ
+end_text stop = end_words stop +++ codes "\n"
 
 -- the exit status of a run that ended so
 abbrev pub end_status : Option Stop → ℕ

@@ -7,8 +7,9 @@
 //! exit status: [`run_printed`] makes that of a run, [`with_unmet`] adds the line of a reply that
 //! is not as expected ([`unmet_line`]), and [`bad_line`], [`cannot_read`] and the like make that of
 //! a fault; [`log_text`] is the text of a log. [`print`] writes it and answers the status. By the
-//! contracts the bytes are those of the definitions in `specs/`. What makes a text takes memory,
-//! and fails only for want of it.
+//! contracts the bytes are those of the definitions in `specs/`. [`push_call`], [`push_end`],
+//! [`push_word`] and [`push_number`] add the parts of a line to a text. What makes a text takes
+//! memory, and fails only for want of it.
 //!
 //! ```rust
 //! use call_machine::Plain;
@@ -55,4 +56,5 @@ pub use source::{
     LARGEST_FILE, ReadFault, Source, SourceFault, TextReader, Unread, read_all, read_once,
     read_text,
 };
-pub use transcripts::run_printed;
+pub use text_parts::{push_number, push_word};
+pub use transcripts::{push_call, push_end, run_printed};

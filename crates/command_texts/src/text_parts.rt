@@ -6,14 +6,14 @@ ghost use Rattle.command_texts.specs.Transcripts.{data_text};
 use itoa::{Buffer, Integer};
 use std::alloc::AllocError;
 
-// Adds a word.
+/// Adds a word at the end of a text.
 pub fn push_word(text: &mut Vec<u8>, word: &str) -> Result<(), AllocError>
     ensures { OnOk result (text.new.items ≡ text.old.items ++ word.now) }
 {
     text.extend_from_slice(word.as_bytes())
 }
 
-// Adds a number in decimal. Most numbers of a line have one digit.
+/// Adds a number in decimal at the end of a text. Most numbers of a line have one digit.
 #[inline(always)]
 #[tactic(auto, using(std::proofs::lemmas::Fmt::decimal_digit))]
 pub fn push_number(text: &mut Vec<u8>, number: u64) -> Result<(), AllocError>

@@ -1,7 +1,7 @@
-ghost use Rattle.std.specs.Prelude.{◌≡◌, ◌++◌, IfOk, OnOk, codes, string_bytes};
-ghost use Rattle.posix_terms.specs.Calls.{kind_of, word_of};
+ghost use Rattle.std.specs.Prelude.{◌≡◌, ◌++◌, IfOk, OnOk, codes};
+ghost use Rattle.std.specs.Fmt.{decimal};
 ghost use Rattle.command_texts.specs.Printing.{run_printed};
-ghost use Rattle.command_texts.specs.Transcripts.{end_status, end_text, reply_text};
+ghost use Rattle.command_texts.specs.Transcripts.{call_text, end_status, end_words, reply_text};
 ghost use Rattle.command_texts.specs.Transcripts.{row_text, rows_text, transcripts_text};
 
 use crate::printed::Printed;
@@ -21,8 +21,8 @@ pub fn run_printed(
 {
     let mut output = Vec::new(alloc);
     push_transcripts(&mut output, turns, transcripts.threads())?;
-    let end = end_text(alloc, stop)?;
-    push_word(&mut output, end.as_str())?;
+    push_end(&mut output, stop)?;
+    push_word(&mut output, "\n")?;
     Ok(Printed {
         status: end_status(stop),
         output: Bytes::from_vec(output),
@@ -72,19 +72,17 @@ fn push_row(
         push_number(text, row.turn.clock)?;
         push_word(text, " ")?;
     }
-    push_call(text, row)
+    push_call(text, row)?;
+    push_word(text, "\n")
 }
 
-// Adds the rest of a row's line: its call and the reply.
-fn push_call(text: &mut Vec<u8>, row: &Row) -> Result<(), AllocError>
-    ensures { OnOk result (text.new.items
-        ≡ text.old.items ++ word_of (kind_of row.now.call) ++ codes " "
-        ++ reply_text row.now.reply ++ codes "\n") }
+/// Adds a call and its reply, in the words of a row.
+pub fn push_call(text: &mut Vec<u8>, row: &Row) -> Result<(), AllocError>
+    ensures { OnOk result (text.new.items ≡ text.old.items ++ call_text row.now) }
 {
     push_word(text, row.call.kind().word())?;
     push_word(text, " ")?;
-    push_reply(text, &row.reply)?;
-    push_word(text, "\n")
+    push_reply(text, &row.reply)
 }
 
 // Adds a reply, in the words of a row.
@@ -131,22 +129,39 @@ pub fn push_reply(text: &mut Vec<u8>, reply: &Reply) -> Result<(), AllocError>
     }
 }
 
-// The line that tells how a run ended.
-#[tactic(auto, unfolding(crate::specs::Transcripts::end_text))]
-fn end_text(alloc: Global, stop: Option<Stop>) -> Result<String, AllocError>
-    ensures { IfOk result (λ text. string_bytes text ≡ end_text stop) }
+/// Adds how a run ended, in the words of its last line.
+#[tactic(auto, unfolding(crate::specs::Transcripts::end_words))]
+pub fn push_end(text: &mut Vec<u8>, stop: Option<Stop>) -> Result<(), AllocError>
+    ensures { OnOk result (text.new.items ≡ text.old.items ++ end_words stop) }
 {
     match stop {
-        None => String::from_str(alloc, "end\n"),
-        Some(Stop::Memory) => String::from_str(alloc, "stop memory\n"),
-        Some(Stop::Sink) => String::from_str(alloc, "stop sink\n"),
-        Some(Stop::ClockFull) => String::from_str(alloc, "stop clock full\n"),
-        Some(Stop::Strayed) => String::from_str(alloc, "stop strayed\n"),
-        Some(Stop::EndOfLog(thread)) => format!(in alloc; "stop end of log {thread}\n"),
-        Some(Stop::Diverged(thread, number)) => {
-            format!(in alloc; "stop diverged {thread} {number}\n")
-        }
+        None => push_word(text, "end"),
+        Some(Stop::Memory) => push_word(text, "stop memory"),
+        Some(Stop::Sink) => push_word(text, "stop sink"),
+        Some(Stop::ClockFull) => push_word(text, "stop clock full"),
+        Some(Stop::Strayed) => push_word(text, "stop strayed"),
+        Some(Stop::EndOfLog(thread)) => push_end_of_log(text, thread),
+        Some(Stop::Diverged(thread, number)) => push_diverged(text, thread, number),
     }
+}
+
+fn push_end_of_log(text: &mut Vec<u8>, thread: usize) -> Result<(), AllocError>
+    ensures { OnOk result (
+        text.new.items ≡ text.old.items ++ codes "stop end of log " ++ decimal thread) }
+{
+    push_word(text, "stop end of log ")?;
+    push_number(text, thread as u64)
+}
+
+fn push_diverged(text: &mut Vec<u8>, thread: usize, number: u32) -> Result<(), AllocError>
+    ensures { OnOk result (
+        text.new.items
+        ≡ text.old.items ++ codes "stop diverged " ++ decimal thread ++ codes " " ++ decimal number) }
+{
+    push_word(text, "stop diverged ")?;
+    push_number(text, thread as u64)?;
+    push_word(text, " ")?;
+    push_number(text, u64::from(number))
 }
 
 // The exit status of a run that ended so.
