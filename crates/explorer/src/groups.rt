@@ -1,0 +1,68 @@
+ghost use Rattle.std.specs.Prelude.{◌≡◌, ◌<◌, ◌+◌, ◌^◌, [], All, List, OnErr, OnOk};
+ghost use Rattle.explorer.specs.Groups.{Joins};
+ghost use Rattle.explorer.specs.declared.groups.Group.{Group};
+
+use crate::observation::Observation;
+use std::alloc::{AllocError, Global};
+use std::marker::Model;
+
+/// The runs of a trial in which the threads saw the same.
+#[derive(Debug, Drop)]
+pub struct Group {
+    /// The case of the first of them.
+    pub first: u64,
+    /// How many they are.
+    pub runs: u64,
+    pub observation: Observation,
+}
+
+/// Groups of runs, in the order of their first runs. Contracts see the list of them.
+#[derive(Debug, Drop)]
+pub struct Groups {
+    groups: Vec<Group>,
+}
+
+impl Model for Groups {
+    ghost Value = { List Group };
+
+    ghost view = { λ g. g.groups.items };
+}
+
+impl Groups {
+    /// No groups. It takes no memory.
+    pub fn new(alloc: Global) -> Groups
+        ensures { result ≡ [] }
+    {
+        Groups {
+            groups: Vec::new(alloc),
+        }
+    }
+
+    /// The groups, in order.
+    pub fn as_slice(&self) -> &[Group]
+        ensures { result.now ≡ self.now }
+    {
+        self.groups.as_slice()
+    }
+
+    /// The run of a case joins the group in which the same was seen, or else is the first of a new
+    /// one. Without memory for that all is as it was.
+    pub fn join(&mut self, case: u64, observation: Observation) -> Result<(), AllocError>
+        requires { All (λ (group : Group). group.runs + 1 < 2 ^ 64) self.old }
+        ensures ok { OnOk result (Joins case observation self.old self.new) }
+        ensures err { OnErr result (self.new ≡ self.old) }
+    {
+        for i in 0..self.groups.len() {
+            if self.groups[i].observation.is_same(&observation) {
+                self.groups[i].runs += 1;
+                return Ok(());
+            }
+        }
+        self.groups.push(Group {
+            first: case,
+            runs: 1,
+            observation,
+        })?;
+        Ok(())
+    }
+}

@@ -1,0 +1,58 @@
+//! Schedule fuzzing: runs scripts again and again, each time with other delays before their calls,
+//! to find a schedule that breaks them.
+//!
+//! [`Delays`] are cases of delays, by number; a [`Chance`] has one for each seed, so that a
+//! schedule is found again by its seed. [`varied`] writes the text of a script with the delays of a
+//! case, which is a script itself: whatever holds of a plain run holds of its run. A [`Trial`] has
+//! the texts of scripts, what comes for them from outside, and the settings: [`Trial::explored`]
+//! runs it with each case of a range, and gives the [`Group`]s of the runs in which the threads saw
+//! the same. An [`Observation`] is what they saw: their calls and replies without the clocks of the
+//! turns, and why the run stopped. By the contract there is one plain run for each case, in order,
+//! and each is counted in one group. An [`ExploreFault`] says why there are no groups.
+//!
+//! ```rust
+//! use explorer::{Chance, Trial, varied};
+//! use posix_terms::{Bytes, Outcomes, Settings};
+//!
+//! // Both threads look whether the file is there before they make it.
+//! let script = b"open /a r\njzero r0 end\nopen /a rw create excl\nlabel end\n";
+//! let chance = Chance { reach: 9 };
+//! let text = varied(alloc, &chance, 7, 0, script)?;
+//! assert!(rt; text.as_slice().starts_with(b"work "));
+//! let mut texts = Vec::new(alloc);
+//! texts.push(Bytes::from_slice(alloc, script)?)?;
+//! texts.push(Bytes::from_slice(alloc, script)?)?;
+//! // Nothing comes from outside.
+//! let mut outcomes = Vec::new(alloc);
+//! outcomes.push(Outcomes::from_vec(Vec::new(alloc)))?;
+//! outcomes.push(Outcomes::from_vec(Vec::new(alloc)))?;
+//! let settings = Settings {
+//!     patience: 1_000,
+//!     door_cost: 100,
+//!     version: 2,
+//! };
+//! let trial = Trial {
+//!     texts: &texts,
+//!     outcomes: &outcomes,
+//!     settings,
+//! };
+//! let groups = trial.explored(alloc, &chance, 0..20)?;
+//! assert!(rt; groups.as_slice().iter().map(|group| group.runs).sum::<u64>() == 20);
+//! ```
+#![tactic(auto)]
+
+mod chance;
+mod delays;
+mod fault;
+mod groups;
+mod observation;
+mod trial;
+mod vary;
+
+pub use chance::Chance;
+pub use delays::Delays;
+pub use fault::ExploreFault;
+pub use groups::{Group, Groups};
+pub use observation::Observation;
+pub use trial::Trial;
+pub use vary::{varied, varied_texts};

@@ -1,0 +1,68 @@
+ghost use Rattle.std.specs.Prelude.{◌≡◌, ◌↔◌, IfOk, IsTrue, map};
+ghost use Rattle.explorer.specs.Observations.{clockless, seen_of};
+
+use call_machine::Stop;
+use comparator::{Verdict, compare};
+use posix_terms::{Row, Transcript, Transcripts, Turn};
+use std::alloc::{AllocError, Global};
+
+/// What the threads of a run saw, and why it stopped, if it did before all of them had ended.
+#[derive(Debug, Drop)]
+pub struct Observation {
+    /// Their calls and replies. The clock of each turn is 0.
+    pub seen: Transcripts,
+    pub stop: Option<Stop>,
+}
+
+impl Observation {
+    /// What the threads saw in a run that ended so.
+    pub fn new(
+        alloc: Global,
+        transcripts: &Transcripts,
+        stop: Option<Stop>,
+    ) -> Result<Observation, AllocError>
+        ensures { IfOk result (λ observation.
+            observation ≡ record { seen = seen_of transcripts.now; stop = stop }) }
+    {
+        Ok(Observation {
+            seen: seen(alloc, transcripts.threads())?,
+            stop,
+        })
+    }
+
+    /// Whether two runs ended alike, and their threads saw the same.
+    pub fn is_same(&self, other: &Observation) -> bool
+        ensures { IsTrue result ↔ (self.now ≡ other.now) }
+    {
+        self.stop == other.stop && matches!(compare(&self.seen, &other.seen), Verdict::Same)
+    }
+}
+
+// What threads saw, without the clocks.
+fn seen(alloc: Global, transcripts: &[Transcript]) -> Result<Transcripts, AllocError>
+    ensures { IfOk result (λ seen. seen ≡ seen_of transcripts.now) }
+{
+    let mut threads = Vec::with_capacity(alloc, transcripts.len())?;
+    for transcript in transcripts {
+        threads.push(seen_by(alloc, transcript.rows())?)?;
+    }
+    Ok(Transcripts::from_vec(threads))
+}
+
+// What one thread saw, without the clocks.
+fn seen_by(alloc: Global, rows: &[Row]) -> Result<Transcript, AllocError>
+    ensures { IfOk result (λ seen. seen ≡ map clockless rows.now) }
+{
+    let mut seen = Vec::with_capacity(alloc, rows.len())?;
+    for row in rows {
+        seen.push(Row {
+            call: row.call.try_clone()?,
+            turn: Turn {
+                clock: 0,
+                thread: row.turn.thread,
+            },
+            reply: row.reply.try_clone()?,
+        })?;
+    }
+    Ok(Transcript::from_vec(seen))
+}
