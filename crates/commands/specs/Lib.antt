@@ -6,3 +6,6 @@ pub mod Replays
 pub mod Compares
 pub mod Records
 pub mod Upgrades
+pub mod Explores
+pub mod Writes
+pub mod Sources

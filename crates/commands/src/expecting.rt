@@ -31,7 +31,7 @@ pub fn run_shown(
 }
 
 // The line of the first thread that saw something else than its text expects.
-fn first_unmet_line(
+pub fn first_unmet_line(
     alloc: Global,
     texts: &[Bytes],
     transcripts: &[Transcript],

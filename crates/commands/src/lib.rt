@@ -1,5 +1,5 @@
-//! What the commands `plain`, `record`, `replay`, `compare`, `show` and `upgrade` do, over any
-//! readers and writers, for the program `detio` and for its tests.
+//! What the commands `plain`, `explore`, `record`, `replay`, `compare`, `show` and `upgrade` do,
+//! over any readers and writers, for the program `detio` and for its tests.
 //!
 //! Each command is a function, as [`plain_over`]: it reads its [`Source`]s, writes what the command
 //! prints to two writers, and answers the exit status. Its contract says what is printed for which
@@ -9,7 +9,8 @@
 //! its file, a [`NewFile`], only when it has the bytes of the upgraded log. [`DEFAULTS`] are the
 //! settings where no option says otherwise. By [`RunOptions`] a run is held to what the texts of
 //! its scripts expect: a bad expectation is a fault, and the first unmet one has a line after the
-//! run's own last one.
+//! run's own last one. [`explore_over`] runs scripts with the delays of many seeds, by
+//! [`ExploreOptions`], and [`to_write`] gives their texts with those of the first seed.
 //!
 //! ```rust
 //! use commands::{DEFAULTS, RunOptions, Source, plain_over};
@@ -35,22 +36,29 @@
 
 mod compare;
 mod expecting;
+mod explore;
+mod explored_text;
+mod findings;
 mod plain;
 mod record;
 mod replay;
 mod settings;
 mod show;
+mod source_texts;
 mod to_run;
 mod told;
 mod upgrade;
+mod writing;
 
 pub use command_texts::{
-    LARGEST_FILE, Source, SourceFault, TextReader, cannot_write, no_memory, read_once,
+    LARGEST_FILE, Source, SourceFault, TextReader, cannot_write, no_memory, print, read_once,
 };
 pub use compare::compare_over;
+pub use explore::{ExploreOptions, explore_over};
 pub use plain::plain_over;
 pub use record::{LogTo, NewLog, NotCreated, RecordOptions, Recorded, log_sink, record_over};
 pub use replay::{replay_over, replay_threads_over};
 pub use settings::{DEFAULTS, RunOptions, settings_of};
 pub use show::show_over;
 pub use upgrade::{NewFile, OutFile, Upgraded, upgrade_over};
+pub use writing::{ToWrite, to_write};

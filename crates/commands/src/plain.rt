@@ -103,7 +103,7 @@ fn scripts_run(
 }
 
 // So many empty lists of outcomes.
-fn no_outcomes(alloc: Global, scripts: usize) -> Result<Vec<Outcomes>, AllocError>
+pub fn no_outcomes(alloc: Global, scripts: usize) -> Result<Vec<Outcomes>, AllocError>
     ensures { IfOk result (λ outcomes. outcomes.items ≡ replicate scripts []) }
 {
     let mut outcomes = Vec::new(alloc);

@@ -6,7 +6,8 @@ const ABOUT: &str = "Deterministic record and replay of calls on one table of de
 Scripts of calls run against files, pipes and pairs of sockets in memory. The order of the calls
 comes from logical clocks alone, so a run prints the same each time, on every machine. What calls got
 from outside, from host files and over TCP, stands in a log, and a run is replayed by its log with no
-host file and no network. Two logs are compared by what the threads see when each is replayed.";
+host file and no network. Two logs are compared by what the threads see when each is replayed. Many
+schedules of one set of scripts are explored by seeds.";
 
 const AFTER_HELP: &str = "Example:
   printf 'open /a rw create\\nwrite 0 x6869\\nlseek 0 0 set\\nread 0 9\\n' > hi.script
@@ -20,7 +21,8 @@ prints
   end
 
 Exit statuses:
-  0  the run came to its end, the logs gave the same, or the log was printed or upgraded
+  0  the run came to its end, the logs gave the same, the log was printed or upgraded, or all explored
+     runs are as expected
   1  a difference, a divergence, the end of a log, or a reply that is not as expected
   2  wrong usage
   3  a bad script, expectation or log
@@ -130,6 +132,62 @@ prints
   0 0 4 open number 1
   1 0 1 open number 0
   end";
+
+const EXPLORE_ABOUT: &str = "Runs scripts with many delays, to find a schedule that breaks them";
+
+const EXPLORE_LONG_ABOUT: &str =
+    "Runs scripts with many delays, to find a schedule that breaks them.
+
+detio plain has one order of calls, and a failure that needs another order never shows. Here (schedule
+fuzzing) the scripts also run once for each seed, with a line work N before each line of a call. N is a
+hash of the seed, the thread and the number of the line, from 0 to --reach. So a seed gives the same run
+each time, on every machine. The lines #= of the scripts say what is expected: detio plain --help.
+
+The first line says how the scripts end as they are, without delays:
+  as they are END
+END has the words of the last line of detio plain. Runs in which the threads saw the same calls and
+replies are one group. A line follows for each group, in the order of the first seeds:
+  seed FIRST runs COUNT END same
+  seed FIRST runs COUNT END ends otherwise
+  seed FIRST runs COUNT END differs THREAD ROW BEFORE -> NOW
+same is what was seen without delays, ends otherwise the same with another END. Else the least thread
+whose rows differ is given, and its first such row, from 0: its call and reply before and now, - for
+no row. Where a reply is not as expected, these lines, and the first one too, go on with
+  expected THREAD LINE WANTED GOT
+for the least thread, LINE that of the script that was given. The last line is
+  runs COUNT groups COUNT failed COUNT
+A run failed if a reply was not as expected.
+
+--only SEED runs one seed. With --write its scripts are not run but written, with their delays, to new
+files: their paths are printed, and detio plain, record and replay take them.
+
+With its delays a script has at most 1000 lines, and a thread ends once it has executed 10000 lines, so a
+long loop may end earlier than without. Nothing comes from outside, as under detio plain: a run ends where
+it asks for it, and expectations after that are not looked at.
+
+Exit statuses:
+  0  all replies are as expected
+  1  a reply is not as expected
+  2  wrong usage
+  3  a bad script or expectation, or a script that has no room for its delays
+  4  a file that cannot be read or written, no memory";
+
+const EXPLORE_AFTER_HELP: &str =
+    "Example: both threads look whether a file is there before they make it.
+  printf 'open /a r\\njfail make\\nend\\nlabel make\\nopen /a w create excl\\n#= not fail\\n' > a.script
+  detio explore --seeds 0..100 a.script a.script
+
+prints
+  as they are end
+  seed 0 runs 13 end differs 0 0 open fail ENOENT -> open number 1
+  seed 1 runs 16 end same
+  seed 2 runs 32 end differs 0 1 open number 0 -> open fail EEXIST expected 0 5 not fail fail EEXIST
+  seed 4 runs 39 end differs 1 0 open number 1 -> open fail ENOENT expected 1 5 not fail fail EEXIST
+  runs 100 groups 4 failed 71
+and
+  detio explore --only 2 --write race a.script a.script
+  detio plain --expect race/0.script race/1.script
+shows that run.";
 
 const RECORD_ABOUT: &str =
     "Runs 1 to 16 scripts as threads, with host files and loopback TCP, and records what comes from them";
@@ -385,6 +443,7 @@ pub(crate) fn command<'a>(alloc: Global) -> Result<Command<'a>, AllocError> {
 fn subcommands<'a>(alloc: Global) -> Result<Vec<Command<'a>>, AllocError> {
     let mut subcommands = Vec::new(alloc);
     subcommands.push(plain(alloc)?)?;
+    subcommands.push(explore(alloc)?)?;
     subcommands.push(record(alloc)?)?;
     subcommands.push(replay(alloc)?)?;
     subcommands.push(compare(alloc)?)?;
@@ -445,13 +504,64 @@ fn patience<'a>(alloc: Global) -> Arg<'a> {
 }
 
 fn with_door_cost<'a>(alloc: Global, command: Command<'a>) -> Result<Command<'a>, AllocError> {
-    let door_cost = number(
+    with_scripts(alloc, command.arg(door_cost(alloc))?)
+}
+
+fn door_cost<'a>(alloc: Global) -> Arg<'a> {
+    number(
         alloc,
         "door-cost",
         "100",
         "What a call that goes outside adds to the clock of its thread",
+    )
+}
+
+fn explore<'a>(alloc: Global) -> Result<Command<'a>, AllocError> {
+    let command = described(
+        alloc,
+        "explore",
+        EXPLORE_ABOUT,
+        EXPLORE_LONG_ABOUT,
+        EXPLORE_AFTER_HELP,
     );
-    with_scripts(alloc, command.arg(door_cost)?)
+    let command = command.arg(seeds(alloc))?.arg(only(alloc)?)?;
+    let command = command.arg(reach(alloc))?.arg(write(alloc)?)?;
+    let command = command.arg(patience(alloc))?.arg(door_cost(alloc))?;
+    command.arg(scripts(alloc))
+}
+
+fn seeds<'a>(alloc: Global) -> Arg<'a> {
+    Arg::new(alloc, "seeds")
+        .long("seeds")
+        .value_name("A..B")
+        .default_value("0..1000")
+        .help("The first seed, and the one after the last")
+}
+
+fn only<'a>(alloc: Global) -> Result<Arg<'a>, AllocError> {
+    Arg::new(alloc, "only")
+        .long("only")
+        .value_name("SEED")
+        .value_parser(value_parser!(u64))
+        .help("This seed alone")
+        .conflicts_with("seeds")
+}
+
+fn write<'a>(alloc: Global) -> Result<Arg<'a>, AllocError> {
+    Arg::new(alloc, "write")
+        .long("write")
+        .value_name("DIR")
+        .help("Writes the scripts of that seed to new files DIR/0.script, DIR/1.script and so on")
+        .requires_arg("only")
+}
+
+fn reach<'a>(alloc: Global) -> Arg<'a> {
+    Arg::new(alloc, "reach")
+        .long("reach")
+        .value_name("N")
+        .value_parser(value_parser!(u32).range(0..=1_000_000))
+        .default_value("20")
+        .help("The longest delay of a call, in units of its thread's clock")
 }
 
 fn record<'a>(alloc: Global) -> Result<Command<'a>, AllocError> {

@@ -2,6 +2,7 @@
 #![tactic(auto)]
 
 mod command;
+mod explore;
 mod input;
 mod log_file;
 mod record;
@@ -13,6 +14,7 @@ use commands::{
     LogTo, RunOptions, cannot_write, compare_over, no_memory, plain_over, replay_over,
     replay_threads_over, settings_of, show_over, upgrade_over,
 };
+use explore::run_explore;
 use host_doors::Outside;
 use input::{open_scripts, open_source};
 use log_file::{LogFile, is_script, log_is_script};
@@ -77,6 +79,7 @@ fn run_matches<O: Outside + Send + Drop, N: NewOutsides<O> + Drop, T: Threads + 
 ) -> Result<u8, AllocError> {
     match matches.subcommand() {
         Some(("plain", matches)) => run_plain(rt, matches),
+        Some(("explore", matches)) => run_explore(rt, matches),
         Some(("record", matches)) => run_record(rt, handles, outsides, matches),
         Some(("replay", matches)) => run_replay(rt, handles, matches),
         Some(("compare", matches)) => run_compare(rt, matches),
