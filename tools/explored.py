@@ -49,6 +49,17 @@ def varied(seed, reach, thread, text):
     return "".join(out)
 
 
+def expecting(text, each):
+    """The text, with the expectation after each so many lines of calls that they do not fail."""
+    out, calls = [], 0
+    for line in lines_of(text):
+        out.append(line + "\n")
+        calls += is_call(line)
+        if is_call(line) and calls % each == 0:
+            out.append("#= not fail\n")
+    return "".join(out)
+
+
 def plain(program, texts, settings):
     """By thread its rows, and then the end of a run and the line of its unmet expectation, as `detio plain` prints them."""
     with tempfile.TemporaryDirectory() as room:
