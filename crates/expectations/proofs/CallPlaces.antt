@@ -12,7 +12,7 @@ use Rattle.thread_scripts.specs.declared.line.Line.{Line}
 use Rattle.thread_scripts.specs.declared.line.Line.TheVariants as line
 use Rattle.thread_scripts.specs.declared.actor.ScriptState.{ScriptState}
 use Rattle.expectations.specs.Laws.{IsCallPlace}
-use Rattle.expectations.specs.Places.{call_after, call_before, call_or, call_within, calls_from}
+use Rattle.expectations.specs.Places.{call_after, call_at, call_before, calls_from, past_work, past_works_within}
 
 -- where a step is a call, the script is past the line that makes it
 abbrev IsAtCall : List Line → Step × ScriptState → Type 0
@@ -72,13 +72,18 @@ next : (last : Option Reply) (s : ScriptState) → IsAtCall s.script (next_of la
 next last s = rw (stored_script last s) at (within (is_failure last) (lines_left s) (stored last s))
 
 -- the next call has the place of a line that makes one, of the same script
-next_call : ScriptStays → (n : ℕ) (last : Option Reply) (s behind : ScriptState) → call_within n last s ≡ Some behind → IsCallPlace s.script behind.place × (behind.script ≡ s.script)
-unfolding call_within
+next_call : ScriptStays → (n : ℕ) (last : Option Reply) (s behind : ScriptState)
+    → call_at (past_works_within n last s).0 (past_works_within n last s).1 ≡ Some behind
+    → IsCallPlace s.script behind.place × (behind.script ≡ s.script)
+unfolding past_works_within
 next_call stays zero last s behind found = cc
 next_call stays (suc n) last s behind found = at (next_of last s).0 refl (next_call stays n None (next_of last s).1 behind) found where
   at : (given : Step) → (next_of last s).0 ≡ given
-      → (call_within n None (next_of last s).1 ≡ Some behind → IsCallPlace (next_of last s).1.script behind.place × (behind.script ≡ (next_of last s).1.script))
-      → call_or given (next_of last s).1 (call_within n None (next_of last s).1) ≡ Some behind → IsCallPlace s.script behind.place × (behind.script ≡ s.script)
+      → (call_at (past_works_within n None (next_of last s).1).0 (past_works_within n None (next_of last s).1).1 ≡ Some behind
+      → IsCallPlace (next_of last s).1.script behind.place × (behind.script ≡ (next_of last s).1.script))
+      → call_at (past_work given (next_of last s).1 (past_works_within n None (next_of last s).1)).0
+      (past_work given (next_of last s).1 (past_works_within n None (next_of last s).1)).1 ≡ Some behind
+      → IsCallPlace s.script behind.place × (behind.script ≡ s.script)
   at (step.Call call) here later some =
       let same : (next_of last s).1 ≡ behind = cc in
       (subst (λ (t : ScriptState). IsCallPlace s.script t.place) same (next last s call here), subst (λ (t : ScriptState). t.script ≡ s.script) same (stays last s))

@@ -8,23 +8,33 @@ use Rattle.thread_scripts.specs.Meaning.{lines_left, next_of, start_of}
 use Rattle.thread_scripts.specs.declared.actor.ScriptState.{ScriptState}
 use Rattle.thread_scripts.specs.declared.line.Line.{Line}
 
--- the state after a step that is a call. After a work the call is sought further, and after the
--- end there is none
-abbrev pub call_or : Step → ScriptState → Option ScriptState → Option ScriptState
-call_or (step.Call call) s more = Some s
-call_or (step.Work amount) s more = more
-call_or step.End s more = None
+-- a step that is not a work, and the state after it. After a work it is sought further
+abbrev pub past_work : Step → ScriptState → Step × ScriptState → Step × ScriptState
+past_work (step.Call call) s more = (step.Call call, s)
+past_work (step.Work amount) s more = more
+past_work step.End s more = (step.End, s)
 
--- the state after the next call, if that is among the next n steps. After a work there is no reply
-unfoldable pub call_within : ℕ → Option Reply → ScriptState → Option ScriptState
-call_within zero last s = None
-call_within (suc n) last s =
-    call_or (next_of last s).0 (next_of last s).1 (call_within n None (next_of last s).1)
+-- the next step that is not a work, if that is among the next n steps, and the state after it.
+-- After a work there is no reply
+unfoldable pub past_works_within : ℕ → Option Reply → ScriptState → Step × ScriptState
+past_works_within zero last s = (step.End, s)
+past_works_within (suc n) last s =
+    past_work (next_of last s).0 (next_of last s).1 (past_works_within n None (next_of last s).1)
 
--- the state after the next call, given the last reply, if there is such a call. Each step but the
+-- the next step that is not a work, given the last reply, and the state after it. Each step but the
 -- end leaves fewer lines to be executed, so these are steps enough
+abbrev pub past_works : Option Reply → ScriptState → Step × ScriptState
+past_works last s = past_works_within (lines_left s + 1) last s
+
+-- the state after a call
+abbrev pub call_at : Step → ScriptState → Option ScriptState
+call_at (step.Call call) s = Some s
+call_at (step.Work amount) s = None
+call_at step.End s = None
+
+-- the state after the next call, given the last reply, if there is such a call
 abbrev pub call_after : Option Reply → ScriptState → Option ScriptState
-call_after last s = call_within (lines_left s + 1) last s
+call_after last s = call_at (past_works last s).0 (past_works last s).1
 
 -- a call with its place, by the state after it, and its reply; then those that follow
 abbrev pub call_before :

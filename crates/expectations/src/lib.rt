@@ -13,6 +13,8 @@
 //! `thread_scripts::parse` says. [`first_unmet`] follows a script by the replies of its thread,
 //! finds the line of each call, and gives the first reply that does not meet an expectation of its
 //! line. [`Wanted::is_met_by`] is the test of one reply; [`Wanted::text`] writes what is wanted.
+//! [`is_cut_off`] follows a script in the same way, up to its end. [`bytes_of`] and [`error_named`]
+//! read the words of a transcript that stand for bytes and errors.
 //!
 //! By the laws each expectation of a script stands for a line that makes a call, each call has the
 //! place of such a line, what is written is read back, and there are no other answers than these.
@@ -38,8 +40,10 @@
 #![tactic(auto)]
 
 mod above;
+mod cut_off;
 mod expected;
 mod fault;
+mod following;
 mod laws;
 mod operands;
 mod printing;
@@ -48,11 +52,13 @@ mod unmet;
 mod wanted;
 
 pub use above::is_call_line;
+pub use cut_off::is_cut_off;
 pub use expected::{Expectation, expectations_of};
 pub use fault::{ExpectationFault, Reason};
 pub use laws::{
     calls_have_places, expectations_stand_for_calls, names_lead_back, one_first_unmet, one_reading,
     texts_read_back,
 };
+pub use operands::{bytes_of, error_named};
 pub use unmet::{Unmet, first_unmet};
 pub use wanted::Wanted;

@@ -84,12 +84,22 @@ pub fn data(alloc: Global, word: &[u8]) -> Result<Option<Option<Bytes>>, AllocEr
     if is_any(word) {
         return Ok(Some(None));
     }
+    match bytes_of(alloc, word)? {
+        Some(bytes) => Ok(Some(Some(bytes))),
+        None => Ok(None),
+    }
+}
+
+/// The bytes of this word: hexadecimal digits, and `-` for none.
+pub fn bytes_of(alloc: Global, word: &[u8]) -> Result<Option<Bytes>, AllocError>
+    ensures { IfOk result (λ bytes. bytes ≡ data_of word.now) }
+{
     if word == b"-".as_slice() {
-        return Ok(Some(Some(Bytes::from_vec(Vec::new(alloc)))));
+        return Ok(Some(Bytes::from_vec(Vec::new(alloc))));
     }
     let bytes = hex::decode(alloc, word);
     match bytes {
-        Ok(bytes) => Ok(Some(Some(Bytes::from_vec(bytes)))),
+        Ok(bytes) => Ok(Some(Bytes::from_vec(bytes))),
         Err(FromHexError::OutOfMemory) => Err(AllocError),
         Err(_) => Ok(None),
     }
@@ -131,6 +141,13 @@ fn error_among(errors: &[Errno], word: &[u8]) -> Option<Errno>
     None
 }
 
+/// The error of this name.
+pub fn error_named(word: &[u8]) -> Option<Errno>
+    ensures { result ≡ error_of word.now }
+{
+    error_among(&ERRORS, word)
+}
+
 // An error: its name.
 pub fn error(word: &[u8]) -> Option<Option<Errno>>
     ensures { result ≡ operand error_of word.now }
@@ -138,6 +155,6 @@ pub fn error(word: &[u8]) -> Option<Option<Errno>>
     if is_any(word) {
         return Some(None);
     }
-    let error = error_among(&ERRORS, word)?;
+    let error = error_named(word)?;
     Some(Some(error))
 }

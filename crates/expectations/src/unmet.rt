@@ -1,11 +1,11 @@
-ghost use Rattle.std.specs.Prelude.{◌≡◌, All, IfOk, MatchBool, MatchOption, Some, None};
-ghost use Rattle.std.specs.Prelude.{if◌then◌else◌, map, option_copied};
-ghost use Rattle.expectations.specs.Places.{call_after, calls_of};
+ghost use Rattle.std.specs.Prelude.{◌≡◌, All, IfOk, MatchBool, MatchOption, map};
+ghost use Rattle.expectations.specs.Places.{calls_of};
 ghost use Rattle.expectations.specs.Unmet.{AreMet, IsFirstOfCall, IsFirstUnmet, IsMet, IsUnmet};
 
 use crate::expected::Expectation;
-use posix_terms::{Reply, Row, Step};
-use thread_scripts::{Actor, Memory, Script, ScriptActor, runs_end};
+use crate::following::to_next_call;
+use posix_terms::{Reply, Row};
+use thread_scripts::{Memory, Script, ScriptActor};
 
 /// A reply that does not meet an expectation.
 #[derive(Clone, Copy, Debug, PartialEq, Eq)]
@@ -14,22 +14,6 @@ pub struct Unmet {
     pub row: usize,
     /// The number of the expectation, from 0.
     pub expectation: usize,
-}
-
-// Brings a script past its next call, given the last reply, and returns whether there is one.
-fn to_next_call(actor: &mut ScriptActor, last: Option<&Reply>) -> Result<bool, Memory>
-    ensures { IfOk result (λ more.
-        call_after (option_copied last.entry) actor.old ≡ (if more then Some actor.new else None)) }
-{
-    runs_end();
-    let mut last = last;
-    loop {
-        match actor.next(last)? {
-            Step::Call(_) => return Ok(true),
-            Step::Work(_) => last = None,
-            Step::End => return Ok(false),
-        }
-    }
 }
 
 // Whether the expectation is of this place, and the reply does not meet it.
