@@ -57,7 +57,8 @@ end_words (Some stop.Sink) = codes "stop sink"
 end_words (Some stop.ClockFull) = codes "stop clock full"
 end_words (Some stop.Strayed) = codes "stop strayed"
 end_words (Some (stop.EndOfLog thread)) = codes "stop end of log " +++ decimal thread
-end_words (Some (stop.Diverged thread number)) = codes "stop diverged " +++ decimal thread +++ codes " " +++ decimal number
+end_words (Some (stop.Diverged thread number)) =
+    codes "stop diverged " +++ decimal thread +++ codes " " +++ decimal number
 
 -- the last line
 abbrev pub end_text : Option Stop → List ℕ

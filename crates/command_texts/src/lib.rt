@@ -6,7 +6,8 @@
 //! their texts expect. A [`Printed`] is what goes to standard output and standard error, with the
 //! exit status: [`run_printed`] makes that of a run, [`with_unmet`] adds the line of a reply that
 //! is not as expected ([`unmet_line`]), and [`bad_line`], [`cannot_read`] and the like make that of
-//! a fault; [`log_text`] is the text of a log. [`print`] writes it and answers the status. By the
+//! a fault; [`log_text`] is the text of a log, of which [`header_line`], [`push_record`] and
+//! [`last_line`] give the lines. [`print`] writes it and answers the status. By the
 //! contracts the bytes are those of the definitions in `specs/`. [`push_call`], [`push_end`],
 //! [`push_word`] and [`push_number`] add the parts of a line to a text. What makes a text takes
 //! memory, and fails only for want of it.
@@ -49,7 +50,7 @@ pub use expecting::{
 };
 pub use first_fault::FirstFault;
 pub use log_fault::{bad_magic, bad_record, bad_version, torn_line};
-pub use log_lines::{items_text, log_text};
+pub use log_lines::{header_line, items_text, last_line, log_text, push_record, request_word};
 pub use printed::{Printed, cannot_read, cannot_write, fault, no_memory, print};
 pub use script_texts::{bad_line, fits, scripts, too_long};
 pub use source::{

@@ -156,7 +156,8 @@ fn push_end_of_log(text: &mut Vec<u8>, thread: usize) -> Result<(), AllocError>
 fn push_diverged(text: &mut Vec<u8>, thread: usize, number: u32) -> Result<(), AllocError>
     ensures { OnOk result (
         text.new.items
-        ≡ text.old.items ++ codes "stop diverged " ++ decimal thread ++ codes " " ++ decimal number) }
+        ≡ text.old.items
+        ++ codes "stop diverged " ++ decimal thread ++ codes " " ++ decimal number) }
 {
     push_word(text, "stop diverged ")?;
     push_number(text, thread as u64)?;
