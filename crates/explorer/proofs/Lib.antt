@@ -1,1 +1,6 @@
 pub mod Grouping
+pub mod WorkLines
+pub mod VariedTexts
+pub mod MovedLines
+pub mod VariedScripts
+pub mod VariedCalls

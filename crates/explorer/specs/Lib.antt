@@ -1,7 +1,9 @@
 pub mod Subject
 pub mod Delays
 pub mod Varied
+pub mod Delayed
 pub mod Observations
 pub mod Groups
 pub mod Faults
 pub mod Cases
+pub mod Laws

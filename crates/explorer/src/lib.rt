@@ -3,12 +3,13 @@
 //!
 //! [`Delays`] are cases of delays, by number; a [`Chance`] has one for each seed, so that a
 //! schedule is found again by its seed. [`varied`] writes the text of a script with the delays of a
-//! case, which is a script itself: whatever holds of a plain run holds of its run. A [`Trial`] has
-//! the texts of scripts, what comes for them from outside, and the settings: [`Trial::explored`]
-//! runs it with each case of a range, and gives the [`Group`]s of the runs in which the threads saw
-//! the same. An [`Observation`] is what they saw: their calls and replies without the clocks of the
-//! turns, and why the run stopped. By the contract there is one plain run for each case, in order,
-//! and each is counted in one group. An [`ExploreFault`] says why there are no groups.
+//! case. By the law [`varied_is_script`] that is a script itself, with the same calls, unless it is
+//! too long; so whatever holds of a plain run holds of its run. A [`Trial`] has the texts of
+//! scripts, what comes for them from outside, and the settings: [`Trial::explored`] runs it with
+//! each case of a range, and gives the [`Group`]s of the runs in which the threads saw the same. An
+//! [`Observation`] is what they saw: their calls and replies without the clocks of the turns, and
+//! why the run stopped. By the contract there is one plain run for each case, in order, and each is
+//! counted in one group. An [`ExploreFault`] says why there are no groups.
 //!
 //! ```rust
 //! use explorer::{Chance, Trial, varied};
@@ -45,6 +46,7 @@ mod chance;
 mod delays;
 mod fault;
 mod groups;
+mod laws;
 mod observation;
 mod trial;
 mod vary;
@@ -53,6 +55,7 @@ pub use chance::Chance;
 pub use delays::Delays;
 pub use fault::ExploreFault;
 pub use groups::{Group, Groups};
+pub use laws::{chances_are_works, threads_make_calls, varied_is_script};
 pub use observation::Observation;
 pub use trial::Trial;
 pub use vary::{varied, varied_texts};
