@@ -1,0 +1,4 @@
+pub mod Asking
+pub mod Differing
+pub mod FilledRuns
+pub mod Running

@@ -1,0 +1,71 @@
+-- Believed: a contract of a command stands on it.
+-- What is tried in place of an outcome.
+use Rattle.std.specs.Prelude.{ℕ, ◌-◌, ◌/◌, ◌==◌, Bool, false, if◌then◌else◌, nat_lt, not}
+use Rattle.std.specs.Prelude.{List, [], ◌∷◌, ◌++◌, filter, map, option_copied, unwrap_or}
+use Rattle.std.specs.List.{dedup}
+use Rattle.posix_terms.specs.Errors.{code_of}
+use Rattle.posix_terms.specs.declared.errno.Errno.{Errno}
+use Rattle.posix_terms.specs.declared.errno.Errno.TheVariants as errno
+use Rattle.posix_terms.specs.declared.outcome.Given.{Given}
+use Rattle.posix_terms.specs.declared.outcome.OutKind.{OutKind}
+use Rattle.posix_terms.specs.declared.outcome.OutKind.TheVariants as kind
+use Rattle.posix_terms.specs.declared.outcome.Outcome.{Outcome}
+use Rattle.posix_terms.specs.declared.outcome.Outcome.TheVariants as outcome
+use Rattle.fault_injection.specs.declared.cases.Choice.{Choice}
+use Rattle.fault_injection.specs.declared.injected.Injected.{Injected}
+use Rattle.fault_injection.specs.declared.injected.Injected.TheVariants as injected
+
+-- ## Failures
+
+-- the errors that a request of this kind can meet at a host
+abbrev pub errors_of : OutKind → List Errno
+errors_of kind.Open =
+    errno.ENOENT ∷ errno.EACCES ∷ errno.EINTR ∷ errno.EINVAL ∷ errno.EIO ∷ []
+errors_of kind.Read =
+    errno.EAGAIN ∷ errno.EINTR ∷ errno.ECONNRESET ∷ errno.ETIMEDOUT ∷ errno.EIO ∷ []
+errors_of kind.Write =
+    errno.EAGAIN ∷ errno.EINTR ∷ errno.EPIPE ∷ errno.ECONNRESET ∷ errno.EIO ∷ []
+errors_of kind.Seek = errno.EINVAL ∷ errno.EIO ∷ []
+errors_of kind.Listen = errno.EADDRINUSE ∷ errno.EACCES ∷ errno.EINVAL ∷ errno.EIO ∷ []
+errors_of kind.Connect =
+    errno.ECONNREFUSED ∷ errno.ECONNRESET ∷ errno.ETIMEDOUT ∷ errno.EADDRINUSE ∷ errno.EACCES
+    ∷ errno.EINTR ∷ errno.EINVAL ∷ errno.EIO ∷ []
+errors_of kind.Accept = errno.EAGAIN ∷ errno.EINTR ∷ errno.EIO ∷ []
+errors_of kind.Shutdown = errno.EIO ∷ []
+errors_of kind.Close = errno.EINTR ∷ errno.EIO ∷ []
+
+-- the errors to try: those that are named, or else those of the kind
+abbrev pub errors_for : Choice → OutKind → List Errno
+errors_for choice kind = unwrap_or (option_copied choice.errors) (errors_of kind)
+
+-- whether an outcome is the failure with this error
+unfoldable pub is_failure : Outcome → Errno → Bool
+is_failure (outcome.Ok value bytes) error = false
+is_failure (outcome.Fail other) error = code_of other == code_of error
+
+-- each of these as a failure in place of an outcome, but that which the outcome is itself
+abbrev pub failures : List Errno → Outcome → List Injected
+failures errors recorded =
+    map injected.Fail (filter (λ error. not (is_failure recorded error)) errors)
+
+-- ## Short counts
+
+-- none, one, half and all but one of a count: each that is less than it, once
+abbrev pub short_counts : ℕ → List ℕ
+short_counts count =
+    dedup (λ a b. a == b)
+    (filter (λ n. nat_lt n count) (0 ∷ 1 ∷ (count / 2) ∷ (count - 1) ∷ []))
+
+-- each as the count of a success in place of a read or a write that is a success
+abbrev pub short_successes : OutKind → Outcome → List Injected
+short_successes kind.Read (outcome.Ok value bytes) = map injected.Short (short_counts value)
+short_successes kind.Write (outcome.Ok value bytes) = map injected.Short (short_counts value)
+short_successes kind recorded = []
+
+-- ## Both
+
+-- what is tried in place of an outcome: failures, and then short counts, if they are chosen
+abbrev pub tried : Choice → Given → List Injected
+tried choice given =
+    failures (errors_for choice given.kind) given.outcome
+    ++ (if choice.short then short_successes given.kind given.outcome else [])
