@@ -11,6 +11,7 @@ import sys
 import tempfile
 
 sys.dont_write_bytecode = True
+import model  # noqa: E402
 import runs  # noqa: E402
 
 MASK = 2**64 - 1
@@ -89,6 +90,35 @@ def given(unmet, varied_texts, texts):
     return f" {word} {thread} {places[calls - 1]} {rest}"
 
 
+def reply_of(row):
+    """The reply of a row, as the model has it."""
+    what, *words = row.split(" ")[1:]
+    if what == "fail":
+        return [what, *words]
+    if what == "data":
+        return [what, b"" if words[0] == "-" else bytes.fromhex(words[0])]
+    return [what, *map(int, words)]
+
+
+def is_cut_off(text, rows):
+    """Whether a thread with these rows ended before its script did."""
+    script, replies = model.Script(text), map(reply_of, rows)
+    while True:
+        step = script.step()
+        if step is None:
+            return script.place < len(script.lines)
+        reply = None if step[0] == "work" else next(replies, ())
+        if reply == ():
+            return False
+        script.tell(reply)
+
+
+def ending(run, texts):
+    """How a run ended, and which threads were cut off in it."""
+    cut = [str(thread) for thread, (text, rows) in enumerate(zip(texts, run[0])) if is_cut_off(text, rows)]
+    return run[1] + (f" cut off {','.join(cut)}" if cut else "")
+
+
 def difference(before, now):
     for thread, (old, new) in enumerate(zip(before[0], now[0])):
         for row in range(max(len(old), len(new))):
@@ -107,11 +137,12 @@ def explored(program, texts, seeds, reach, settings=()):
     for seed in seeds:
         varied_texts = [varied(seed, reach, thread, text) for thread, text in enumerate(texts)]
         run = plain(program, varied_texts, settings)
-        group = groups.setdefault(repr(run[:2]), [seed, 0, run, given(run[2], varied_texts, texts)])
-        group[1] += 1
-    out = [f"as they are {before[1]}{given(before[2], texts, texts)}\n"]
-    for first, count, run, unmet in groups.values():
-        out.append(f"seed {first} runs {count} {run[1]} {difference(before, run)}{unmet}\n")
+        if repr(run[:2]) not in groups:
+            groups[repr(run[:2])] = [seed, 0, run, ending(run, varied_texts), given(run[2], varied_texts, texts)]
+        groups[repr(run[:2])][1] += 1
+    out = [f"as they are {ending(before, texts)}{given(before[2], texts, texts)}\n"]
+    for first, count, run, end, unmet in groups.values():
+        out.append(f"seed {first} runs {count} {end} {difference(before, run)}{unmet}\n")
         failed += count if unmet else 0
     out.append(f"runs {len(seeds)} groups {len(groups)} failed {failed}\n")
     return 1 if failed or before[2] else 0, "".join(out), ""

@@ -18,6 +18,8 @@ mod listed;
 #[cfg(test)]
 mod logs;
 #[cfg(test)]
+mod makes;
+#[cfg(test)]
 mod notices;
 #[cfg(test)]
 mod overlap;

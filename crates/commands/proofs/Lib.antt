@@ -1,5 +1,3 @@
-pub mod Scripts
 pub mod Playing
 pub mod Printing
-pub mod Unmets
-pub mod Failing
+pub mod Making

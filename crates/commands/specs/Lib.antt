@@ -1,4 +1,3 @@
-pub mod Expects
 pub mod Plains
 pub mod Shows
 pub mod Tells
@@ -6,6 +5,4 @@ pub mod Replays
 pub mod Compares
 pub mod Records
 pub mod Upgrades
-pub mod Explores
-pub mod Writes
-pub mod Sources
+pub mod Makes

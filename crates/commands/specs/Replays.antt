@@ -1,17 +1,15 @@
 -- Believed: a contract of a command stands on it.
 -- What `detio replay` prints for the log and the scripts that it reads.
-use Rattle.std.specs.Prelude.{◌≡◌, ℕ, ◌⊎◌, Bool, true, false, List, length, Option}
-use Rattle.call_machine.specs.Plain.{counts_fit}
+use Rattle.std.specs.Prelude.{◌≡◌, ℕ, List, Option}
 use Rattle.thread_scripts.specs.declared.line.Line.{Line}
-use Rattle.command_texts.specs.Printing.{cannot_read, needs_scripts}
-use Rattle.command_texts.specs.Reading.{AreTexts, IsFirstUnread, IsText, IsUnreadable}
 use Rattle.command_texts.specs.declared.printed.Printed.{Printed}
-use Rattle.commands.specs.Expects.{IsToRun, RunShows}
-use Rattle.commands.specs.declared.replay.ToReplay.{ToReplay}
-use Rattle.commands.specs.declared.replay.ToReplay.TheVariants as reads
-use Rattle.commands.specs.declared.settings.RunOptions.{RunOptions}
-use Rattle.commands.specs.declared.to_run.ToRun.{ToRun}
-use Rattle.commands.specs.declared.to_run.ToRun.TheVariants as runs
+use Rattle.command_inputs.specs.Expects.{IsToRun, RunShows}
+use Rattle.command_inputs.specs.LogTexts.{IsToReplay}
+use Rattle.command_inputs.specs.declared.log_texts.ToReplay.{ToReplay}
+use Rattle.command_inputs.specs.declared.log_texts.ToReplay.TheVariants as reads
+use Rattle.command_inputs.specs.declared.settings.RunOptions.{RunOptions}
+use Rattle.command_inputs.specs.declared.running.ToRun.{ToRun}
+use Rattle.command_inputs.specs.declared.running.ToRun.TheVariants as runs
 use Rattle.commands.specs.declared.told.Told.{Told}
 use Rattle.commands.specs.declared.told.Told.TheVariants as tells
 
@@ -20,21 +18,6 @@ abbrev pub ToldPrints : RunOptions → List (List ℕ) → Told → Printed → 
 ToldPrints options texts (tells.Run transcripts stop) printed =
     RunShows options texts transcripts stop printed
 ToldPrints options texts (tells.Fault fault) printed = printed ≡ fault
-
--- what was read of the scripts, once the log was: their texts, or what is printed for the first that could not be read
-abbrev pub LogIsRead : List ℕ → List (List ℕ × Option (List ℕ)) → ToReplay → Type 0
-LogIsRead log sources (reads.Texts text texts) = (text ≡ log) × AreTexts sources texts.items
-LogIsRead log sources (reads.Fault printed) = (path : List ℕ) × IsFirstUnread sources path × (printed ≡ cannot_read path)
-
-abbrev pub CountIsRead : Bool → List ℕ × Option (List ℕ) → List (List ℕ × Option (List ℕ)) → ToReplay → Type 0
-CountIsRead false log sources read = read ≡ reads.Fault needs_scripts
-CountIsRead true log sources read =
-    (IsUnreadable log.1 × (read ≡ reads.Fault (cannot_read log.0)))
-    ⊎ ((text : List ℕ) × IsText log.1 text × LogIsRead text sources read)
-
--- what was read for a replay
-abbrev pub IsToReplay : List ℕ × Option (List ℕ) → List (List ℕ × Option (List ℕ)) → ToReplay → Type 0
-IsToReplay log sources read = CountIsRead (counts_fit (length sources) (length sources)) log sources read
 
 -- what is printed for what is to be run of these texts
 abbrev pub ToRunReplays : (List ℕ → List (List Line) → Told → Type 0) → RunOptions → List ℕ

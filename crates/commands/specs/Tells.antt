@@ -1,13 +1,9 @@
 -- Believed: a contract of a command stands on it.
 -- What is told of the replay of a log with scripts.
-use Rattle.std.specs.Prelude.{◌≡◌, ◌⊎◌, ℕ, List, length, map, Option, Some, None, Result, Ok, Err, codes}
-use Rattle.std.specs.Fmt.{decimal}
+use Rattle.std.specs.Prelude.{◌≡◌, ◌⊎◌, ℕ, List, length, map, Option, Some, None, Result, Ok, Err}
 use Rattle.logged_machine.specs.declared.stop.Stop.{Stop}
 use Rattle.logged_machine.specs.declared.stop.Stop.TheVariants as stops
-use Rattle.input_log.specs.Faults.{bad_magic, bad_record, bad_version, torn}
 use Rattle.input_log.specs.Fronts.{IsFront}
-use Rattle.input_log.specs.declared.fault.LogFault.{LogFault}
-use Rattle.input_log.specs.declared.fault.LogFault.TheVariants as log_fault
 use Rattle.input_log.specs.declared.log.LogText.{LogText}
 use Rattle.replayer.specs.Replay.{IsNoReplay, Replays}
 use Rattle.replayer.specs.Threads.{AtEnd, IsReplayedBy}
@@ -18,24 +14,11 @@ use Rattle.thread_scripts.specs.Faults.{Fault}
 use Rattle.thread_scripts.specs.Meaning.{start_of}
 use Rattle.thread_scripts.specs.declared.actor.ScriptState.{ScriptState}
 use Rattle.thread_scripts.specs.declared.line.Line.{Line}
-use Rattle.command_texts.specs.LogTexts.{fault_line}
-use Rattle.command_texts.specs.Printing.{fault_printed, no_memory, script_fault}
-use Rattle.command_texts.specs.Transcripts.{◌+++◌}
+use Rattle.command_texts.specs.Printing.{no_memory, script_fault}
 use Rattle.command_texts.specs.declared.printed.Printed.{Printed}
+use Rattle.command_inputs.specs.Faults.{log_has, no_log_printed}
 use Rattle.commands.specs.declared.told.Told.{Told}
 use Rattle.commands.specs.declared.told.Told.TheVariants as tells
-
--- a log of so many threads was given with so many scripts
-abbrev pub log_has : ℕ → ℕ → Printed
-log_has threads scripts = fault_printed 3 (codes "log has " +++ decimal threads +++ codes " threads, " +++ decimal scripts +++ codes " scripts given\n")
-
--- what is printed for a text that is no log
-abbrev pub no_log_printed : LogFault → Printed
-no_log_printed log_fault.BadMagic = fault_printed 3 (fault_line bad_magic)
-no_log_printed log_fault.BadVersion = fault_printed 3 (fault_line bad_version)
-no_log_printed (log_fault.BadRecord place) = fault_printed 3 (fault_line (bad_record place))
-no_log_printed (log_fault.Torn place records) = fault_printed 3 (fault_line (torn place records))
-no_log_printed log_fault.Memory = no_memory
 
 -- what is printed where the log has another number of threads than there are scripts
 abbrev pub ThreadsPrint : List ℕ → ℕ → Printed → Type 0

@@ -3,8 +3,8 @@ ghost use Rattle.command_texts.specs.Printing.{Prints};
 ghost use Rattle.command_texts.specs.Reading.{scripts_from};
 ghost use Rattle.commands.specs.Compares.{ComparePrints, LogCompares, LogsCompare, ScriptsCompare, SeenCompares, verdict_line, verdict_printed, verdict_status};
 
-use crate::plain::needs_scripts;
 use crate::told::{Told, told_of};
+use command_inputs::needs_scripts;
 use command_texts::{
     Printed, ReadFault, Source, TextReader, Unread, cannot_read, fits, no_memory, print, read_all,
     read_text,

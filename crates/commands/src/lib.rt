@@ -1,16 +1,16 @@
-//! What the commands `plain`, `explore`, `record`, `replay`, `compare`, `show` and `upgrade` do,
-//! over any readers and writers, for the program `detio` and for its tests.
+//! What the commands `plain`, `record`, `replay`, `compare`, `show`, `make` and `upgrade` do, over
+//! any readers and writers, for the program `detio` and for its tests.
 //!
 //! Each command is a function, as [`plain_over`]: it reads its [`Source`]s, writes what the command
 //! prints to two writers, and answers the exit status. Its contract says what is printed for which
 //! texts. Bad scripts, bad logs and lack of memory are faults that it prints; it fails only with an
 //! error of the writer `errors`. [`record_over`] makes its log, a [`LogTo`], just before the run,
-//! and asks for one outside for each script, of which none gave anything yet. [`upgrade_over`] makes
-//! its file, a [`NewFile`], only when it has the bytes of the upgraded log. [`DEFAULTS`] are the
+//! and asks for one outside for each script, of which none gave anything yet. [`upgrade_over`] and
+//! [`make_over`] make their file, a [`NewFile`], only when they have the bytes of the new log; by
+//! [`what_is_shown_is_made`] the second is the inverse of [`show_over`]. [`DEFAULTS`] are the
 //! settings where no option says otherwise. By [`RunOptions`] a run is held to what the texts of
 //! its scripts expect: a bad expectation is a fault, and the first unmet one has a line after the
-//! run's own last one. [`explore_over`] runs scripts with the delays of many seeds, by
-//! [`ExploreOptions`], and [`to_write`] gives their texts with those of the first seed.
+//! run's own last one.
 //!
 //! ```rust
 //! use commands::{DEFAULTS, RunOptions, Source, plain_over};
@@ -35,30 +35,22 @@
 #![tactic(auto)]
 
 mod compare;
-mod expecting;
-mod explore;
-mod explored_text;
-mod findings;
+mod make;
 mod plain;
 mod record;
 mod replay;
-mod settings;
 mod show;
-mod source_texts;
-mod to_run;
 mod told;
 mod upgrade;
-mod writing;
 
+pub use command_inputs::{DEFAULTS, RunOptions, settings_of};
 pub use command_texts::{
     LARGEST_FILE, Source, SourceFault, TextReader, cannot_write, no_memory, print, read_once,
 };
 pub use compare::compare_over;
-pub use explore::{ExploreOptions, explore_over};
+pub use make::{LogMade, make_over, what_is_shown_is_made};
 pub use plain::plain_over;
 pub use record::{LogTo, NewLog, NotCreated, RecordOptions, Recorded, log_sink, record_over};
 pub use replay::{replay_over, replay_threads_over};
-pub use settings::{DEFAULTS, RunOptions, settings_of};
 pub use show::show_over;
 pub use upgrade::{NewFile, OutFile, Upgraded, upgrade_over};
-pub use writing::{ToWrite, to_write};

@@ -1,18 +1,15 @@
-ghost use Rattle.std.specs.Prelude.{◌≡◌, [], length, map, IfOk, replicate, true};
+ghost use Rattle.std.specs.Prelude.{◌≡◌, length, map, IfOk, true};
 ghost use Rattle.call_machine.specs.Plain.{counts_fit};
 ghost use Rattle.logged_machine.specs.Starting.{are_settings};
-ghost use Rattle.command_texts.specs.Printing.{Prints, needs_scripts};
-ghost use Rattle.commands.specs.Plains.{PlainPrints, RunPrints, TextsPrint, bad_settings};
-ghost use Rattle.commands.specs.Plains.{inputs_of};
+ghost use Rattle.command_texts.specs.Printing.{Prints};
+ghost use Rattle.commands.specs.Plains.{PlainPrints, RunPrints, TextsPrint, inputs_of};
 
-use crate::expecting::run_shown;
-use crate::settings::RunOptions;
-use crate::to_run::{ToRun, to_run};
 use call_machine::{PlainFault, plain_run};
-use command_texts::{
-    Printed, Source, TextReader, Unread, cannot_read, fault, fits, no_memory, print, read_all,
+use command_inputs::{
+    RunOptions, SourceTexts, ToRun, bad_settings, no_outcomes, run_shown, source_texts, to_run,
 };
-use posix_terms::{Bytes, Limits, Outcomes, Settings};
+use command_texts::{Printed, Source, TextReader, no_memory, print};
+use posix_terms::{Bytes, Settings};
 use std::alloc::{AllocError, Global};
 use std::io;
 use std::io::Write;
@@ -55,13 +52,9 @@ fn plain_printed<R: TextReader + Drop>(
         PlainPrints settings options
         (map (λ s. (s.path.now, R.remaining s.reader)) sources.entry.items)) }
 {
-    if !fits(sources.len()) {
-        return needs_scripts(alloc);
-    }
-    match read_all(alloc, sources) {
-        Ok(texts) => texts_printed(alloc, settings, options, &texts),
-        Err(Unread::Script(path)) => cannot_read(alloc, path),
-        Err(Unread::Memory) => Err(AllocError),
+    match source_texts(alloc, sources)? {
+        SourceTexts::Read(texts) => texts_printed(alloc, settings, options, &texts),
+        SourceTexts::Fault(printed) => Ok(printed),
     }
 }
 
@@ -100,30 +93,4 @@ fn scripts_run(
         Err(PlainFault::Threads) => unreachable!(),
         Err(PlainFault::Settings) => bad_settings(alloc),
     }
-}
-
-// So many empty lists of outcomes.
-pub fn no_outcomes(alloc: Global, scripts: usize) -> Result<Vec<Outcomes>, AllocError>
-    ensures { IfOk result (λ outcomes. outcomes.items ≡ replicate scripts []) }
-{
-    let mut outcomes = Vec::new(alloc);
-    for _ in 0..scripts {
-        outcomes.push(Outcomes::from_vec(Vec::new(alloc)))?;
-    }
-    Ok(outcomes)
-}
-
-pub fn needs_scripts(alloc: Global) -> Result<Printed, AllocError>
-    ensures { IfOk result (λ printed. printed ≡ needs_scripts) }
-{
-    let threads = Limits::THREADS;
-    let line = format!(in alloc; "needs 1 to {threads} scripts\n")?;
-    fault(alloc, 2, line.as_str())
-}
-
-pub fn bad_settings(alloc: Global) -> Result<Printed, AllocError>
-    ensures { IfOk result (λ printed. printed ≡ bad_settings) }
-{
-    let line = "patience and door cost are 1 to 1000000, and the version of the log is 1 or 2\n";
-    fault(alloc, 2, line)
 }

@@ -1,18 +1,12 @@
 ghost use Rattle.std.specs.Prelude.{◌≡◌, IfOk, map};
 ghost use Rattle.command_texts.specs.Printing.{Prints};
-ghost use Rattle.commands.specs.Replays.{IsToReplay, LogIsRead, ReplayPrints, TextsReplay};
+ghost use Rattle.commands.specs.Replays.{ReplayPrints, TextsReplay};
 ghost use Rattle.commands.specs.Replays.{ToldPrints};
 ghost use Rattle.commands.specs.Tells.{RunTells, ThreadsTell};
 
-use crate::expecting::run_shown;
-use crate::plain::needs_scripts;
-use crate::settings::RunOptions;
-use crate::to_run::{ToRun, to_run};
 use crate::told::{Told, run_told, threads_told};
-use command_texts::{
-    Printed, ReadFault, Source, TextReader, Unread, cannot_read, fits, no_memory, print, read_all,
-    read_text,
-};
+use command_inputs::{RunOptions, ToReplay, ToRun, run_shown, to_replay, to_run};
+use command_texts::{Printed, Source, TextReader, no_memory, print};
 use posix_terms::Bytes;
 use std::alloc::{AllocError, Global};
 use std::io;
@@ -142,51 +136,6 @@ fn texts_replayed_by_threads<T: Threads + Wait + Sync>(
             told_printed(alloc, options, texts, told)
         }
         ToRun::Fault(printed) => Ok(printed),
-    }
-}
-
-// What was read for a replay.
-#[derive(Drop)]
-pub enum ToReplay {
-    // The texts of the log and of the scripts.
-    Texts(Bytes, Vec<Bytes>),
-    // What is printed for the first that could not be read.
-    Fault(Printed),
-}
-
-// Reads the log and then the scripts.
-pub fn to_replay<R: TextReader + Drop>(
-    alloc: Global,
-    log: Source<'_, R>,
-    sources: Vec<Source<'_, R>>,
-) -> Result<ToReplay, AllocError>
-    ensures { IfOk result (
-        IsToReplay
-        (log.entry.path.now, R.remaining log.entry.reader)
-        (map (λ s. (s.path.now, R.remaining s.reader)) sources.entry.items)) }
-{
-    if !fits(sources.len()) {
-        return Ok(ToReplay::Fault(needs_scripts(alloc)?));
-    }
-    match read_text(alloc, log.reader) {
-        Ok(text) => log_read(alloc, text, sources),
-        Err(ReadFault::Failed) => Ok(ToReplay::Fault(cannot_read(alloc, log.path)?)),
-        Err(ReadFault::Memory) => Err(AllocError),
-    }
-}
-
-// Reads the scripts, once the log was read.
-fn log_read<R: TextReader + Drop>(
-    alloc: Global,
-    log: Bytes,
-    sources: Vec<Source<'_, R>>,
-) -> Result<ToReplay, AllocError>
-    ensures { IfOk result (LogIsRead log (map (λ s. (s.path.now, R.remaining s.reader)) sources.entry.items)) }
-{
-    match read_all(alloc, sources) {
-        Ok(texts) => Ok(ToReplay::Texts(log, texts)),
-        Err(Unread::Script(path)) => Ok(ToReplay::Fault(cannot_read(alloc, path)?)),
-        Err(Unread::Memory) => Err(AllocError),
     }
 }
 

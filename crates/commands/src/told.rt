@@ -1,15 +1,13 @@
 ghost use Rattle.std.specs.Prelude.{◌≡◌, IfOk};
-ghost use Rattle.input_log.specs.declared.fault.LogFault.TheVariants as log_fault;
 ghost use Rattle.command_texts.specs.Reading.{scripts_from};
-ghost use Rattle.commands.specs.Tells.{FaultTells, RunTells, ScriptsTell, ThreadsPrint, ThreadsTell, log_has, no_log_printed};
+ghost use Rattle.commands.specs.Tells.{FaultTells, RunTells, ScriptsTell, ThreadsPrint};
+ghost use Rattle.commands.specs.Tells.{ThreadsTell};
 
 use crate::record::actors;
 use call_machine::Stop;
-use command_texts::{
-    FirstFault, Printed, bad_line, bad_magic, bad_record, bad_version, fault, scripts, too_long,
-    torn_line,
-};
-use input_log::{LogFault, decode_front};
+use command_inputs::{no_log, threads_line};
+use command_texts::{FirstFault, Printed, bad_line, scripts, too_long};
+use input_log::decode_front;
 use posix_terms::{Bytes, Transcripts};
 use replayer::{ReplayFault, replay, replay_threads};
 use std::alloc::{AllocError, Global};
@@ -89,26 +87,6 @@ pub fn fault_told(
     }
 }
 
-// The line of a log's fault.
-fn no_log(alloc: Global, fault: LogFault) -> Result<Printed, AllocError>
-    ensures { IfOk result (λ printed. printed ≡ no_log_printed fault) }
-{
-    match fault {
-        LogFault::BadMagic => bad_magic(alloc),
-        LogFault::BadVersion => bad_version(alloc),
-        LogFault::BadRecord(place) => bad_record(alloc, place),
-        LogFault::Torn(place, records) => torn(alloc, place, records),
-        LogFault::Memory => Err(AllocError),
-    }
-}
-
-fn torn(alloc: Global, place: usize, records: usize) -> Result<Printed, AllocError>
-    ensures { IfOk result (λ printed. printed ≡ no_log_printed (log_fault.Torn place records)) }
-{
-    let line = torn_line(alloc, place, records)?;
-    fault(alloc, 3, line.as_str())
-}
-
 // The log is of another number of threads than there are scripts: that number is read again.
 fn other_threads(alloc: Global, log: &[u8], scripts: usize) -> Result<Printed, AllocError>
     ensures { IfOk result (ThreadsPrint log.now scripts) }
@@ -117,11 +95,4 @@ fn other_threads(alloc: Global, log: &[u8], scripts: usize) -> Result<Printed, A
         Ok(log) => threads_line(alloc, usize::from(log.header.threads), scripts),
         Err(_) => Err(AllocError),
     }
-}
-
-fn threads_line(alloc: Global, threads: usize, scripts: usize) -> Result<Printed, AllocError>
-    ensures { IfOk result (λ printed. printed ≡ log_has threads scripts) }
-{
-    let line = format!(in alloc; "log has {threads} threads, {scripts} scripts given\n")?;
-    fault(alloc, 3, line.as_str())
 }

@@ -21,11 +21,11 @@ prints
   end
 
 Exit statuses:
-  0  the run came to its end, the logs gave the same, the log was printed or upgraded, or all explored
-     runs are as expected
+  0  the run came to its end, the logs gave the same, the log was printed, made or upgraded, or all
+     explored runs are as expected
   1  a difference, a divergence, the end of a log, or a reply that is not as expected
   2  wrong usage
-  3  a bad script, expectation or log
+  3  a bad script, expectation, log or text of a log
   4  a file that cannot be read or written, no memory, a full clock, threads that strayed
 
 It runs scripts, not programs. Each command's --help has its limits, its statuses and an example.";
@@ -138,10 +138,11 @@ const EXPLORE_ABOUT: &str = "Runs scripts with many delays, to find a schedule t
 const EXPLORE_LONG_ABOUT: &str =
     "Runs scripts with many delays, to find a schedule that breaks them.
 
-detio plain has one order of calls, and a failure that needs another order never shows. Here (schedule
-fuzzing) the scripts also run once for each seed, with a line work N before each line of a call. N is a
-hash of the seed, the thread and the number of the line, from 0 to --reach. So a seed gives the same run
-each time, on every machine. The lines #= of the scripts say what is expected: detio plain --help.
+detio plain has one order of calls, and a failure that needs another order never shows. Here
+(schedule fuzzing) the scripts also run once for each seed, with a line work N before each line of a
+call. N is a hash of the seed, the thread and the number of the line, from 0 to --reach. So a seed
+gives the same run each time, on every machine. The lines #= of the scripts say what is expected:
+detio plain --help.
 
 The first line says how the scripts end as they are, without delays:
   as they are END
@@ -150,31 +151,37 @@ replies are one group. A line follows for each group, in the order of the first 
   seed FIRST runs COUNT END same
   seed FIRST runs COUNT END ends otherwise
   seed FIRST runs COUNT END differs THREAD ROW BEFORE -> NOW
-same is what was seen without delays, ends otherwise the same with another END. Else the least thread
-whose rows differ is given, and its first such row, from 0: its call and reply before and now, - for
-no row. Where a reply is not as expected, these lines, and the first one too, go on with
+same is what was seen without delays, ends otherwise the same with another END. Else the least
+thread whose rows differ is given, and its first such row, from 0: its call and reply before and
+now, - for no row. Where a reply is not as expected, these lines, and the first one too, go on with
   expected THREAD LINE WANTED GOT
 for the least thread, LINE that of the script that was given. The last line is
   runs COUNT groups COUNT failed COUNT
 A run failed if a reply was not as expected.
 
---only SEED runs one seed. With --write its scripts are not run but written, with their delays, to new
-files: their paths are printed, and detio plain, record and replay take them.
+A thread ends once it has executed 10000 lines, and with its delays a long loop does so earlier.
+After END such threads are named: cut off THREAD,THREAD. With its delays a script has at most 1000
+lines.
 
-With its delays a script has at most 1000 lines, and a thread ends once it has executed 10000 lines, so a
-long loop may end earlier than without. Nothing comes from outside, as under detio plain: a run ends where
-it asks for it, and expectations after that are not looked at.
+Without --log nothing comes from outside, as under detio plain, and a run ends where it asks for it.
+With --log the calls that go outside take the outcomes of that log, in their order and whatever
+their clocks, and the patience and the door cost are the log's. A run ends where a thread asks what
+the log does not answer. Expectations after an end are not looked at.
+
+--only SEED runs one seed. With --write its scripts are not run but written, with their delays, to
+new files: their paths are printed, and detio plain, record and replay take them.
 
 Exit statuses:
   0  all replies are as expected
   1  a reply is not as expected
   2  wrong usage
-  3  a bad script or expectation, or a script that has no room for its delays
+  3  a bad script, expectation or log, or a script that has no room for its delays
   4  a file that cannot be read or written, no memory";
 
 const EXPLORE_AFTER_HELP: &str =
     "Example: both threads look whether a file is there before they make it.
-  printf 'open /a r\\njfail make\\nend\\nlabel make\\nopen /a w create excl\\n#= not fail\\n' > a.script
+  printf 'open /a r\\njfail make\\nend\\nlabel make\\n' > a.script
+  printf 'open /a w create excl\\n#= not fail\\n' >> a.script
   detio explore --seeds 0..100 a.script a.script
 
 prints
@@ -188,6 +195,54 @@ and
   detio explore --only 2 --write race a.script a.script
   detio plain --expect race/0.script race/1.script
 shows that run.";
+
+const FAULTS_ABOUT: &str = "Runs scripts by a log with one outcome replaced at a time";
+
+const FAULTS_LONG_ABOUT: &str =
+    "Runs scripts by a log with one outcome replaced at a time, to find a failure that breaks them.
+
+The scripts run as under detio plain, and the calls that go outside take the outcomes of the log, in
+their order and whatever their clocks; the patience and the door cost are the log's. They run once
+as they are, and once for each record of the log and each error that its call can meet at a host
+(fault injection), or each of --errors, in place of the record's outcome. With --short the reads and
+writes of the log also bring fewer bytes: none, one, half, all but one. The lines #= of the scripts
+say what is expected: detio plain --help.
+
+The outcomes after the replaced one come while they answer what is asked. Where a thread asks what
+the log does not answer, --then says what comes: stop (the run stops there), fail (EIO), well (what
+comes of a call that goes well: all bytes written, nothing more to read), 100 times at most.
+
+The first line says how the scripts end by the log as it is:
+  as they are END
+END has the words of the last line of detio plain. A line follows for each case, by thread, record
+and error:
+  THREAD NUMBER KIND fail ERROR END same
+  THREAD NUMBER KIND short COUNT END differs THREAD ROW BEFORE -> NOW
+The ends of these lines are those of detio explore. The last line is
+  cases COUNT failed COUNT
+A case failed if a reply was not as expected.
+
+Exit statuses:
+  0  all replies are as expected
+  1  a reply is not as expected
+  2  wrong usage
+  3  a bad script, expectation or log
+  4  a file that cannot be read, no memory";
+
+const FAULTS_AFTER_HELP: &str = "Example: a short read is not made up for
+  printf hi > in.txt
+  printf 'host_open in.txt r\\njfail end\\nread 0 9\\njfail end\\n' > copy.script
+  printf 'open /copy w create\\nwrite 1 b0\\n#= count 2\\nlabel end\\n' >> copy.script
+  detio record --log copy.log copy.script
+  detio faults --log copy.log --errors EIO --short copy.script
+
+prints at last
+  as they are end
+  0 0 open fail EIO end differs 0 0 host_open number 0 -> host_open fail EIO
+  0 1 read fail EIO end differs 0 1 read data 6869 -> read fail EIO
+  0 1 read short 0 end differs 0 1 read data 6869 -> read data - expected 0 6 count 2 count 0
+  0 1 read short 1 end differs 0 1 read data 6869 -> read data 68 expected 0 6 count 2 count 1
+  cases 4 failed 2";
 
 const RECORD_ABOUT: &str =
     "Runs 1 to 16 scripts as threads, with host files and loopback TCP, and records what comes from them";
@@ -384,6 +439,46 @@ prints
   version 1 threads 1 patience 1000 door cost 100
   end 0";
 
+const MAKE_ABOUT: &str = "Makes a log of the text that detio show prints of it";
+
+const MAKE_LONG_ABOUT: &str = "Makes a log of the text that detio show prints of it.
+
+The text is what detio show prints, which detio show --help describes. So any log can be printed,
+changed in an editor, and made again: another outcome, a failure in place of a success, a record
+more or less. Of what detio show printed of a log, and nothing changed, exactly the bytes of that
+log are made. Nothing is printed where all went well.
+
+Each line is to be just as detio show prints it: one space between words, no leading zeros,
+hexadecimal digits in lower case. The line feed at the end may be left out. The log is to be a good
+one: the numbers of a thread's records count from 0, each record of a log of version 2 has a clock,
+and those of a thread rise, and an outcome is one that its kind can have. The last line has the
+number of the records, after end where the log is closed, or after open where it is not. The first
+line that no log has there has one line on standard error; where the text ends too early it is the
+line after the last:
+  log text: bad line LINE
+
+The log is a new file, or takes the place of the log at its path. It is made only once all of it is
+known, so a bad text changes no file. A file there that is not empty and is not a log stays, unless
+--force is given. The text has at most 16777216 bytes.
+
+Exit statuses:
+  0  the log was written
+  2  wrong usage
+  3  a text that is not that of a log
+  4  a file that cannot be read or written, no memory";
+
+const MAKE_AFTER_HELP: &str = "Example: a read that fails in place of one that brings two bytes
+  printf hi > in.txt
+  printf 'host_open in.txt r\\nread 0 9\\n' > look.script
+  detio record --log look.log look.script
+  detio show --log look.log | sed 's/read ok 2 6869/read fail EIO/' | detio make --out fails.log
+  detio replay --log fails.log look.script
+
+prints at last
+  0 0 host_open number 0
+  0 1 read fail EIO
+  end";
+
 const UPGRADE_ABOUT: &str =
     "Writes a log of version 1 in version 2, with the clocks that its scripts give it";
 
@@ -444,10 +539,12 @@ fn subcommands<'a>(alloc: Global) -> Result<Vec<Command<'a>>, AllocError> {
     let mut subcommands = Vec::new(alloc);
     subcommands.push(plain(alloc)?)?;
     subcommands.push(explore(alloc)?)?;
+    subcommands.push(faults(alloc)?)?;
     subcommands.push(record(alloc)?)?;
     subcommands.push(replay(alloc)?)?;
     subcommands.push(compare(alloc)?)?;
     subcommands.push(show(alloc)?)?;
+    subcommands.push(make(alloc)?)?;
     subcommands.push(upgrade(alloc)?)?;
     Ok(subcommands)
 }
@@ -527,7 +624,16 @@ fn explore<'a>(alloc: Global) -> Result<Command<'a>, AllocError> {
     let command = command.arg(seeds(alloc))?.arg(only(alloc)?)?;
     let command = command.arg(reach(alloc))?.arg(write(alloc)?)?;
     let command = command.arg(patience(alloc))?.arg(door_cost(alloc))?;
-    command.arg(scripts(alloc))
+    command.arg(outcomes(alloc)?)?.arg(scripts(alloc))
+}
+
+fn outcomes<'a>(alloc: Global) -> Result<Arg<'a>, AllocError> {
+    Arg::new(alloc, "log")
+        .long("log")
+        .value_name("FILE")
+        .help("A log whose outcomes come from outside; /dev/stdin is standard input")
+        .conflicts_with("patience")?
+        .conflicts_with("door-cost")
 }
 
 fn seeds<'a>(alloc: Global) -> Arg<'a> {
@@ -562,6 +668,48 @@ fn reach<'a>(alloc: Global) -> Arg<'a> {
         .value_parser(value_parser!(u32).range(0..=1_000_000))
         .default_value("20")
         .help("The longest delay of a call, in units of its thread's clock")
+}
+
+fn faults<'a>(alloc: Global) -> Result<Command<'a>, AllocError> {
+    let log = log(
+        alloc,
+        "The log whose outcomes are replaced; /dev/stdin is standard input",
+    );
+    let command = described(
+        alloc,
+        "faults",
+        FAULTS_ABOUT,
+        FAULTS_LONG_ABOUT,
+        FAULTS_AFTER_HELP,
+    );
+    let command = command.arg(log)?.arg(errors(alloc))?;
+    let command = command.arg(short(alloc))?.arg(then(alloc)?)?;
+    command.arg(scripts(alloc))
+}
+
+fn errors<'a>(alloc: Global) -> Arg<'a> {
+    Arg::new(alloc, "errors")
+        .long("errors")
+        .value_name("E,E..")
+        .help("These errors, for each record, as EIO,ENOENT")
+}
+
+fn short<'a>(alloc: Global) -> Arg<'a> {
+    Arg::new(alloc, "short")
+        .long("short")
+        .action(ArgAction::SetTrue)
+        .help("Also fewer bytes of reads and writes")
+}
+
+fn then<'a>(alloc: Global) -> Result<Arg<'a>, AllocError> {
+    Ok(
+        Arg::new(alloc, "then")
+            .long("then")
+            .value_name("WHAT")
+            .value_parser(["stop", "fail", "well"].as_slice())
+            .default_value("stop")
+            .help("What comes where the log does not answer"),
+    )
 }
 
 fn record<'a>(alloc: Global) -> Result<Command<'a>, AllocError> {
@@ -647,6 +795,17 @@ fn compare<'a>(alloc: Global) -> Result<Command<'a>, AllocError> {
 fn show<'a>(alloc: Global) -> Result<Command<'a>, AllocError> {
     let log = log(alloc, "The log to print; /dev/stdin is standard input");
     described(alloc, "show", SHOW_ABOUT, SHOW_LONG_ABOUT, SHOW_AFTER_HELP).arg(log)
+}
+
+fn make<'a>(alloc: Global) -> Result<Command<'a>, AllocError> {
+    let out = file(alloc, "out", "The log to write");
+    let force = force(alloc, "Replaces a file at the log's path that is not a log");
+    let text = Arg::new(alloc, "text")
+        .value_name("TEXT")
+        .default_value("/dev/stdin")
+        .help("The text of the log; /dev/stdin is standard input");
+    let command = described(alloc, "make", MAKE_ABOUT, MAKE_LONG_ABOUT, MAKE_AFTER_HELP);
+    command.arg(out)?.arg(force)?.arg(text)
 }
 
 fn upgrade<'a>(alloc: Global) -> Result<Command<'a>, AllocError> {

@@ -1,6 +1,7 @@
-use crate::input::open_scripts;
+use crate::input::{open_scripts, open_source};
 use clap::ArgMatches;
-use commands::{ExploreOptions, ToWrite, explore_over, print, settings_of, to_write};
+use commands::{print, settings_of};
+use explore_commands::{ExploreOptions, ToWrite, explore_over, to_write};
 use std::alloc::AllocError;
 use std::fs::{self, File};
 use std::io::Write;
@@ -19,11 +20,13 @@ pub(crate) fn run_explore(rt: &HostRuntime, matches: &ArgMatches<'_>) -> Result<
         matches.get_one::<u32>("door-cost"),
         None,
     );
+    let log = matches.get_str("log").map(|path| open_source(rt, path));
     let sources = open_scripts(rt, scripts)?;
     let status = explore_over(
         rt.alloc(),
         settings,
         options,
+        log,
         sources,
         &mut rt.stdout(),
         &mut rt.stderr(),
@@ -57,8 +60,8 @@ fn not_seeds(rt: &HostRuntime) -> u8 {
     2
 }
 
-// Writes the scripts with the delays of a seed to new files of this directory, which is made where it
-// is not there, and prints their paths.
+// Writes the scripts with the delays of a seed to new files of this directory, which is made where
+// it is not there, and prints their paths.
 fn write_scripts(
     rt: &HostRuntime,
     options: ExploreOptions,

@@ -3,6 +3,7 @@
 
 mod command;
 mod explore;
+mod faults;
 mod input;
 mod log_file;
 mod record;
@@ -11,10 +12,11 @@ use clap::ArgMatches;
 use clap::error::ErrorKind;
 use command::command;
 use commands::{
-    LogTo, RunOptions, cannot_write, compare_over, no_memory, plain_over, replay_over,
+    LogTo, RunOptions, cannot_write, compare_over, make_over, no_memory, plain_over, replay_over,
     replay_threads_over, settings_of, show_over, upgrade_over,
 };
 use explore::run_explore;
+use faults::run_faults;
 use host_doors::Outside;
 use input::{open_scripts, open_source};
 use log_file::{LogFile, is_script, log_is_script};
@@ -80,10 +82,12 @@ fn run_matches<O: Outside + Send + Drop, N: NewOutsides<O> + Drop, T: Threads + 
     match matches.subcommand() {
         Some(("plain", matches)) => run_plain(rt, matches),
         Some(("explore", matches)) => run_explore(rt, matches),
+        Some(("faults", matches)) => run_faults(rt, matches),
         Some(("record", matches)) => run_record(rt, handles, outsides, matches),
         Some(("replay", matches)) => run_replay(rt, handles, matches),
         Some(("compare", matches)) => run_compare(rt, matches),
         Some(("show", matches)) => Ok(run_show(rt, matches)),
+        Some(("make", matches)) => Ok(run_make(rt, matches)),
         Some(("upgrade", matches)) => run_upgrade(rt, matches),
         _ => Ok(2),
     }
@@ -194,6 +198,21 @@ fn run_show(rt: &HostRuntime, matches: &ArgMatches<'_>) -> u8 {
     };
     let source = open_source(rt, path);
     show_over(rt.alloc(), source, &mut rt.stdout(), &mut rt.stderr()).unwrap_or(4)
+}
+
+// `detio make`, as the command line has it.
+fn run_make(rt: &HostRuntime, matches: &ArgMatches<'_>) -> u8 {
+    let (Some(text), Some(path)) = (matches.get_str("text"), matches.get_str("out")) else {
+        return 2;
+    };
+    let text = open_source(rt, text);
+    let force = matches.get_flag("force");
+    let out = LogTo {
+        path,
+        log: LogFile { rt, path, force },
+    };
+    let made = make_over(rt.alloc(), text, out, &mut rt.stdout(), &mut rt.stderr());
+    made.map(|it| it.status).unwrap_or(4)
 }
 
 // `detio upgrade`, as the command line has it.

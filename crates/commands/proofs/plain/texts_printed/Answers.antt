@@ -1,7 +1,8 @@
-use Rattle.commands.proofs.Scripts.{scripts_fit}
+use Rattle.std.proofs.Common.{◌∙◌, ap}
+use Rattle.call_machine.specs.Plain.{counts_fit}
 use Rattle.commands.proofs.plain.texts_printed.Goals as goal
 
 pub scripts_run-requires : goal.scripts_run-requires
 scripts_run-requires c =
-    let run = rw c.in-Scripts.is at c.in_ok-scripts.ensures in
-    scripts_fit c.args.texts.now c.in-Scripts.scripts.items run.0 c.requires
+    let each = rw c.in-Scripts.is at c.in_ok-scripts.ensures.each in
+    ap (λ n. counts_fit n n) each ∙ c.requires

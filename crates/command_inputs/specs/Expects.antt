@@ -1,0 +1,111 @@
+-- Believed: a contract of a command stands on it.
+-- What is run of scripts' texts, and what is printed of a run: where that is asked, its replies are
+-- held to what the texts expect.
+use Rattle.std.specs.Prelude.{◌≡◌, ◌⊎◌, ℕ, All, Bool, true, false, List, length, map, take, slice_get}
+use Rattle.std.specs.Prelude.{Option, Some, Ok, Err}
+use Rattle.std.specs.Bool.{OnTrue}
+use Rattle.std.specs.List.{zip}
+use Rattle.posix_terms.specs.declared.reply.Reply.{Reply}
+use Rattle.posix_terms.specs.declared.transcript.Row.{Row}
+use Rattle.thread_scripts.specs.Faults.{Fault}
+use Rattle.thread_scripts.specs.Grammar.{script_of}
+use Rattle.thread_scripts.specs.Words.{lines_of}
+use Rattle.thread_scripts.specs.declared.line.Line.{Line}
+use Rattle.expectations.specs.Expected.{AreExpectations}
+use Rattle.expectations.specs.Places.{calls_of}
+use Rattle.expectations.specs.Unmet.{AreMet, IsFirstUnmet}
+use Rattle.expectations.specs.declared.expected.Expectation.{Expectation}
+use Rattle.expectations.specs.declared.unmet.Unmet.{Unmet}
+use Rattle.logged_machine.specs.declared.stop.Stop.{Stop}
+use Rattle.command_texts.specs.Expecting.{IsFirstBad, IsGood, expectation_fault, unmet_line}
+use Rattle.command_texts.specs.Expecting.{with_unmet}
+use Rattle.command_texts.specs.Printing.{run_printed, script_fault}
+use Rattle.command_texts.specs.Reading.{scripts_from}
+use Rattle.command_texts.specs.declared.expecting.BadExpectation.{BadExpectation}
+use Rattle.command_texts.specs.declared.printed.Printed.{Printed}
+use Rattle.command_inputs.specs.declared.settings.RunOptions.{RunOptions}
+use Rattle.command_inputs.specs.declared.running.ToRun.{ToRun}
+use Rattle.command_inputs.specs.declared.running.ToRun.TheVariants as runs
+
+-- ---- what is run
+
+-- this is printed for the first of these texts that is not a script
+pub record HasNoScript (texts : List (List ℕ)) (printed : Printed) : Type 0 where
+  pub script : ℕ
+  pub fault : Fault
+  pub is : scripts_from 0 texts ≡ Err (script, fault)
+  pub says : printed ≡ script_fault script fault
+
+-- this is printed for the first bad expectation of these texts, all of which are scripts
+pub record HasBadExpectation (texts : List (List ℕ)) (printed : Printed) : Type 0 where
+  pub scripts : List (List Line)
+  pub are : scripts_from 0 texts ≡ Ok scripts
+  pub bad : BadExpectation
+  pub first : IsFirstBad texts bad
+  pub says : printed ≡ expectation_fault bad
+
+-- what is run of texts, and of what is expected, if that is asked: the scripts, or there is a fault
+abbrev pub IsToRun : Bool → List (List ℕ) → ToRun → Type 0
+IsToRun expect texts (runs.Scripts scripts) =
+    (scripts_from 0 texts ≡ Ok scripts.items) × OnTrue expect (All IsGood texts)
+IsToRun expect texts (runs.Fault printed) =
+    HasNoScript texts printed ⊎ ((expect ≡ true) × HasBadExpectation texts printed)
+
+-- one script is run of each of so many texts
+abbrev pub RunsEach : ℕ → ToRun → Type 0
+RunsEach texts (runs.Scripts scripts) = length scripts.items ≡ texts
+RunsEach texts (runs.Fault printed) = Unit {0}
+
+-- ---- what is printed of a run
+
+-- a text is this script, and expects this
+pub record Expects
+    (text : List ℕ) (script : List Line) (expectations : List Expectation) : Type 0 where
+  pub is_script : script_of text ≡ Ok script
+  pub are_expected : AreExpectations (lines_of text) expectations
+
+-- the calls of a thread that saw these rows: the place of each in its script, and the reply
+abbrev pub calls_seen : List Line → List Row → List (ℕ × Reply)
+calls_seen script rows = calls_of script (map (λ row. row.reply) rows)
+
+-- each reply that a thread saw is as its text expects: that of each of its rows
+pub record IsAsExpected (thread : List ℕ × List Row) : Type 0 where
+  pub script : List Line
+  pub expectations : List Expectation
+  pub expects : Expects thread.0 script expectations
+  pub met : All (AreMet expectations) (calls_seen script thread.1)
+
+-- this line is of the first that is not, where the thread has this number: the reply of a row, and
+-- the expectation that it does not meet
+pub record IsUnmetLine (number : ℕ) (thread : List ℕ × List Row) (line : List ℕ) : Type 0 where
+  pub script : List Line
+  pub expectations : List Expectation
+  pub expects : Expects thread.0 script expectations
+  pub first : Unmet
+  pub is_first : IsFirstUnmet expectations (calls_seen script thread.1) first
+  pub expectation : Expectation
+  pub wanted : slice_get expectations first.expectation ≡ Some expectation
+  pub row : Row
+  pub came : slice_get thread.1 first.row ≡ Some row
+  pub says : line ≡ unmet_line number expectation row.reply
+
+-- this line is of the first thread that saw another reply than its text expects
+pub record IsFirstUnmetLine (threads : List (List ℕ × List Row)) (line : List ℕ) : Type 0 where
+  pub number : ℕ
+  pub before : All IsAsExpected (take number threads)
+  pub thread : List ℕ × List Row
+  pub at : slice_get threads number ≡ Some thread
+  pub unmet : IsUnmetLine number thread line
+
+-- what is printed where this is printed of the run alone, whose threads have these texts and rows
+abbrev pub HeldShows : Bool → List (List ℕ × List Row) → Printed → Printed → Type 0
+HeldShows false threads run printed = printed ≡ run
+HeldShows true threads run printed =
+    (All IsAsExpected threads × (printed ≡ run))
+    ⊎ ((line : List ℕ) × IsFirstUnmetLine threads line × (printed ≡ with_unmet run line))
+
+-- what is printed for a run of the scripts of these texts
+abbrev pub RunShows : RunOptions → List (List ℕ) → List (List Row) → Option Stop → Printed → Type 0
+RunShows options texts transcripts stop printed =
+    HeldShows options.expect (zip texts transcripts)
+    (run_printed options.turns transcripts stop) printed

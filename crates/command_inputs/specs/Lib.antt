@@ -1,0 +1,4 @@
+pub mod Faults
+pub mod Sources
+pub mod LogTexts
+pub mod Expects

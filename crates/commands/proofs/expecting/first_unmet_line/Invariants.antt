@@ -1,9 +1,0 @@
-use Rattle.std.proofs.Common.{All, take}
-use Rattle.std.specs.List.{zip}
-use Rattle.commands.specs.Expects.{IsAsExpected}
-use Rattle.commands.proofs.expecting.first_unmet_line.Given as goal
-
--- the threads so far saw what their texts expect
-abbrev pub invariant-loop-thread : goal.invariant-loop-thread
-invariant-loop-thread l =
-    All IsAsExpected (take l.thread (zip l.texts l.transcripts))

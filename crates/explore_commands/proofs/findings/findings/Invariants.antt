@@ -1,0 +1,10 @@
+use Rattle.std.proofs.Common.{take}
+use Rattle.std.specs.List.{AllZip}
+use Rattle.explorer.specs.Subject.{subject}
+use Rattle.explore_commands.specs.Explores.{IsFinding}
+use Rattle.explore_commands.proofs.findings.findings.Given as goal
+
+abbrev pub invariant-loop-group : goal.invariant-loop-group
+invariant-loop-group g l =
+    AllZip (IsFinding (subject l.trial) (g.D.Delays.delays_of l.delays) l.before)
+    (take l.group-index l.groups) l.findings.items

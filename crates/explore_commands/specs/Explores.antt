@@ -1,0 +1,287 @@
+-- Believed: a contract of a command stands on it.
+-- What `detio explore` prints for the scripts that it reads.
+use Rattle.std.specs.Prelude.{◌≡◌, ◌⊎◌, ◌↔◌, ◌||◌, not, IsTrue, Bool, true, false}
+use Rattle.std.specs.Prelude.{ℕ, ◌-◌, ◌==◌, nat_le}
+use Rattle.std.specs.Prelude.{List, [], ◌∷◌, ◌++◌, length, replicate, slice_get, sum_by, codes, All}
+use Rattle.std.specs.Prelude.{Option, Some, None, MatchOption, is_some, option_and_then}
+use Rattle.std.specs.Prelude.{if◌then◌else◌}
+use Rattle.std.specs.Fmt.{decimal}
+use Rattle.std.specs.List.{AllZip, flat_map, range_with_len, zip}
+use Rattle.posix_terms.specs.declared.limits.TheConstants.Limits as limit
+use Rattle.posix_terms.specs.declared.transcript.Row.{Row}
+use Rattle.posix_terms.specs.declared.transcript.Settings.{Settings}
+use Rattle.thread_scripts.specs.Faults.{Fault, bad_line, too_long}
+use Rattle.thread_scripts.specs.declared.line.Line.{Line}
+use Rattle.call_machine.specs.declared.fault.PlainFault.{PlainFault}
+use Rattle.comparator.specs.Comparison.{IsVerdictOn}
+use Rattle.comparator.specs.declared.verdict.Verdict.{Verdict}
+use Rattle.comparator.specs.declared.verdict.Verdict.TheVariants as verdict
+use Rattle.explorer.specs.Delays.{chance_delay}
+use Rattle.explorer.specs.Cases.{CasesJoin, IsFaultOf, IsNotRun, SeesIn, inputs_of}
+use Rattle.explorer.specs.Faults.{fault_of_run}
+use Rattle.explorer.specs.Subject.{Subject}
+use Rattle.explorer.specs.Groups.{runs_of}
+use Rattle.explorer.specs.Varied.{varied_texts}
+use Rattle.explorer.specs.declared.fault.ExploreFault.{ExploreFault}
+use Rattle.explorer.specs.declared.fault.ExploreFault.TheVariants as fault
+use Rattle.explorer.specs.declared.groups.Group.{Group}
+use Rattle.explorer.specs.declared.observation.Observation.{Observation}
+use Rattle.command_texts.specs.Printing.{fault_printed, needs_scripts, script_fault}
+use Rattle.command_texts.specs.Transcripts.{◌+++◌, call_text, end_words}
+use Rattle.command_texts.specs.declared.printed.Printed.{Printed}
+use Rattle.command_inputs.specs.Expects.{IsAsExpected, IsFirstUnmetLine, IsToRun}
+use Rattle.explore_commands.specs.CutOffs.{cut_text, cut_threads}
+use Rattle.command_inputs.specs.Faults.{bad_settings}
+use Rattle.command_inputs.specs.LogTexts.{IsToReplay}
+use Rattle.command_inputs.specs.declared.log_texts.ToReplay.{ToReplay}
+use Rattle.command_inputs.specs.declared.log_texts.ToReplay.TheVariants as reads
+use Rattle.explore_commands.specs.LogGives.{LogGives}
+use Rattle.explore_commands.specs.declared.explore.ExploreOptions.{ExploreOptions}
+use Rattle.explore_commands.specs.declared.log_inputs.LogInputs.{LogInputs}
+use Rattle.explore_commands.specs.declared.log_inputs.LogInputs.TheVariants as inputs
+use Rattle.explore_commands.specs.declared.findings.Finding.{Finding}
+use Rattle.command_inputs.specs.Sources.{IsRead}
+use Rattle.command_inputs.specs.declared.sources.SourceTexts.{SourceTexts}
+use Rattle.command_inputs.specs.declared.sources.SourceTexts.TheVariants as texts
+use Rattle.command_inputs.specs.declared.running.ToRun.{ToRun}
+use Rattle.command_inputs.specs.declared.running.ToRun.TheVariants as runs
+
+-- ## What is found
+
+-- the line of the first reply that is not as the texts expect, where this was seen
+abbrev pub IsUnmetIn : List (List ℕ) → Observation → Option (List ℕ) → Type 0
+IsUnmetIn texts observation unmet =
+    MatchOption unmet
+    (All IsAsExpected (zip texts observation.seen))
+    (IsFirstUnmetLine (zip texts observation.seen))
+
+-- ## What is printed of it
+
+-- what a thread saw at a row, and `-` where it saw no more
+abbrev pub seen_text : Option Row → List ℕ
+seen_text None = codes "-"
+seen_text (Some row) = call_text row
+
+abbrev pub row_at : List (List Row) → ℕ → ℕ → Option Row
+row_at seen thread row = option_and_then (λ rows. slice_get rows row) (slice_get seen thread)
+
+-- what was seen at a row before, and what is now
+abbrev pub change_text : Option Row → Option Row → List ℕ
+change_text before now = seen_text before +++ codes " -> " +++ seen_text now
+
+-- the least thread with a row that differs, the first such row, and how it changed
+unfoldable pub differs_text : List (List Row) → List (List Row) → ℕ → ℕ → List ℕ
+differs_text before now thread row =
+    codes "differs " +++ decimal thread +++ codes " " +++ decimal row +++ codes " "
+    +++ change_text (row_at before thread row) (row_at now thread row)
+
+-- that, or whether the runs ended alike where all rows are the same
+abbrev pub difference_text : List (List Row) → List (List Row) → Verdict → Bool → List ℕ
+difference_text before now verdict.Same true = codes "same"
+difference_text before now verdict.Same false = codes "ends otherwise"
+difference_text before now (verdict.Differs thread row) ends_alike =
+    differs_text before now thread row
+
+-- the end of a line: that of an unmet expectation has its own line feed
+abbrev pub unmet_text : Option (List ℕ) → List ℕ
+unmet_text None = codes "\n"
+unmet_text (Some line) = codes " " +++ line
+
+-- how a run ended, and which threads ended only because they had executed as many lines as a thread
+-- may
+abbrev pub ending_text : Observation → List ℕ → List ℕ
+ending_text observation cut = end_words observation.stop +++ cut_text cut
+
+-- the line of the run without delays
+abbrev pub as_is_text : Observation → List ℕ → Option (List ℕ) → List ℕ
+as_is_text before cut unmet = codes "as they are " +++ ending_text before cut +++ unmet_text unmet
+
+-- the first case and the number of the runs of a group
+unfoldable pub counts_text : Group → List ℕ
+counts_text group =
+    codes "seed " +++ decimal group.first +++ codes " runs " +++ decimal group.runs +++ codes " "
+
+-- what a line says of runs after their counts: how they ended, what differs in them, and the first
+-- reply that is not as expected
+abbrev pub found_text :
+    Observation → Observation → List ℕ → Verdict → Bool → Option (List ℕ) → List ℕ
+found_text before now cut verdict ends_alike unmet =
+    ending_text now cut +++ codes " " +++ difference_text before.seen now.seen verdict ends_alike
+    +++ unmet_text unmet
+
+-- What is found of so many runs, in a line that begins so: the first row that differs from what was
+-- seen before, whether the runs ended like that one, and the line of the first reply that is not as
+-- these texts expect, where they failed. These threads were cut off in the first of them
+pub record IsFound
+    (texts : List (List ℕ)) (before : Observation) (front : List ℕ) (runs : ℕ)
+    (now : Observation) (cut : List ℕ) (finding : Finding) : Type 0 where
+  pub verdict : Verdict
+  pub differs : IsVerdictOn before.seen now.seen verdict
+  pub ends_alike : Bool
+  pub ends : IsTrue ends_alike ↔ (before.stop ≡ now.stop)
+  pub unmet : Option (List ℕ)
+  pub expected : IsUnmetIn texts now unmet
+  pub line : finding.line ≡ front ++ found_text before now cut verdict ends_alike unmet
+  pub failed : finding.failed ≡ (if is_some unmet then runs else 0)
+
+-- the threads that were cut off in the first run of a group
+abbrev pub cut_in : Subject → (ℕ → ℕ → ℕ → Option ℕ) → Group → List ℕ
+cut_in subject delays group =
+    cut_threads 0 (varied_texts (delays group.first) 0 subject.texts) group.observation.seen
+
+-- what is found of a group, in a line that begins with its counts
+abbrev pub IsFinding :
+    Subject → (ℕ → ℕ → ℕ → Option ℕ) → Observation → Group → Finding → Type 0
+IsFinding subject delays before group finding =
+    IsFound subject.texts before (counts_text group) group.runs group.observation
+    (cut_in subject delays group) finding
+
+-- how many runs failed
+abbrev pub failed_of : List Finding → ℕ
+failed_of findings = sum_by (λ (finding : Finding). finding.failed) findings
+
+abbrev pub lines_of : List Finding → List ℕ
+lines_of findings = flat_map (λ (finding : Finding). finding.line) findings
+
+-- how many runs and groups there are, and how many runs failed
+unfoldable pub sums_text : List Group → ℕ → List ℕ
+sums_text groups failed =
+    codes "runs " +++ decimal (runs_of groups) +++ codes " groups " +++ decimal (length groups)
+    +++ codes " failed " +++ decimal failed +++ codes "\n"
+
+-- the status is 1 where a reply of the run without delays or of another is not as expected
+abbrev pub explored_printed :
+    Observation → List ℕ → Option (List ℕ) → List Group → List Finding → Printed
+explored_printed before cut unmet groups findings = record {
+  status = if is_some unmet || not (failed_of findings == 0) then 1 else 0;
+  output =
+      as_is_text before cut unmet ++ lines_of findings ++ sums_text groups (failed_of findings);
+  errors = [];
+}
+
+-- ## Faults
+
+abbrev pub bad_reach : Printed
+bad_reach = fault_printed 2 (codes "the reach is 0 to 1000000\n")
+
+-- a script has no room for its delays
+abbrev pub no_room : ℕ → Printed
+no_room script =
+    fault_printed 3 (codes "script " +++ decimal script +++ codes ": no room for delays\n")
+
+-- why a script with its delays is not one
+abbrev pub varied_fault : ℕ → Fault → Printed
+varied_fault script (bad_line line) = script_fault script (bad_line line)
+varied_fault script too_long = no_room script
+
+-- what is printed where a run could not be made. Without memory nothing is said here
+abbrev pub FaultPrints : ExploreFault → Printed → Type 0
+FaultPrints (fault.BadLine script line) printed = printed ≡ varied_fault script (bad_line line)
+FaultPrints (fault.TooLong script) printed = printed ≡ varied_fault script too_long
+FaultPrints fault.Threads printed = printed ≡ needs_scripts
+FaultPrints fault.Settings printed = printed ≡ bad_settings
+FaultPrints fault.Memory printed = ⊥
+
+-- ## The command
+
+-- what is tried: these texts under these settings, where nothing comes from outside
+abbrev pub subject_of : Settings → List (List ℕ) → Subject
+subject_of settings texts = record {
+  texts = texts;
+  outcomes = replicate (length texts) [];
+  settings = settings;
+}
+
+-- the delays of the seeds, by thread and line
+abbrev pub delays_of : ExploreOptions → ℕ → ℕ → ℕ → Option ℕ
+delays_of options seed thread line = Some (chance_delay options.reach seed thread line)
+
+abbrev pub seeds_of : ExploreOptions → List ℕ
+seeds_of options = range_with_len options.first (options.end - options.first)
+
+-- this is printed where the runs of all seeds were made
+pub record IsExplored
+    (subject : Subject) (options : ExploreOptions) (before : Observation) (printed : Printed)
+    : Type 0 where
+  pub unmet : Option (List ℕ)
+  pub expected : IsUnmetIn subject.texts before unmet
+  pub groups : List Group
+  pub explores : CasesJoin subject (delays_of options) [] (seeds_of options) groups
+  pub findings : List Finding
+  pub found : AllZip (IsFinding subject (delays_of options) before) groups findings
+  pub says : printed
+      ≡ explored_printed before (cut_threads 0 subject.texts before.seen) unmet groups findings
+
+-- this is printed of the runs with delays, where this was seen in the run without them
+abbrev pub SeenExplores : Subject → ExploreOptions → Observation → Printed → Type 0
+SeenExplores subject options before printed =
+    IsExplored subject options before printed
+    ⊎ ((why : ExploreFault) × IsFaultOf subject (delays_of options) options.first options.end why
+    × FaultPrints why printed)
+
+-- what is printed for the scripts of a trial: of the runs with delays, or why there was none without
+abbrev pub SubjectExplores : Subject → ExploreOptions → List (List Line) → Printed → Type 0
+SubjectExplores subject options scripts printed =
+    ((before : Observation) × SeesIn subject scripts before
+    × SeenExplores subject options before printed)
+    ⊎ ((why : PlainFault) × IsNotRun (inputs_of subject scripts) why
+    × FaultPrints (fault_of_run why) printed)
+
+-- what is printed for what a log gives
+abbrev pub GivenExplores :
+    ExploreOptions → List (List ℕ) → List (List Line) → LogInputs → Printed → Type 0
+GivenExplores options texts scripts (inputs.Given outcomes settings) printed =
+    SubjectExplores (record { texts = texts; outcomes = outcomes.items; settings = settings })
+    options scripts printed
+GivenExplores options texts scripts (inputs.Fault fault) printed = printed ≡ fault
+
+-- what is printed where nothing comes from outside, or what a log gives
+abbrev pub OutsideExplores : Settings → ExploreOptions → Option (List ℕ) → List (List ℕ)
+    → List (List Line) → Printed → Type 0
+OutsideExplores settings options None texts scripts printed =
+    SubjectExplores (subject_of settings texts) options scripts printed
+OutsideExplores settings options (Some text) texts scripts printed =
+    (given : LogInputs) × LogGives text (length scripts) given
+    × GivenExplores options texts scripts given printed
+
+-- what is printed for scripts, whether the reach is in its range or not
+abbrev pub ReachExplores : Bool → Settings → ExploreOptions → Option (List ℕ) → List (List ℕ)
+    → List (List Line) → Printed → Type 0
+ReachExplores false settings options log texts scripts printed = printed ≡ bad_reach
+ReachExplores true settings options log texts scripts printed =
+    OutsideExplores settings options log texts scripts printed
+
+-- what is printed for what is to be run of texts
+abbrev pub ToRunExplores : Settings → ExploreOptions → Option (List ℕ) → List (List ℕ) → ToRun
+    → Printed → Type 0
+ToRunExplores settings options log texts (runs.Scripts scripts) printed =
+    ReachExplores (nat_le options.reach limit.WORK) settings options log texts scripts.items printed
+ToRunExplores settings options log texts (runs.Fault fault) printed = printed ≡ fault
+
+abbrev pub TextsExplore :
+    Settings → ExploreOptions → Option (List ℕ) → List (List ℕ) → Printed → Type 0
+TextsExplore settings options log texts printed =
+    (run : ToRun) × IsToRun true texts run × ToRunExplores settings options log texts run printed
+
+-- what is printed for the texts of sources, or where they were not read
+abbrev pub ReadExplores : Settings → ExploreOptions → SourceTexts → Printed → Type 0
+ReadExplores settings options (texts.Read read) printed =
+    TextsExplore settings options None read.items printed
+ReadExplores settings options (texts.Fault fault) printed = printed ≡ fault
+
+-- and where a log is read before them
+abbrev pub WithLogExplores : Settings → ExploreOptions → ToReplay → Printed → Type 0
+WithLogExplores settings options (reads.Texts log texts) printed =
+    TextsExplore settings options (Some log) texts.items printed
+WithLogExplores settings options (reads.Fault fault) printed = printed ≡ fault
+
+-- What `detio explore` prints for these sources, and for that of a log, if one is given. The first
+-- of its faults counts: the number of scripts, a log that cannot be read, a script that cannot be
+-- read, one that is not a script, a bad expectation, the reach, the log's, another number of
+-- threads, the settings, a script without room for its delays
+abbrev pub ExplorePrints : Settings → ExploreOptions → Option (List ℕ × Option (List ℕ))
+    → List (List ℕ × Option (List ℕ)) → Printed → Type 0
+ExplorePrints settings options None sources printed =
+    (read : SourceTexts) × IsRead sources read × ReadExplores settings options read printed
+ExplorePrints settings options (Some log) sources printed =
+    (read : ToReplay) × IsToReplay log sources read × WithLogExplores settings options read printed

@@ -1,0 +1,210 @@
+ghost use Rattle.std.specs.Prelude.{◌≡◌, IfOk, map, nat_le, option_copied};
+ghost use Rattle.std.specs.Prelude.{option_map};
+ghost use Rattle.posix_terms.specs.declared.limits.TheConstants.Limits as limit;
+ghost use Rattle.command_texts.specs.Printing.{Prints};
+ghost use Rattle.explore_commands.specs.Explores.{ExplorePrints, FaultPrints, ReachExplores};
+ghost use Rattle.explore_commands.specs.Explores.{SeenExplores, SubjectExplores, TextsExplore, bad_reach};
+ghost use Rattle.explore_commands.specs.Explores.{no_room};
+ghost use Rattle.explorer.specs.Subject.{subject};
+
+use crate::cut_off::cut_threads;
+use crate::explored_text::explored_printed;
+use crate::findings::{findings, unmet_in};
+use crate::log_inputs::{LogInputs, log_inputs};
+use command_inputs::{
+    SourceTexts, ToReplay, ToRun, bad_settings, needs_scripts, no_outcomes, source_texts,
+    to_replay, to_run,
+};
+use command_texts::{Printed, Source, TextReader, bad_line, fault, no_memory, print};
+use explorer::{Chance, ExploreFault, Observation, Trial};
+use posix_terms::{Bytes, Limits, Settings};
+use std::alloc::{AllocError, Global};
+use std::io;
+use std::io::Write;
+use thread_scripts::Script;
+
+/// With which delays scripts are run.
+#[derive(Clone, Copy, Debug, PartialEq, Eq)]
+pub struct ExploreOptions {
+    /// The first seed.
+    pub first: u64,
+    /// The seed after the last.
+    pub end: u64,
+    /// How long a call is delayed at most, 0 to 1,000,000 units of its thread's clock.
+    pub reach: u32,
+}
+
+/// `detio explore`: runs the scripts on the plain schedule, as they are and once for each seed with
+/// its delays. Nothing comes from outside, or what a log has: then its outcomes come in their order,
+/// at whatever turns, and its settings count. It prints how the run without delays ended, a line for
+/// each group of runs in which the threads saw the same, in the order of their first seeds, and a
+/// line of sums; or one line for the first fault. It returns the exit status. The replies are held
+/// to what the texts expect: where one is not so in some run, the status is 1. Where there is no
+/// memory, a file cannot be read or the output cannot be written, that is the fault. An error is one
+/// of the writer `errors`.
+pub fn explore_over<R: TextReader + Drop, W: Write, E: Write>(
+    alloc: Global,
+    settings: Settings,
+    options: ExploreOptions,
+    log: Option<Source<'_, R>>,
+    sources: Vec<Source<'_, R>>,
+    output: &mut W,
+    errors: &mut E,
+) -> io::Result<u8>
+    ensures { IfOk result (λ status.
+        Prints
+        (ExplorePrints settings options
+        (option_map (λ s. (s.path.now, R.remaining s.reader)) log.entry)
+        (map (λ s. (s.path.now, R.remaining s.reader)) sources.entry.items))
+        status (W.contents output.old) (W.contents output.new)
+        (E.contents errors.old) (E.contents errors.new)) }
+{
+    match explore_printed(alloc, settings, options, log, sources) {
+        Ok(printed) => print(&printed, output, errors),
+        Err(AllocError) => no_memory(errors),
+    }
+}
+
+// What is to be printed.
+fn explore_printed<R: TextReader + Drop>(
+    alloc: Global,
+    settings: Settings,
+    options: ExploreOptions,
+    log: Option<Source<'_, R>>,
+    sources: Vec<Source<'_, R>>,
+) -> Result<Printed, AllocError>
+    ensures { IfOk result (
+        ExplorePrints settings options
+        (option_map (λ s. (s.path.now, R.remaining s.reader)) log.entry)
+        (map (λ s. (s.path.now, R.remaining s.reader)) sources.entry.items)) }
+{
+    let Some(log) = log else {
+        return match source_texts(alloc, sources)? {
+            SourceTexts::Read(texts) => texts_explored(alloc, settings, options, None, &texts),
+            SourceTexts::Fault(printed) => Ok(printed),
+        };
+    };
+    match to_replay(alloc, log, sources)? {
+        ToReplay::Texts(log, texts) => {
+            texts_explored(alloc, settings, options, Some(log.as_slice()), &texts)
+        }
+        ToReplay::Fault(printed) => Ok(printed),
+    }
+}
+
+// What is to be printed for texts that were read, and for that of a log, if one is given.
+fn texts_explored(
+    alloc: Global,
+    settings: Settings,
+    options: ExploreOptions,
+    log: Option<&[u8]>,
+    texts: &[Bytes],
+) -> Result<Printed, AllocError>
+    ensures { IfOk result (TextsExplore settings options (option_copied log.entry) texts.now) }
+{
+    match to_run(alloc, true, texts)? {
+        ToRun::Scripts(scripts) => scripts_explored(alloc, settings, options, log, texts, scripts),
+        ToRun::Fault(printed) => Ok(printed),
+    }
+}
+
+// What is to be printed for the scripts of these texts.
+fn scripts_explored(
+    alloc: Global,
+    settings: Settings,
+    options: ExploreOptions,
+    log: Option<&[u8]>,
+    texts: &[Bytes],
+    scripts: Vec<Script>,
+) -> Result<Printed, AllocError>
+    ensures { IfOk result (
+        ReachExplores (nat_le options.reach limit.WORK) settings options (option_copied log.entry)
+        texts.now scripts.items) }
+{
+    if u64::from(options.reach) > Limits::WORK {
+        return bad_reach(alloc);
+    }
+    let Some(log) = log else {
+        let outcomes = no_outcomes(alloc, texts.len())?;
+        let trial = Trial {
+            texts,
+            outcomes: &outcomes,
+            settings,
+        };
+        return trial_explored(alloc, trial, options, scripts);
+    };
+    match log_inputs(alloc, log, scripts.len())? {
+        LogInputs::Given(outcomes, settings) => {
+            let trial = Trial {
+                texts,
+                outcomes: &outcomes,
+                settings,
+            };
+            trial_explored(alloc, trial, options, scripts)
+        }
+        LogInputs::Fault(printed) => Ok(printed),
+    }
+}
+
+// What is to be printed for the scripts of a trial.
+fn trial_explored(
+    alloc: Global,
+    trial: Trial<'_>,
+    options: ExploreOptions,
+    scripts: Vec<Script>,
+) -> Result<Printed, AllocError>
+    ensures { IfOk result (SubjectExplores (subject trial.entry) options scripts.items) }
+{
+    match trial.observe_scripts(alloc, scripts) {
+        Ok(before) => seen_explored(alloc, trial, options, &before),
+        Err(fault) => fault_printed(alloc, ExploreFault::from(fault)),
+    }
+}
+
+// What is to be printed where this was seen in the run without delays.
+fn seen_explored(
+    alloc: Global,
+    trial: Trial<'_>,
+    options: ExploreOptions,
+    before: &Observation,
+) -> Result<Printed, AllocError>
+    ensures { IfOk result (SeenExplores (subject trial.entry) options before.now) }
+{
+    let chance = Chance {
+        reach: options.reach,
+    };
+    let groups = match trial.explored(alloc, &chance, options.first..options.end) {
+        Ok(groups) => groups,
+        Err(fault) => return fault_printed(alloc, fault),
+    };
+    let cut = cut_threads(alloc, trial.texts, before.seen.threads())?;
+    let unmet = unmet_in(alloc, trial.texts, before)?;
+    let findings = findings(alloc, trial, &chance, before, groups.as_slice())?;
+    explored_printed(alloc, before, &cut, &unmet, groups.as_slice(), &findings)
+}
+
+// What is to be printed where a run could not be made.
+pub fn fault_printed(alloc: Global, fault: ExploreFault) -> Result<Printed, AllocError>
+    ensures { IfOk result (FaultPrints fault) }
+{
+    match fault {
+        ExploreFault::BadLine(script, line) => bad_line(alloc, script, line),
+        ExploreFault::TooLong(script) => no_room(alloc, script),
+        ExploreFault::Threads => needs_scripts(alloc),
+        ExploreFault::Settings => bad_settings(alloc),
+        ExploreFault::Memory => Err(AllocError),
+    }
+}
+
+pub fn no_room(alloc: Global, script: usize) -> Result<Printed, AllocError>
+    ensures { IfOk result (λ printed. printed ≡ no_room script) }
+{
+    let line = format!(in alloc; "script {script}: no room for delays\n")?;
+    fault(alloc, 3, line.as_str())
+}
+
+pub fn bad_reach(alloc: Global) -> Result<Printed, AllocError>
+    ensures { IfOk result (λ printed. printed ≡ bad_reach) }
+{
+    fault(alloc, 2, "the reach is 0 to 1000000\n")
+}
