@@ -1,0 +1,9 @@
+use Rattle.std.proofs.Common.{take}
+use Rattle.explorer.specs.Subject.{subject}
+use Rattle.minimiser.proofs.Taking.{Round}
+use Rattle.minimiser.proofs.minimise.take.Given as goal
+
+-- the steps so far are tried
+abbrev pub invariant-loop-step : goal.invariant-loop-step
+invariant-loop-step l =
+    Round (subject l.trial) l.target l.initial.kept l.kept l.taken (take l.step-index l.steps)

@@ -1,0 +1,59 @@
+-- Internal: no contract of the headline or of a command stands on it.
+-- Whether scripts fail in a way, and when no less of them fails the same.
+use Rattle.std.specs.Prelude.{◌≡◌, All, true, List, IsSomeAnd, Ok}
+use Rattle.std.specs.List.{zip}
+use Rattle.thread_scripts.specs.declared.line.Line.{Line}
+use Rattle.command_texts.specs.Expecting.{IsGood}
+use Rattle.command_texts.specs.Reading.{scripts_from}
+use Rattle.explorer.specs.Cases.{SeesIn}
+use Rattle.explorer.specs.Subject.{Subject}
+use Rattle.explorer.specs.declared.observation.Observation.{Observation}
+use Rattle.minimiser.specs.Reductions.{Kept, is_kept, kept_outcomes, kept_texts, target_now}
+use Rattle.minimiser.specs.Reductions.{without}
+use Rattle.minimiser.specs.Targets.{IsFirstTarget}
+use Rattle.minimiser.specs.declared.fault.MinimiseFault.{MinimiseFault}
+use Rattle.minimiser.specs.declared.fault.MinimiseFault.TheVariants as fault
+use Rattle.minimiser.specs.declared.step.Step.{Step}
+use Rattle.minimiser.specs.declared.target.Target.{Target}
+
+-- the texts are scripts, all that they expect is good, and this is seen in their plain run
+pub record IsRunOf (subject : Subject) (observation : Observation) : Type 0 where
+  pub scripts : List (List Line)
+  pub are : scripts_from 0 subject.texts ≡ Ok scripts
+  pub good : All IsGood subject.texts
+  pub sees : SeesIn subject scripts observation
+
+-- scripts fail so in their plain run
+pub record Fails (subject : Subject) (target : Target) : Type 0 where
+  pub observation : Observation
+  pub run : IsRunOf subject observation
+  pub first : IsFirstTarget (zip subject.texts observation.seen) target
+
+-- ## What is kept
+
+-- what is kept of what was given
+abbrev pub kept_subject : Subject → Kept → Subject
+kept_subject given kept = record {
+  texts = kept_texts kept given.texts;
+  outcomes = kept_outcomes kept given.outcomes;
+  settings = given.settings;
+}
+
+-- what is kept fails the same, with the numbers that its lines and thread have now
+abbrev pub FailsIn : Subject → Target → Kept → Type 0
+FailsIn given target kept = IsSomeAnd (target_now kept target) (Fails (kept_subject given kept))
+
+-- it does not after this step, if that takes something away
+abbrev pub IsRefused : Subject → Target → Kept → Step → Type 0
+IsRefused given target kept step =
+    is_kept kept step ≡ true → ¬ (FailsIn given target (without kept step))
+
+-- what is kept fails the same, and after no further step
+pub record IsMinimal (given : Subject) (target : Target) (kept : Kept) : Type 0 where
+  pub fails : FailsIn given target kept
+  pub minimal : (step : Step) → IsRefused given target kept step
+
+-- why nothing is kept: what was given does not fail so. Without memory nothing is said
+abbrev pub IsFault : Subject → Target → MinimiseFault → Type 0
+IsFault given target fault.NotFailing = ¬ (Fails given target)
+IsFault given target fault.Memory = Unit {0}

@@ -1,0 +1,4 @@
+pub mod Reductions
+pub mod Targets
+pub mod Failing
+pub mod Rounds

@@ -1,0 +1,65 @@
+ghost use Rattle.std.specs.Prelude.{◌≡◌, ◌++◌, IfOk, OnOk, map, option_map};
+ghost use Rattle.thread_scripts.specs.Words.{lines_of};
+ghost use Rattle.minimiser.specs.Rounds.{delay_at, delays_among, delays_of, is_delay, work_first};
+
+use crate::step::Step;
+use posix_terms::Bytes;
+use std::alloc::{AllocError, Global};
+use thread_scripts::{line_words, text_lines};
+
+// The steps that take away a delay, by thread and in the order of the lines.
+pub fn delays(alloc: Global, texts: &[Bytes]) -> Result<Vec<Step>, AllocError>
+    ensures { IfOk result (λ delays. delays.items ≡ delays_of 0 texts.now) }
+{
+    let mut delays = Vec::new(alloc);
+    for (thread, text) in texts.iter().enumerate() {
+        push_delays(&mut delays, thread, text.as_slice())?;
+    }
+    Ok(delays)
+}
+
+// Adds those of a thread's text.
+fn push_delays(delays: &mut Vec<Step>, thread: usize, text: &[u8]) -> Result<(), AllocError>
+    ensures { OnOk result (
+        delays.new.items ≡ delays.old.items ++ delays_among thread 0 (lines_of text.now)) }
+{
+    let lines = text_lines(*delays.allocator(), text)?;
+    for (i, line) in lines.iter().enumerate() {
+        push_delay(delays, thread, i, line)?;
+    }
+    Ok(())
+}
+
+// Adds that of a line, if it is a delay.
+fn push_delay(
+    delays: &mut Vec<Step>,
+    thread: usize,
+    line: usize,
+    text: &[u8],
+) -> Result<(), AllocError>
+    ensures { OnOk result (delays.new.items ≡ delays.old.items ++ delay_at thread line text.now) }
+{
+    if is_delay(*delays.allocator(), text)? {
+        delays.push(Step::Line { thread, line })?;
+    }
+    Ok(())
+}
+
+fn is_delay(alloc: Global, line: &[u8]) -> Result<bool, AllocError>
+    ensures { IfOk result (λ is. is ≡ is_delay line.now) }
+{
+    Ok(work_first(&line_words(alloc, line)?))
+}
+
+// Whether the first word is that of a work.
+fn work_first(words: &Option<Vec<&[u8]>>) -> bool
+    ensures { result ≡ work_first (option_map (λ v. map (λ w. w.now) v.items) words.now) }
+{
+    match words {
+        Some(words) => match words.first() {
+            Some(word) => *word == b"work".as_slice(),
+            None => false,
+        },
+        None => false,
+    }
+}

@@ -1,0 +1,123 @@
+ghost use Rattle.std.specs.Prelude.{◌≡◌, ◌↔◌, All, IfOk, MatchOption, Some};
+ghost use Rattle.std.specs.List.{zip};
+ghost use Rattle.explorer.specs.Subject.{subject};
+ghost use Rattle.explorer.specs.declared.observation.Observation.{Observation};
+ghost use Rattle.minimiser.specs.Failing.{Fails, IsRunOf};
+ghost use Rattle.minimiser.specs.Targets.{IsAsExpected, IsFirstTarget, IsUnmetIn, error_of};
+ghost use Rattle.minimiser.specs.declared.target.Target.{Target};
+
+use crate::target::Target;
+use call_machine::{PlainFault, plain_runs_agree};
+use command_texts::{FirstFault, first_bad_expectation, scripts};
+use expectations::{Unmet, expectations_of, first_unmet, one_first_unmet, one_reading};
+use explorer::{Observation, Trial};
+use posix_terms::{Bytes, Errno, Reply, Row, Transcript};
+use std::alloc::{AllocError, Global};
+use thread_scripts::parse;
+
+/// How these scripts fail in their plain run: by the first reply that is not as expected, of the
+/// least thread that has one. They do not where all replies are; nor where a text is not a script,
+/// an expectation is bad, or the scripts are not run, as for their number or the settings.
+pub fn find_target(alloc: Global, trial: Trial<'_>) -> Result<Option<Target>, AllocError>
+    ensures { IfOk result (λ found.
+        (target : Target) → (found ≡ Some target) ↔ Fails (subject trial.entry) target) }
+{
+    plain_runs_agree();
+    one_reading();
+    one_first_unmet();
+    match seen_in(alloc, trial)? {
+        Some(observation) => first_target(alloc, trial.texts, observation.seen.threads()),
+        None => Ok(None),
+    }
+}
+
+// What is seen in the plain run, if the texts are scripts, all that they expect is good, and the
+// scripts are run.
+fn seen_in(alloc: Global, trial: Trial<'_>) -> Result<Option<Observation>, AllocError>
+    ensures { IfOk result (λ seen.
+        MatchOption seen
+        ((observation : Observation) → ¬ (IsRunOf (subject trial.entry) observation))
+        (IsRunOf (subject trial.entry))) }
+{
+    one_reading();
+    let scripts = match scripts(alloc, trial.texts) {
+        Ok(scripts) => scripts,
+        Err(FirstFault::BadLine(_, _) | FirstFault::TooLong(_)) => return Ok(None),
+        Err(FirstFault::Memory) => return Err(AllocError),
+    };
+    if first_bad_expectation(alloc, trial.texts)?.is_some() {
+        return Ok(None);
+    }
+    match trial.observe_scripts(alloc, scripts) {
+        Ok(observation) => Ok(Some(observation)),
+        Err(PlainFault::Threads | PlainFault::Settings) => Ok(None),
+        Err(PlainFault::Memory) => Err(AllocError),
+    }
+}
+
+// The first reply of the least thread that saw another than its text expects.
+fn first_target(
+    alloc: Global,
+    texts: &[Bytes],
+    transcripts: &[Transcript],
+) -> Result<Option<Target>, AllocError>
+    ensures { IfOk result (λ target.
+        MatchOption target
+        (All IsAsExpected (zip texts.now transcripts.now))
+        (IsFirstTarget (zip texts.now transcripts.now))) }
+{
+    for (thread, text) in texts.iter().enumerate() {
+        let Some(transcript) = transcripts.get(thread) else {
+            return Ok(None);
+        };
+        let unmet = unmet_in(alloc, thread, text.as_slice(), transcript.rows())?;
+        if let Some(target) = unmet {
+            return Ok(Some(target));
+        }
+    }
+    Ok(None)
+}
+
+// The first reply of this thread that is not as its text expects.
+fn unmet_in(
+    alloc: Global,
+    thread: usize,
+    text: &[u8],
+    rows: &[Row],
+) -> Result<Option<Target>, AllocError>
+    ensures { IfOk result (λ target.
+        MatchOption target
+        (IsAsExpected (text.now, rows.now))
+        (IsUnmetIn thread (text.now, rows.now))) }
+{
+    // The text is a script, and its expectations are good: what is refused here wants memory.
+    let Ok(script) = parse(alloc, text) else {
+        return Err(AllocError);
+    };
+    let Ok(expectations) = expectations_of(alloc, text) else {
+        return Err(AllocError);
+    };
+    let Ok(first) = first_unmet(script, &expectations, rows) else {
+        return Err(AllocError);
+    };
+    let Some(Unmet { row, expectation }) = first else {
+        return Ok(None);
+    };
+    let unmet = &expectations[expectation];
+    Ok(Some(Target {
+        thread,
+        call: unmet.call,
+        line: unmet.line,
+        error: error_of(&rows[row].reply),
+    }))
+}
+
+// The error of a reply, if it is a failure.
+fn error_of(reply: &Reply) -> Option<Errno>
+    ensures { result ≡ error_of reply.now }
+{
+    match reply {
+        Reply::Fail(error) => Some(*error),
+        _ => None,
+    }
+}
