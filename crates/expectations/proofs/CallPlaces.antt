@@ -79,7 +79,8 @@ unfolding past_works_within
 next_call stays zero last s behind found = cc
 next_call stays (suc n) last s behind found = at (next_of last s).0 refl (next_call stays n None (next_of last s).1 behind) found where
   at : (given : Step) → (next_of last s).0 ≡ given
-      → (call_at (past_works_within n None (next_of last s).1).0 (past_works_within n None (next_of last s).1).1 ≡ Some behind
+      → (call_at (past_works_within n None (next_of last s).1).0
+      (past_works_within n None (next_of last s).1).1 ≡ Some behind
       → IsCallPlace (next_of last s).1.script behind.place × (behind.script ≡ (next_of last s).1.script))
       → call_at (past_work given (next_of last s).1 (past_works_within n None (next_of last s).1)).0
       (past_work given (next_of last s).1 (past_works_within n None (next_of last s).1)).1 ≡ Some behind

@@ -1,5 +1,6 @@
 -- The next step of a script that is not a work, over the works before it.
-use Rattle.std.proofs.Common.{◌≡◌, ◌⊎◌, inl, inr, ◌∙◌, ap, ℕ, zero, suc, ◌+◌, ◌<◌, Option, None, refl, sym, arith, add-one}
+use Rattle.std.proofs.Common.{◌≡◌, ◌⊎◌, inl, inr, ◌∙◌, ap, ℕ, zero, suc, ◌+◌, ◌<◌, Option, None, refl}
+use Rattle.std.proofs.Common.{sym, arith, add-one}
 use Rattle.posix_terms.specs.declared.reply.Reply.{Reply}
 use Rattle.posix_terms.specs.Calls.{Call}
 use Rattle.posix_terms.specs.declared.step.Step.{Step}
@@ -17,7 +18,8 @@ enough ends zero n last s few many = absurd (omega arith)
 enough ends (suc m) zero last s few many = absurd (omega arith)
 enough ends (suc m) (suc n) last s few many = at (ends last s) (λ less. enough ends m n None (next_of last s).1 (omega arith) (omega arith)) where
   at : ((next_of last s).0 ≡ step.End) ⊎ (lines_left (next_of last s).1 < lines_left s)
-      → (lines_left (next_of last s).1 < lines_left s → past_works_within m None (next_of last s).1 ≡ past_works_within n None (next_of last s).1)
+      → (lines_left (next_of last s).1 < lines_left s
+      → past_works_within m None (next_of last s).1 ≡ past_works_within n None (next_of last s).1)
       → past_work (next_of last s).0 (next_of last s).1 (past_works_within m None (next_of last s).1)
       ≡ past_work (next_of last s).0 (next_of last s).1 (past_works_within n None (next_of last s).1)
   at (inl end) more = rw end refl
@@ -32,7 +34,10 @@ by_step ends last s = rw add-one (at (ends last s)) where
       → past_work (next_of last s).0 (next_of last s).1 (past_works_within (lines_left s) None (next_of last s).1)
       ≡ past_work (next_of last s).0 (next_of last s).1 (past_works None (next_of last s).1)
   at (inl end) = rw end refl
-  at (inr less) = ap (past_work (next_of last s).0 (next_of last s).1) (enough ends (lines_left s) (lines_left (next_of last s).1 + 1) None (next_of last s).1 less (omega arith))
+  at (inr less) =
+      let after = (next_of last s).1 in
+      ap (past_work (next_of last s).0 after)
+      (enough ends (lines_left s) (lines_left after + 1) None after less (omega arith))
 
 -- by what the next step is
 pub at_call : RunsEnd → (last : Option Reply) (s new : ScriptState) (given : Step) (call : Call)
