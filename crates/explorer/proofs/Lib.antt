@@ -4,3 +4,4 @@ pub mod VariedTexts
 pub mod MovedLines
 pub mod VariedScripts
 pub mod VariedCalls
+pub mod Listing

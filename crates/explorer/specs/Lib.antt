@@ -1,5 +1,7 @@
 pub mod Subject
 pub mod Delays
+pub mod Lists
+pub mod ListCounts
 pub mod Varied
 pub mod Delayed
 pub mod Observations

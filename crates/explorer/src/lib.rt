@@ -1,8 +1,11 @@
 //! Schedule fuzzing: runs scripts again and again, each time with other delays before their calls,
 //! to find a schedule that breaks them.
 //!
-//! [`Delays`] are cases of delays, by number; a [`Chance`] has one for each seed, so that a
-//! schedule is found again by its seed. [`varied`] writes the text of a script with the delays of a
+//! [`Delays`] are cases of delays, by number. A [`Chance`] has one for each seed, so that a schedule
+//! is found again by its seed. [`Lists`] have one for each list of at most one delay, or of at most
+//! two: that is delay bounding, and by the contract they are all such lists, in a fixed order.
+//!
+//! [`varied`] writes the text of a script with the delays of a
 //! case. By the law [`varied_is_script`] that is a script itself, with the same calls, unless it is
 //! too long; so whatever holds of a plain run holds of its run. A [`Trial`] has the texts of
 //! scripts, what comes for them from outside, and the settings: [`Trial::explored`] runs it with
@@ -43,19 +46,25 @@
 #![tactic(auto)]
 
 mod chance;
+mod delay_list;
 mod delays;
 mod fault;
 mod groups;
 mod laws;
+mod lists;
 mod observation;
+mod places;
 mod trial;
 mod vary;
 
 pub use chance::Chance;
+pub use delay_list::{Delay, DelayList};
 pub use delays::Delays;
 pub use fault::ExploreFault;
 pub use groups::{Group, Groups};
 pub use laws::{chances_are_works, threads_make_calls, varied_is_script};
+pub use lists::Lists;
 pub use observation::Observation;
+pub use places::Place;
 pub use trial::Trial;
 pub use vary::{varied, varied_texts};
