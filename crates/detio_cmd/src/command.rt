@@ -7,7 +7,8 @@ Scripts of calls run against files, pipes and pairs of sockets in memory. The or
 comes from logical clocks alone, so a run prints the same each time, on every machine. What calls got
 from outside, from host files and over TCP, stands in a log, and a run is replayed by its log with no
 host file and no network. Two logs are compared by what the threads see when each is replayed. Many
-schedules of one set of scripts are explored by seeds.";
+schedules of one set of scripts are explored by seeds, and many failures by a log; of scripts that
+fail, what the failure does not need is taken away.";
 
 const AFTER_HELP: &str = "Example:
   printf 'open /a rw create\\nwrite 0 x6869\\nlseek 0 0 set\\nread 0 9\\n' > hi.script
@@ -22,7 +23,7 @@ prints
 
 Exit statuses:
   0  the run came to its end, the logs gave the same, the log was printed, made or upgraded, or all
-     explored runs are as expected
+     explored runs are as expected; or what fails was made less
   1  a difference, a divergence, the end of a log, or a reply that is not as expected
   2  wrong usage
   3  a bad script, expectation, log or text of a log
@@ -168,8 +169,9 @@ With --log the calls that go outside take the outcomes of that log, in their ord
 their clocks, and the patience and the door cost are the log's. A run ends where a thread asks what
 the log does not answer. Expectations after an end are not looked at.
 
---only SEED runs one seed. With --write its scripts are not run but written, with their delays, to
-new files: their paths are printed, and detio plain, record and replay take them.
+--only SEED runs one seed. With --write its scripts are written, with their delays, to new files:
+their paths are printed, and detio plain, record and replay take them. With --log too, the log of
+that run goes to DIR/run.log, and detio replay takes it. detio minimise makes less of them.
 
 Exit statuses:
   0  all replies are as expected
@@ -222,12 +224,15 @@ The ends of these lines are those of detio explore. The last line is
   cases COUNT failed COUNT
 A case failed if a reply was not as expected.
 
+--only THREAD NUMBER ERROR, or a count in place of ERROR, is one case. The log of its run is written
+to the new file --out, whose path is printed, and detio replay takes it.
+
 Exit statuses:
-  0  all replies are as expected
+  0  all replies are as expected, or the log was written
   1  a reply is not as expected
   2  wrong usage
-  3  a bad script, expectation or log
-  4  a file that cannot be read, no memory";
+  3  a bad script, expectation or log, or a log that has no such record
+  4  a file that cannot be read or written, no memory";
 
 const FAULTS_AFTER_HELP: &str = "Example: a short read is not made up for
   printf hi > in.txt
@@ -243,6 +248,47 @@ prints at last
   0 1 read short 0 end differs 0 1 read data 6869 -> read data - expected 0 6 count 2 count 0
   0 1 read short 1 end differs 0 1 read data 6869 -> read data 68 expected 0 6 count 2 count 1
   cases 4 failed 2";
+
+const MINIMISE_ABOUT: &str = "Takes away of failing scripts what the failure does not need";
+
+const MINIMISE_LONG_ABOUT: &str = "Takes away of failing scripts what the failure does not need.
+
+The scripts run as under detio plain, and a reply is not as a line #= of a script expects: detio plain
+--help. Of the least thread that has one, the first such reply counts. Lines and threads are taken away
+one at a time (delta debugging), always in the same order: lines of work, then all lines of each thread
+from the last to the first, then threads, and so on again. What is taken away stays away if the same line
+#= then fails for the same call and with the same error, and first. In the end no line and no thread is
+left without which it would.
+
+What is left is written to new files, one for each thread that is left: their paths are printed, and
+detio plain, record and replay take them.
+
+Without --log nothing comes from outside, as under detio plain. With --log the calls that go outside take
+the outcomes of that log, in their order and whatever their clocks, and the patience and the door cost are
+the log's. The log of the run of what is left goes to DIR/run.log then, and detio replay takes it.
+
+Each step runs the scripts again, so long scripts take long.
+
+Exit statuses:
+  0  what is left was written
+  2  wrong usage
+  3  a bad script, expectation or log, or no reply that is not as expected
+  4  a file that cannot be read or written, no memory";
+
+const MINIMISE_AFTER_HELP: &str =
+    "Example: the second thread is late to make a file, and what else both do does not matter.
+  printf 'open /a w create excl\\nwrite 0 x6869\\n' > first.script
+  printf 'mkdir /b\\nwork 9\\nopen /a w create excl\\n#= not fail\\n' > late.script
+  detio minimise --write less first.script late.script
+
+prints
+  less/0.script
+  less/1.script
+and
+  cat less/1.script
+prints
+  open /a w create excl
+  #= not fail";
 
 const RECORD_ABOUT: &str =
     "Runs 1 to 16 scripts as threads, with host files and loopback TCP, and records what comes from them";
@@ -540,6 +586,7 @@ fn subcommands<'a>(alloc: Global) -> Result<Vec<Command<'a>>, AllocError> {
     subcommands.push(plain(alloc)?)?;
     subcommands.push(explore(alloc)?)?;
     subcommands.push(faults(alloc)?)?;
+    subcommands.push(minimise(alloc)?)?;
     subcommands.push(record(alloc)?)?;
     subcommands.push(replay(alloc)?)?;
     subcommands.push(compare(alloc)?)?;
@@ -684,7 +731,45 @@ fn faults<'a>(alloc: Global) -> Result<Command<'a>, AllocError> {
     );
     let command = command.arg(log)?.arg(errors(alloc))?;
     let command = command.arg(short(alloc))?.arg(then(alloc)?)?;
-    command.arg(scripts(alloc))
+    with_one_case(alloc, command)?.arg(scripts(alloc))
+}
+
+fn minimise<'a>(alloc: Global) -> Result<Command<'a>, AllocError> {
+    let command = described(
+        alloc,
+        "minimise",
+        MINIMISE_ABOUT,
+        MINIMISE_LONG_ABOUT,
+        MINIMISE_AFTER_HELP,
+    );
+    let folder = Arg::new(alloc, "write")
+        .long("write")
+        .value_name("DIR")
+        .required(true)
+        .help("Writes what is left to new files DIR/0.script, DIR/1.script and so on");
+    let command = command.arg(folder)?;
+    let command = command.arg(patience(alloc))?.arg(door_cost(alloc))?;
+    command.arg(outcomes(alloc)?)?.arg(scripts(alloc))
+}
+
+const CASE: &[&str] = &["THREAD", "NUMBER", "ERROR"];
+
+// One case, and where its log goes: both, or neither.
+fn with_one_case<'a>(alloc: Global, command: Command<'a>) -> Result<Command<'a>, AllocError> {
+    let only = Arg::new(alloc, "only")
+        .long("only")
+        .num_args(3)
+        .value_names(CASE)
+        .help("The outcome to replace, and the error or count in its place, for --out")
+        .conflicts_with("errors")?
+        .conflicts_with("short")?
+        .requires_arg("out")?;
+    let out = Arg::new(alloc, "out")
+        .long("out")
+        .value_name("FILE")
+        .help("Writes the log of that case to this new file")
+        .requires_arg("only")?;
+    command.arg(only)?.arg(out)
 }
 
 fn errors<'a>(alloc: Global) -> Arg<'a> {

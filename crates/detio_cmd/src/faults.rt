@@ -1,8 +1,9 @@
 use crate::input::{open_scripts, open_source};
+use crate::writing::write_log;
 use clap::ArgMatches;
 use expectations::error_named;
-use explore_commands::{FaultOptions, faults_over};
-use fault_injection::{Choice, Filling};
+use explore_commands::{FaultOptions, faults_over, to_write_case};
+use fault_injection::{Choice, FaultCase, Filling, Injected};
 use posix_terms::Errno;
 use std::alloc::{AllocError, Global};
 
@@ -11,6 +12,9 @@ pub(crate) fn run_faults(rt: &HostRuntime, matches: &ArgMatches<'_>) -> Result<u
     let Some(path) = matches.get_str("log") else {
         return Ok(2);
     };
+    if let Some(out) = matches.get_str("out") {
+        return write_case(rt, matches, path, out);
+    }
     let errors = match matches.get_str("errors") {
         Some(names) => match errors_named(rt.alloc(), names)? {
             Some(errors) => Some(errors),
@@ -36,6 +40,45 @@ pub(crate) fn run_faults(rt: &HostRuntime, matches: &ArgMatches<'_>) -> Result<u
         &mut rt.stderr(),
     );
     Ok(status.unwrap_or(4))
+}
+
+// Writes the log of the one case that is asked for.
+fn write_case(
+    rt: &HostRuntime,
+    matches: &ArgMatches<'_>,
+    path: &str,
+    out: &str,
+) -> Result<u8, AllocError> {
+    let Some(case) = case_of(matches.get_strs("only").unwrap_or(&[])) else {
+        return Ok(not_a_case(rt));
+    };
+    let log = open_source(rt, path);
+    let sources = open_scripts(rt, matches.get_strs("script").unwrap_or(&[]))?;
+    let to_write = to_write_case(rt.alloc(), case, filling_of(matches), log, sources)?;
+    Ok(write_log(rt, to_write, out))
+}
+
+// The case of these words: a thread, the number of one of its records, and an error or a count.
+fn case_of(words: &[&str]) -> Option<FaultCase> {
+    Some(FaultCase {
+        thread: words.first()?.parse::<usize>().ok()?,
+        number: words.get(1)?.parse::<usize>().ok()?,
+        injected: injected_of(words.get(2)?)?,
+    })
+}
+
+fn injected_of(word: &str) -> Option<Injected> {
+    match error_named(word.as_bytes()) {
+        Some(error) => Some(Injected::Fail(error)),
+        None => Some(Injected::Short(word.parse::<u64>().ok()?)),
+    }
+}
+
+fn not_a_case(rt: &HostRuntime) -> u8 {
+    let _ = eprintln!(rt;
+        "error: --only is a thread, the number of its record, and an error or a count, as 0 1 EIO"
+    );
+    2
 }
 
 // The errors of these names, which stand between commas, if they are names of errors.

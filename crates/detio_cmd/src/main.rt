@@ -7,6 +7,7 @@ mod faults;
 mod input;
 mod log_file;
 mod record;
+mod writing;
 
 use clap::ArgMatches;
 use clap::error::ErrorKind;
@@ -15,7 +16,7 @@ use commands::{
     LogTo, RunOptions, cannot_write, compare_over, make_over, no_memory, plain_over, replay_over,
     replay_threads_over, settings_of, show_over, upgrade_over,
 };
-use explore::run_explore;
+use explore::{run_explore, run_minimise};
 use faults::run_faults;
 use host_doors::Outside;
 use input::{open_scripts, open_source};
@@ -83,6 +84,7 @@ fn run_matches<O: Outside + Send + Drop, N: NewOutsides<O> + Drop, T: Threads + 
         Some(("plain", matches)) => run_plain(rt, matches),
         Some(("explore", matches)) => run_explore(rt, matches),
         Some(("faults", matches)) => run_faults(rt, matches),
+        Some(("minimise", matches)) => run_minimise(rt, matches),
         Some(("record", matches)) => run_record(rt, handles, outsides, matches),
         Some(("replay", matches)) => run_replay(rt, handles, matches),
         Some(("compare", matches)) => run_compare(rt, matches),

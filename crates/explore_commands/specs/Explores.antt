@@ -2,7 +2,7 @@
 -- What `detio explore` prints for the scripts that it reads.
 use Rattle.std.specs.Prelude.{◌≡◌, ◌⊎◌, ◌↔◌, ◌||◌, not, IsTrue, Bool, true, false}
 use Rattle.std.specs.Prelude.{ℕ, ◌-◌, ◌==◌, nat_le}
-use Rattle.std.specs.Prelude.{List, [], ◌∷◌, ◌++◌, length, replicate, slice_get, sum_by, codes, All}
+use Rattle.std.specs.Prelude.{List, [], ◌++◌, length, slice_get, sum_by, codes, All}
 use Rattle.std.specs.Prelude.{Option, Some, None, MatchOption, is_some, option_and_then}
 use Rattle.std.specs.Prelude.{if◌then◌else◌}
 use Rattle.std.specs.Fmt.{decimal}
@@ -11,40 +11,30 @@ use Rattle.posix_terms.specs.declared.limits.TheConstants.Limits as limit
 use Rattle.posix_terms.specs.declared.transcript.Row.{Row}
 use Rattle.posix_terms.specs.declared.transcript.Settings.{Settings}
 use Rattle.thread_scripts.specs.Faults.{Fault, bad_line, too_long}
-use Rattle.thread_scripts.specs.declared.line.Line.{Line}
-use Rattle.call_machine.specs.declared.fault.PlainFault.{PlainFault}
 use Rattle.comparator.specs.Comparison.{IsVerdictOn}
 use Rattle.comparator.specs.declared.verdict.Verdict.{Verdict}
 use Rattle.comparator.specs.declared.verdict.Verdict.TheVariants as verdict
 use Rattle.explorer.specs.Delays.{chance_delay}
-use Rattle.explorer.specs.Cases.{CasesJoin, IsFaultOf, IsNotRun, SeesIn, inputs_of}
-use Rattle.explorer.specs.Faults.{fault_of_run}
+use Rattle.explorer.specs.Cases.{CasesJoin, IsFaultOf}
 use Rattle.explorer.specs.Subject.{Subject}
 use Rattle.explorer.specs.Groups.{runs_of}
+use Rattle.explorer.specs.Runs.{IsFault, Sees}
 use Rattle.explorer.specs.Varied.{varied_texts}
-use Rattle.explorer.specs.declared.fault.ExploreFault.{ExploreFault}
-use Rattle.explorer.specs.declared.fault.ExploreFault.TheVariants as fault
+use Rattle.explorer.specs.declared.fault.RunFault.{RunFault}
+use Rattle.explorer.specs.declared.fault.RunFault.TheVariants as fault
 use Rattle.explorer.specs.declared.groups.Group.{Group}
 use Rattle.explorer.specs.declared.observation.Observation.{Observation}
 use Rattle.command_texts.specs.Printing.{fault_printed, needs_scripts, script_fault}
 use Rattle.command_texts.specs.Transcripts.{◌+++◌, call_text, end_words}
 use Rattle.command_texts.specs.declared.printed.Printed.{Printed}
-use Rattle.command_inputs.specs.Expects.{IsAsExpected, IsFirstUnmetLine, IsToRun}
+use Rattle.command_inputs.specs.Expects.{IsAsExpected, IsFirstUnmetLine}
 use Rattle.explore_commands.specs.CutOffs.{cut_text, cut_threads}
 use Rattle.command_inputs.specs.Faults.{bad_settings}
-use Rattle.command_inputs.specs.LogTexts.{IsToReplay}
-use Rattle.command_inputs.specs.declared.log_texts.ToReplay.{ToReplay}
-use Rattle.command_inputs.specs.declared.log_texts.ToReplay.TheVariants as reads
-use Rattle.explore_commands.specs.LogGives.{LogGives}
 use Rattle.explore_commands.specs.declared.explore.ExploreOptions.{ExploreOptions}
-use Rattle.explore_commands.specs.declared.log_inputs.LogInputs.{LogInputs}
-use Rattle.explore_commands.specs.declared.log_inputs.LogInputs.TheVariants as inputs
+use Rattle.explore_commands.specs.Tries.{Tries}
 use Rattle.explore_commands.specs.declared.findings.Finding.{Finding}
-use Rattle.command_inputs.specs.Sources.{IsRead}
-use Rattle.command_inputs.specs.declared.sources.SourceTexts.{SourceTexts}
-use Rattle.command_inputs.specs.declared.sources.SourceTexts.TheVariants as texts
-use Rattle.command_inputs.specs.declared.running.ToRun.{ToRun}
-use Rattle.command_inputs.specs.declared.running.ToRun.TheVariants as runs
+use Rattle.explore_commands.specs.declared.trying.ToTry.{ToTry}
+use Rattle.explore_commands.specs.declared.trying.ToTry.TheVariants as tries
 
 -- ## What is found
 
@@ -149,15 +139,21 @@ sums_text groups failed =
     codes "runs " +++ decimal (runs_of groups) +++ codes " groups " +++ decimal (length groups)
     +++ codes " failed " +++ decimal failed +++ codes "\n"
 
--- the status is 1 where a reply of the run without delays or of another is not as expected
-abbrev pub explored_printed :
-    Observation → List ℕ → Option (List ℕ) → List Group → List Finding → Printed
-explored_printed before cut unmet groups findings = record {
+-- what is printed of the run as it is and of what was found of others, with these sums: the status is
+-- 1 where a reply of that run or of one of these is not as expected
+abbrev pub found_printed :
+    Observation → List ℕ → Option (List ℕ) → List Finding → List ℕ → Printed
+found_printed before cut unmet findings sums = record {
   status = if is_some unmet || not (failed_of findings == 0) then 1 else 0;
-  output =
-      as_is_text before cut unmet ++ lines_of findings ++ sums_text groups (failed_of findings);
+  output = as_is_text before cut unmet ++ lines_of findings ++ sums;
   errors = [];
 }
+
+-- what is printed of runs with delays
+abbrev pub explored_printed :
+    Observation → List ℕ → Option (List ℕ) → List Group → List Finding → Printed
+explored_printed before cut unmet groups findings =
+    found_printed before cut unmet findings (sums_text groups (failed_of findings))
 
 -- ## Faults
 
@@ -175,7 +171,7 @@ varied_fault script (bad_line line) = script_fault script (bad_line line)
 varied_fault script too_long = no_room script
 
 -- what is printed where a run could not be made. Without memory nothing is said here
-abbrev pub FaultPrints : ExploreFault → Printed → Type 0
+abbrev pub FaultPrints : RunFault → Printed → Type 0
 FaultPrints (fault.BadLine script line) printed = printed ≡ varied_fault script (bad_line line)
 FaultPrints (fault.TooLong script) printed = printed ≡ varied_fault script too_long
 FaultPrints fault.Threads printed = printed ≡ needs_scripts
@@ -183,14 +179,6 @@ FaultPrints fault.Settings printed = printed ≡ bad_settings
 FaultPrints fault.Memory printed = ⊥
 
 -- ## The command
-
--- what is tried: these texts under these settings, where nothing comes from outside
-abbrev pub subject_of : Settings → List (List ℕ) → Subject
-subject_of settings texts = record {
-  texts = texts;
-  outcomes = replicate (length texts) [];
-  settings = settings;
-}
 
 -- the delays of the seeds, by thread and line
 abbrev pub delays_of : ExploreOptions → ℕ → ℕ → ℕ → Option ℕ
@@ -216,72 +204,31 @@ pub record IsExplored
 abbrev pub SeenExplores : Subject → ExploreOptions → Observation → Printed → Type 0
 SeenExplores subject options before printed =
     IsExplored subject options before printed
-    ⊎ ((why : ExploreFault) × IsFaultOf subject (delays_of options) options.first options.end why
+    ⊎ ((why : RunFault) × IsFaultOf subject (delays_of options) options.first options.end why
     × FaultPrints why printed)
 
--- what is printed for the scripts of a trial: of the runs with delays, or why there was none without
-abbrev pub SubjectExplores : Subject → ExploreOptions → List (List Line) → Printed → Type 0
-SubjectExplores subject options scripts printed =
-    ((before : Observation) × SeesIn subject scripts before
-    × SeenExplores subject options before printed)
-    ⊎ ((why : PlainFault) × IsNotRun (inputs_of subject scripts) why
-    × FaultPrints (fault_of_run why) printed)
+-- what is printed: of the runs with delays, or why there was none without
+abbrev pub SubjectExplores : Subject → ExploreOptions → Printed → Type 0
+SubjectExplores subject options printed =
+    ((before : Observation) × Sees subject before × SeenExplores subject options before printed)
+    ⊎ ((why : RunFault) × IsFault subject why × FaultPrints why printed)
 
--- what is printed for what a log gives
-abbrev pub GivenExplores :
-    ExploreOptions → List (List ℕ) → List (List Line) → LogInputs → Printed → Type 0
-GivenExplores options texts scripts (inputs.Given outcomes settings) printed =
-    SubjectExplores (record { texts = texts; outcomes = outcomes.items; settings = settings })
-    options scripts printed
-GivenExplores options texts scripts (inputs.Fault fault) printed = printed ≡ fault
+-- whether the reach is in its range or not
+abbrev pub ReachExplores : Bool → Subject → ExploreOptions → Printed → Type 0
+ReachExplores false subject options printed = printed ≡ bad_reach
+ReachExplores true subject options printed = SubjectExplores subject options printed
 
--- what is printed where nothing comes from outside, or what a log gives
-abbrev pub OutsideExplores : Settings → ExploreOptions → Option (List ℕ) → List (List ℕ)
-    → List (List Line) → Printed → Type 0
-OutsideExplores settings options None texts scripts printed =
-    SubjectExplores (subject_of settings texts) options scripts printed
-OutsideExplores settings options (Some text) texts scripts printed =
-    (given : LogInputs) × LogGives text (length scripts) given
-    × GivenExplores options texts scripts given printed
+-- what is printed for what is to be tried
+abbrev pub TryExplores : ExploreOptions → ToTry → Printed → Type 0
+TryExplores options (tries.Texts texts outcomes settings) printed =
+    ReachExplores (nat_le options.reach limit.WORK)
+    (record { texts = texts.items; outcomes = outcomes.items; settings = settings }) options printed
+TryExplores options (tries.Fault fault) printed = printed ≡ fault
 
--- what is printed for scripts, whether the reach is in its range or not
-abbrev pub ReachExplores : Bool → Settings → ExploreOptions → Option (List ℕ) → List (List ℕ)
-    → List (List Line) → Printed → Type 0
-ReachExplores false settings options log texts scripts printed = printed ≡ bad_reach
-ReachExplores true settings options log texts scripts printed =
-    OutsideExplores settings options log texts scripts printed
-
--- what is printed for what is to be run of texts
-abbrev pub ToRunExplores : Settings → ExploreOptions → Option (List ℕ) → List (List ℕ) → ToRun
-    → Printed → Type 0
-ToRunExplores settings options log texts (runs.Scripts scripts) printed =
-    ReachExplores (nat_le options.reach limit.WORK) settings options log texts scripts.items printed
-ToRunExplores settings options log texts (runs.Fault fault) printed = printed ≡ fault
-
-abbrev pub TextsExplore :
-    Settings → ExploreOptions → Option (List ℕ) → List (List ℕ) → Printed → Type 0
-TextsExplore settings options log texts printed =
-    (run : ToRun) × IsToRun true texts run × ToRunExplores settings options log texts run printed
-
--- what is printed for the texts of sources, or where they were not read
-abbrev pub ReadExplores : Settings → ExploreOptions → SourceTexts → Printed → Type 0
-ReadExplores settings options (texts.Read read) printed =
-    TextsExplore settings options None read.items printed
-ReadExplores settings options (texts.Fault fault) printed = printed ≡ fault
-
--- and where a log is read before them
-abbrev pub WithLogExplores : Settings → ExploreOptions → ToReplay → Printed → Type 0
-WithLogExplores settings options (reads.Texts log texts) printed =
-    TextsExplore settings options (Some log) texts.items printed
-WithLogExplores settings options (reads.Fault fault) printed = printed ≡ fault
-
--- What `detio explore` prints for these sources, and for that of a log, if one is given. The first
--- of its faults counts: the number of scripts, a log that cannot be read, a script that cannot be
--- read, one that is not a script, a bad expectation, the reach, the log's, another number of
--- threads, the settings, a script without room for its delays
+-- What `detio explore` prints for these sources, and for that of a log, if one is given. Of its
+-- faults those of what is read come first, then the reach, the settings, a script without room for
+-- its delays
 abbrev pub ExplorePrints : Settings → ExploreOptions → Option (List ℕ × Option (List ℕ))
     → List (List ℕ × Option (List ℕ)) → Printed → Type 0
-ExplorePrints settings options None sources printed =
-    (read : SourceTexts) × IsRead sources read × ReadExplores settings options read printed
-ExplorePrints settings options (Some log) sources printed =
-    (read : ToReplay) × IsToReplay log sources read × WithLogExplores settings options read printed
+ExplorePrints settings options log sources printed =
+    (try : ToTry) × Tries settings log sources try × TryExplores options try printed

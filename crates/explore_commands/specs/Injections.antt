@@ -1,21 +1,20 @@
 -- Believed: a contract of a command stands on it.
 -- What `detio faults` prints for the log and the scripts that it reads.
-use Rattle.std.specs.Prelude.{◌≡◌, ◌⊎◌, ◌||◌, ◌==◌, not, ℕ, List, [], ◌++◌, length, slice_get}
-use Rattle.std.specs.Prelude.{slice_index_or, Option, Some, None, is_some, codes, true}
-use Rattle.std.specs.Prelude.{if◌then◌else◌}
+use Rattle.std.specs.Prelude.{◌≡◌, ◌⊎◌, ℕ, List, [], length, slice_get, slice_index_or}
+use Rattle.std.specs.Prelude.{Option, Some, None, codes}
 use Rattle.std.specs.Fmt.{decimal}
 use Rattle.std.specs.List.{AllZip}
 use Rattle.posix_terms.specs.Errors.{name_of}
 use Rattle.posix_terms.specs.declared.outcome.Given.{Given}
-use Rattle.thread_scripts.specs.declared.line.Line.{Line}
-use Rattle.call_machine.specs.declared.fault.PlainFault.{PlainFault}
-use Rattle.explorer.specs.Cases.{IsNotRun, SeesIn, inputs_of}
-use Rattle.explorer.specs.Faults.{fault_of_run}
+use Rattle.call_machine.specs.declared.plain.Plain.{Plain}
+use Rattle.explorer.specs.Observations.{observed}
+use Rattle.explorer.specs.Runs.{IsFault, IsRun, Sees}
 use Rattle.explorer.specs.Subject.{Subject}
+use Rattle.explorer.specs.declared.fault.RunFault.{RunFault}
 use Rattle.explorer.specs.declared.observation.Observation.{Observation}
 use Rattle.fault_injection.specs.Cases.{fault_cases}
-use Rattle.fault_injection.specs.Filled.{SeesFilled}
-use Rattle.fault_injection.specs.Runs.{Sees, subject_in}
+use Rattle.fault_injection.specs.Filled.{IsFilledRun}
+use Rattle.fault_injection.specs.Replaced.{subject_in}
 use Rattle.fault_injection.specs.declared.cases.FaultCase.{FaultCase}
 use Rattle.fault_injection.specs.declared.filling.Filling.{Filling}
 use Rattle.fault_injection.specs.declared.injected.Injected.{Injected}
@@ -23,21 +22,15 @@ use Rattle.fault_injection.specs.declared.injected.Injected.TheVariants as injec
 use Rattle.command_texts.specs.LogTexts.{request_word}
 use Rattle.command_texts.specs.Transcripts.{◌+++◌}
 use Rattle.command_texts.specs.declared.printed.Printed.{Printed}
-use Rattle.command_inputs.specs.Expects.{IsToRun}
-use Rattle.command_inputs.specs.LogTexts.{IsToReplay}
-use Rattle.command_inputs.specs.declared.log_texts.ToReplay.{ToReplay}
-use Rattle.command_inputs.specs.declared.log_texts.ToReplay.TheVariants as reads
-use Rattle.command_inputs.specs.declared.running.ToRun.{ToRun}
-use Rattle.command_inputs.specs.declared.running.ToRun.TheVariants as runs
 use Rattle.explore_commands.specs.CutOffs.{cut_threads}
-use Rattle.explore_commands.specs.Explores.{FaultPrints, IsFound, IsUnmetIn, as_is_text}
-use Rattle.explore_commands.specs.Explores.{failed_of, lines_of}
-use Rattle.explore_commands.specs.LogGives.{LogGives}
+use Rattle.explore_commands.specs.Explores.{FaultPrints, IsFound, IsUnmetIn, failed_of}
+use Rattle.explore_commands.specs.Explores.{found_printed}
+use Rattle.explore_commands.specs.Tries.{ByLogTries}
 use Rattle.explore_commands.specs.declared.faults.FaultOptions.{FaultOptions}
 use Rattle.explore_commands.specs.declared.faults.TheConstants.{MOST_FILLED}
 use Rattle.explore_commands.specs.declared.findings.Finding.{Finding}
-use Rattle.explore_commands.specs.declared.log_inputs.LogInputs.{LogInputs}
-use Rattle.explore_commands.specs.declared.log_inputs.LogInputs.TheVariants as inputs
+use Rattle.explore_commands.specs.declared.trying.ToTry.{ToTry}
+use Rattle.explore_commands.specs.declared.trying.ToTry.TheVariants as tries
 
 -- ## The line of a case
 
@@ -60,11 +53,15 @@ case_text outcomes case =
 
 -- ## What is found
 
--- this is seen in the run of a case, where the run stops at what the outcomes do not answer, or where
--- that is filled in
+-- this is the run of a case: it stops at what the outcomes do not answer, or that is filled in
+abbrev pub RunsCase : Option Filling → Subject → Plain → Type 0
+RunsCase None subject plain = IsRun subject plain
+RunsCase (Some filling) subject plain = IsFilledRun MOST_FILLED filling subject plain
+
+-- this is seen in it
 abbrev pub SeesCase : Option Filling → Subject → Observation → Type 0
-SeesCase None subject now = Sees subject now
-SeesCase (Some filling) subject now = SeesFilled MOST_FILLED filling subject now
+SeesCase filling subject now =
+    (plain : Plain) × RunsCase filling subject plain × (now ≡ observed plain)
 
 -- what is found of a case
 abbrev pub IsCaseFinding :
@@ -79,16 +76,11 @@ unfoldable pub case_sums : ℕ → ℕ → List ℕ
 case_sums cases failed =
     codes "cases " +++ decimal cases +++ codes " failed " +++ decimal failed +++ codes "\n"
 
--- the status is 1 where a reply of the run by the log as it is or of a case is not as expected
-abbrev pub faults_printed :
+-- what is printed of the run by the log as it is and of these cases
+abbrev pub cases_printed :
     Observation → List ℕ → Option (List ℕ) → List Finding → Printed
-faults_printed before cut unmet findings = record {
-  status = if is_some unmet || not (failed_of findings == 0) then 1 else 0;
-  output =
-      as_is_text before cut unmet ++ lines_of findings
-      ++ case_sums (length findings) (failed_of findings);
-  errors = [];
-}
+cases_printed before cut unmet findings =
+    found_printed before cut unmet findings (case_sums (length findings) (failed_of findings))
 
 -- ## The command
 
@@ -102,46 +94,23 @@ pub record AreTried
   pub found : AllZip (IsCaseFinding options.filling subject before)
       (fault_cases options.choice subject.outcomes) findings
   pub says : printed
-      ≡ faults_printed before (cut_threads 0 subject.texts before.seen) unmet findings
+      ≡ cases_printed before (cut_threads 0 subject.texts before.seen) unmet findings
 
--- what is printed for the scripts of a trial: of the cases, or why there was no run by the log as it
--- is
-abbrev pub SubjectFaults : FaultOptions → Subject → List (List Line) → Printed → Type 0
-SubjectFaults options subject scripts printed =
-    ((before : Observation) × SeesIn subject scripts before
-    × AreTried options subject before printed)
-    ⊎ ((why : PlainFault) × IsNotRun (inputs_of subject scripts) why
-    × FaultPrints (fault_of_run why) printed)
+-- what is printed: of the cases, or why there was no run by the log as it is
+abbrev pub SubjectInjects : FaultOptions → Subject → Printed → Type 0
+SubjectInjects options subject printed =
+    ((before : Observation) × Sees subject before × AreTried options subject before printed)
+    ⊎ ((why : RunFault) × IsFault subject why × FaultPrints why printed)
 
--- what is printed for what a log gives
-abbrev pub GivenFaults :
-    FaultOptions → List (List ℕ) → List (List Line) → LogInputs → Printed → Type 0
-GivenFaults options texts scripts (inputs.Given outcomes settings) printed =
-    SubjectFaults options
-    (record { texts = texts; outcomes = outcomes.items; settings = settings }) scripts printed
-GivenFaults options texts scripts (inputs.Fault fault) printed = printed ≡ fault
+-- what is printed for what is to be tried
+abbrev pub TryInjects : FaultOptions → ToTry → Printed → Type 0
+TryInjects options (tries.Texts texts outcomes settings) printed =
+    SubjectInjects options
+    (record { texts = texts.items; outcomes = outcomes.items; settings = settings }) printed
+TryInjects options (tries.Fault fault) printed = printed ≡ fault
 
--- what is printed for what is to be run of texts
-abbrev pub ToRunFaults :
-    FaultOptions → List ℕ → List (List ℕ) → ToRun → Printed → Type 0
-ToRunFaults options log texts (runs.Scripts scripts) printed =
-    (given : LogInputs) × LogGives log (length scripts.items) given
-    × GivenFaults options texts scripts.items given printed
-ToRunFaults options log texts (runs.Fault fault) printed = printed ≡ fault
-
-abbrev pub TextsFault : FaultOptions → List ℕ → List (List ℕ) → Printed → Type 0
-TextsFault options log texts printed =
-    (run : ToRun) × IsToRun true texts run × ToRunFaults options log texts run printed
-
--- what is printed for what was read
-abbrev pub ReadFaults : FaultOptions → ToReplay → Printed → Type 0
-ReadFaults options (reads.Texts log texts) printed = TextsFault options log texts.items printed
-ReadFaults options (reads.Fault fault) printed = printed ≡ fault
-
--- What `detio faults` prints for the log and the sources of these paths. The first of its faults
--- counts: the number of scripts, a log that cannot be read, a script that cannot be read, one that is
--- not a script, a bad expectation, the log's, another number of threads
-abbrev pub FaultsPrint : FaultOptions → List ℕ × Option (List ℕ)
+-- What `detio faults` prints for the log and the sources of these paths
+abbrev pub InjectionsPrint : FaultOptions → List ℕ × Option (List ℕ)
     → List (List ℕ × Option (List ℕ)) → Printed → Type 0
-FaultsPrint options log sources printed =
-    (read : ToReplay) × IsToReplay log sources read × ReadFaults options read printed
+InjectionsPrint options log sources printed =
+    (try : ToTry) × ByLogTries log sources try × TryInjects options try printed

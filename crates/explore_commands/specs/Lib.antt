@@ -1,6 +1,9 @@
 pub mod CutOffs
 pub mod Undated
 pub mod LogGives
+pub mod Tries
 pub mod Explores
 pub mod Injections
 pub mod Writes
+pub mod CaseWrites
+pub mod Minimises

@@ -1,59 +1,60 @@
 -- Believed: a contract of a command stands on it.
 -- What `detio explore --write` writes of the scripts that it reads.
-use Rattle.std.specs.Prelude.{◌≡◌, ℕ, nat_le, Bool, true, false, List, Option}
-use Rattle.std.specs.Prelude.{Result, Ok, Err}
+use Rattle.std.specs.Prelude.{◌≡◌, ◌⊎◌, ℕ, nat_le, Bool, true, false, List, Option}
 use Rattle.posix_terms.specs.declared.limits.TheConstants.Limits as limit
-use Rattle.thread_scripts.specs.Faults.{Fault}
-use Rattle.thread_scripts.specs.declared.line.Line.{Line}
-use Rattle.explorer.specs.Varied.{varied_texts}
-use Rattle.command_texts.specs.Reading.{scripts_from}
+use Rattle.posix_terms.specs.declared.transcript.Settings.{Settings}
+use Rattle.call_machine.specs.declared.plain.Plain.{Plain}
+use Rattle.explorer.specs.Cases.{with_delays}
+use Rattle.explorer.specs.Runs.{IsFault, IsRun}
+use Rattle.explorer.specs.Subject.{Subject}
+use Rattle.explorer.specs.declared.fault.RunFault.{RunFault}
 use Rattle.command_texts.specs.declared.printed.Printed.{Printed}
-use Rattle.command_inputs.specs.Expects.{IsToRun}
-use Rattle.explore_commands.specs.Explores.{bad_reach, delays_of, varied_fault}
+use Rattle.explore_commands.specs.Explores.{FaultPrints, bad_reach, delays_of}
+use Rattle.explore_commands.specs.Tries.{Tries}
 use Rattle.explore_commands.specs.declared.explore.ExploreOptions.{ExploreOptions}
-use Rattle.command_inputs.specs.Sources.{IsRead}
-use Rattle.command_inputs.specs.declared.sources.SourceTexts.{SourceTexts}
-use Rattle.command_inputs.specs.declared.sources.SourceTexts.TheVariants as texts
-use Rattle.command_inputs.specs.declared.running.ToRun.{ToRun}
-use Rattle.command_inputs.specs.declared.running.ToRun.TheVariants as runs
+use Rattle.explore_commands.specs.declared.trying.ToTry.{ToTry}
+use Rattle.explore_commands.specs.declared.trying.ToTry.TheVariants as tries
 use Rattle.explore_commands.specs.declared.writing.ToWrite.{ToWrite}
 use Rattle.explore_commands.specs.declared.writing.ToWrite.TheVariants as writes
 
 -- nothing is written, and this is printed
-abbrev pub IsFault : Printed → ToWrite → Type 0
-IsFault printed (writes.Texts texts) = ⊥
-IsFault printed (writes.Fault fault) = fault ≡ printed
+abbrev pub IsNotWritten : Printed → ToWrite → Type 0
+IsNotWritten printed (writes.Texts texts log) = ⊥
+IsNotWritten printed (writes.Fault fault) = fault ≡ printed
 
--- these texts with their delays are written, if they are scripts
-abbrev pub VariedWrites : List (List ℕ) → Result (List (List Line)) (ℕ × Fault) → ToWrite → Type 0
-VariedWrites varied (Ok scripts) (writes.Texts texts) = texts.items ≡ varied
-VariedWrites varied (Ok scripts) (writes.Fault fault) = ⊥
-VariedWrites varied (Err fault) write = IsFault (varied_fault fault.0 fault.1) write
+-- the texts are written, and the log of this run
+abbrev pub IsWritten : List (List ℕ) → Plain → ToWrite → Type 0
+IsWritten given plain (writes.Texts texts log) = (texts.items ≡ given) × (log ≡ plain.log)
+IsWritten given plain (writes.Fault fault) = ⊥
 
--- what is written where the reach is in its range or not
-abbrev pub InReachWrites : Bool → ExploreOptions → List (List ℕ) → ToWrite → Type 0
-InReachWrites false options texts write = IsFault bad_reach write
-InReachWrites true options texts write =
-    let varied = varied_texts (delays_of options options.first) 0 texts in
-    VariedWrites varied (scripts_from 0 varied) write
+-- why there was no run is printed, and nothing is written
+abbrev pub FaultWrites : Subject → ToWrite → Type 0
+FaultWrites subject write =
+    (why : RunFault) × IsFault subject why
+    × ((printed : Printed) × FaultPrints why printed × IsNotWritten printed write)
 
-abbrev pub ToRunWrites : ExploreOptions → List (List ℕ) → ToRun → ToWrite → Type 0
-ToRunWrites options texts (runs.Scripts scripts) write =
-    InReachWrites (nat_le options.reach limit.WORK) options texts write
-ToRunWrites options texts (runs.Fault fault) write = IsFault fault write
+-- what is written of a subject: its texts, and the log of their run, if there was one
+abbrev pub SubjectWrites : Subject → ToWrite → Type 0
+SubjectWrites subject write =
+    ((plain : Plain) × IsRun subject plain × IsWritten subject.texts plain write)
+    ⊎ FaultWrites subject write
 
--- what is written of texts
-abbrev pub TextsWrite : ExploreOptions → List (List ℕ) → ToWrite → Type 0
-TextsWrite options texts write =
-    (run : ToRun) × IsToRun true texts run × ToRunWrites options texts run write
+-- where the reach is in its range or not: of the subject with the delays of the first seed
+abbrev pub ReachWrites : Bool → Subject → ExploreOptions → ToWrite → Type 0
+ReachWrites false subject options write = IsNotWritten bad_reach write
+ReachWrites true subject options write =
+    SubjectWrites (with_delays (delays_of options options.first) subject) write
 
--- what is written of the texts of sources, or where they were not read
-abbrev pub ReadWrites : ExploreOptions → SourceTexts → ToWrite → Type 0
-ReadWrites options (texts.Read read) write = TextsWrite options read.items write
-ReadWrites options (texts.Fault fault) write = IsFault fault write
+-- what is written of what is to be tried
+abbrev pub TryWrites : ExploreOptions → ToTry → ToWrite → Type 0
+TryWrites options (tries.Texts texts outcomes settings) write =
+    ReachWrites (nat_le options.reach limit.WORK)
+    (record { texts = texts.items; outcomes = outcomes.items; settings = settings }) options write
+TryWrites options (tries.Fault fault) write = IsNotWritten fault write
 
--- What is written of these sources: their texts with the delays of the first seed. The first fault
--- counts, as for the runs
-abbrev pub Writes : ExploreOptions → List (List ℕ × Option (List ℕ)) → ToWrite → Type 0
-Writes options sources write =
-    (read : SourceTexts) × IsRead sources read × ReadWrites options read write
+-- What is written of these sources, and of that of a log, if one is given. The first fault counts,
+-- as for what is printed
+abbrev pub Writes : Settings → ExploreOptions → Option (List ℕ × Option (List ℕ))
+    → List (List ℕ × Option (List ℕ)) → ToWrite → Type 0
+Writes settings options log sources write =
+    (try : ToTry) × Tries settings log sources try × TryWrites options try write

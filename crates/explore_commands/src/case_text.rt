@@ -2,10 +2,10 @@
 ghost use Rattle.std.specs.Prelude.{◌≡◌, ◌++◌, ◌<◌, ◌^◌, [], IfOk, OnOk, slice_index_or};
 ghost use Rattle.std.specs.Prelude.{option_copied, slice_get};
 ghost use Rattle.explore_commands.specs.Explores.{failed_of};
-ghost use Rattle.explore_commands.specs.Injections.{case_sums, case_text, faults_printed};
+ghost use Rattle.explore_commands.specs.Injections.{case_sums, case_text, cases_printed};
 ghost use Rattle.explore_commands.specs.Injections.{injected_text, kind_text};
 
-use crate::explored_text::{failed_runs, push_as_is, push_lines};
+use crate::explored_text::{failed_runs, found_printed};
 use crate::findings::Finding;
 use command_texts::{Printed, push_number, push_word, request_word};
 use explorer::Observation;
@@ -15,7 +15,7 @@ use std::alloc::{AllocError, Global};
 
 // What is printed of what was found of cases, where this was seen by the outcomes as they are, and
 // this was not as expected there.
-pub fn faults_printed(
+pub fn cases_printed(
     alloc: Global,
     before: &Observation,
     cut: &[usize],
@@ -24,18 +24,11 @@ pub fn faults_printed(
 ) -> Result<Printed, AllocError>
     requires { failed_of findings.now < 2 ^ 64 }
     ensures { IfOk result (λ printed.
-        printed ≡ faults_printed before.now cut.now unmet.now findings.now) }
+        printed ≡ cases_printed before.now cut.now unmet.now findings.now) }
 {
-    let mut output = Vec::new(alloc);
-    push_as_is(&mut output, before, cut, unmet)?;
-    push_lines(&mut output, findings)?;
-    let failed = failed_runs(findings);
-    push_sums(&mut output, findings.len(), failed)?;
-    Ok(Printed {
-        status: if unmet.is_some() || failed != 0 { 1 } else { 0 },
-        output: Bytes::from_vec(output),
-        errors: Bytes::from_vec(Vec::new(alloc)),
-    })
+    let mut sums = Vec::new(alloc);
+    push_sums(&mut sums, findings.len(), failed_runs(findings))?;
+    found_printed(alloc, before, cut, unmet, findings, &sums)
 }
 
 // Adds the last line.
@@ -70,7 +63,7 @@ pub fn push_case(
 }
 
 // The outcome that a case replaces.
-fn outcome_of(outcomes: &[Outcomes], case: FaultCase) -> Option<&Given>
+pub fn outcome_of(outcomes: &[Outcomes], case: FaultCase) -> Option<&Given>
     ensures { option_copied result
         ≡ slice_get (slice_index_or outcomes.now case.thread []) case.number }
 {

@@ -1,27 +1,21 @@
-ghost use Rattle.std.specs.Prelude.{◌≡◌, IfOk, map, nat_le, option_copied};
-ghost use Rattle.std.specs.Prelude.{option_map};
+ghost use Rattle.std.specs.Prelude.{◌≡◌, IfOk, map, nat_le, option_map};
 ghost use Rattle.posix_terms.specs.declared.limits.TheConstants.Limits as limit;
 ghost use Rattle.command_texts.specs.Printing.{Prints};
 ghost use Rattle.explore_commands.specs.Explores.{ExplorePrints, FaultPrints, ReachExplores};
-ghost use Rattle.explore_commands.specs.Explores.{SeenExplores, SubjectExplores, TextsExplore, bad_reach};
-ghost use Rattle.explore_commands.specs.Explores.{no_room};
+ghost use Rattle.explore_commands.specs.Explores.{SeenExplores, bad_reach, no_room};
 ghost use Rattle.explorer.specs.Subject.{subject};
 
 use crate::cut_off::cut_threads;
 use crate::explored_text::explored_printed;
 use crate::findings::{findings, unmet_in};
-use crate::log_inputs::{LogInputs, log_inputs};
-use command_inputs::{
-    SourceTexts, ToReplay, ToRun, bad_settings, needs_scripts, no_outcomes, source_texts,
-    to_replay, to_run,
-};
+use crate::trying::{ToTry, to_try};
+use command_inputs::{bad_settings, needs_scripts};
 use command_texts::{Printed, Source, TextReader, bad_line, fault, no_memory, print};
-use explorer::{Chance, ExploreFault, Observation, Trial};
-use posix_terms::{Bytes, Limits, Settings};
+use explorer::{Chance, Observation, RunFault, Trial};
+use posix_terms::{Limits, Settings};
 use std::alloc::{AllocError, Global};
 use std::io;
 use std::io::Write;
-use thread_scripts::Script;
 
 /// With which delays scripts are run.
 #[derive(Clone, Copy, Debug, PartialEq, Eq)]
@@ -78,86 +72,34 @@ fn explore_printed<R: TextReader + Drop>(
         (option_map (λ s. (s.path.now, R.remaining s.reader)) log.entry)
         (map (λ s. (s.path.now, R.remaining s.reader)) sources.entry.items)) }
 {
-    let Some(log) = log else {
-        return match source_texts(alloc, sources)? {
-            SourceTexts::Read(texts) => texts_explored(alloc, settings, options, None, &texts),
-            SourceTexts::Fault(printed) => Ok(printed),
-        };
-    };
-    match to_replay(alloc, log, sources)? {
-        ToReplay::Texts(log, texts) => {
-            texts_explored(alloc, settings, options, Some(log.as_slice()), &texts)
-        }
-        ToReplay::Fault(printed) => Ok(printed),
-    }
-}
-
-// What is to be printed for texts that were read, and for that of a log, if one is given.
-fn texts_explored(
-    alloc: Global,
-    settings: Settings,
-    options: ExploreOptions,
-    log: Option<&[u8]>,
-    texts: &[Bytes],
-) -> Result<Printed, AllocError>
-    ensures { IfOk result (TextsExplore settings options (option_copied log.entry) texts.now) }
-{
-    match to_run(alloc, true, texts)? {
-        ToRun::Scripts(scripts) => scripts_explored(alloc, settings, options, log, texts, scripts),
-        ToRun::Fault(printed) => Ok(printed),
-    }
-}
-
-// What is to be printed for the scripts of these texts.
-fn scripts_explored(
-    alloc: Global,
-    settings: Settings,
-    options: ExploreOptions,
-    log: Option<&[u8]>,
-    texts: &[Bytes],
-    scripts: Vec<Script>,
-) -> Result<Printed, AllocError>
-    ensures { IfOk result (
-        ReachExplores (nat_le options.reach limit.WORK) settings options (option_copied log.entry)
-        texts.now scripts.items) }
-{
-    if u64::from(options.reach) > Limits::WORK {
-        return bad_reach(alloc);
-    }
-    let Some(log) = log else {
-        let outcomes = no_outcomes(alloc, texts.len())?;
-        let trial = Trial {
-            texts,
-            outcomes: &outcomes,
-            settings,
-        };
-        return trial_explored(alloc, trial, options, scripts);
-    };
-    match log_inputs(alloc, log, scripts.len())? {
-        LogInputs::Given(outcomes, settings) => {
+    match to_try(alloc, settings, log, sources)? {
+        ToTry::Texts(texts, outcomes, settings) => {
             let trial = Trial {
-                texts,
+                texts: &texts,
                 outcomes: &outcomes,
                 settings,
             };
-            trial_explored(alloc, trial, options, scripts)
+            trial_explored(alloc, trial, options)
         }
-        LogInputs::Fault(printed) => Ok(printed),
+        ToTry::Fault(printed) => Ok(printed),
     }
 }
 
-// What is to be printed for the scripts of a trial.
+// What is to be printed for a trial.
 fn trial_explored(
     alloc: Global,
     trial: Trial<'_>,
     options: ExploreOptions,
-    scripts: Vec<Script>,
 ) -> Result<Printed, AllocError>
-    ensures { IfOk result (SubjectExplores (subject trial.entry) options scripts.items) }
+    ensures { IfOk result (
+        ReachExplores (nat_le options.reach limit.WORK) (subject trial.entry) options) }
 {
-    match trial.observe_scripts(alloc, scripts) {
+    if u64::from(options.reach) > Limits::WORK {
+        return bad_reach(alloc);
+    }
+    match trial.observe(alloc) {
         Ok(before) => seen_explored(alloc, trial, options, &before),
-        Err(fault) => fault_printed(alloc, ExploreFault::from(fault)),
+        Err(fault) => fault_printed(alloc, fault),
     }
 }
 
@@ -184,15 +126,15 @@ fn seen_explored(
 }
 
 // What is to be printed where a run could not be made.
-pub fn fault_printed(alloc: Global, fault: ExploreFault) -> Result<Printed, AllocError>
+pub fn fault_printed(alloc: Global, fault: RunFault) -> Result<Printed, AllocError>
     ensures { IfOk result (FaultPrints fault) }
 {
     match fault {
-        ExploreFault::BadLine(script, line) => bad_line(alloc, script, line),
-        ExploreFault::TooLong(script) => no_room(alloc, script),
-        ExploreFault::Threads => needs_scripts(alloc),
-        ExploreFault::Settings => bad_settings(alloc),
-        ExploreFault::Memory => Err(AllocError),
+        RunFault::BadLine(script, line) => bad_line(alloc, script, line),
+        RunFault::TooLong(script) => no_room(alloc, script),
+        RunFault::Threads => needs_scripts(alloc),
+        RunFault::Settings => bad_settings(alloc),
+        RunFault::Memory => Err(AllocError),
     }
 }
 

@@ -3,7 +3,7 @@ ghost use Rattle.std.specs.Prelude.{◌≡◌, ◌++◌, ◌<◌, ◌^◌, IfOk,
 ghost use Rattle.explorer.specs.Groups.{runs_of};
 ghost use Rattle.explore_commands.specs.Explores.{as_is_text, change_text, counts_text, difference_text};
 ghost use Rattle.explore_commands.specs.Explores.{differs_text, ending_text, explored_printed, failed_of};
-ghost use Rattle.explore_commands.specs.Explores.{found_text};
+ghost use Rattle.explore_commands.specs.Explores.{found_printed, found_text};
 ghost use Rattle.explore_commands.specs.Explores.{lines_of, row_at, seen_text, sums_text, unmet_text};
 
 use crate::cut_off::push_cut;
@@ -29,20 +29,42 @@ pub fn explored_printed(
     ensures { IfOk result (λ printed.
         printed ≡ explored_printed before.now cut.now unmet.now groups.now findings.now) }
 {
+    let mut sums = Vec::new(alloc);
+    push_sums(&mut sums, groups, failed_runs(findings))?;
+    found_printed(alloc, before, cut, unmet, findings, &sums)
+}
+
+// What is printed of what was found, where this was seen in the run as it is and this was not as
+// expected there; the sums come last.
+pub fn found_printed(
+    alloc: Global,
+    before: &Observation,
+    cut: &[usize],
+    unmet: &Option<Bytes>,
+    findings: &[Finding],
+    sums: &[u8],
+) -> Result<Printed, AllocError>
+    requires { failed_of findings.now < 2 ^ 64 }
+    ensures { IfOk result (λ printed.
+        printed ≡ found_printed before.now cut.now unmet.now findings.now sums.now) }
+{
     let mut output = Vec::new(alloc);
     push_as_is(&mut output, before, cut, unmet)?;
     push_lines(&mut output, findings)?;
-    let failed = failed_runs(findings);
-    push_sums(&mut output, groups, failed)?;
+    output.extend_from_slice(sums)?;
     Ok(Printed {
-        status: if unmet.is_some() || failed != 0 { 1 } else { 0 },
+        status: if unmet.is_some() || failed_runs(findings) != 0 {
+            1
+        } else {
+            0
+        },
         output: Bytes::from_vec(output),
         errors: Bytes::from_vec(Vec::new(alloc)),
     })
 }
 
-// Adds the line of the run without delays.
-pub fn push_as_is(
+// Adds the line of the run as it is.
+fn push_as_is(
     text: &mut Vec<u8>,
     before: &Observation,
     cut: &[usize],
@@ -70,7 +92,7 @@ fn push_ending(
 }
 
 // Adds the lines of groups.
-pub fn push_lines(text: &mut Vec<u8>, findings: &[Finding]) -> Result<(), AllocError>
+fn push_lines(text: &mut Vec<u8>, findings: &[Finding]) -> Result<(), AllocError>
     ensures { OnOk result (text.new.items ≡ text.old.items ++ lines_of findings.now) }
 {
     for finding in findings {

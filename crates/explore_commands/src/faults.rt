@@ -1,25 +1,24 @@
-ghost use Rattle.std.specs.Prelude.{◌≡◌, IfOk, map};
+ghost use Rattle.std.specs.Prelude.{◌≡◌, IfErr, IfOk, map};
 ghost use Rattle.std.specs.List.{AllZip};
 ghost use Rattle.command_texts.specs.Printing.{Prints};
+ghost use Rattle.explorer.specs.Runs.{IsFault};
 ghost use Rattle.explorer.specs.Subject.{subject};
-ghost use Rattle.explore_commands.specs.Injections.{AreTried, FaultsPrint, IsCaseFinding, SeesCase};
-ghost use Rattle.explore_commands.specs.Injections.{SubjectFaults, TextsFault};
-ghost use Rattle.fault_injection.specs.Runs.{subject_in};
+ghost use Rattle.explore_commands.specs.Injections.{AreTried, InjectionsPrint, IsCaseFinding, SeesCase};
+ghost use Rattle.explore_commands.specs.Injections.{RunsCase, SubjectInjects};
+ghost use Rattle.fault_injection.specs.Replaced.{subject_in};
 
-use crate::case_text::{faults_printed, push_case};
+use crate::case_text::{cases_printed, push_case};
 use crate::cut_off::cut_threads;
 use crate::explore::fault_printed;
 use crate::findings::{Finding, found, unmet_in};
-use crate::log_inputs::{LogInputs, log_inputs};
-use command_inputs::{ToReplay, ToRun, to_replay, to_run};
+use crate::trying::{ToTry, to_try_by_log};
+use call_machine::Plain;
 use command_texts::{Printed, Source, TextReader, no_memory, print};
-use explorer::{ExploreFault, Observation, Trial};
-use fault_injection::{Choice, FaultCase, Filling, fault_cases, observe_fault, observe_filled};
-use posix_terms::Bytes;
+use explorer::{Observation, RunFault, Trial, seen_in};
+use fault_injection::{Choice, FaultCase, Filling, fault_cases, run_fault, run_filled};
 use std::alloc::{AllocError, Global};
 use std::io;
 use std::io::Write;
-use thread_scripts::Script;
 
 /// How many outcomes are filled in at most in the run of a case.
 pub const MOST_FILLED: u32 = 100;
@@ -50,7 +49,7 @@ pub fn faults_over<R: TextReader + Drop, W: Write, E: Write>(
 ) -> io::Result<u8>
     ensures { IfOk result (λ status.
         Prints
-        (FaultsPrint options.entry
+        (InjectionsPrint options.entry
         (log.entry.path.now, R.remaining log.entry.reader)
         (map (λ s. (s.path.now, R.remaining s.reader)) sources.entry.items))
         status (W.contents output.old) (W.contents output.new)
@@ -70,54 +69,34 @@ fn faults_read<R: TextReader + Drop>(
     sources: Vec<Source<'_, R>>,
 ) -> Result<Printed, AllocError>
     ensures { IfOk result (
-        FaultsPrint options.entry
+        InjectionsPrint options.entry
         (log.entry.path.now, R.remaining log.entry.reader)
         (map (λ s. (s.path.now, R.remaining s.reader)) sources.entry.items)) }
 {
-    match to_replay(alloc, log, sources)? {
-        ToReplay::Texts(log, texts) => texts_tried(alloc, options, log.as_slice(), &texts),
-        ToReplay::Fault(printed) => Ok(printed),
-    }
-}
-
-// What is to be printed for texts that were read.
-fn texts_tried(
-    alloc: Global,
-    options: FaultOptions<'_>,
-    log: &[u8],
-    texts: &[Bytes],
-) -> Result<Printed, AllocError>
-    ensures { IfOk result (TextsFault options.entry log.now texts.now) }
-{
-    let scripts = match to_run(alloc, true, texts)? {
-        ToRun::Scripts(scripts) => scripts,
-        ToRun::Fault(printed) => return Ok(printed),
-    };
-    match log_inputs(alloc, log, scripts.len())? {
-        LogInputs::Given(outcomes, settings) => {
+    match to_try_by_log(alloc, log, sources)? {
+        ToTry::Texts(texts, outcomes, settings) => {
             let trial = Trial {
-                texts,
+                texts: &texts,
                 outcomes: &outcomes,
                 settings,
             };
-            trial_tried(alloc, options, trial, scripts)
+            trial_tried(alloc, options, trial)
         }
-        LogInputs::Fault(printed) => Ok(printed),
+        ToTry::Fault(printed) => Ok(printed),
     }
 }
 
-// What is to be printed for the scripts of a trial.
+// What is to be printed for a trial.
 fn trial_tried(
     alloc: Global,
     options: FaultOptions<'_>,
     trial: Trial<'_>,
-    scripts: Vec<Script>,
 ) -> Result<Printed, AllocError>
-    ensures { IfOk result (SubjectFaults options.entry (subject trial.entry) scripts.items) }
+    ensures { IfOk result (SubjectInjects options.entry (subject trial.entry)) }
 {
-    match trial.observe_scripts(alloc, scripts) {
+    match trial.observe(alloc) {
         Ok(before) => seen_tried(alloc, options, trial, &before),
-        Err(fault) => fault_printed(alloc, ExploreFault::from(fault)),
+        Err(fault) => fault_printed(alloc, fault),
     }
 }
 
@@ -134,7 +113,7 @@ fn seen_tried(
     let unmet = unmet_in(alloc, trial.texts, before)?;
     let cases = fault_cases(alloc, trial.outcomes, options.choice)?;
     let findings = cases_found(alloc, options.filling, trial, before, &cases)?;
-    faults_printed(alloc, before, &cut, &unmet, &findings)
+    cases_printed(alloc, before, &cut, &unmet, &findings)
 }
 
 // What is found of cases, in order.
@@ -183,13 +162,25 @@ fn observe_case(
 ) -> Result<Observation, AllocError>
     ensures { IfOk result (SeesCase filling (subject_in case (subject trial.entry))) }
 {
-    let seen = match filling {
-        Some(filling) => observe_filled(alloc, trial, case, filling, MOST_FILLED),
-        None => observe_fault(alloc, trial, case),
-    };
-    match seen {
-        Ok(observation) => Ok(observation),
+    match run_case(alloc, filling, trial, case) {
+        Ok(plain) => seen_in(alloc, &plain),
         // The scripts were run with these settings before: what is refused is memory.
         Err(_) => Err(AllocError),
+    }
+}
+
+// The run of a case.
+pub fn run_case(
+    alloc: Global,
+    filling: Option<Filling>,
+    trial: Trial<'_>,
+    case: FaultCase,
+) -> Result<Plain, RunFault>
+    ensures ok { IfOk result (RunsCase filling (subject_in case (subject trial.entry))) }
+    ensures err { IfErr result (IsFault (subject_in case (subject trial.entry))) }
+{
+    match filling {
+        Some(filling) => run_filled(alloc, trial, case, filling, MOST_FILLED),
+        None => run_fault(alloc, trial, case),
     }
 }

@@ -1,6 +1,6 @@
 -- How many runs there are in groups, and how the runs of cases join them.
 use Rattle.std.proofs.Common.{◌≡◌, ◌+◌, ◌-◌, ◌<◌, ◌≤◌, ℕ, zero, suc, arith, All, List, []}
-use Rattle.std.proofs.Common.{◌∷◌, ◌++◌, length, ap, ◌∙◌, refl, sym, subst, Option, None, Err}
+use Rattle.std.proofs.Common.{◌∷◌, ◌++◌, ap, ◌∙◌, refl, sym, subst, Option, None, Err}
 use Rattle.std.proofs.Common.{inl, inr}
 use Rattle.std.specs.List.{range_with_len}
 use Rattle.std.proofs.lemmas.List.Elements.{All-from_get_or}
@@ -10,8 +10,9 @@ use Rattle.call_machine.specs.Plain.{Runs}
 use Rattle.call_machine.specs.Setup.{Inputs}
 use Rattle.call_machine.specs.declared.fault.PlainFault.{PlainFault}
 use Rattle.call_machine.specs.declared.fault.PlainFault.TheVariants as plain_fault
-use Rattle.explorer.specs.Cases.{CaseJoins, CasesJoin, IsNotRun}
+use Rattle.explorer.specs.Cases.{CaseJoins, CasesJoin}
 use Rattle.explorer.specs.Groups.{Joins, runs_of}
+use Rattle.explorer.specs.Runs.{IsNotRun}
 use Rattle.explorer.specs.Subject.{Subject}
 use Rattle.explorer.specs.declared.groups.Group.{Group}
 use Rattle.explorer.specs.declared.observation.Observation.{Observation}

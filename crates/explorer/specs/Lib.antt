@@ -7,5 +7,6 @@ pub mod Delayed
 pub mod Observations
 pub mod Groups
 pub mod Faults
+pub mod Runs
 pub mod Cases
 pub mod Laws

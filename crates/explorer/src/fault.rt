@@ -1,6 +1,6 @@
 ghost use Rattle.std.specs.Prelude.{◌≡◌};
 ghost use Rattle.explorer.specs.Faults.{fault_of_run, fault_of_texts};
-ghost use Rattle.explorer.specs.declared.fault.ExploreFault.TheVariants as explore_fault;
+ghost use Rattle.explorer.specs.declared.fault.RunFault.TheVariants as run_fault;
 
 use call_machine::PlainFault;
 use command_texts::FirstFault;
@@ -8,14 +8,14 @@ use posix_terms::Limits;
 use std::alloc::{AllocError, AllocFailed};
 use thiserror::Error;
 
-/// Why scripts were not explored.
+/// Why there was no run.
 #[derive(Clone, Copy, Debug, PartialEq, Eq, Error)]
-pub enum ExploreFault {
-    /// This line of this script, with its delays, is bad.
-    #[error("script {0} with its delays: bad line {1}")]
+pub enum RunFault {
+    /// This line of this script is bad.
+    #[error("script {0}: bad line {1}")]
     BadLine(usize, usize),
-    /// This script, with its delays, has too many lines.
-    #[error("script {0} has no room for its delays")]
+    /// This script has too many lines, its delays among them.
+    #[error("script {0}: too long")]
     TooLong(usize),
     /// Not 1 to [`Limits::THREADS`] scripts, or not one list of outcomes for each script.
     #[error("needs 1 to {} scripts, and as many lists of outcomes", Limits::THREADS)]
@@ -23,38 +23,38 @@ pub enum ExploreFault {
     /// The patience, the door cost or the version of the log is out of its range.
     #[error("patience and door cost are 1 to 1,000,000, and the version of the log is 1 or 2")]
     Settings,
-    #[error("no memory")]
+    #[error("out of memory")]
     Memory,
 }
 
-impl From<FirstFault> for ExploreFault {
+impl From<FirstFault> for RunFault {
     ghost from_gives = { λ fault e. e ≡ fault_of_texts fault };
 
-    fn from(fault: FirstFault) -> ExploreFault {
+    fn from(fault: FirstFault) -> RunFault {
         match fault {
-            FirstFault::BadLine(script, line) => ExploreFault::BadLine(script, line),
-            FirstFault::TooLong(script) => ExploreFault::TooLong(script),
-            FirstFault::Memory => ExploreFault::Memory,
+            FirstFault::BadLine(script, line) => RunFault::BadLine(script, line),
+            FirstFault::TooLong(script) => RunFault::TooLong(script),
+            FirstFault::Memory => RunFault::Memory,
         }
     }
 }
 
-impl From<PlainFault> for ExploreFault {
+impl From<PlainFault> for RunFault {
     ghost from_gives = { λ fault e. e ≡ fault_of_run fault };
 
-    fn from(fault: PlainFault) -> ExploreFault {
+    fn from(fault: PlainFault) -> RunFault {
         match fault {
-            PlainFault::Threads => ExploreFault::Threads,
-            PlainFault::Settings => ExploreFault::Settings,
-            PlainFault::Memory => ExploreFault::Memory,
+            PlainFault::Threads => RunFault::Threads,
+            PlainFault::Settings => RunFault::Settings,
+            PlainFault::Memory => RunFault::Memory,
         }
     }
 }
 
-impl From<AllocError> for ExploreFault {
-    ghost from_gives = { λ _ e. e ≡ explore_fault.Memory };
+impl From<AllocError> for RunFault {
+    ghost from_gives = { λ _ e. e ≡ run_fault.Memory };
 
-    fn from(_error: AllocError) -> ExploreFault {
-        ExploreFault::Memory
+    fn from(_error: AllocError) -> RunFault {
+        RunFault::Memory
     }
 }

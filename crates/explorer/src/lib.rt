@@ -8,11 +8,12 @@
 //! [`varied`] writes the text of a script with the delays of a
 //! case. By the law [`varied_is_script`] that is a script itself, with the same calls, unless it is
 //! too long; so whatever holds of a plain run holds of its run. A [`Trial`] has the texts of
-//! scripts, what comes for them from outside, and the settings: [`Trial::explored`] runs it with
-//! each case of a range, and gives the [`Group`]s of the runs in which the threads saw the same. An
-//! [`Observation`] is what they saw: their calls and replies without the clocks of the turns, and
-//! why the run stopped. By the contract there is one plain run for each case, in order, and each is
-//! counted in one group. An [`ExploreFault`] says why there are no groups.
+//! scripts, what comes for them from outside, and the settings: [`Trial::run`] is its plain run,
+//! and [`Trial::explored`] runs it with each case of a range, and gives the [`Group`]s of the runs
+//! in which the threads saw the same. An [`Observation`] is what they saw: their calls and replies
+//! without the clocks of the turns, and why the run stopped. By the contract there is one plain run
+//! for each case, in order, and each is counted in one group. A [`RunFault`] says why there was
+//! none. Each run takes outcomes of its own, which [`outcomes_copied`] gives.
 //!
 //! ```rust
 //! use explorer::{Chance, Trial, varied};
@@ -46,6 +47,7 @@
 #![tactic(auto)]
 
 mod chance;
+mod copies;
 mod delay_list;
 mod delays;
 mod fault;
@@ -54,17 +56,20 @@ mod laws;
 mod lists;
 mod observation;
 mod places;
+mod runs;
 mod trial;
 mod vary;
 
 pub use chance::Chance;
+pub use copies::{given_copied, outcomes_copied};
 pub use delay_list::{Delay, DelayList};
 pub use delays::Delays;
-pub use fault::ExploreFault;
+pub use fault::RunFault;
 pub use groups::{Group, Groups};
 pub use laws::{chances_are_works, threads_make_calls, varied_is_script};
 pub use lists::Lists;
 pub use observation::Observation;
 pub use places::Place;
+pub use runs::{run_texts, seen_in};
 pub use trial::Trial;
 pub use vary::{varied, varied_texts};

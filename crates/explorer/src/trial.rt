@@ -1,23 +1,22 @@
 ghost use Rattle.std.specs.Prelude.{◌≡◌, ◌-◌, [], IfErr, IfOk};
 ghost use Rattle.std.specs.List.{range_with_len};
-ghost use Rattle.explorer.specs.Cases.{CasesJoin, IsFaultOf, IsFaultWith, IsNotRun, SeesIn};
-ghost use Rattle.explorer.specs.Cases.{SeesWith, inputs_of};
-ghost use Rattle.explorer.specs.Subject.{subject};
+ghost use Rattle.explorer.specs.Cases.{CasesJoin, IsFaultOf, with_delays};
 ghost use Rattle.explorer.specs.Groups.{runs_of};
+ghost use Rattle.explorer.specs.Runs.{IsFault, IsRun, Sees};
+ghost use Rattle.explorer.specs.Subject.{subject};
 
 use crate::delays::Delays;
-use crate::fault::ExploreFault;
+use crate::fault::RunFault;
 use crate::groups::Groups;
 use crate::observation::Observation;
+use crate::runs::{run_copied, seen_in};
 use crate::vary::varied_texts;
-use call_machine::{PlainFault, plain_run};
-use command_texts::scripts;
-use posix_terms::{Bytes, Given, Outcomes, Settings};
-use std::alloc::{AllocError, Global};
+use call_machine::Plain;
+use posix_terms::{Bytes, Outcomes, Settings};
+use std::alloc::Global;
 use std::ops::Range;
-use thread_scripts::Script;
 
-/// Scripts to be run with many delays.
+/// Scripts to be run, and to be run with many delays.
 #[derive(Clone, Copy, Debug)]
 pub struct Trial<'a> {
     /// Their texts, by thread.
@@ -35,7 +34,7 @@ impl Trial<'_> {
         alloc: Global,
         delays: &D,
         cases: Range<u64>,
-    ) -> Result<Groups, ExploreFault>
+    ) -> Result<Groups, RunFault>
         ensures ok { IfOk result (
             CasesJoin (subject self.entry) (D.delays_of delays.now) []
             (range_with_len cases.start (cases.end - cases.start))) }
@@ -57,53 +56,31 @@ impl Trial<'_> {
         alloc: Global,
         delays: &D,
         case: u64,
-    ) -> Result<Observation, ExploreFault>
-        ensures ok { IfOk result (SeesWith (subject self.entry) (D.delays_of delays.now case)) }
+    ) -> Result<Observation, RunFault>
+        ensures ok { IfOk result (
+            Sees (with_delays (D.delays_of delays.now case) (subject self.entry))) }
         ensures err { IfErr result (
-            IsFaultWith (subject self.entry) (D.delays_of delays.now case)) }
+            IsFault (with_delays (D.delays_of delays.now case) (subject self.entry))) }
     {
         let texts = varied_texts(alloc, delays, case, self.texts)?;
-        let scripts = scripts(alloc, &texts)?;
-        Ok(self.observe_scripts(alloc, scripts)?)
+        let plain = run_copied(alloc, &texts, self.outcomes, self.settings)?;
+        Ok(seen_in(alloc, &plain)?)
     }
 
-    /// What is seen in the plain run of these scripts, as they are.
-    #[tactic(auto, using(crate::proofs::Grouping::not_run))]
-    pub fn observe_scripts(
-        self,
-        alloc: Global,
-        scripts: Vec<Script>,
-    ) -> Result<Observation, PlainFault>
-        ensures ok { IfOk result (SeesIn (subject self.entry) scripts.items) }
-        ensures err { IfErr result (IsNotRun (inputs_of (subject self.entry) scripts.items)) }
+    /// What is seen in the plain run of the scripts, as they are.
+    pub fn observe(self, alloc: Global) -> Result<Observation, RunFault>
+        ensures ok { IfOk result (Sees (subject self.entry)) }
+        ensures err { IfErr result (IsFault (subject self.entry)) }
     {
-        let outcomes = outcomes_copied(alloc, self.outcomes)?;
-        let plain = plain_run(alloc, scripts, outcomes, self.settings)?;
-        Ok(Observation::new(alloc, &plain.transcripts, plain.stop)?)
+        let plain = self.run(alloc)?;
+        Ok(seen_in(alloc, &plain)?)
     }
-}
 
-fn outcomes_copied(alloc: Global, outcomes: &[Outcomes]) -> Result<Vec<Outcomes>, AllocError>
-    ensures { IfOk result (λ copied. copied.items ≡ outcomes.now) }
-{
-    let mut copied = Vec::with_capacity(alloc, outcomes.len())?;
-    for of_thread in outcomes {
-        copied.push(of_thread_copied(alloc, of_thread)?)?;
+    /// That run, with its log.
+    pub fn run(self, alloc: Global) -> Result<Plain, RunFault>
+        ensures ok { IfOk result (IsRun (subject self.entry)) }
+        ensures err { IfErr result (IsFault (subject self.entry)) }
+    {
+        run_copied(alloc, self.texts, self.outcomes, self.settings)
     }
-    Ok(copied)
-}
-
-fn of_thread_copied(alloc: Global, outcomes: &Outcomes) -> Result<Outcomes, AllocError>
-    ensures { IfOk result (λ copied. copied ≡ outcomes.now) }
-{
-    let given = outcomes.as_slice();
-    let mut copied = Vec::with_capacity(alloc, given.len())?;
-    for one in given {
-        copied.push(Given {
-            kind: one.kind,
-            clock: one.clock,
-            outcome: one.outcome.try_clone()?,
-        })?;
-    }
-    Ok(Outcomes::from_vec(copied))
 }

@@ -9,11 +9,10 @@ use Rattle.call_machine.specs.Plain.{counts_fit}
 use Rattle.call_machine.specs.declared.fault.PlainFault.{PlainFault}
 use Rattle.call_machine.specs.declared.fault.PlainFault.TheVariants as plain_fault
 use Rattle.call_machine.specs.declared.plain.Plain.{Plain}
-use Rattle.explorer.specs.Cases.{IsNotRun, inputs_of}
+use Rattle.explorer.specs.Runs.{IsFault, IsNotRun, IsRun, inputs_of}
 use Rattle.explorer.specs.Subject.{Subject}
+use Rattle.explorer.specs.declared.fault.RunFault.{RunFault}
 use Rattle.fault_injection.specs.Filled.{IsFilledRun, more_after}
-use Rattle.fault_injection.specs.Runs.{IsFault, IsRun}
-use Rattle.fault_injection.specs.declared.fault.RunFault.{RunFault}
 use Rattle.fault_injection.specs.declared.filling.Filling.{Filling}
 
 abbrev pub subject_of : List (List ℕ) → List (List Given) → Settings → Subject

@@ -1,4 +1,3 @@
 pub mod Asking
 pub mod Differing
 pub mod FilledRuns
-pub mod Running

@@ -12,10 +12,10 @@ use Rattle.logged_machine.specs.declared.stop.Stop.{Stop}
 use Rattle.logged_machine.specs.declared.stop.Stop.TheVariants as stop
 use Rattle.call_machine.specs.declared.plain.Plain.{Plain}
 use Rattle.explorer.specs.Observations.{observed}
+use Rattle.explorer.specs.Runs.{IsRun}
 use Rattle.explorer.specs.Subject.{Subject}
 use Rattle.explorer.specs.declared.observation.Observation.{Observation}
 use Rattle.fault_injection.specs.Filling.{filling_for}
-use Rattle.fault_injection.specs.Runs.{IsRun}
 use Rattle.fault_injection.specs.declared.filling.Filling.{Filling}
 
 -- ## One outcome

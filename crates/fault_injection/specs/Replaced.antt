@@ -5,6 +5,7 @@ use Rattle.std.specs.List.{enumerate_from}
 use Rattle.posix_terms.specs.declared.outcome.Given.{Given}
 use Rattle.posix_terms.specs.declared.outcome.Outcome.{Outcome}
 use Rattle.posix_terms.specs.declared.outcome.Outcome.TheVariants as outcome
+use Rattle.explorer.specs.Subject.{Subject}
 use Rattle.fault_injection.specs.declared.cases.FaultCase.{FaultCase}
 use Rattle.fault_injection.specs.declared.injected.Injected.{Injected}
 use Rattle.fault_injection.specs.declared.injected.Injected.TheVariants as injected
@@ -30,3 +31,7 @@ of_thread_in case (thread, given) = map (given_in case thread) (enumerate_from 0
 -- the outcomes of all threads
 abbrev pub outcomes_in : FaultCase → List (List Given) → List (List Given)
 outcomes_in case outcomes = map (of_thread_in case) (enumerate_from 0 outcomes)
+
+-- the subject of a case: all as it is, but one outcome
+abbrev pub subject_in : FaultCase → Subject → Subject
+subject_in case subject = record subject { outcomes = outcomes_in case subject.outcomes }

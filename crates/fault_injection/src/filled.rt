@@ -2,19 +2,17 @@ ghost use Rattle.std.specs.Prelude.{◌≡◌, ◌++◌, ◌∷◌, ◌<◌, [],
 ghost use Rattle.std.specs.Prelude.{if◌then◌else◌, length, option_map, slice_index_or, slice_set};
 ghost use Rattle.std.specs.Prelude.{take};
 ghost use Rattle.worker_notes.specs.Requests.{query_for};
+ghost use Rattle.explorer.specs.Runs.{IsFault};
 ghost use Rattle.explorer.specs.Subject.{subject};
 ghost use Rattle.fault_injection.specs.Filled.{IsFilledRun, SeesFilled, given_after, given_for};
 ghost use Rattle.fault_injection.specs.Filled.{more_after};
-ghost use Rattle.fault_injection.specs.Runs.{IsFault, IsRun, subject_in};
+ghost use Rattle.fault_injection.specs.Replaced.{subject_in};
 
 use crate::cases::FaultCase;
-use crate::copies::{first_copied, outcomes_copied};
-use crate::fault::RunFault;
 use crate::filling::Filling;
 use crate::replaced::with_outcome;
-use crate::runs::{run, seen_in};
 use call_machine::{Asked, Plain, Stop};
-use explorer::{Observation, Trial};
+use explorer::{Observation, RunFault, Trial, given_copied, run_texts, seen_in};
 use posix_terms::{Bytes, Call, Given, Outcomes, Settings, Step, Turn};
 use std::alloc::{AllocError, Global};
 use worker_notes::request_for;
@@ -68,28 +66,17 @@ fn run_filling(
         record { texts = texts.now; outcomes = outcomes.items; settings = settings })) }
 {
     for _ in 0..most {
-        let plain = run_copied(alloc, texts, &outcomes, settings)?;
+        let trial = Trial {
+            texts,
+            outcomes: &outcomes,
+            settings,
+        };
+        let plain = trial.run(alloc)?;
         if !fill(alloc, filling, &mut outcomes, &plain)? {
             return Ok(plain);
         }
     }
-    run(alloc, texts, outcomes, settings)
-}
-
-// The plain run of the scripts that these texts are, with a copy of these outcomes.
-fn run_copied(
-    alloc: Global,
-    texts: &[Bytes],
-    outcomes: &[Outcomes],
-    settings: Settings,
-) -> Result<Plain, RunFault>
-    ensures ok { IfOk result (IsRun (
-        record { texts = texts.now; outcomes = outcomes.now; settings = settings })) }
-    ensures err { IfErr result (IsFault (
-        record { texts = texts.now; outcomes = outcomes.now; settings = settings })) }
-{
-    let copied = outcomes_copied(alloc, outcomes)?;
-    run(alloc, texts, copied, settings)
+    run_texts(alloc, texts, outcomes, settings)
 }
 
 // Fills in the outcome that this run stopped for, and returns whether there was one to be.
@@ -188,4 +175,11 @@ fn put(
         outcomes[thread] = Outcomes::from_vec(list);
     }
     Ok(())
+}
+
+// A copy of so many of a thread's outcomes, from the first on, or of all where there are fewer.
+fn first_copied(alloc: Global, given: &[Given], count: usize) -> Result<Vec<Given>, AllocError>
+    ensures { IfOk result (λ copied. copied.items ≡ take count given.now) }
+{
+    given_copied(alloc, &given[..count.min(given.len())])
 }

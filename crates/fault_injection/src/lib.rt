@@ -11,7 +11,8 @@
 //! [`run_fault`] makes the plain run of a case, and [`observe_fault`] what the threads see in it.
 //! Such a run may stop where a thread asks for an outcome that it does not have. [`run_filled`] and
 //! [`observe_filled`] go on there, with an outcome of a [`Filling`]: a failure, or that of a
-//! request that goes well. A [`RunFault`] says why there was no run.
+//! request that goes well. A [`RunFault`](explorer::RunFault)
+//! says why there was no run.
 //!
 //! ```rust
 //! use call_machine::Stop;
@@ -72,8 +73,6 @@
 #![tactic(auto)]
 
 mod cases;
-mod copies;
-mod fault;
 mod filled;
 mod filling;
 mod injected;
@@ -83,7 +82,6 @@ mod runs;
 mod tried;
 
 pub use cases::{Choice, FaultCase, fault_cases};
-pub use fault::RunFault;
 pub use filled::{observe_filled, run_filled};
 pub use filling::Filling;
 pub use injected::Injected;

@@ -1,16 +1,13 @@
-ghost use Rattle.std.specs.Prelude.{◌≡◌, IfErr, IfOk};
-ghost use Rattle.explorer.specs.Observations.{observed};
+ghost use Rattle.std.specs.Prelude.{IfErr, IfOk};
+ghost use Rattle.explorer.specs.Runs.{IsFault, IsRun, Sees};
 ghost use Rattle.explorer.specs.Subject.{subject};
-ghost use Rattle.fault_injection.specs.Runs.{IsFault, IsRun, Sees, subject_in};
+ghost use Rattle.fault_injection.specs.Replaced.{subject_in};
 
 use crate::cases::FaultCase;
-use crate::fault::RunFault;
 use crate::replaced::with_outcome;
-use call_machine::{Plain, plain_run};
-use command_texts::scripts;
-use explorer::{Observation, Trial};
-use posix_terms::{Bytes, Outcomes, Settings};
-use std::alloc::{AllocError, Global};
+use call_machine::Plain;
+use explorer::{Observation, RunFault, Trial, run_texts, seen_in};
+use std::alloc::Global;
 
 /// What is seen in the run of [`run_fault`].
 pub fn observe_fault(
@@ -32,29 +29,5 @@ pub fn run_fault(alloc: Global, trial: Trial<'_>, case: FaultCase) -> Result<Pla
     ensures err { IfErr result (IsFault (subject_in case (subject trial.entry))) }
 {
     let outcomes = with_outcome(alloc, trial.outcomes, case)?;
-    run(alloc, trial.texts, outcomes, trial.settings)
-}
-
-// The plain run of the scripts that these texts are.
-#[tactic(auto, using(crate::proofs::Running::not_run))]
-pub(crate) fn run(
-    alloc: Global,
-    texts: &[Bytes],
-    outcomes: Vec<Outcomes>,
-    settings: Settings,
-) -> Result<Plain, RunFault>
-    ensures ok { IfOk result (IsRun (
-        record { texts = texts.now; outcomes = outcomes.items; settings = settings })) }
-    ensures err { IfErr result (IsFault (
-        record { texts = texts.now; outcomes = outcomes.items; settings = settings })) }
-{
-    let scripts = scripts(alloc, texts)?;
-    Ok(plain_run(alloc, scripts, outcomes, settings)?)
-}
-
-// What is seen in a run.
-pub(crate) fn seen_in(alloc: Global, plain: &Plain) -> Result<Observation, AllocError>
-    ensures { IfOk result (λ observation. observation ≡ observed plain.now) }
-{
-    Observation::new(alloc, &plain.transcripts, plain.stop)
+    run_texts(alloc, trial.texts, outcomes, trial.settings)
 }

@@ -168,14 +168,14 @@ scripts_count i (text ∷ texts) =
 outcomes_count : (given : Subject) (target : Target) → Fails given target
     → length given.outcomes ≡ length given.texts
 outcomes_count given target fails =
-    let scripts = fails.run.scripts in
-    let fit = fails.run.sees.1.threads in
+    let (scripts, are, run) = fails.run.sees.1 in
+    let fit = run.threads in
     let few = nat_le 1 (length scripts) && nat_le (length scripts) limit.THREADS in
     let parts = and_parts few (length given.outcomes == length scripts) fit in
     let same = eqb-true (length given.outcomes) (length scripts) parts.1 in
     let count : length scripts ≡ length given.texts =
     subst (λ (r : Result (List (List Line)) (ℕ × Fault)).
-    IfOk r (λ all. length all ≡ length given.texts)) fails.run.are (scripts_count 0 given.texts) in
+    IfOk r (λ all. length all ≡ length given.texts)) are (scripts_count 0 given.texts) in
     same ∙ count
 
 -- the expectation fails in the run of all lines too
@@ -185,22 +185,25 @@ all_fail given target fails =
     let texts = all_texts given.texts in
     let outcomes = all_outcomes given.texts given.outcomes (outcomes_count given target fails) in
     let run = fails.run in
+    let (scripts, are, plain_run) = run.sees.1 in
     record {
       observation = fails.observation;
       run = record {
-        scripts = run.scripts;
-        are = ap (scripts_from 0) texts ∙ fed_scripts 0 given.texts ∙ run.are;
         good = subst (All IsGood) (sym texts)
             (All-map IsGood fed given.texts
             (All-weaker IsGood (λ (text : List ℕ). IsGood (fed text)) fed_good given.texts
             run.good));
         sees = (
           run.sees.0,
-          subst (λ (all : List (List Given)). IsPlainRun (record {
-            scripts = run.scripts;
-            outcomes = all;
-            settings = given.settings;
-          }) run.sees.0) (sym outcomes) run.sees.1,
+          (
+            scripts,
+            ap (scripts_from 0) texts ∙ fed_scripts 0 given.texts ∙ are,
+            subst (λ (all : List (List Given)). IsPlainRun (record {
+              scripts = scripts;
+              outcomes = all;
+              settings = given.settings;
+            }) run.sees.0) (sym outcomes) plain_run,
+          ),
           run.sees.2,
         );
       };

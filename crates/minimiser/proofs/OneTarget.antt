@@ -16,7 +16,7 @@ use Rattle.expectations.specs.Unmet.{IsFirstUnmet}
 use Rattle.expectations.specs.declared.unmet.Unmet.{Unmet}
 use Rattle.expectations.specs.declared.expected.Expectation.{Expectation}
 use Rattle.call_machine.specs.Plain.{IsPlainRun, OnePlainRun}
-use Rattle.explorer.specs.Cases.{inputs_of}
+use Rattle.explorer.specs.Runs.{inputs_of}
 use Rattle.explorer.specs.Observations.{observed}
 use Rattle.explorer.specs.Subject.{Subject}
 use Rattle.explorer.specs.declared.observation.Observation.{Observation}
@@ -43,10 +43,12 @@ all_before P xs n i x all before at =
 pub one_seen : (law : OnePlainRun) (subject : Subject) (seen other : Observation)
     → IsRunOf subject seen → IsRunOf subject other → seen ≡ other
 one_seen law subject seen other a b =
-    let same : a.scripts ≡ b.scripts = cc (a.are, b.are) in
-    let run = subst (λ (all : List (List Line)). IsPlainRun (inputs_of subject all) a.sees.0) same
-    a.sees.1 in
-    let one = law (inputs_of subject b.scripts) a.sees.0 b.sees.0 run b.sees.1 in
+    let (scripts, are, run) = a.sees.1 in
+    let (others, also, other_run) = b.sees.1 in
+    let same : scripts ≡ others = cc (are, also) in
+    let one = law (inputs_of subject others) a.sees.0 b.sees.0
+    (subst (λ (all : List (List Line)). IsPlainRun (inputs_of subject all) a.sees.0) same run)
+    other_run in
     a.sees.2 ∙ ap observed one ∙ sym b.sees.2
 
 -- a thread has one list of calls at most, and one of expectations

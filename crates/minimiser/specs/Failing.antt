@@ -1,11 +1,9 @@
--- Internal: no contract of the headline or of a command stands on it.
+-- Believed: a contract of a command stands on it.
 -- Whether scripts fail in a way, and when no less of them fails the same.
-use Rattle.std.specs.Prelude.{◌≡◌, All, true, List, IsSomeAnd, Ok}
+use Rattle.std.specs.Prelude.{◌≡◌, All, true, IsSomeAnd}
 use Rattle.std.specs.List.{zip}
-use Rattle.thread_scripts.specs.declared.line.Line.{Line}
 use Rattle.command_texts.specs.Expecting.{IsGood}
-use Rattle.command_texts.specs.Reading.{scripts_from}
-use Rattle.explorer.specs.Cases.{SeesIn}
+use Rattle.explorer.specs.Runs.{Sees}
 use Rattle.explorer.specs.Subject.{Subject}
 use Rattle.explorer.specs.declared.observation.Observation.{Observation}
 use Rattle.minimiser.specs.Reductions.{Kept, is_kept, kept_outcomes, kept_texts, target_now}
@@ -16,12 +14,10 @@ use Rattle.minimiser.specs.declared.fault.MinimiseFault.TheVariants as fault
 use Rattle.minimiser.specs.declared.step.Step.{Step}
 use Rattle.minimiser.specs.declared.target.Target.{Target}
 
--- the texts are scripts, all that they expect is good, and this is seen in their plain run
+-- all that the texts expect is good, and this is seen in the plain run of the scripts that they are
 pub record IsRunOf (subject : Subject) (observation : Observation) : Type 0 where
-  pub scripts : List (List Line)
-  pub are : scripts_from 0 subject.texts ≡ Ok scripts
   pub good : All IsGood subject.texts
-  pub sees : SeesIn subject scripts observation
+  pub sees : Sees subject observation
 
 -- scripts fail so in their plain run
 pub record Fails (subject : Subject) (target : Target) : Type 0 where

@@ -1,4 +1,4 @@
--- Internal: no contract of the headline or of a command stands on it.
+-- Believed: a contract of a command stands on it.
 -- What is kept of scripts, and what a step takes away of it.
 use Rattle.std.specs.Prelude.{ℕ, ◌-◌, Bool, false, List, [], ◌∷◌, ◌++◌, take, count_by}
 use Rattle.std.specs.Prelude.{Option, Some, None, is_some, unwrap_or, option_map}

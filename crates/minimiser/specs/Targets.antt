@@ -1,4 +1,4 @@
--- Internal: no contract of the headline or of a command stands on it.
+-- Believed: a contract of a command stands on it.
 -- How a run fails: the first reply that is not as expected.
 use Rattle.std.specs.Prelude.{◌≡◌, ℕ, All, List, map, take, slice_get, Option}
 use Rattle.std.specs.Prelude.{Some, None, Ok}

@@ -7,10 +7,10 @@ ghost use Rattle.minimiser.specs.Targets.{IsAsExpected, IsFirstTarget, IsUnmetIn
 ghost use Rattle.minimiser.specs.declared.target.Target.{Target};
 
 use crate::target::Target;
-use call_machine::{PlainFault, plain_runs_agree};
-use command_texts::{FirstFault, first_bad_expectation, scripts};
+use call_machine::plain_runs_agree;
+use command_texts::first_bad_expectation;
 use expectations::{Unmet, expectations_of, first_unmet, one_first_unmet, one_reading};
-use explorer::{Observation, Trial};
+use explorer::{Observation, RunFault, Trial};
 use posix_terms::{Bytes, Errno, Reply, Row, Transcript};
 use std::alloc::{AllocError, Global};
 use thread_scripts::parse;
@@ -40,18 +40,13 @@ fn seen_in(alloc: Global, trial: Trial<'_>) -> Result<Option<Observation>, Alloc
         (IsRunOf (subject trial.entry))) }
 {
     one_reading();
-    let scripts = match scripts(alloc, trial.texts) {
-        Ok(scripts) => scripts,
-        Err(FirstFault::BadLine(_, _) | FirstFault::TooLong(_)) => return Ok(None),
-        Err(FirstFault::Memory) => return Err(AllocError),
-    };
     if first_bad_expectation(alloc, trial.texts)?.is_some() {
         return Ok(None);
     }
-    match trial.observe_scripts(alloc, scripts) {
+    match trial.observe(alloc) {
         Ok(observation) => Ok(Some(observation)),
-        Err(PlainFault::Threads | PlainFault::Settings) => Ok(None),
-        Err(PlainFault::Memory) => Err(AllocError),
+        Err(RunFault::Memory) => Err(AllocError),
+        Err(_) => Ok(None),
     }
 }
 

@@ -12,7 +12,8 @@ ghost use Rattle.minimiser.specs.declared.step.Step.TheVariants as step;
 
 use crate::step::Step;
 use crate::target::Target;
-use posix_terms::{Bytes, Given, Outcomes};
+use explorer::given_copied;
+use posix_terms::{Bytes, Outcomes};
 use std::alloc::{AllocError, Global};
 use std::marker::Model;
 use thread_scripts::text_lines;
@@ -79,7 +80,7 @@ impl Reduction {
         let mut kept = Vec::new(alloc);
         for (thread, given) in outcomes.iter().enumerate() {
             if self.lines(thread).is_some() {
-                kept.push(outcomes_copied(alloc, given)?)?;
+                kept.push(Outcomes::from_vec(given_copied(alloc, given.as_slice())?))?;
             }
         }
         Ok(kept)
@@ -234,21 +235,6 @@ fn threads_kept(threads: &[Option<KeptLines>]) -> usize
     ensures { result ≡ count_by is_some threads.now }
 {
     threads.iter().filter(|thread| thread.is_some()).count()
-}
-
-fn outcomes_copied(alloc: Global, outcomes: &Outcomes) -> Result<Outcomes, AllocError>
-    ensures { IfOk result (λ copied. copied ≡ outcomes.now) }
-{
-    let given = outcomes.as_slice();
-    let mut copied = Vec::with_capacity(alloc, given.len())?;
-    for one in given {
-        copied.push(Given {
-            kind: one.kind,
-            clock: one.clock,
-            outcome: one.outcome.try_clone()?,
-        })?;
-    }
-    Ok(Outcomes::from_vec(copied))
 }
 
 fn copied(

@@ -1,4 +1,4 @@
-use Rattle.std.proofs.Common.{◌≡◌, ◌+◌, ◌++◌, ◌∙◌, [], List, ℕ, ap, append_assoc, drop, rules, sym}
+use Rattle.std.proofs.Common.{◌≡◌, ◌+◌, ◌++◌, ◌∙◌, [], ap, append_assoc, drop, rules, sym}
 use Rattle.std.proofs.lemmas.List.{append-nil, drop_all}
 use Rattle.explore_commands.specs.CutOffs.{cut_threads, if_cut}
 use Rattle.explore_commands.proofs.Cutting.{none_unseen, one_further}

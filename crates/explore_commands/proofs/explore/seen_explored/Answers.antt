@@ -1,9 +1,8 @@
-use Rattle.std.proofs.Common.{◌≡◌, ◌<◌, ◌^◌, List, ap, arith, inl, rules, subst, sym}
+use Rattle.std.proofs.Common.{◌≡◌, ◌<◌, ◌^◌, List, arith, inl, rules, subst, sym}
 use Rattle.std.specs.List.{AllZip}
 use Rattle.std.proofs.lemmas.Result.{IfOk-weaker}
 use Rattle.explorer.specs.Groups.{runs_of}
 use Rattle.explorer.specs.Subject.{subject}
-use Rattle.explorer.specs.declared.groups.Group.{Group}
 use Rattle.explore_commands.specs.CutOffs.{cut_threads}
 use Rattle.explore_commands.specs.Explores.{IsFinding, SeenExplores, delays_of, explored_printed}
 use Rattle.explore_commands.specs.Explores.{failed_of}

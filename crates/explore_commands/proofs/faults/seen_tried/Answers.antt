@@ -5,13 +5,13 @@ use Rattle.explorer.specs.Subject.{subject}
 use Rattle.fault_injection.specs.Cases.{fault_cases}
 use Rattle.explore_commands.specs.CutOffs.{cut_threads}
 use Rattle.explore_commands.specs.Explores.{failed_of}
-use Rattle.explore_commands.specs.Injections.{AreTried, IsCaseFinding, faults_printed}
+use Rattle.explore_commands.specs.Injections.{AreTried, IsCaseFinding, cases_printed}
 use Rattle.explore_commands.specs.declared.findings.Finding.{Finding}
 use Rattle.explore_commands.proofs.Failing.{cases_below}
 use Rattle.explore_commands.proofs.faults.seen_tried.Goals as goal
 
-pub faults_printed-requires : goal.faults_printed-requires
-faults_printed-requires c =
+pub cases_printed-requires : goal.cases_printed-requires
+cases_printed-requires c =
     let tried = subject c.args.trial in
     let before = c.args.before.now in
     let findings = c.in_ok-findings.findings.items in
@@ -32,8 +32,8 @@ returns c =
     let found : AllZip (IsCaseFinding c.args.options.filling tried before) cases findings =
     search rules in
     let cut = cut_threads 0 tried.texts before.seen in
-    IfOk-weaker c.faults_printed.result
-    (λ printed. printed ≡ faults_printed before cut c.in_ok-unmet.unmet findings)
+    IfOk-weaker c.cases_printed.result
+    (λ printed. printed ≡ cases_printed before cut c.in_ok-unmet.unmet findings)
     (AreTried c.args.options tried before)
     (λ printed says. record {
       unmet = c.in_ok-unmet.unmet;

@@ -2,13 +2,13 @@ use Rattle.std.proofs.Common.{◌≡◌, ◌+◌, ◌-◌, ◌∙◌, ℕ, suc, 
 use Rattle.std.proofs.Common.{Err, IfErr, Result}
 use Rattle.std.proofs.lemmas.Result.{IfErr-weaker, IfOk-weaker}
 use Rattle.call_machine.specs.declared.plain.Plain.{Plain}
+use Rattle.explorer.specs.Runs.{IsFault}
 use Rattle.explorer.specs.Subject.{Subject}
+use Rattle.explorer.specs.declared.fault.RunFault.{RunFault}
 use Rattle.fault_injection.specs.Filled.{IsFilledRun}
-use Rattle.fault_injection.specs.Runs.{IsFault}
 use Rattle.fault_injection.proofs.FilledRuns.{fault_stays, last_run, no_more, none_filled}
 use Rattle.fault_injection.proofs.FilledRuns.{one_filled, one_more, run_stays, same_fault}
 use Rattle.fault_injection.proofs.FilledRuns.{subject_of}
-use Rattle.fault_injection.specs.declared.fault.RunFault.{RunFault}
 use Rattle.fault_injection.proofs.filled.run_filling.Goals as goal
 
 pub returns-in_err-plain-clause-err : goal.returns-in_err-plain-clause-err
@@ -60,16 +60,16 @@ returns-clause-ok c =
     let first = subject_of c.args.texts.now c.args.outcomes.items c.args.settings in
     let now : Subject = record first { outcomes = c.loop.outcomes.items } in
     let none : 0 ≡ c.args.most - c.loop.counter = omega (arith, c.loop-test.false) in
-    IfOk-weaker c.run.result _ _
+    IfOk-weaker c.run_texts.result _ _
     (λ run is.
     c.loop.invariant.reaches run
     (subst (λ (n : ℕ). IsFilledRun n c.args.filling now run) none
     (last_run c.args.filling now run is)))
-    c.run.ensures.ok
+    c.run_texts.ensures.ok
 
 pub returns-clause-err : goal.returns-clause-err
 returns-clause-err c =
     let first = subject_of c.args.texts.now c.args.outcomes.items c.args.settings in
-    IfErr-weaker c.run.result _ _
+    IfErr-weaker c.run_texts.result _ _
     (λ fault is. same_fault first c.loop.outcomes.items fault c.loop.invariant.lists is)
-    c.run.ensures.err
+    c.run_texts.ensures.err

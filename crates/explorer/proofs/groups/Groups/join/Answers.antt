@@ -1,4 +1,4 @@
-use Rattle.std.proofs.Common.{◌≡◌, ◌≢◌, ◌≤◌, ◌∙◌, inr, length, subst, take, All, List, rules}
+use Rattle.std.proofs.Common.{◌≡◌, ◌≢◌, ◌≤◌, ◌∙◌, inr, length, subst, All, List, rules}
 use Rattle.std.proofs.lemmas.List.{take_all}
 use Rattle.explorer.specs.declared.groups.Group.{Group}
 use Rattle.explorer.proofs.groups.Groups.join.Goals as goal

@@ -1,4 +1,4 @@
-use Rattle.std.proofs.Common.{◌≡◌, ◌+◌, ◌-◌, ◌<◌, ◌^◌, [], ap, arith, rules, subst, ℕ}
+use Rattle.std.proofs.Common.{◌≡◌, ◌+◌, ◌-◌, ◌<◌, ◌^◌, [], arith, rules, subst, ℕ}
 use Rattle.std.specs.List.{range_with_len}
 use Rattle.explorer.specs.Cases.{CasesJoin}
 use Rattle.explorer.specs.Groups.{runs_of}

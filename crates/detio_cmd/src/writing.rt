@@ -1,0 +1,64 @@
+use commands::print;
+use explore_commands::ToWrite;
+use posix_terms::Bytes;
+use std::alloc::AllocError;
+use std::fs::{self, File};
+use std::io::Write;
+
+// Writes scripts to new files of this directory, which is made where it is not there, and prints
+// their paths; with them the log of their run, where outcomes came from a log.
+pub(crate) fn write_scripts(
+    rt: &HostRuntime,
+    to_write: ToWrite,
+    folder: &str,
+    by_log: bool,
+) -> Result<u8, AllocError> {
+    let (texts, log) = match to_write {
+        ToWrite::Texts(texts, log) => (texts, log),
+        ToWrite::Fault(printed) => {
+            return Ok(print(&printed, &mut rt.stdout(), &mut rt.stderr()).unwrap_or(4));
+        }
+    };
+    // Where there is no directory, no file of it can be made.
+    let _ = fs::create_dir_all(rt, folder);
+    for (thread, text) in texts.iter().enumerate() {
+        let path = format!(in rt.alloc(); "{folder}/{thread}.script")?;
+        if !write_new(rt, path.as_str(), text) {
+            return Ok(4);
+        }
+    }
+    if by_log {
+        let path = format!(in rt.alloc(); "{folder}/run.log")?;
+        if !write_new(rt, path.as_str(), &log) {
+            return Ok(4);
+        }
+    }
+    Ok(0)
+}
+
+// Writes the log of a run to a new file.
+pub(crate) fn write_log(rt: &HostRuntime, to_write: ToWrite, path: &str) -> u8 {
+    match to_write {
+        ToWrite::Texts(_, log) => { if write_new(rt, path, &log) { 0 } else { 4 } }
+        ToWrite::Fault(printed) => {
+            print(&printed, &mut rt.stdout(), &mut rt.stderr()).unwrap_or(4)
+        }
+    }
+}
+
+// Writes these bytes to a new file, and prints its path; or a line that says that it cannot.
+fn write_new(rt: &HostRuntime, path: &str, bytes: &Bytes) -> bool {
+    if !is_new_with(rt, path, bytes.as_slice()) {
+        let _ = eprintln!(rt; "cannot write {path}");
+        return false;
+    }
+    println!(rt; "{path}").is_ok()
+}
+
+// Whether a new file at this path has these bytes.
+fn is_new_with(rt: &HostRuntime, path: &str, bytes: &[u8]) -> bool {
+    match File::create_new(rt, path) {
+        Ok(mut file) => file.write_all(bytes).is_ok(),
+        Err(_) => false,
+    }
+}

@@ -1,0 +1,19 @@
+use Rattle.std.proofs.Common.{◌≡◌, None, inr, rules}
+use Rattle.std.proofs.lemmas.Result.{IfOk-weaker}
+use Rattle.explorer.specs.Subject.{subject}
+use Rattle.minimiser.specs.Failing.{Fails}
+use Rattle.minimiser.specs.declared.target.Target.{Target}
+use Rattle.explore_commands.specs.Minimises.{NothingMinimises, SubjectMinimises}
+use Rattle.explore_commands.proofs.minimise.trial_minimised.Goals as goal
+
+pub returns-in_default : goal.returns-in_default
+returns-in_default c =
+    let tried = subject c.args.trial in
+    let none : c.in_ok-target.field-0 ≡ None = search rules in
+    IfOk-weaker c.nothing_minimised.result (NothingMinimises tried) (SubjectMinimises tried)
+    (λ write nothing. inr (
+      λ (target : Target). λ (fails : Fails tried target).
+          cc (none, (c.in_ok-target.ensures target).1 fails),
+      nothing,
+    ))
+    c.nothing_minimised.ensures

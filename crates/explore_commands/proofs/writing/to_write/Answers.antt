@@ -1,0 +1,19 @@
+use Rattle.std.proofs.lemmas.Result.{IfOk-weaker}
+use Rattle.std.specs.Prelude.{nat_le}
+use Rattle.posix_terms.specs.declared.limits.TheConstants.Limits as limit
+use Rattle.explore_commands.specs.Writes.{ReachWrites}
+use Rattle.explore_commands.specs.declared.trying.ToTry.TheVariants as tries
+use Rattle.explore_commands.proofs.Tried.{of_tried}
+use Rattle.explore_commands.proofs.writing.to_write.Goals as goal
+
+pub returns-in-Texts : goal.returns-in-Texts
+returns-in-Texts g c =
+    let texts = c.in-Texts.texts in
+    let outcomes = c.in-Texts.outcomes in
+    let settings = c.in-Texts.settings in
+    IfOk-weaker c.trial_written.result _ _
+    (λ made says.
+    (tries.Texts texts outcomes settings, rw c.in-Texts.is at c.in_ok-texts.ensures, says))
+    (of_tried (λ subject. ReachWrites (nat_le c.args.options.reach limit.WORK) subject c.args.options) c.trial_written.result c.deref.result.now texts.items
+    c.deref-in-Texts.result.now outcomes.items settings c.deref.ensures.value
+    c.deref-in-Texts.ensures.value c.trial_written.ensures)
