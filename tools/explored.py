@@ -1,9 +1,10 @@
 #!/usr/bin/env python3
-"""Says what `detio explore` has to print, by runs of `detio plain`: `tools/explored.py [--seeds A..B] [--reach N] SCRIPT..`.
+"""Says what `detio explore` has to print, by runs of `detio plain`: `tools/explored.py [--seeds A..B] [--reach N] SCRIPT..`,
+or with `--delays D [--most N]` in place of seeds.
 
 It varies the scripts and groups the runs in code of its own, after docs/exploring.md, and takes what each run gives from
 `detio plain --expect`. With --check it compares that with what `detio explore` prints, and the scripts that it writes for the
-first seed with its own. tools/soak does the same for scripts made by chance.
+first seed or the last list with its own. tools/soak does the same for scripts made by chance.
 """
 import argparse
 import os
@@ -115,7 +116,7 @@ def is_cut_off(text, rows):
 
 def ending(run, texts):
     """How a run ended, and which threads were cut off in it."""
-    cut = [str(thread) for thread, (text, rows) in enumerate(zip(texts, run[0])) if is_cut_off(text, rows)]
+    cut = [str(thread) for thread, (text, rows) in enumerate(zip(texts, run[0])) if run[1] == "end" and is_cut_off(text, rows)]
     return run[1] + (f" cut off {','.join(cut)}" if cut else "")
 
 
@@ -128,48 +129,92 @@ def difference(before, now):
     return "same" if before[1] == now[1] else "ends otherwise"
 
 
-def explored(program, texts, seeds, reach, settings=()):
-    """Status, standard output and standard error of `detio explore`, for scripts that have no fault."""
-    for thread, text in enumerate(texts):
-        if len(lines_of(varied(seeds[0], reach, thread, text))) > LINES:
-            return 3, "", f"script {thread}: no room for delays\n"
-    before, groups, failed = plain(program, texts, settings), {}, 0
+def by_seeds(texts, seeds, reach):
+    """For each seed the words of its line, and the texts with its delays."""
     for seed in seeds:
-        varied_texts = [varied(seed, reach, thread, text) for thread, text in enumerate(texts)]
+        yield f"seed {seed} ", [varied(seed, reach, thread, text) for thread, text in enumerate(texts)]
+
+
+def lists_of(texts, most_delays, reach):
+    """All lists of at most so many delays at two lines of calls: those of none, of one, of two; by thread, line and units."""
+    places = [
+        (thread, number)
+        for thread, text in enumerate(texts)
+        for number, line in enumerate(lines_of(text), 1)
+        if is_call(line)
+    ]
+    yield []
+    for place in places:
+        yield from ([(*place, units)] for units in range(1, reach + 1))
+    if most_delays > 1:
+        for at, place in enumerate(places):
+            for units in range(1, reach + 1):
+                for other in places[at + 1 :]:
+                    yield from ([(*place, units), (*other, more)] for more in range(1, reach + 1))
+
+
+def delayed(delays, thread, text):
+    """The text of a thread with the delays of a list."""
+    out = []
+    for number, line in enumerate(lines_of(text), 1):
+        out += [f"work {units}\n" for where, place, units in delays if (where, place) == (thread, number)]
+        out.append(line + "\n")
+    return "".join(out)
+
+
+def by_lists(texts, lists):
+    """For each of these lists the words of its line, and the texts with its delays."""
+    for case, delays in lists:
+        words = "".join(f"delay {thread} {line} {units} " for thread, line, units in delays)
+        yield f"list {case} {words}", [delayed(delays, thread, text) for thread, text in enumerate(texts)]
+
+
+def explored(program, texts, cases, left="", settings=()):
+    """Status, standard output and standard error of `detio explore`, for scripts that have no fault, and these cases."""
+    before, groups, failed, count = plain(program, texts, settings), {}, 0, 0
+    for words, varied_texts in cases:
+        for thread, text in enumerate(varied_texts):
+            if len(lines_of(text)) > LINES:
+                return 3, "", f"script {thread}: no room for delays\n"
         run = plain(program, varied_texts, settings)
         if repr(run[:2]) not in groups:
-            groups[repr(run[:2])] = [seed, 0, run, ending(run, varied_texts), given(run[2], varied_texts, texts)]
+            groups[repr(run[:2])] = [words, 0, run, ending(run, varied_texts), given(run[2], varied_texts, texts)]
         groups[repr(run[:2])][1] += 1
+        count += 1
     out = [f"as they are {ending(before, texts)}{given(before[2], texts, texts)}\n"]
-    for first, count, run, end, unmet in groups.values():
-        out.append(f"seed {first} runs {count} {end} {difference(before, run)}{unmet}\n")
-        failed += count if unmet else 0
-    out.append(f"runs {len(seeds)} groups {len(groups)} failed {failed}\n")
+    for words, runs_of, run, end, unmet in groups.values():
+        out.append(f"{words}runs {runs_of} {end} {difference(before, run)}{unmet}\n")
+        failed += runs_of if unmet else 0
+    out.append(f"runs {count} groups {len(groups)} failed {failed}{left}\n")
     return 1 if failed or before[2] else 0, "".join(out), ""
 
 
-def check(program, paths, texts, seeds, reach):
+def check(program, paths, texts, asked, wanted, first, first_texts):
     """Ends with what is wrong, if something is."""
-    words = ["--reach", str(reach), *map(os.path.abspath, paths)]
-    found = runs.answer([program, "explore", "--seeds", f"{seeds.start}..{seeds.stop}", *words], "/")
-    wanted = explored(program, texts, seeds, reach)
+    words = ["--reach", str(asked.reach), *map(os.path.abspath, paths)]
+    of_lists = ["--delays", str(asked.delays)] if asked.delays else []
+    all_cases = [*of_lists, "--most", str(asked.most)] if asked.delays else ["--seeds", asked.seeds]
+    found = runs.answer([program, "explore", *all_cases, *words], "/")
     if found != wanted:
         sys.exit(f"explored: {runs.said(found)}\nwanted: {runs.said(wanted)}")
     with tempfile.TemporaryDirectory() as room:
-        status, out, err = runs.answer([program, "explore", "--only", str(seeds.start), "--write", "new", *words], room)
+        only = ["explore", *of_lists, "--only", str(first), "--write", "new", *words]
+        status, out, err = runs.answer([program, *only], room)
         if (status, out, err) != (0, "".join(f"new/{thread}.script\n" for thread in range(len(texts))), ""):
             sys.exit(f"explored: what is written: {runs.said((status, out, err))}")
-        for thread, text in enumerate(texts):
+        for thread, text in enumerate(first_texts):
             with open(f"{room}/new/{thread}.script", encoding="latin-1") as it:
-                if it.read() != varied(seeds.start, reach, thread, text):
+                if it.read() != text:
                     sys.exit(f"explored: thread {thread} has other delays")
-    print(f"{len(seeds)} runs as the rules say")
+    print("all runs as the rules say")
 
 
 def main():
     options = argparse.ArgumentParser(description=__doc__, formatter_class=argparse.RawDescriptionHelpFormatter)
     options.add_argument("--program", help="the program (default: the one that was built here)")
     options.add_argument("--seeds", default="0..1000")
+    options.add_argument("--delays", type=int, help="lists of at most so many delays, 1 or 2, in place of seeds")
+    options.add_argument("--most", type=int, default=1000, help="how many lists are run at most")
     options.add_argument("--reach", type=int, default=20)
     options.add_argument("--check", action="store_true")
     options.add_argument("script", nargs="+")
@@ -178,10 +223,18 @@ def main():
     for path in asked.script:
         with open(path, encoding="latin-1") as it:
             texts.append(it.read())
-    seeds = range(*map(int, asked.seeds.split("..")))
+    if asked.delays:
+        lists = list(enumerate(lists_of(texts, asked.delays, asked.reach)))
+        left = f" left out {max(len(lists) - asked.most, 0)}"
+        cases, first = list(by_lists(texts, lists[: asked.most])), min(asked.most, len(lists)) - 1
+    else:
+        seeds = range(*map(int, asked.seeds.split("..")))
+        cases, first, left = list(by_seeds(texts, seeds, asked.reach)), seeds.start, ""
+    wanted = explored(program, texts, cases, left)
     if asked.check:
-        return check(program, asked.script, texts, seeds, asked.reach)
-    status, out, err = explored(program, texts, seeds, asked.reach)
+        written = cases[first][1] if asked.delays else cases[0][1]
+        return check(program, asked.script, texts, asked, wanted, first, written)
+    status, out, err = wanted
     sys.stdout.write(out)
     sys.stderr.write(err)
     sys.exit(status)

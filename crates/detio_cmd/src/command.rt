@@ -7,8 +7,8 @@ Scripts of calls run against files, pipes and pairs of sockets in memory. The or
 comes from logical clocks alone, so a run prints the same each time, on every machine. What calls got
 from outside, from host files and over TCP, stands in a log, and a run is replayed by its log with no
 host file and no network. Two logs are compared by what the threads see when each is replayed. Many
-schedules of one set of scripts are explored by seeds, and many failures by a log; of scripts that
-fail, what the failure does not need is taken away.";
+schedules of one set of scripts are explored by seeds, and many failures by a log; and scripts that
+fail are reduced to what the failure needs.";
 
 const AFTER_HELP: &str = "Example:
   printf 'open /a rw create\\nwrite 0 x6869\\nlseek 0 0 set\\nread 0 9\\n' > hi.script
@@ -23,10 +23,10 @@ prints
 
 Exit statuses:
   0  the run came to its end, the logs gave the same, the log was printed, made or upgraded, or all
-     explored runs are as expected; or what fails was made less
+     explored runs are as expected; or what was asked for was written
   1  a difference, a divergence, the end of a log, or a reply that is not as expected
   2  wrong usage
-  3  a bad script, expectation, log or text of a log
+  3  a bad script, expectation, log or text of a log; or it does not have what is asked for
   4  a file that cannot be read or written, no memory, a full clock, threads that strayed
 
 It runs scripts, not programs. Each command's --help has its limits, its statuses and an example.";
@@ -148,7 +148,8 @@ detio plain --help.
 The first line says how the scripts end as they are, without delays:
   as they are END
 END has the words of the last line of detio plain. Runs in which the threads saw the same calls and
-replies are one group. A line follows for each group, in the order of the first seeds:
+replies and that ended alike are one group. A line follows for each group, in the order of the first
+seeds:
   seed FIRST runs COUNT END same
   seed FIRST runs COUNT END ends otherwise
   seed FIRST runs COUNT END differs THREAD ROW BEFORE -> NOW
@@ -161,20 +162,27 @@ for the least thread, LINE that of the script that was given. The last line is
 A run failed if a reply was not as expected.
 
 A thread ends once it has executed 10000 lines, and with its delays a long loop does so earlier.
-After END such threads are named: cut off THREAD,THREAD. With its delays a script has at most 1000
-lines.
+Where all threads ended, such threads are named after END: cut off THREAD,THREAD. With its delays a
+script has at most 1000 lines.
 
-Without --log nothing comes from outside, as under detio plain, and a run ends where it asks for it.
+Without --log nothing comes from outside, as under detio plain, and a run stops where it asks for it.
 With --log the calls that go outside take the outcomes of that log, in their order and whatever
-their clocks, and the patience and the door cost are the log's. A run ends where a thread asks what
-the log does not answer. Expectations after an end are not looked at.
+their clocks, and the patience and the door cost are the log's. A run stops where a thread asks what
+the log does not answer. Expectations after a stop are not looked at.
 
---only SEED runs one seed. With --write its scripts are written, with their delays, to new files:
+--delays D runs lists of delays in place of seeds (delay bounding): every list of at most D delays, 1
+or 2, each of 1 to --reach units at one line of a call, up to --most. List 0 is empty, then come
+those of one delay, by thread, line and units. The lines of groups, and the sums, have
+  list FIRST delay THREAD LINE UNITS runs COUNT ..
+  runs COUNT groups COUNT failed COUNT left out COUNT
+with the delays of the first list of the group, and how many lists were not run.
+
+--only CASE runs one seed, or the list with this number. With --write its scripts are written, with their delays, to new files:
 their paths are printed, and detio plain, record and replay take them. With --log too, the log of
-that run goes to DIR/run.log, and detio replay takes it. detio minimise makes less of them.
+that run goes to DIR/run.log, and detio replay takes it. detio minimise reduces them.
 
 Exit statuses:
-  0  all replies are as expected
+  0  all replies are as expected, or the scripts were written
   1  a reply is not as expected
   2  wrong usage
   3  a bad script, expectation or log, or a script that has no room for its delays
@@ -212,7 +220,8 @@ say what is expected: detio plain --help.
 
 The outcomes after the replaced one come while they answer what is asked. Where a thread asks what
 the log does not answer, --then says what comes: stop (the run stops there), fail (EIO), well (what
-comes of a call that goes well: all bytes written, nothing more to read), 100 times at most.
+comes of a call that goes well: all bytes written, nothing more to read, a seek to 0), 100 times at
+most. The run by the log as it is always stops there.
 
 The first line says how the scripts end by the log as it is:
   as they are END
@@ -225,13 +234,15 @@ The ends of these lines are those of detio explore. The last line is
 A case failed if a reply was not as expected.
 
 --only THREAD NUMBER ERROR, or a count in place of ERROR, is one case. The log of its run is written
-to the new file --out, whose path is printed, and detio replay takes it.
+to the new file --out, whose path is printed, and detio replay takes it. A count is that of a read or
+a write which brought more.
 
 Exit statuses:
   0  all replies are as expected, or the log was written
   1  a reply is not as expected
   2  wrong usage
-  3  a bad script, expectation or log, or a log that has no such record
+  3  a bad script, expectation or log, or a log that has no such record,
+     or one that cannot be replaced so
   4  a file that cannot be read or written, no memory";
 
 const FAULTS_AFTER_HELP: &str = "Example: a short read is not made up for
@@ -249,16 +260,16 @@ prints at last
   0 1 read short 1 end differs 0 1 read data 6869 -> read data 68 expected 0 6 count 2 count 1
   cases 4 failed 2";
 
-const MINIMISE_ABOUT: &str = "Takes away of failing scripts what the failure does not need";
+const MINIMISE_ABOUT: &str = "Reduces failing scripts to what the failure needs";
 
-const MINIMISE_LONG_ABOUT: &str = "Takes away of failing scripts what the failure does not need.
+const MINIMISE_LONG_ABOUT: &str = "Reduces failing scripts to what the failure needs.
 
 The scripts run as under detio plain, and a reply is not as a line #= of a script expects: detio plain
 --help. Of the least thread that has one, the first such reply counts. Lines and threads are taken away
 one at a time (delta debugging), always in the same order: lines of work, then all lines of each thread
 from the last to the first, then threads, and so on again. What is taken away stays away if the same line
-#= then fails for the same call and with the same error, and first. In the end no line and no thread is
-left without which it would.
+#= then fails for the same call and with the same error, before all others. In the end each line and each
+thread that is left is needed: without any one of them that line #= does not fail so.
 
 What is left is written to new files, one for each thread that is left: their paths are printed, and
 detio plain, record and replay take them.
@@ -668,7 +679,8 @@ fn explore<'a>(alloc: Global) -> Result<Command<'a>, AllocError> {
         EXPLORE_LONG_ABOUT,
         EXPLORE_AFTER_HELP,
     );
-    let command = command.arg(seeds(alloc))?.arg(only(alloc)?)?;
+    let command = command.arg(seeds(alloc))?.arg(delays(alloc)?)?;
+    let command = command.arg(most(alloc)?)?.arg(only(alloc)?)?;
     let command = command.arg(reach(alloc))?.arg(write(alloc)?)?;
     let command = command.arg(patience(alloc))?.arg(door_cost(alloc))?;
     command.arg(outcomes(alloc)?)?.arg(scripts(alloc))
@@ -678,7 +690,7 @@ fn outcomes<'a>(alloc: Global) -> Result<Arg<'a>, AllocError> {
     Arg::new(alloc, "log")
         .long("log")
         .value_name("FILE")
-        .help("A log whose outcomes come from outside; /dev/stdin is standard input")
+        .help("The log whose outcomes the calls that go outside take; /dev/stdin is standard input")
         .conflicts_with("patience")?
         .conflicts_with("door-cost")
 }
@@ -691,12 +703,34 @@ fn seeds<'a>(alloc: Global) -> Arg<'a> {
         .help("The first seed, and the one after the last")
 }
 
+fn delays<'a>(alloc: Global) -> Result<Arg<'a>, AllocError> {
+    Arg::new(alloc, "delays")
+        .long("delays")
+        .value_name("D")
+        .value_parser(value_parser!(u32).range(1..=2))
+        .num_args(0..=1)
+        .default_missing_value("1")
+        .help("All lists of at most D delays in place of seeds, 1 or 2")
+        .conflicts_with("seeds")
+}
+
+fn most<'a>(alloc: Global) -> Result<Arg<'a>, AllocError> {
+    Arg::new(alloc, "most")
+        .long("most")
+        .value_name("N")
+        .value_parser(value_parser!(u64))
+        .default_value("100000")
+        .help("How many lists are run at most")
+        .conflicts_with("seeds")?
+        .conflicts_with("only")
+}
+
 fn only<'a>(alloc: Global) -> Result<Arg<'a>, AllocError> {
     Arg::new(alloc, "only")
         .long("only")
-        .value_name("SEED")
+        .value_name("CASE")
         .value_parser(value_parser!(u64))
-        .help("This seed alone")
+        .help("This seed alone, or the list with this number")
         .conflicts_with("seeds")
 }
 
@@ -704,7 +738,7 @@ fn write<'a>(alloc: Global) -> Result<Arg<'a>, AllocError> {
     Arg::new(alloc, "write")
         .long("write")
         .value_name("DIR")
-        .help("Writes the scripts of that seed to new files DIR/0.script, DIR/1.script and so on")
+        .help("Writes the scripts of that case to new files DIR/0.script, DIR/1.script and so on")
         .requires_arg("only")
 }
 

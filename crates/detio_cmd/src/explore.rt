@@ -2,7 +2,7 @@ use crate::input::{open_scripts, open_source};
 use crate::writing::write_scripts;
 use clap::ArgMatches;
 use commands::settings_of;
-use explore_commands::{ExploreOptions, explore_over, to_minimise, to_write};
+use explore_commands::{ExploreOptions, Schedules, explore_over, to_minimise, to_write};
 use std::alloc::AllocError;
 
 // `detio explore`, as the command line has it.
@@ -54,11 +54,17 @@ pub(crate) fn run_minimise(rt: &HostRuntime, matches: &ArgMatches<'_>) -> Result
 }
 
 fn options(matches: &ArgMatches<'_>) -> Option<ExploreOptions> {
-    let (first, end) = match matches.get_one::<u64>("only") {
-        Some(seed) => (seed, seed.checked_add(1)?),
-        None => seeds_of(matches.get_str("seeds")?)?,
+    let schedules = match matches.get_one::<u32>("delays") {
+        Some(delays) => Schedules::Lists { two: delays > 1 },
+        None => Schedules::Seeds,
+    };
+    let (first, end) = match (matches.get_one::<u64>("only"), schedules) {
+        (Some(case), _) => (case, case.checked_add(1)?),
+        (None, Schedules::Lists { .. }) => (0, matches.get_one::<u64>("most")?),
+        (None, Schedules::Seeds) => seeds_of(matches.get_str("seeds")?)?,
     };
     Some(ExploreOptions {
+        schedules,
         first,
         end,
         reach: matches.get_one::<u32>("reach")?,

@@ -88,7 +88,9 @@ fn errors_named(alloc: Global, names: &str) -> Result<Option<Vec<Errno>>, AllocE
         let Some(error) = error_named(name.as_bytes()) else {
             return Ok(None);
         };
-        errors.push(error)?;
+        if !errors.contains(&error) {
+            errors.push(error)?;
+        }
     }
     Ok(Some(errors))
 }

@@ -1,4 +1,4 @@
-use commands::print;
+use commands::{cannot_write, print};
 use explore_commands::ToWrite;
 use posix_terms::Bytes;
 use std::alloc::AllocError;
@@ -52,7 +52,11 @@ fn write_new(rt: &HostRuntime, path: &str, bytes: &Bytes) -> bool {
         let _ = eprintln!(rt; "cannot write {path}");
         return false;
     }
-    println!(rt; "{path}").is_ok()
+    if println!(rt; "{path}").is_err() {
+        let _ = cannot_write(&mut rt.stderr());
+        return false;
+    }
+    true
 }
 
 // Whether a new file at this path has these bytes.

@@ -13,6 +13,7 @@ use Rattle.fault_injection.specs.declared.filling.Filling.{Filling}
 use Rattle.explore_commands.specs.Explores.{IsFinding, failed_of}
 use Rattle.explore_commands.specs.Injections.{IsCaseFinding}
 use Rattle.explore_commands.specs.declared.findings.Finding.{Finding}
+use Rattle.explore_commands.specs.declared.schedule.Schedule.{Schedule}
 
 -- the elements and one more of each
 pub pairs_more : {A B : Type 0} (R : A → B → Type 0) (xs : List A) (ys : List B) (x : A) (y : B)
@@ -26,18 +27,18 @@ at_most : (b : Bool) (n : ℕ) → (if b then n else 0) ≤ n
 at_most true n = omega arith
 at_most false n = omega arith
 
-pub failed_below : (subject : Subject) (delays : ℕ → ℕ → ℕ → Option ℕ) (before : Observation)
+pub failed_below : (subject : Subject) (schedule : Schedule) (before : Observation)
     (groups : List Group) (findings : List Finding)
-    → AllZip (IsFinding subject delays before) groups findings
+    → AllZip (IsFinding subject schedule before) groups findings
     → failed_of findings ≤ runs_of groups
-failed_below subject delays before [] [] all = omega arith
-failed_below subject delays before [] (finding ∷ findings) all = elim all [ ]
-failed_below subject delays before (group ∷ groups) [] all = elim all [ ]
-failed_below subject delays before (group ∷ groups) (finding ∷ findings) all =
+failed_below subject schedule before [] [] all = omega arith
+failed_below subject schedule before [] (finding ∷ findings) all = elim all [ ]
+failed_below subject schedule before (group ∷ groups) [] all = elim all [ ]
+failed_below subject schedule before (group ∷ groups) (finding ∷ findings) all =
     let failed = sum_by-cons (λ (f : Finding). f.failed) finding findings in
     let runs = sum_by-cons (λ (g : Group). g.runs) group groups in
     let here = at_most (is_some all.0.unmet) group.runs in
-    let rest = failed_below subject delays before groups findings all.1 in
+    let rest = failed_below subject schedule before groups findings all.1 in
     omega (arith, failed, runs, all.0.failed, here, rest)
 
 -- no more cases failed than there are

@@ -6,7 +6,7 @@ use Rattle.std.specs.Prelude.{List, [], ◌++◌, length, slice_get, sum_by, cod
 use Rattle.std.specs.Prelude.{Option, Some, None, MatchOption, is_some, option_and_then}
 use Rattle.std.specs.Prelude.{if◌then◌else◌}
 use Rattle.std.specs.Fmt.{decimal}
-use Rattle.std.specs.List.{AllZip, flat_map, range_with_len, zip}
+use Rattle.std.specs.List.{AllZip, flat_map, zip}
 use Rattle.posix_terms.specs.declared.limits.TheConstants.Limits as limit
 use Rattle.posix_terms.specs.declared.transcript.Row.{Row}
 use Rattle.posix_terms.specs.declared.transcript.Settings.{Settings}
@@ -14,7 +14,6 @@ use Rattle.thread_scripts.specs.Faults.{Fault, bad_line, too_long}
 use Rattle.comparator.specs.Comparison.{IsVerdictOn}
 use Rattle.comparator.specs.declared.verdict.Verdict.{Verdict}
 use Rattle.comparator.specs.declared.verdict.Verdict.TheVariants as verdict
-use Rattle.explorer.specs.Delays.{chance_delay}
 use Rattle.explorer.specs.Cases.{CasesJoin, IsFaultOf}
 use Rattle.explorer.specs.Subject.{Subject}
 use Rattle.explorer.specs.Groups.{runs_of}
@@ -28,11 +27,14 @@ use Rattle.command_texts.specs.Printing.{fault_printed, needs_scripts, script_fa
 use Rattle.command_texts.specs.Transcripts.{◌+++◌, call_text, end_words}
 use Rattle.command_texts.specs.declared.printed.Printed.{Printed}
 use Rattle.command_inputs.specs.Expects.{IsAsExpected, IsFirstUnmetLine}
-use Rattle.explore_commands.specs.CutOffs.{cut_text, cut_threads}
+use Rattle.explore_commands.specs.CutOffs.{cut_of, cut_text}
 use Rattle.command_inputs.specs.Faults.{bad_settings}
 use Rattle.explore_commands.specs.declared.explore.ExploreOptions.{ExploreOptions}
+use Rattle.explore_commands.specs.Schedules.{IsTooMany, cases_of, delays_by, end_by, front_text}
+use Rattle.explore_commands.specs.Schedules.{left_text, schedule_of}
 use Rattle.explore_commands.specs.Tries.{Tries}
 use Rattle.explore_commands.specs.declared.findings.Finding.{Finding}
+use Rattle.explore_commands.specs.declared.schedule.Schedule.{Schedule}
 use Rattle.explore_commands.specs.declared.trying.ToTry.{ToTry}
 use Rattle.explore_commands.specs.declared.trying.ToTry.TheVariants as tries
 
@@ -86,11 +88,6 @@ ending_text observation cut = end_words observation.stop +++ cut_text cut
 abbrev pub as_is_text : Observation → List ℕ → Option (List ℕ) → List ℕ
 as_is_text before cut unmet = codes "as they are " +++ ending_text before cut +++ unmet_text unmet
 
--- the first case and the number of the runs of a group
-unfoldable pub counts_text : Group → List ℕ
-counts_text group =
-    codes "seed " +++ decimal group.first +++ codes " runs " +++ decimal group.runs +++ codes " "
-
 -- what a line says of runs after their counts: how they ended, what differs in them, and the first
 -- reply that is not as expected
 abbrev pub found_text :
@@ -117,14 +114,13 @@ pub record IsFound
 -- the threads that were cut off in the first run of a group
 abbrev pub cut_in : Subject → (ℕ → ℕ → ℕ → Option ℕ) → Group → List ℕ
 cut_in subject delays group =
-    cut_threads 0 (varied_texts (delays group.first) 0 subject.texts) group.observation.seen
+    cut_of (varied_texts (delays group.first) 0 subject.texts) group.observation
 
--- what is found of a group, in a line that begins with its counts
-abbrev pub IsFinding :
-    Subject → (ℕ → ℕ → ℕ → Option ℕ) → Observation → Group → Finding → Type 0
-IsFinding subject delays before group finding =
-    IsFound subject.texts before (counts_text group) group.runs group.observation
-    (cut_in subject delays group) finding
+-- what is found of a group, in a line that begins with its first case and the number of its runs
+abbrev pub IsFinding : Subject → Schedule → Observation → Group → Finding → Type 0
+IsFinding subject schedule before group finding =
+    IsFound subject.texts before (front_text schedule group) group.runs group.observation
+    (cut_in subject (delays_by schedule) group) finding
 
 -- how many runs failed
 abbrev pub failed_of : List Finding → ℕ
@@ -133,11 +129,11 @@ failed_of findings = sum_by (λ (finding : Finding). finding.failed) findings
 abbrev pub lines_of : List Finding → List ℕ
 lines_of findings = flat_map (λ (finding : Finding). finding.line) findings
 
--- how many runs and groups there are, and how many runs failed
-unfoldable pub sums_text : List Group → ℕ → List ℕ
-sums_text groups failed =
+-- how many runs and groups there are, how many runs failed, and how many lists were not run
+unfoldable pub sums_text : Schedule → List Group → ℕ → List ℕ
+sums_text schedule groups failed =
     codes "runs " +++ decimal (runs_of groups) +++ codes " groups " +++ decimal (length groups)
-    +++ codes " failed " +++ decimal failed +++ codes "\n"
+    +++ codes " failed " +++ decimal failed +++ left_text schedule groups +++ codes "\n"
 
 -- what is printed of the run as it is and of what was found of others, with these sums: the status is
 -- 1 where a reply of that run or of one of these is not as expected
@@ -151,14 +147,18 @@ found_printed before cut unmet findings sums = record {
 
 -- what is printed of runs with delays
 abbrev pub explored_printed :
-    Observation → List ℕ → Option (List ℕ) → List Group → List Finding → Printed
-explored_printed before cut unmet groups findings =
-    found_printed before cut unmet findings (sums_text groups (failed_of findings))
+    Schedule → Observation → List ℕ → Option (List ℕ) → List Group → List Finding → Printed
+explored_printed schedule before cut unmet groups findings =
+    found_printed before cut unmet findings (sums_text schedule groups (failed_of findings))
 
 -- ## Faults
 
 abbrev pub bad_reach : Printed
 bad_reach = fault_printed 2 (codes "the reach is 0 to 1000000\n")
+
+-- the number of the lists of delays has no room
+abbrev pub too_many : Printed
+too_many = fault_printed 2 (codes "too many lists of delays: a smaller reach has fewer\n")
 
 -- a script has no room for its delays
 abbrev pub no_room : ℕ → Printed
@@ -170,7 +170,7 @@ abbrev pub varied_fault : ℕ → Fault → Printed
 varied_fault script (bad_line line) = script_fault script (bad_line line)
 varied_fault script too_long = no_room script
 
--- what is printed where a run could not be made. Without memory nothing is said here
+-- what is printed where a run could not be made. That there is no memory is never printed so
 abbrev pub FaultPrints : RunFault → Printed → Type 0
 FaultPrints (fault.BadLine script line) printed = printed ≡ varied_fault script (bad_line line)
 FaultPrints (fault.TooLong script) printed = printed ≡ varied_fault script too_long
@@ -180,43 +180,45 @@ FaultPrints fault.Memory printed = ⊥
 
 -- ## The command
 
--- the delays of the seeds, by thread and line
-abbrev pub delays_of : ExploreOptions → ℕ → ℕ → ℕ → Option ℕ
-delays_of options seed thread line = Some (chance_delay options.reach seed thread line)
-
-abbrev pub seeds_of : ExploreOptions → List ℕ
-seeds_of options = range_with_len options.first (options.end - options.first)
-
--- this is printed where the runs of all seeds were made
+-- this is printed where the runs of all cases were made
 pub record IsExplored
-    (subject : Subject) (options : ExploreOptions) (before : Observation) (printed : Printed)
-    : Type 0 where
+    (subject : Subject) (options : ExploreOptions) (schedule : Schedule) (before : Observation)
+    (printed : Printed) : Type 0 where
   pub unmet : Option (List ℕ)
   pub expected : IsUnmetIn subject.texts before unmet
   pub groups : List Group
-  pub explores : CasesJoin subject (delays_of options) [] (seeds_of options) groups
+  pub explores :
+      CasesJoin subject (delays_by schedule) [] (cases_of options schedule) groups
   pub findings : List Finding
-  pub found : AllZip (IsFinding subject (delays_of options) before) groups findings
+  pub found : AllZip (IsFinding subject schedule before) groups findings
   pub says : printed
-      ≡ explored_printed before (cut_threads 0 subject.texts before.seen) unmet groups findings
+      ≡ explored_printed schedule before (cut_of subject.texts before) unmet groups findings
 
 -- this is printed of the runs with delays, where this was seen in the run without them
-abbrev pub SeenExplores : Subject → ExploreOptions → Observation → Printed → Type 0
-SeenExplores subject options before printed =
-    IsExplored subject options before printed
-    ⊎ ((why : RunFault) × IsFaultOf subject (delays_of options) options.first options.end why
+abbrev pub SeenExplores : Subject → ExploreOptions → Schedule → Observation → Printed → Type 0
+SeenExplores subject options schedule before printed =
+    IsExplored subject options schedule before printed
+    ⊎ ((why : RunFault)
+    × IsFaultOf subject (delays_by schedule) options.first (end_by schedule options.end) why
     × FaultPrints why printed)
 
 -- what is printed: of the runs with delays, or why there was none without
-abbrev pub SubjectExplores : Subject → ExploreOptions → Printed → Type 0
-SubjectExplores subject options printed =
-    ((before : Observation) × Sees subject before × SeenExplores subject options before printed)
+abbrev pub SubjectExplores : Subject → ExploreOptions → Schedule → Printed → Type 0
+SubjectExplores subject options schedule printed =
+    ((before : Observation) × Sees subject before
+    × SeenExplores subject options schedule before printed)
     ⊎ ((why : RunFault) × IsFault subject why × FaultPrints why printed)
+
+-- whether there are too many lists or not
+abbrev pub ScheduleExplores : Subject → ExploreOptions → Printed → Type 0
+ScheduleExplores subject options printed =
+    (IsTooMany (schedule_of options subject.texts) × (printed ≡ too_many))
+    ⊎ SubjectExplores subject options (schedule_of options subject.texts) printed
 
 -- whether the reach is in its range or not
 abbrev pub ReachExplores : Bool → Subject → ExploreOptions → Printed → Type 0
 ReachExplores false subject options printed = printed ≡ bad_reach
-ReachExplores true subject options printed = SubjectExplores subject options printed
+ReachExplores true subject options printed = ScheduleExplores subject options printed
 
 -- what is printed for what is to be tried
 abbrev pub TryExplores : ExploreOptions → ToTry → Printed → Type 0
@@ -226,8 +228,8 @@ TryExplores options (tries.Texts texts outcomes settings) printed =
 TryExplores options (tries.Fault fault) printed = printed ≡ fault
 
 -- What `detio explore` prints for these sources, and for that of a log, if one is given. Of its
--- faults those of what is read come first, then the reach, the settings, a script without room for
--- its delays
+-- faults those of what is read come first, then the reach, too many lists, the settings, a script
+-- without room for its delays
 abbrev pub ExplorePrints : Settings → ExploreOptions → Option (List ℕ × Option (List ℕ))
     → List (List ℕ × Option (List ℕ)) → Printed → Type 0
 ExplorePrints settings options log sources printed =

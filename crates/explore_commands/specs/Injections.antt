@@ -22,7 +22,7 @@ use Rattle.fault_injection.specs.declared.injected.Injected.TheVariants as injec
 use Rattle.command_texts.specs.LogTexts.{request_word}
 use Rattle.command_texts.specs.Transcripts.{◌+++◌}
 use Rattle.command_texts.specs.declared.printed.Printed.{Printed}
-use Rattle.explore_commands.specs.CutOffs.{cut_threads}
+use Rattle.explore_commands.specs.CutOffs.{cut_of}
 use Rattle.explore_commands.specs.Explores.{FaultPrints, IsFound, IsUnmetIn, failed_of}
 use Rattle.explore_commands.specs.Explores.{found_printed}
 use Rattle.explore_commands.specs.Tries.{ByLogTries}
@@ -69,7 +69,7 @@ abbrev pub IsCaseFinding :
 IsCaseFinding filling subject before case finding =
     (now : Observation) × SeesCase filling (subject_in case subject) now
     × IsFound subject.texts before (case_text subject.outcomes case) 1 now
-    (cut_threads 0 subject.texts now.seen) finding
+    (cut_of subject.texts now) finding
 
 -- how many cases there are, and how many failed
 unfoldable pub case_sums : ℕ → ℕ → List ℕ
@@ -94,7 +94,7 @@ pub record AreTried
   pub found : AllZip (IsCaseFinding options.filling subject before)
       (fault_cases options.choice subject.outcomes) findings
   pub says : printed
-      ≡ cases_printed before (cut_threads 0 subject.texts before.seen) unmet findings
+      ≡ cases_printed before (cut_of subject.texts before) unmet findings
 
 -- what is printed: of the cases, or why there was no run by the log as it is
 abbrev pub SubjectInjects : FaultOptions → Subject → Printed → Type 0

@@ -2,6 +2,7 @@ pub mod CutOffs
 pub mod Undated
 pub mod LogGives
 pub mod Tries
+pub mod Schedules
 pub mod Explores
 pub mod Injections
 pub mod Writes

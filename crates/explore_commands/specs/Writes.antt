@@ -9,7 +9,8 @@ use Rattle.explorer.specs.Runs.{IsFault, IsRun}
 use Rattle.explorer.specs.Subject.{Subject}
 use Rattle.explorer.specs.declared.fault.RunFault.{RunFault}
 use Rattle.command_texts.specs.declared.printed.Printed.{Printed}
-use Rattle.explore_commands.specs.Explores.{FaultPrints, bad_reach, delays_of}
+use Rattle.explore_commands.specs.Explores.{FaultPrints, bad_reach, too_many}
+use Rattle.explore_commands.specs.Schedules.{IsTooMany, delays_by, schedule_of}
 use Rattle.explore_commands.specs.Tries.{Tries}
 use Rattle.explore_commands.specs.declared.explore.ExploreOptions.{ExploreOptions}
 use Rattle.explore_commands.specs.declared.trying.ToTry.{ToTry}
@@ -39,11 +40,17 @@ SubjectWrites subject write =
     ((plain : Plain) × IsRun subject plain × IsWritten subject.texts plain write)
     ⊎ FaultWrites subject write
 
--- where the reach is in its range or not: of the subject with the delays of the first seed
+-- whether there are too many lists or not: of the subject with the delays of the first case
+abbrev pub ScheduleWrites : Subject → ExploreOptions → ToWrite → Type 0
+ScheduleWrites subject options write =
+    let schedule = schedule_of options subject.texts in
+    (IsTooMany schedule × IsNotWritten too_many write)
+    ⊎ SubjectWrites (with_delays (delays_by schedule options.first) subject) write
+
+-- whether the reach is in its range or not
 abbrev pub ReachWrites : Bool → Subject → ExploreOptions → ToWrite → Type 0
 ReachWrites false subject options write = IsNotWritten bad_reach write
-ReachWrites true subject options write =
-    SubjectWrites (with_delays (delays_of options options.first) subject) write
+ReachWrites true subject options write = ScheduleWrites subject options write
 
 -- what is written of what is to be tried
 abbrev pub TryWrites : ExploreOptions → ToTry → ToWrite → Type 0

@@ -3,16 +3,32 @@ ghost use Rattle.std.specs.Fmt.{decimal};
 ghost use Rattle.std.specs.List.{flat_map};
 ghost use Rattle.thread_scripts.specs.Grammar.{script_of};
 ghost use Rattle.command_texts.specs.Transcripts.{◌+++◌};
-ghost use Rattle.explore_commands.specs.CutOffs.{cut_text, cut_threads, if_cut, is_cut};
+ghost use Rattle.explore_commands.specs.CutOffs.{cut_of, cut_text, cut_threads, if_cut};
+ghost use Rattle.explore_commands.specs.CutOffs.{is_cut};
 
 use command_texts::{push_number, push_word};
 use expectations::is_cut_off;
+use explorer::Observation;
 use posix_terms::{Bytes, Row, Transcript};
 use std::alloc::{AllocError, Global};
 use thread_scripts::{ScriptFault, parse};
 
 // The threads that ended before their scripts did, where these texts were run and this was seen.
-pub fn cut_threads(
+pub fn cut_of(
+    alloc: Global,
+    texts: &[Bytes],
+    observation: &Observation,
+) -> Result<Vec<usize>, AllocError>
+    ensures { IfOk result (λ cut. cut.items ≡ cut_of texts.now observation.now) }
+{
+    match observation.stop {
+        Some(_) => Ok(Vec::new(alloc)),
+        None => cut_threads(alloc, texts, observation.seen.threads()),
+    }
+}
+
+// Those of a run in which all threads ended.
+fn cut_threads(
     alloc: Global,
     texts: &[Bytes],
     seen: &[Transcript],

@@ -2,16 +2,18 @@ ghost use Rattle.std.specs.Prelude.{◌≡◌, IfOk, map, nat_le, option_map};
 ghost use Rattle.posix_terms.specs.declared.limits.TheConstants.Limits as limit;
 ghost use Rattle.command_texts.specs.Printing.{Prints};
 ghost use Rattle.explore_commands.specs.Explores.{ExplorePrints, FaultPrints, ReachExplores};
-ghost use Rattle.explore_commands.specs.Explores.{SeenExplores, bad_reach, no_room};
+ghost use Rattle.explore_commands.specs.Explores.{SeenExplores, SubjectExplores, bad_reach};
+ghost use Rattle.explore_commands.specs.Explores.{no_room, too_many};
 ghost use Rattle.explorer.specs.Subject.{subject};
 
-use crate::cut_off::cut_threads;
+use crate::cut_off::cut_of;
 use crate::explored_text::explored_printed;
 use crate::findings::{findings, unmet_in};
+use crate::schedule::{Schedule, Schedules};
 use crate::trying::{ToTry, to_try};
 use command_inputs::{bad_settings, needs_scripts};
 use command_texts::{Printed, Source, TextReader, bad_line, fault, no_memory, print};
-use explorer::{Chance, Observation, RunFault, Trial};
+use explorer::{Observation, RunFault, Trial};
 use posix_terms::{Limits, Settings};
 use std::alloc::{AllocError, Global};
 use std::io;
@@ -20,19 +22,20 @@ use std::io::Write;
 /// With which delays scripts are run.
 #[derive(Clone, Copy, Debug, PartialEq, Eq)]
 pub struct ExploreOptions {
-    /// The first seed.
+    pub schedules: Schedules,
+    /// The first case: a seed, or the number of a list.
     pub first: u64,
-    /// The seed after the last.
+    /// The case after the last. Where there are fewer lists, all count.
     pub end: u64,
     /// How long a call is delayed at most, 0 to 1,000,000 units of its thread's clock.
     pub reach: u32,
 }
 
-/// `detio explore`: runs the scripts on the plain schedule, as they are and once for each seed with
-/// its delays. Nothing comes from outside, or what a log has: then its outcomes come in their order,
+/// `detio explore`: runs the scripts on the plain schedule, as they are and once for each seed, or
+/// each list of delays, with its delays. Nothing comes from outside, or what a log has: then its outcomes come in their order,
 /// at whatever turns, and its settings count. It prints how the run without delays ended, a line for
-/// each group of runs in which the threads saw the same, in the order of their first seeds, and a
-/// line of sums; or one line for the first fault. It returns the exit status. The replies are held
+/// each group of runs in which the threads saw the same and that ended alike, in the order of their
+/// first cases, and a line of sums; or one line for the first fault. It returns the exit status. The replies are held
 /// to what the texts expect: where one is not so in some run, the status is 1. Where there is no
 /// memory, a file cannot be read or the output cannot be written, that is the fault. An error is one
 /// of the writer `errors`.
@@ -97,8 +100,24 @@ fn trial_explored(
     if u64::from(options.reach) > Limits::WORK {
         return bad_reach(alloc);
     }
+    let schedule = Schedule::new(alloc, options.schedules, options.reach, trial.texts)?;
+    match schedule {
+        Some(schedule) => scheduled_explored(alloc, trial, options, &schedule),
+        None => too_many(alloc),
+    }
+}
+
+// What is to be printed for a trial with these delays.
+fn scheduled_explored(
+    alloc: Global,
+    trial: Trial<'_>,
+    options: ExploreOptions,
+    schedule: &Schedule,
+) -> Result<Printed, AllocError>
+    ensures { IfOk result (SubjectExplores (subject trial.entry) options schedule.now) }
+{
     match trial.observe(alloc) {
-        Ok(before) => seen_explored(alloc, trial, options, &before),
+        Ok(before) => seen_explored(alloc, trial, options, schedule, &before),
         Err(fault) => fault_printed(alloc, fault),
     }
 }
@@ -108,21 +127,29 @@ fn seen_explored(
     alloc: Global,
     trial: Trial<'_>,
     options: ExploreOptions,
+    schedule: &Schedule,
     before: &Observation,
 ) -> Result<Printed, AllocError>
-    ensures { IfOk result (SeenExplores (subject trial.entry) options before.now) }
+    ensures { IfOk result (
+        SeenExplores (subject trial.entry) options schedule.now before.now) }
 {
-    let chance = Chance {
-        reach: options.reach,
-    };
-    let groups = match trial.explored(alloc, &chance, options.first..options.end) {
+    let cases = options.first..schedule.end(options.end);
+    let groups = match trial.explored(alloc, schedule, cases) {
         Ok(groups) => groups,
         Err(fault) => return fault_printed(alloc, fault),
     };
-    let cut = cut_threads(alloc, trial.texts, before.seen.threads())?;
+    let cut = cut_of(alloc, trial.texts, before)?;
     let unmet = unmet_in(alloc, trial.texts, before)?;
-    let findings = findings(alloc, trial, &chance, before, groups.as_slice())?;
-    explored_printed(alloc, before, &cut, &unmet, groups.as_slice(), &findings)
+    let findings = findings(alloc, trial, schedule, before, groups.as_slice())?;
+    explored_printed(
+        alloc,
+        schedule,
+        before,
+        &cut,
+        &unmet,
+        groups.as_slice(),
+        &findings,
+    )
 }
 
 // What is to be printed where a run could not be made.
@@ -149,4 +176,14 @@ pub fn bad_reach(alloc: Global) -> Result<Printed, AllocError>
     ensures { IfOk result (λ printed. printed ≡ bad_reach) }
 {
     fault(alloc, 2, "the reach is 0 to 1000000\n")
+}
+
+pub fn too_many(alloc: Global) -> Result<Printed, AllocError>
+    ensures { IfOk result (λ printed. printed ≡ too_many) }
+{
+    fault(
+        alloc,
+        2,
+        "too many lists of delays: a smaller reach has fewer\n",
+    )
 }

@@ -1,13 +1,15 @@
-// What is printed of the runs of scripts with many delays.
+// What is printed of runs that are compared with one.
 ghost use Rattle.std.specs.Prelude.{◌≡◌, ◌++◌, ◌<◌, ◌^◌, IfOk, OnOk, option_copied};
 ghost use Rattle.explorer.specs.Groups.{runs_of};
-ghost use Rattle.explore_commands.specs.Explores.{as_is_text, change_text, counts_text, difference_text};
+ghost use Rattle.explore_commands.specs.Explores.{as_is_text, change_text, difference_text};
 ghost use Rattle.explore_commands.specs.Explores.{differs_text, ending_text, explored_printed, failed_of};
 ghost use Rattle.explore_commands.specs.Explores.{found_printed, found_text};
 ghost use Rattle.explore_commands.specs.Explores.{lines_of, row_at, seen_text, sums_text, unmet_text};
 
 use crate::cut_off::push_cut;
 use crate::findings::Finding;
+use crate::schedule::Schedule;
+use crate::schedule_text::push_left;
 use command_texts::{Printed, push_call, push_end, push_number, push_word};
 use comparator::Verdict;
 use explorer::{Group, Observation};
@@ -18,6 +20,7 @@ use std::alloc::{AllocError, Global};
 // and this was not as expected there.
 pub fn explored_printed(
     alloc: Global,
+    schedule: &Schedule,
     before: &Observation,
     cut: &[usize],
     unmet: &Option<Bytes>,
@@ -27,10 +30,11 @@ pub fn explored_printed(
     requires runs { runs_of groups.now < 2 ^ 64 }
     requires failed { failed_of findings.now < 2 ^ 64 }
     ensures { IfOk result (λ printed.
-        printed ≡ explored_printed before.now cut.now unmet.now groups.now findings.now) }
+        printed
+        ≡ explored_printed schedule.now before.now cut.now unmet.now groups.now findings.now) }
 {
     let mut sums = Vec::new(alloc);
-    push_sums(&mut sums, groups, failed_runs(findings))?;
+    push_sums(&mut sums, schedule, groups, failed_runs(findings))?;
     found_printed(alloc, before, cut, unmet, findings, &sums)
 }
 
@@ -122,18 +126,6 @@ pub fn push_found(
     push_unmet(text, unmet)
 }
 
-// Adds the first case of a group and how many runs it has.
-#[tactic(auto, unfolding(crate::specs::Explores::counts_text))]
-pub fn push_counts(text: &mut Vec<u8>, group: &Group) -> Result<(), AllocError>
-    ensures { OnOk result (text.new.items ≡ text.old.items ++ counts_text group.now) }
-{
-    push_word(text, "seed ")?;
-    push_number(text, group.first)?;
-    push_word(text, " runs ")?;
-    push_number(text, group.runs)?;
-    push_word(text, " ")
-}
-
 fn push_difference(
     text: &mut Vec<u8>,
     before: &Transcripts,
@@ -217,9 +209,15 @@ fn push_unmet(text: &mut Vec<u8>, unmet: &Option<Bytes>) -> Result<(), AllocErro
 
 // Adds the last line.
 #[tactic(auto, unfolding(crate::specs::Explores::sums_text))]
-fn push_sums(text: &mut Vec<u8>, groups: &[Group], failed: u64) -> Result<(), AllocError>
+fn push_sums(
+    text: &mut Vec<u8>,
+    schedule: &Schedule,
+    groups: &[Group],
+    failed: u64,
+) -> Result<(), AllocError>
     requires { runs_of groups.now < 2 ^ 64 }
-    ensures { OnOk result (text.new.items ≡ text.old.items ++ sums_text groups.now failed) }
+    ensures { OnOk result (
+        text.new.items ≡ text.old.items ++ sums_text schedule.now groups.now failed) }
 {
     push_word(text, "runs ")?;
     push_number(text, all_runs(groups))?;
@@ -227,10 +225,11 @@ fn push_sums(text: &mut Vec<u8>, groups: &[Group], failed: u64) -> Result<(), Al
     push_number(text, groups.len() as u64)?;
     push_word(text, " failed ")?;
     push_number(text, failed)?;
+    push_left(text, schedule, groups)?;
     push_word(text, "\n")
 }
 
-fn all_runs(groups: &[Group]) -> u64
+pub fn all_runs(groups: &[Group]) -> u64
     requires { runs_of groups.now < 2 ^ 64 }
     ensures { result ≡ runs_of groups.now }
 {

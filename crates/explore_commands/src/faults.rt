@@ -8,7 +8,7 @@ ghost use Rattle.explore_commands.specs.Injections.{RunsCase, SubjectInjects};
 ghost use Rattle.fault_injection.specs.Replaced.{subject_in};
 
 use crate::case_text::{cases_printed, push_case};
-use crate::cut_off::cut_threads;
+use crate::cut_off::cut_of;
 use crate::explore::fault_printed;
 use crate::findings::{Finding, found, unmet_in};
 use crate::trying::{ToTry, to_try_by_log};
@@ -109,7 +109,7 @@ fn seen_tried(
 ) -> Result<Printed, AllocError>
     ensures { IfOk result (AreTried options.entry (subject trial.entry) before.now) }
 {
-    let cut = cut_threads(alloc, trial.texts, before.seen.threads())?;
+    let cut = cut_of(alloc, trial.texts, before)?;
     let unmet = unmet_in(alloc, trial.texts, before)?;
     let cases = fault_cases(alloc, trial.outcomes, options.choice)?;
     let findings = cases_found(alloc, options.filling, trial, before, &cases)?;
@@ -147,7 +147,7 @@ fn case_found(
         IsCaseFinding filling (subject trial.entry) before.now case) }
 {
     let now = observe_case(alloc, filling, trial, case)?;
-    let cut = cut_threads(alloc, trial.texts, now.seen.threads())?;
+    let cut = cut_of(alloc, trial.texts, &now)?;
     let mut line = Vec::new(alloc);
     push_case(&mut line, trial.outcomes, case)?;
     found(line, trial.texts, before, 1, &now, &cut)

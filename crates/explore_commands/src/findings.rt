@@ -2,12 +2,15 @@ ghost use Rattle.std.specs.Prelude.{◌≡◌, ◌↔◌, IfOk, IsTrue};
 ghost use Rattle.std.specs.List.{AllZip};
 ghost use Rattle.explorer.specs.Subject.{subject};
 ghost use Rattle.explore_commands.specs.Explores.{IsFinding, IsFound, IsUnmetIn, cut_in};
+ghost use Rattle.explore_commands.specs.Schedules.{delays_by};
 
-use crate::cut_off::cut_threads;
-use crate::explored_text::{push_counts, push_found};
+use crate::cut_off::cut_of;
+use crate::explored_text::push_found;
+use crate::schedule::Schedule;
+use crate::schedule_text::push_front;
 use command_inputs::first_unmet_line;
 use comparator::compare;
-use explorer::{Delays, Group, Observation, Trial, varied_texts};
+use explorer::{Group, Observation, Trial, varied_texts};
 use posix_terms::Bytes;
 use std::alloc::{AllocError, Global};
 
@@ -21,38 +24,38 @@ pub struct Finding {
 }
 
 // What is found of groups, in order.
-pub fn findings<D: Delays>(
+pub fn findings(
     alloc: Global,
     trial: Trial<'_>,
-    delays: &D,
+    schedule: &Schedule,
     before: &Observation,
     groups: &[Group],
 ) -> Result<Vec<Finding>, AllocError>
     ensures { IfOk result (λ findings.
-        AllZip (IsFinding (subject trial.entry) (D.delays_of delays.now) before.now)
+        AllZip (IsFinding (subject trial.entry) schedule.now before.now)
         groups.now findings.items) }
 {
     let mut findings = Vec::new(alloc);
     for group in groups {
-        findings.push(found_in(alloc, trial, delays, before, group)?)?;
+        findings.push(found_in(alloc, trial, schedule, before, group)?)?;
     }
     Ok(findings)
 }
 
 // What is found of a group.
-fn found_in<D: Delays>(
+fn found_in(
     alloc: Global,
     trial: Trial<'_>,
-    delays: &D,
+    schedule: &Schedule,
     before: &Observation,
     group: &Group,
 ) -> Result<Finding, AllocError>
     ensures { IfOk result (
-        IsFinding (subject trial.entry) (D.delays_of delays.now) before.now group.now) }
+        IsFinding (subject trial.entry) schedule.now before.now group.now) }
 {
-    let cut = cut_in(alloc, trial, delays, group)?;
+    let cut = cut_in(alloc, trial, schedule, group)?;
     let mut line = Vec::new(alloc);
-    push_counts(&mut line, group)?;
+    push_front(&mut line, schedule, group)?;
     found(
         line,
         trial.texts,
@@ -86,17 +89,17 @@ pub fn found(
 }
 
 // The threads that were cut off in the first run of a group.
-fn cut_in<D: Delays>(
+fn cut_in(
     alloc: Global,
     trial: Trial<'_>,
-    delays: &D,
+    schedule: &Schedule,
     group: &Group,
 ) -> Result<Vec<usize>, AllocError>
     ensures { IfOk result (λ cut.
-        cut.items ≡ cut_in (subject trial.entry) (D.delays_of delays.now) group.now) }
+        cut.items ≡ cut_in (subject trial.entry) (delays_by schedule.now) group.now) }
 {
-    let texts = varied_texts(alloc, delays, group.first, trial.texts)?;
-    cut_threads(alloc, &texts, group.observation.seen.threads())
+    let texts = varied_texts(alloc, schedule, group.first, trial.texts)?;
+    cut_of(alloc, &texts, &group.observation)
 }
 
 // The line of the first reply that is not as the texts expect, where this was seen.

@@ -1,5 +1,6 @@
 ghost use Rattle.std.specs.Prelude.{◌≡◌, IfOk, map};
-ghost use Rattle.explore_commands.specs.Undated.{undated, undated_outcomes};
+ghost use Rattle.posix_terms.specs.Outcomes.{undated};
+ghost use Rattle.explore_commands.specs.Undated.{undated_outcomes};
 
 use input_log::{Record, outcomes_of};
 use posix_terms::{Given, Outcomes};

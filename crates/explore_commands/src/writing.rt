@@ -3,10 +3,11 @@ ghost use Rattle.posix_terms.specs.declared.limits.TheConstants.Limits as limit;
 ghost use Rattle.explorer.specs.Subject.{subject};
 ghost use Rattle.explore_commands.specs.Writes.{ReachWrites, SubjectWrites, Writes};
 
-use crate::explore::{ExploreOptions, bad_reach, fault_printed};
+use crate::explore::{ExploreOptions, bad_reach, fault_printed, too_many};
+use crate::schedule::Schedule;
 use crate::trying::{ToTry, to_try};
 use command_texts::{Printed, Source, TextReader};
-use explorer::{Chance, Trial, varied_texts};
+use explorer::{Trial, varied_texts};
 use posix_terms::{Bytes, Limits, Outcomes, Settings};
 use std::alloc::{AllocError, Global};
 
@@ -19,7 +20,7 @@ pub enum ToWrite {
     Fault(Printed),
 }
 
-/// What `detio explore --write` writes of scripts: their texts with the delays of the first seed,
+/// What `detio explore --write` writes of scripts: their texts with the delays of the first case,
 /// all of which are scripts, and the log of their plain run; or what is printed for the first fault.
 /// What comes from outside is as for [`explore_over`](crate::explore_over).
 pub fn to_write<R: TextReader + Drop>(
@@ -59,10 +60,11 @@ fn trial_written(
     if u64::from(options.reach) > Limits::WORK {
         return Ok(ToWrite::Fault(bad_reach(alloc)?));
     }
-    let chance = Chance {
-        reach: options.reach,
+    let schedule = Schedule::new(alloc, options.schedules, options.reach, trial.texts)?;
+    let Some(schedule) = schedule else {
+        return Ok(ToWrite::Fault(too_many(alloc)?));
     };
-    let varied = varied_texts(alloc, &chance, options.first, trial.texts)?;
+    let varied = varied_texts(alloc, &schedule, options.first, trial.texts)?;
     run_written(alloc, varied, trial.outcomes, trial.settings)
 }
 

@@ -1,5 +1,5 @@
 -- Believed: a contract of a command stands on it.
--- What is tried with many delays.
+-- What runs, as it is and with changes.
 use Rattle.std.specs.Prelude.{ℕ, List}
 use Rattle.posix_terms.specs.declared.outcome.Given.{Given}
 use Rattle.posix_terms.specs.declared.transcript.Settings.{Settings}

@@ -3,8 +3,8 @@ ghost use Rattle.explorer.specs.Laws.{ThreadsMakeCalls, VariedIsScript, VariedMa
 
 /// The law of varied texts, with delays of at most 1,000,000 units: that of a script is too long,
 /// or the script before with works put in before its calls (`script`). Each line stands where it
-/// has moved, and a jump leads to the line to which it led before (`places`). So the script makes
-/// the same calls, in the same order (`calls`).
+/// has moved, and a jump leads to the line to which it led before (`places`). So its lines have the
+/// same calls, in the same order (`calls`).
 pub fn varied_is_script()
     ensures script { VariedIsScript }
     ensures places { LinesHaveMoved }

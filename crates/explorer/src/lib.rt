@@ -1,16 +1,17 @@
 //! Schedule fuzzing: runs scripts again and again, each time with other delays before their calls,
 //! to find a schedule that breaks them.
 //!
-//! [`Delays`] are cases of delays, by number. A [`Chance`] has one for each seed, so that a schedule
-//! is found again by its seed. [`Lists`] have one for each list of at most one delay, or of at most
-//! two: that is delay bounding, and by the contract they are all such lists, in a fixed order.
+//! [`Delays`] are cases of delays, by number. A [`Chance`] has one for each seed, so that a
+//! schedule is found again by its seed. [`Lists`] have one for each list of at most one delay, or
+//! of at most two: that is delay bounding, and by the contract they are all such lists, in a fixed
+//! order.
 //!
-//! [`varied`] writes the text of a script with the delays of a
-//! case. By the law [`varied_is_script`] that is a script itself, with the same calls, unless it is
-//! too long; so whatever holds of a plain run holds of its run. A [`Trial`] has the texts of
-//! scripts, what comes for them from outside, and the settings: [`Trial::run`] is its plain run,
-//! and [`Trial::explored`] runs it with each case of a range, and gives the [`Group`]s of the runs
-//! in which the threads saw the same. An [`Observation`] is what they saw: their calls and replies
+//! [`varied`] writes the text of a script with the delays of a case. By the law
+//! [`varied_is_script`] that is a script itself, with the same calls in its lines, unless it is too
+//! long; so whatever holds of a plain run holds of its run. A [`Trial`] has the texts of scripts,
+//! what comes for them from outside, and the settings: [`Trial::run`] is its plain run, and
+//! [`Trial::explored`] runs it with each case of a range, and gives the [`Group`]s of the runs in
+//! which the threads saw the same. An [`Observation`] is what they saw: their calls and replies
 //! without the clocks of the turns, and why the run stopped. By the contract there is one plain run
 //! for each case, in order, and each is counted in one group. A [`RunFault`] says why there was
 //! none. Each run takes outcomes of its own, which [`outcomes_copied`] gives.

@@ -16,7 +16,7 @@ use posix_terms::{Bytes, Outcomes, Settings};
 use std::alloc::Global;
 use std::ops::Range;
 
-/// Scripts to be run, and to be run with many delays.
+/// Scripts to be run: as they are, or with changes.
 #[derive(Clone, Copy, Debug)]
 pub struct Trial<'a> {
     /// Their texts, by thread.

@@ -11,10 +11,8 @@ use Rattle.worker_notes.specs.Requests.{query_for}
 use Rattle.logged_machine.specs.declared.stop.Stop.{Stop}
 use Rattle.logged_machine.specs.declared.stop.Stop.TheVariants as stop
 use Rattle.call_machine.specs.declared.plain.Plain.{Plain}
-use Rattle.explorer.specs.Observations.{observed}
 use Rattle.explorer.specs.Runs.{IsRun}
 use Rattle.explorer.specs.Subject.{Subject}
-use Rattle.explorer.specs.declared.observation.Observation.{Observation}
 use Rattle.fault_injection.specs.Filling.{filling_for}
 use Rattle.fault_injection.specs.declared.filling.Filling.{Filling}
 
@@ -60,8 +58,3 @@ IsFilledRun (suc n) filling subject plain =
     × MatchOption (more_after filling subject.outcomes run.history.asked run.stop)
     (plain ≡ run)
     (λ more. IsFilledRun n filling (record subject { outcomes = more }) plain)
-
--- this is seen in it
-abbrev pub SeesFilled : ℕ → Filling → Subject → Observation → Type 0
-SeesFilled most filling subject observation =
-    (plain : Plain) × IsFilledRun most filling subject plain × (observation ≡ observed plain)

@@ -69,3 +69,15 @@ abbrev pub tried : Choice → Given → List Injected
 tried choice given =
     failures (errors_for choice given.kind) given.outcome
     ++ (if choice.short then short_successes given.kind given.outcome else [])
+
+-- ## What differs from an outcome
+
+abbrev pub is_short : OutKind → Outcome → ℕ → Bool
+is_short kind.Read (outcome.Ok value bytes) count = nat_lt count value
+is_short kind.Write (outcome.Ok value bytes) count = nat_lt count value
+is_short kind recorded count = false
+
+-- whether this is another failure, or a count that is less than that of a read or a write
+abbrev pub is_other : Given → Injected → Bool
+is_other given (injected.Fail error) = not (is_failure given.outcome error)
+is_other given (injected.Short count) = is_short given.kind given.outcome count

@@ -4,7 +4,7 @@ ghost use Rattle.std.specs.Prelude.{take};
 ghost use Rattle.worker_notes.specs.Requests.{query_for};
 ghost use Rattle.explorer.specs.Runs.{IsFault};
 ghost use Rattle.explorer.specs.Subject.{subject};
-ghost use Rattle.fault_injection.specs.Filled.{IsFilledRun, SeesFilled, given_after, given_for};
+ghost use Rattle.fault_injection.specs.Filled.{IsFilledRun, given_after, given_for};
 ghost use Rattle.fault_injection.specs.Filled.{more_after};
 ghost use Rattle.fault_injection.specs.Replaced.{subject_in};
 
@@ -12,25 +12,10 @@ use crate::cases::FaultCase;
 use crate::filling::Filling;
 use crate::replaced::with_outcome;
 use call_machine::{Asked, Plain, Stop};
-use explorer::{Observation, RunFault, Trial, given_copied, run_texts, seen_in};
+use explorer::{RunFault, Trial, given_copied, run_texts};
 use posix_terms::{Bytes, Call, Given, Outcomes, Settings, Step, Turn};
 use std::alloc::{AllocError, Global};
 use worker_notes::request_for;
-
-/// What is seen in the run of [`run_filled`].
-pub fn observe_filled(
-    alloc: Global,
-    trial: Trial<'_>,
-    case: FaultCase,
-    filling: Filling,
-    most: u32,
-) -> Result<Observation, RunFault>
-    ensures ok { IfOk result (SeesFilled most filling (subject_in case (subject trial.entry))) }
-    ensures err { IfErr result (IsFault (subject_in case (subject trial.entry))) }
-{
-    let plain = run_filled(alloc, trial, case, filling, most)?;
-    Ok(seen_in(alloc, &plain)?)
-}
 
 /// The plain run of the trial's scripts with the outcome of this case in its place, and with an
 /// outcome filled in wherever a thread asks for one that it does not have: its list is at its end,

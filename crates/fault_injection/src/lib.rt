@@ -4,20 +4,18 @@
 //! [`fault_cases`] gives the [`FaultCase`]s of the outcomes of threads: for each outcome the errors
 //! that its kind of request can meet ([`errors_of`]), or those that a [`Choice`] names, and in
 //! place of the bytes of a read or a write fewer ([`short_counts`]). By its contract they are all
-//! of these, in order. [`with_outcome`] gives the outcomes of a case: one is [`Injected`], and all
-//! others are as they were. In no case are all as they were
-//! ([`cases_differ`]).
+//! of these, in order. Any one is a case if it [`is_other`] than the outcome. [`with_outcome`]
+//! gives the outcomes of a case: one is [`Injected`], and all others are as they were. In no case
+//! are all as they were ([`cases_differ`]).
 //!
-//! [`run_fault`] makes the plain run of a case, and [`observe_fault`] what the threads see in it.
-//! Such a run may stop where a thread asks for an outcome that it does not have. [`run_filled`] and
-//! [`observe_filled`] go on there, with an outcome of a [`Filling`]: a failure, or that of a
-//! request that goes well. A [`RunFault`](explorer::RunFault)
-//! says why there was no run.
+//! [`run_fault`] makes the plain run of a case. It may stop where a thread asks for an outcome that
+//! it does not have. [`run_filled`] goes on there, with an outcome of a [`Filling`]: a failure, or
+//! that of a request that goes well. A [`RunFault`](explorer::RunFault) says why there was no run.
 //!
 //! ```rust
 //! use call_machine::Stop;
 //! use explorer::Trial;
-//! use fault_injection::{Choice, Filling, Injected, fault_cases, observe_fault, observe_filled};
+//! use fault_injection::{Choice, Filling, Injected, fault_cases, run_fault, run_filled};
 //! use posix_terms::{Bytes, Errno, Given, OutKind, Outcome, Outcomes, Settings};
 //!
 //! // The script writes two bytes to a host file, and the log has both outcomes.
@@ -60,15 +58,15 @@
 //! // Five errors of an open and five of a write; and writes of no byte, and of one.
 //! assert!(rt; cases.len() == 12);
 //! assert!(rt; cases[11].injected == Injected::Short(1));
-//! let observation = observe_fault(alloc, trial, cases[11])?;
-//! assert!(rt; observation.stop.is_none());
+//! let plain = run_fault(alloc, trial, cases[11])?;
+//! assert!(rt; plain.stop.is_none());
 //! // A write that is to be made again asks for an outcome that the log does not have.
 //! let again = cases[5];
 //! assert!(rt; again.injected == Injected::Fail(Errno::EAGAIN));
-//! let observation = observe_fault(alloc, trial, again)?;
-//! assert!(rt; observation.stop == Some(Stop::EndOfLog(0)));
-//! let observation = observe_filled(alloc, trial, again, Filling::Well, 100)?;
-//! assert!(rt; observation.stop.is_none());
+//! let plain = run_fault(alloc, trial, again)?;
+//! assert!(rt; plain.stop == Some(Stop::EndOfLog(0)));
+//! let plain = run_filled(alloc, trial, again, Filling::Well, 100)?;
+//! assert!(rt; plain.stop.is_none());
 //! ```
 #![tactic(auto)]
 
@@ -82,10 +80,10 @@ mod runs;
 mod tried;
 
 pub use cases::{Choice, FaultCase, fault_cases};
-pub use filled::{observe_filled, run_filled};
+pub use filled::run_filled;
 pub use filling::Filling;
 pub use injected::Injected;
 pub use laws::cases_differ;
 pub use replaced::with_outcome;
-pub use runs::{observe_fault, run_fault};
-pub use tried::{errors_of, short_counts};
+pub use runs::run_fault;
+pub use tried::{errors_of, is_other, short_counts};

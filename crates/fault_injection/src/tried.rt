@@ -1,6 +1,7 @@
 ghost use Rattle.std.specs.Prelude.{◌≡◌, IfOk, filter, map, nat_lt};
 ghost use Rattle.fault_injection.specs.Tried.{errors_for, errors_of, failures, is_failure};
-ghost use Rattle.fault_injection.specs.Tried.{short_counts, short_successes, tried};
+ghost use Rattle.fault_injection.specs.Tried.{is_other, is_short, short_counts, short_successes};
+ghost use Rattle.fault_injection.specs.Tried.{tried};
 ghost use Rattle.fault_injection.specs.declared.injected.Injected.TheVariants as injected;
 
 use crate::cases::Choice;
@@ -148,4 +149,24 @@ fn shorter(alloc: Global, count: u64) -> Result<Vec<Injected>, AllocError>
         shorter.push(Injected::Short(*short))?;
     }
     Ok(shorter)
+}
+
+/// Whether this in place of an outcome is another: a failure that the outcome is not, or fewer
+/// bytes than a read or a write brought.
+pub fn is_other(given: &Given, injected: Injected) -> bool
+    ensures { result ≡ is_other given.now injected }
+{
+    match injected {
+        Injected::Fail(error) => !is_failure(&given.outcome, error),
+        Injected::Short(count) => is_short(given.kind, &given.outcome, count),
+    }
+}
+
+fn is_short(kind: OutKind, outcome: &Outcome, count: u64) -> bool
+    ensures { result ≡ is_short kind outcome.now count }
+{
+    match (kind, outcome) {
+        (OutKind::Read | OutKind::Write, Outcome::Ok { value, .. }) => count < *value,
+        _ => false,
+    }
 }

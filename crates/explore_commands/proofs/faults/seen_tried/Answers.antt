@@ -3,7 +3,7 @@ use Rattle.std.specs.List.{AllZip}
 use Rattle.std.proofs.lemmas.Result.{IfOk-weaker}
 use Rattle.explorer.specs.Subject.{subject}
 use Rattle.fault_injection.specs.Cases.{fault_cases}
-use Rattle.explore_commands.specs.CutOffs.{cut_threads}
+use Rattle.explore_commands.specs.CutOffs.{cut_of}
 use Rattle.explore_commands.specs.Explores.{failed_of}
 use Rattle.explore_commands.specs.Injections.{AreTried, IsCaseFinding, cases_printed}
 use Rattle.explore_commands.specs.declared.findings.Finding.{Finding}
@@ -31,7 +31,7 @@ returns c =
     let cases = fault_cases c.args.options.choice tried.outcomes in
     let found : AllZip (IsCaseFinding c.args.options.filling tried before) cases findings =
     search rules in
-    let cut = cut_threads 0 tried.texts before.seen in
+    let cut = cut_of tried.texts before in
     IfOk-weaker c.cases_printed.result
     (λ printed. printed ≡ cases_printed before cut c.in_ok-unmet.unmet findings)
     (AreTried c.args.options tried before)

@@ -10,14 +10,13 @@ use Rattle.explore_commands.proofs.Failing.{pairs_more}
 use Rattle.explore_commands.proofs.findings.findings.Goals as goal
 
 pub loop-group-preserved : goal.loop-group-preserved
-loop-group-preserved g c =
+loop-group-preserved c =
     let groups = c.args.groups.now in
     let k = c.loop-group.group-index in
     let before = c.loop-group.findings.items in
     let group = c.group-item.result in
     let found = c.in_ok-found_in.field-0 in
-    let R = IsFinding (subject c.args.trial) (g.D.Delays.delays_of c.args.delays.now)
-    c.args.before.now in
+    let R = IsFinding (subject c.args.trial) c.args.schedule.now c.args.before.now in
     let inside : k < length groups = search rules in
     let read : get_or groups k group ≡ group = search rules in
     let so_far : take (k + 1) groups ≡ take k groups ++ group ∷ [] =

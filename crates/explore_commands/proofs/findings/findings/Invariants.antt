@@ -5,6 +5,6 @@ use Rattle.explore_commands.specs.Explores.{IsFinding}
 use Rattle.explore_commands.proofs.findings.findings.Given as goal
 
 abbrev pub invariant-loop-group : goal.invariant-loop-group
-invariant-loop-group g l =
-    AllZip (IsFinding (subject l.trial) (g.D.Delays.delays_of l.delays) l.before)
+invariant-loop-group l =
+    AllZip (IsFinding (subject l.trial) l.schedule l.before)
     (take l.group-index l.groups) l.findings.items

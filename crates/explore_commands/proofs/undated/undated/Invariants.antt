@@ -1,5 +1,5 @@
 use Rattle.std.proofs.Common.{◌≡◌, ◌++◌, drop, map}
-use Rattle.explore_commands.specs.Undated.{undated}
+use Rattle.posix_terms.specs.Outcomes.{undated}
 use Rattle.explore_commands.proofs.undated.undated.Given as goal
 
 abbrev pub invariant-loop-given : goal.invariant-loop-given

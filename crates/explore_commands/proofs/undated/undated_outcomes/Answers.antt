@@ -2,7 +2,7 @@ use Rattle.std.proofs.Common.{◌≡◌, ◌++◌, ◌∙◌, [], ◌∷◌, ℕ
 use Rattle.std.proofs.lemmas.List.FromFn.{map-range_with_len_more}
 use Rattle.posix_terms.specs.declared.outcome.Given.{Given}
 use Rattle.input_log.specs.Outcomes.{outcomes_of}
-use Rattle.explore_commands.specs.Undated.{undated}
+use Rattle.posix_terms.specs.Outcomes.{undated}
 use Rattle.explore_commands.proofs.undated.undated_outcomes.Goals as goal
 
 pub loop-thread-preserved : goal.loop-thread-preserved
