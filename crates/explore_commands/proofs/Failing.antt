@@ -1,19 +1,16 @@
--- What is found of groups, one after the other; and no more runs failed than there are.
+-- What is found of cases, one after the other, and how many failed.
 use Rattle.std.proofs.Common.{◌≤◌, ℕ, Bool, true, false, List, [], ◌∷◌, ◌++◌, Option, length, arith}
 use Rattle.std.proofs.lemmas.List.Sums.{sum_by-cons}
 use Rattle.std.specs.List.{AllZip}
 use Rattle.std.specs.Option.{is_some}
 use Rattle.std.specs.Prelude.{if◌then◌else◌}
-use Rattle.explorer.specs.Groups.{runs_of}
 use Rattle.explorer.specs.Subject.{Subject}
-use Rattle.explorer.specs.declared.groups.Group.{Group}
 use Rattle.explorer.specs.declared.observation.Observation.{Observation}
 use Rattle.fault_injection.specs.declared.cases.FaultCase.{FaultCase}
 use Rattle.fault_injection.specs.declared.filling.Filling.{Filling}
-use Rattle.explore_commands.specs.Explores.{IsFinding, failed_of}
+use Rattle.explore_texts.specs.Found.{failed_of}
 use Rattle.explore_commands.specs.Injections.{IsCaseFinding}
-use Rattle.explore_commands.specs.declared.findings.Finding.{Finding}
-use Rattle.explore_commands.specs.declared.schedule.Schedule.{Schedule}
+use Rattle.explore_texts.specs.declared.finding.Finding.{Finding}
 
 -- the elements and one more of each
 pub pairs_more : {A B : Type 0} (R : A → B → Type 0) (xs : List A) (ys : List B) (x : A) (y : B)
@@ -26,20 +23,6 @@ pairs_more R (a ∷ xs) (b ∷ ys) x y all one = (all.0, pairs_more R xs ys x y 
 at_most : (b : Bool) (n : ℕ) → (if b then n else 0) ≤ n
 at_most true n = omega arith
 at_most false n = omega arith
-
-pub failed_below : (subject : Subject) (schedule : Schedule) (before : Observation)
-    (groups : List Group) (findings : List Finding)
-    → AllZip (IsFinding subject schedule before) groups findings
-    → failed_of findings ≤ runs_of groups
-failed_below subject schedule before [] [] all = omega arith
-failed_below subject schedule before [] (finding ∷ findings) all = elim all [ ]
-failed_below subject schedule before (group ∷ groups) [] all = elim all [ ]
-failed_below subject schedule before (group ∷ groups) (finding ∷ findings) all =
-    let failed = sum_by-cons (λ (f : Finding). f.failed) finding findings in
-    let runs = sum_by-cons (λ (g : Group). g.runs) group groups in
-    let here = at_most (is_some all.0.unmet) group.runs in
-    let rest = failed_below subject schedule before groups findings all.1 in
-    omega (arith, failed, runs, all.0.failed, here, rest)
 
 -- no more cases failed than there are
 pub cases_below : (filling : Option Filling) (subject : Subject) (before : Observation)

@@ -1,11 +1,8 @@
 -- Believed: a contract of a command stands on it.
 -- What `detio faults` prints for the log and the scripts that it reads.
-use Rattle.std.specs.Prelude.{◌≡◌, ◌⊎◌, ℕ, List, [], length, slice_get, slice_index_or}
-use Rattle.std.specs.Prelude.{Option, Some, None, codes}
-use Rattle.std.specs.Fmt.{decimal}
+use Rattle.std.specs.Prelude.{◌≡◌, ◌⊎◌, ℕ, List}
+use Rattle.std.specs.Prelude.{Option, Some, None}
 use Rattle.std.specs.List.{AllZip}
-use Rattle.posix_terms.specs.Errors.{name_of}
-use Rattle.posix_terms.specs.declared.outcome.Given.{Given}
 use Rattle.call_machine.specs.declared.plain.Plain.{Plain}
 use Rattle.explorer.specs.Observations.{observed}
 use Rattle.explorer.specs.Runs.{IsFault, IsRun, Sees}
@@ -17,39 +14,17 @@ use Rattle.fault_injection.specs.Filled.{IsFilledRun}
 use Rattle.fault_injection.specs.Replaced.{subject_in}
 use Rattle.fault_injection.specs.declared.cases.FaultCase.{FaultCase}
 use Rattle.fault_injection.specs.declared.filling.Filling.{Filling}
-use Rattle.fault_injection.specs.declared.injected.Injected.{Injected}
-use Rattle.fault_injection.specs.declared.injected.Injected.TheVariants as injected
-use Rattle.command_texts.specs.LogTexts.{request_word}
-use Rattle.command_texts.specs.Transcripts.{◌+++◌}
 use Rattle.command_texts.specs.declared.printed.Printed.{Printed}
-use Rattle.explore_commands.specs.CutOffs.{cut_of}
-use Rattle.explore_commands.specs.Explores.{FaultPrints, IsFound, IsUnmetIn, failed_of}
-use Rattle.explore_commands.specs.Explores.{found_printed}
+use Rattle.explore_texts.specs.CaseTexts.{case_text, cases_printed}
+use Rattle.explore_texts.specs.CutOffs.{cut_of}
+use Rattle.explore_texts.specs.Found.{IsFound, IsUnmetIn}
+use Rattle.explore_commands.specs.Explores.{FaultPrints}
 use Rattle.explore_commands.specs.Tries.{ByLogTries}
 use Rattle.explore_commands.specs.declared.faults.FaultOptions.{FaultOptions}
 use Rattle.explore_commands.specs.declared.faults.TheConstants.{MOST_FILLED}
-use Rattle.explore_commands.specs.declared.findings.Finding.{Finding}
+use Rattle.explore_texts.specs.declared.finding.Finding.{Finding}
 use Rattle.explore_commands.specs.declared.trying.ToTry.{ToTry}
 use Rattle.explore_commands.specs.declared.trying.ToTry.TheVariants as tries
-
--- ## The line of a case
-
--- what comes in place of an outcome
-abbrev pub injected_text : Injected → List ℕ
-injected_text (injected.Fail error) = codes "fail " +++ name_of error
-injected_text (injected.Short count) = codes "short " +++ decimal count
-
--- the kind of request of an outcome
-abbrev pub kind_text : Option Given → List ℕ
-kind_text None = []
-kind_text (Some given) = request_word given.kind +++ codes " "
-
--- the thread and the number of the outcome, the kind of its request, and what comes in its place
-unfoldable pub case_text : List (List Given) → FaultCase → List ℕ
-case_text outcomes case =
-    decimal case.thread +++ codes " " +++ decimal case.number +++ codes " "
-    +++ kind_text (slice_get (slice_index_or outcomes case.thread []) case.number)
-    +++ injected_text case.injected +++ codes " "
 
 -- ## What is found
 
@@ -70,17 +45,6 @@ IsCaseFinding filling subject before case finding =
     (now : Observation) × SeesCase filling (subject_in case subject) now
     × IsFound subject.texts before (case_text subject.outcomes case) 1 now
     (cut_of subject.texts now) finding
-
--- how many cases there are, and how many failed
-unfoldable pub case_sums : ℕ → ℕ → List ℕ
-case_sums cases failed =
-    codes "cases " +++ decimal cases +++ codes " failed " +++ decimal failed +++ codes "\n"
-
--- what is printed of the run by the log as it is and of these cases
-abbrev pub cases_printed :
-    Observation → List ℕ → Option (List ℕ) → List Finding → Printed
-cases_printed before cut unmet findings =
-    found_printed before cut unmet findings (case_sums (length findings) (failed_of findings))
 
 -- ## The command
 

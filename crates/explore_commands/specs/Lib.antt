@@ -1,8 +1,6 @@
-pub mod CutOffs
 pub mod Undated
 pub mod LogGives
 pub mod Tries
-pub mod Schedules
 pub mod Explores
 pub mod Injections
 pub mod Writes

@@ -1,5 +1,6 @@
 -- Believed: a contract of a command stands on it.
--- What a command runs again and again for the scripts that it reads, and for a log, if one is given.
+-- What a command runs again and again for the scripts that it reads, and for a log, if one is
+-- given.
 use Rattle.std.specs.Prelude.{◌≡◌, ℕ, true, List, [], length, replicate, Option, Some, None}
 use Rattle.posix_terms.specs.declared.outcome.Given.{Given}
 use Rattle.posix_terms.specs.declared.transcript.Settings.{Settings}

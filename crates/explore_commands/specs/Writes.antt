@@ -10,7 +10,8 @@ use Rattle.explorer.specs.Subject.{Subject}
 use Rattle.explorer.specs.declared.fault.RunFault.{RunFault}
 use Rattle.command_texts.specs.declared.printed.Printed.{Printed}
 use Rattle.explore_commands.specs.Explores.{FaultPrints, bad_reach, too_many}
-use Rattle.explore_commands.specs.Schedules.{IsTooMany, delays_by, schedule_of}
+use Rattle.explore_commands.specs.Explores.{schedule_of}
+use Rattle.explore_texts.specs.Schedules.{IsTooMany, delays_by}
 use Rattle.explore_commands.specs.Tries.{Tries}
 use Rattle.explore_commands.specs.declared.explore.ExploreOptions.{ExploreOptions}
 use Rattle.explore_commands.specs.declared.trying.ToTry.{ToTry}

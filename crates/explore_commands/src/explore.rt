@@ -6,13 +6,10 @@ ghost use Rattle.explore_commands.specs.Explores.{SeenExplores, SubjectExplores,
 ghost use Rattle.explore_commands.specs.Explores.{no_room, too_many};
 ghost use Rattle.explorer.specs.Subject.{subject};
 
-use crate::cut_off::cut_of;
-use crate::explored_text::explored_printed;
-use crate::findings::{findings, unmet_in};
-use crate::schedule::{Schedule, Schedules};
 use crate::trying::{ToTry, to_try};
 use command_inputs::{bad_settings, needs_scripts};
 use command_texts::{Printed, Source, TextReader, bad_line, fault, no_memory, print};
+use explore_texts::{Schedule, Schedules, cut_of, explored_printed, findings, unmet_in};
 use explorer::{Observation, RunFault, Trial};
 use posix_terms::{Limits, Settings};
 use std::alloc::{AllocError, Global};
@@ -32,13 +29,13 @@ pub struct ExploreOptions {
 }
 
 /// `detio explore`: runs the scripts on the plain schedule, as they are and once for each seed, or
-/// each list of delays, with its delays. Nothing comes from outside, or what a log has: then its outcomes come in their order,
-/// at whatever turns, and its settings count. It prints how the run without delays ended, a line for
-/// each group of runs in which the threads saw the same and that ended alike, in the order of their
-/// first cases, and a line of sums; or one line for the first fault. It returns the exit status. The replies are held
-/// to what the texts expect: where one is not so in some run, the status is 1. Where there is no
-/// memory, a file cannot be read or the output cannot be written, that is the fault. An error is one
-/// of the writer `errors`.
+/// each list of delays, with its delays. Nothing comes from outside, or what a log has: then its
+/// outcomes come in their order, at whatever turns, and its settings count. It prints how the run
+/// without delays ended, a line for each group of runs in which the threads saw the same and that
+/// ended alike, in the order of their first cases, and a line of sums; or one line for the first
+/// fault. It returns the exit status. The replies are held to what the texts expect: where one is
+/// not so in some run, the status is 1. Where there is no memory, a file cannot be read or the
+/// output cannot be written, that is the fault. An error is one of the writer `errors`.
 pub fn explore_over<R: TextReader + Drop, W: Write, E: Write>(
     alloc: Global,
     settings: Settings,

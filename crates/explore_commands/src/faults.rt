@@ -3,17 +3,16 @@ ghost use Rattle.std.specs.List.{AllZip};
 ghost use Rattle.command_texts.specs.Printing.{Prints};
 ghost use Rattle.explorer.specs.Runs.{IsFault};
 ghost use Rattle.explorer.specs.Subject.{subject};
-ghost use Rattle.explore_commands.specs.Injections.{AreTried, InjectionsPrint, IsCaseFinding, SeesCase};
+ghost use Rattle.explore_commands.specs.Injections.{AreTried, InjectionsPrint, IsCaseFinding};
+ghost use Rattle.explore_commands.specs.Injections.{SeesCase};
 ghost use Rattle.explore_commands.specs.Injections.{RunsCase, SubjectInjects};
 ghost use Rattle.fault_injection.specs.Replaced.{subject_in};
 
-use crate::case_text::{cases_printed, push_case};
-use crate::cut_off::cut_of;
 use crate::explore::fault_printed;
-use crate::findings::{Finding, found, unmet_in};
 use crate::trying::{ToTry, to_try_by_log};
 use call_machine::Plain;
 use command_texts::{Printed, Source, TextReader, no_memory, print};
+use explore_texts::{Finding, cases_printed, cut_of, found, push_case, unmet_in};
 use explorer::{Observation, RunFault, Trial, seen_in};
 use fault_injection::{Choice, FaultCase, Filling, fault_cases, run_fault, run_filled};
 use std::alloc::{AllocError, Global};
@@ -36,9 +35,9 @@ pub struct FaultOptions<'a> {
 /// `detio faults`: runs the scripts on the plain schedule by the outcomes of a log, at whatever
 /// turns: as they are, and once for each case, with one outcome replaced. It prints how the run by
 /// the outcomes as they are ended, a line for each case, and a line of sums; or one line for the
-/// first fault. It returns the exit status. The replies are held to what the texts expect: where one
-/// is not so in some run, the status is 1. Where there is no memory, a file cannot be read or the
-/// output cannot be written, that is the fault. An error is one of the writer `errors`.
+/// first fault. It returns the exit status. The replies are held to what the texts expect: where
+/// one is not so in some run, the status is 1. Where there is no memory, a file cannot be read or
+/// the output cannot be written, that is the fault. An error is one of the writer `errors`.
 pub fn faults_over<R: TextReader + Drop, W: Write, E: Write>(
     alloc: Global,
     options: FaultOptions<'_>,

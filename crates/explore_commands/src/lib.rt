@@ -1,34 +1,29 @@
 //! What the commands `detio explore`, `faults` and `minimise` do, over any readers and writers, for
 //! the program and for its tests.
 //!
-//! [`explore_over`] runs scripts with the delays of many seeds or lists, by [`ExploreOptions`], and prints
-//! what is found. [`faults_over`] runs them with the failures and short counts of [`FaultOptions`]
-//! in place of the outcomes of a log. What a command writes is a [`ToWrite`], the texts of scripts
-//! and the log of their plain run: [`to_write`] gives those of scripts with the delays of the first
-//! case, [`to_write_case`] those of scripts with one outcome replaced, and [`to_minimise`] what is
-//! left of scripts that fail once all lines and threads are gone that the failure does not need.
-//! All read their [`Source`](command_texts::Source)s. Bad scripts, bad logs and lack of memory are
-//! faults that are printed; only an error of the writer `errors` is returned.
+//! [`explore_over`] runs scripts with the delays of many seeds or lists, by [`ExploreOptions`], and
+//! prints what is found. [`faults_over`] runs them with the failures and short counts of
+//! [`FaultOptions`] in place of the outcomes of a log. What a command writes is a [`ToWrite`], the
+//! texts of scripts and the log of their plain run: [`to_write`] gives those of scripts with the
+//! delays of the first case, [`to_write_case`] those of scripts with one outcome replaced, and
+//! [`to_minimise`] what is left of scripts that fail once all lines and threads are gone that the
+//! failure does not need. All read their [`Source`](command_texts::Source)s. Bad scripts, bad logs
+//! and lack of memory are faults that are printed; only an error of the writer `errors` is
+//! returned.
 #![tactic(auto)]
 
 mod case_log;
-mod case_text;
-mod cut_off;
 mod explore;
-mod explored_text;
 mod faults;
-mod findings;
 mod log_inputs;
 mod minimise;
-mod schedule;
-mod schedule_text;
 mod trying;
 mod undated;
 mod writing;
 
 pub use case_log::to_write_case;
 pub use explore::{ExploreOptions, explore_over};
+pub use explore_texts::Schedules;
 pub use faults::{FaultOptions, MOST_FILLED, faults_over};
 pub use minimise::to_minimise;
-pub use schedule::Schedules;
 pub use writing::{ToWrite, to_write};

@@ -4,9 +4,9 @@ ghost use Rattle.explorer.specs.Subject.{subject};
 ghost use Rattle.explore_commands.specs.Writes.{ReachWrites, SubjectWrites, Writes};
 
 use crate::explore::{ExploreOptions, bad_reach, fault_printed, too_many};
-use crate::schedule::Schedule;
 use crate::trying::{ToTry, to_try};
 use command_texts::{Printed, Source, TextReader};
+use explore_texts::Schedule;
 use explorer::{Trial, varied_texts};
 use posix_terms::{Bytes, Limits, Outcomes, Settings};
 use std::alloc::{AllocError, Global};
@@ -21,8 +21,8 @@ pub enum ToWrite {
 }
 
 /// What `detio explore --write` writes of scripts: their texts with the delays of the first case,
-/// all of which are scripts, and the log of their plain run; or what is printed for the first fault.
-/// What comes from outside is as for [`explore_over`](crate::explore_over).
+/// all of which are scripts, and the log of their plain run; or what is printed for the first
+/// fault. What comes from outside is as for [`explore_over`](crate::explore_over).
 pub fn to_write<R: TextReader + Drop>(
     alloc: Global,
     settings: Settings,

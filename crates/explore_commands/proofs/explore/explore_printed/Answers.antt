@@ -1,4 +1,5 @@
 use Rattle.std.proofs.lemmas.Result.{IfOk-weaker}
+use Rattle.explorer.specs.Subject.{Subject}
 use Rattle.std.specs.Prelude.{nat_le}
 use Rattle.posix_terms.specs.declared.limits.TheConstants.Limits as limit
 use Rattle.explore_commands.specs.Explores.{ReachExplores}
@@ -11,9 +12,11 @@ returns-in-Texts g c =
     let texts = c.in-Texts.texts in
     let outcomes = c.in-Texts.outcomes in
     let settings = c.in-Texts.settings in
+    let shows = λ (subject : Subject).
+    ReachExplores (nat_le c.args.options.reach limit.WORK) subject c.args.options in
     IfOk-weaker c.trial_explored.result _ _
     (λ made says.
     (tries.Texts texts outcomes settings, rw c.in-Texts.is at c.in_ok-texts.ensures, says))
-    (of_tried (λ subject. ReachExplores (nat_le c.args.options.reach limit.WORK) subject c.args.options) c.trial_explored.result c.deref.result.now texts.items
+    (of_tried shows c.trial_explored.result c.deref.result.now texts.items
     c.deref-in-Texts.result.now outcomes.items settings c.deref.ensures.value
     c.deref-in-Texts.ensures.value c.trial_explored.ensures)

@@ -1,15 +1,14 @@
-use Rattle.std.proofs.Common.{◌≡◌, ◌-◌, ◌<◌, ◌^◌, [], ℕ, List, arith, inl, rules, subst, sym}
+use Rattle.std.proofs.Common.{◌≡◌, ◌≤◌, ◌-◌, ◌<◌, ◌^◌, [], ℕ, List, arith, inl, rules, subst, sym}
 use Rattle.std.specs.List.{AllZip, range_with_len}
 use Rattle.std.proofs.lemmas.Result.{IfOk-weaker}
 use Rattle.explorer.specs.Cases.{CasesJoin}
 use Rattle.explorer.specs.Groups.{runs_of}
 use Rattle.explorer.specs.Subject.{subject}
-use Rattle.explore_commands.specs.CutOffs.{cut_of}
-use Rattle.explore_commands.specs.Explores.{IsFinding, SeenExplores, explored_printed}
-use Rattle.explore_commands.specs.Explores.{failed_of}
-use Rattle.explore_commands.specs.Schedules.{delays_by}
-use Rattle.explore_commands.specs.declared.findings.Finding.{Finding}
-use Rattle.explore_commands.proofs.Failing.{failed_below}
+use Rattle.explore_texts.specs.CutOffs.{cut_of}
+use Rattle.explore_texts.specs.Found.{IsFinding, explored_printed, failed_of}
+use Rattle.explore_texts.specs.Schedules.{delays_by}
+use Rattle.explore_commands.specs.Explores.{SeenExplores}
+use Rattle.explore_texts.specs.declared.finding.Finding.{Finding}
 use Rattle.explore_commands.proofs.explore.seen_explored.Goals as goal
 
 pub explored_printed-requires-clause-failed : goal.explored_printed-requires-clause-failed
@@ -20,7 +19,7 @@ explored_printed-requires-clause-failed c =
     let schedule = c.args.schedule.now in
     let before = c.args.before.now in
     let found : AllZip (IsFinding tried schedule before) groups findings = search rules in
-    let below = failed_below tried schedule before groups findings found in
+    let below : failed_of findings ≤ runs_of groups = search rules in
     let fits : runs_of groups < 2 ^ 64 = search rules in
     let less : failed_of findings < 2 ^ 64 = omega (arith, below, fits) in
     subst (λ (all : List Finding). failed_of all < 2 ^ 64) (sym c.deref-2.ensures.value) less

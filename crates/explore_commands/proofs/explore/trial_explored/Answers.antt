@@ -3,8 +3,8 @@ use Rattle.std.proofs.lemmas.Result.{IfOk-weaker}
 use Rattle.posix_terms.specs.declared.limits.TheConstants.Limits as limit
 use Rattle.explorer.specs.Subject.{subject}
 use Rattle.explore_commands.specs.Explores.{ReachExplores, SubjectExplores}
-use Rattle.explore_commands.specs.Schedules.{schedule_of}
-use Rattle.explore_commands.specs.declared.schedule.Schedule.{Schedule}
+use Rattle.explore_commands.specs.Explores.{schedule_of}
+use Rattle.explore_texts.specs.declared.schedule.Schedule.{Schedule}
 use Rattle.explore_commands.proofs.explore.trial_explored.Goals as goal
 
 pub returns-in-Some : goal.returns-in-Some

@@ -7,7 +7,7 @@ use Rattle.explorer.specs.Subject.{subject}
 use Rattle.fault_injection.specs.declared.cases.FaultCase.{FaultCase}
 use Rattle.fault_injection.specs.declared.injected.Injected.TheVariants as injected
 use Rattle.explore_commands.specs.Injections.{IsCaseFinding}
-use Rattle.explore_commands.specs.declared.findings.Finding.{Finding}
+use Rattle.explore_texts.specs.declared.finding.Finding.{Finding}
 use Rattle.explore_commands.proofs.Failing.{pairs_more}
 use Rattle.explore_commands.proofs.faults.cases_found.Goals as goal
 

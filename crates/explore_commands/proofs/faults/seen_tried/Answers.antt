@@ -3,10 +3,11 @@ use Rattle.std.specs.List.{AllZip}
 use Rattle.std.proofs.lemmas.Result.{IfOk-weaker}
 use Rattle.explorer.specs.Subject.{subject}
 use Rattle.fault_injection.specs.Cases.{fault_cases}
-use Rattle.explore_commands.specs.CutOffs.{cut_of}
-use Rattle.explore_commands.specs.Explores.{failed_of}
-use Rattle.explore_commands.specs.Injections.{AreTried, IsCaseFinding, cases_printed}
-use Rattle.explore_commands.specs.declared.findings.Finding.{Finding}
+use Rattle.explore_texts.specs.CaseTexts.{cases_printed}
+use Rattle.explore_texts.specs.CutOffs.{cut_of}
+use Rattle.explore_texts.specs.Found.{failed_of}
+use Rattle.explore_commands.specs.Injections.{AreTried, IsCaseFinding}
+use Rattle.explore_texts.specs.declared.finding.Finding.{Finding}
 use Rattle.explore_commands.proofs.Failing.{cases_below}
 use Rattle.explore_commands.proofs.faults.seen_tried.Goals as goal
 

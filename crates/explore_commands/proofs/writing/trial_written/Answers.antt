@@ -4,9 +4,10 @@ use Rattle.posix_terms.specs.declared.limits.TheConstants.Limits as limit
 use Rattle.explorer.specs.Cases.{with_delays}
 use Rattle.explorer.specs.Subject.{subject}
 use Rattle.explorer.specs.Varied.{varied_texts}
-use Rattle.explore_commands.specs.Schedules.{delays_by, schedule_of}
+use Rattle.explore_commands.specs.Explores.{schedule_of}
+use Rattle.explore_texts.specs.Schedules.{delays_by}
 use Rattle.explore_commands.specs.Writes.{ReachWrites, SubjectWrites}
-use Rattle.explore_commands.specs.declared.schedule.Schedule.{Schedule}
+use Rattle.explore_texts.specs.declared.schedule.Schedule.{Schedule}
 use Rattle.explore_commands.proofs.writing.trial_written.Goals as goal
 
 pub returns : goal.returns

@@ -1,0 +1,4 @@
+pub mod CutOffs
+pub mod Schedules
+pub mod Found
+pub mod CaseTexts

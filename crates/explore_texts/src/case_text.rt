@@ -1,0 +1,99 @@
+// What is printed of the cases of a log's outcomes.
+ghost use Rattle.std.specs.Prelude.{◌≡◌, ◌++◌, ◌<◌, ◌^◌, [], IfOk, OnOk, slice_index_or};
+ghost use Rattle.std.specs.Prelude.{option_copied, slice_get};
+ghost use Rattle.explore_texts.specs.CaseTexts.{case_sums, case_text, cases_printed, injected_text};
+ghost use Rattle.explore_texts.specs.CaseTexts.{kind_text};
+ghost use Rattle.explore_texts.specs.Found.{failed_of};
+
+use crate::explored_text::{failed_runs, found_printed};
+use crate::finding::Finding;
+use command_texts::{Printed, push_number, push_word, request_word};
+use explorer::Observation;
+use fault_injection::{FaultCase, Injected};
+use posix_terms::{Bytes, Given, Outcomes, errno_name};
+use std::alloc::{AllocError, Global};
+
+/// What is printed of what was found of cases, where this was seen by the outcomes as they are, and
+/// this was not as expected there.
+pub fn cases_printed(
+    alloc: Global,
+    before: &Observation,
+    cut: &[usize],
+    unmet: &Option<Bytes>,
+    findings: &[Finding],
+) -> Result<Printed, AllocError>
+    requires { failed_of findings.now < 2 ^ 64 }
+    ensures { IfOk result (λ printed.
+        printed ≡ cases_printed before.now cut.now unmet.now findings.now) }
+{
+    let mut sums = Vec::new(alloc);
+    push_sums(&mut sums, findings.len(), failed_runs(findings))?;
+    found_printed(alloc, before, cut, unmet, findings, &sums)
+}
+
+// Adds the last line.
+#[tactic(auto, unfolding(crate::specs::CaseTexts::case_sums))]
+fn push_sums(text: &mut Vec<u8>, cases: usize, failed: u64) -> Result<(), AllocError>
+    ensures { OnOk result (text.new.items ≡ text.old.items ++ case_sums cases failed) }
+{
+    push_word(text, "cases ")?;
+    push_number(text, cases as u64)?;
+    push_word(text, " failed ")?;
+    push_number(text, failed)?;
+    push_word(text, "\n")
+}
+
+/// Adds the place of the outcome that a case replaces, and what comes in its place.
+#[tactic(auto, unfolding(crate::specs::CaseTexts::case_text))]
+pub fn push_case(
+    text: &mut Vec<u8>,
+    outcomes: &[Outcomes],
+    case: FaultCase,
+) -> Result<(), AllocError>
+    ensures { OnOk result (
+        text.new.items ≡ text.old.items ++ case_text outcomes.now case) }
+{
+    push_number(text, case.thread as u64)?;
+    push_word(text, " ")?;
+    push_number(text, case.number as u64)?;
+    push_word(text, " ")?;
+    push_kind(text, outcome_of(outcomes, case))?;
+    push_injected(text, case.injected)?;
+    push_word(text, " ")
+}
+
+/// The outcome that a case replaces, if there is one.
+pub fn outcome_of(outcomes: &[Outcomes], case: FaultCase) -> Option<&Given>
+    ensures { option_copied result
+        ≡ slice_get (slice_index_or outcomes.now case.thread []) case.number }
+{
+    outcomes.get(case.thread)?.as_slice().get(case.number)
+}
+
+// Adds the kind of request of an outcome.
+fn push_kind(text: &mut Vec<u8>, given: Option<&Given>) -> Result<(), AllocError>
+    ensures { OnOk result (
+        text.new.items ≡ text.old.items ++ kind_text (option_copied given.entry)) }
+{
+    let Some(given) = given else {
+        return Ok(());
+    };
+    push_word(text, request_word(given.kind))?;
+    push_word(text, " ")
+}
+
+// Adds what comes in place of an outcome.
+fn push_injected(text: &mut Vec<u8>, injected: Injected) -> Result<(), AllocError>
+    ensures { OnOk result (text.new.items ≡ text.old.items ++ injected_text injected) }
+{
+    match injected {
+        Injected::Fail(error) => {
+            push_word(text, "fail ")?;
+            push_word(text, errno_name(error))
+        }
+        Injected::Short(count) => {
+            push_word(text, "short ")?;
+            push_number(text, count)
+        }
+    }
+}
