@@ -9,6 +9,7 @@ use Rattle.thread_scripts.specs.declared.line.Line.{Line}
 use Rattle.command_texts.specs.Reading.{scripts_from}
 use Rattle.explorer.specs.Delayed.{calls_in, delayed, moved, redirected, works_of}
 use Rattle.explorer.specs.Delays.{chance_delay}
+use Rattle.explorer.specs.Lists.{Bounds, delay_in, list_of}
 use Rattle.explorer.specs.Varied.{varied_text, varied_texts}
 
 -- no delay is longer than a work of a script may be
@@ -59,3 +60,9 @@ abbrev pub ChancesAreWorks : Type 0
 ChancesAreWorks =
     (reach seed thread : ℕ) → reach ≤ WORK
     → AreWorks (λ line. Some (chance_delay reach seed thread line))
+
+-- and so are those of lists
+abbrev pub ListsAreWorks : Type 0
+ListsAreWorks =
+    (bounds : Bounds) (case thread : ℕ) → bounds.reach ≤ WORK
+    → AreWorks (λ line. delay_in (list_of bounds case) thread line)

@@ -1,4 +1,4 @@
-ghost use Rattle.explorer.specs.Laws.{ChancesAreWorks, LinesHaveMoved, OnlyTooLong};
+ghost use Rattle.explorer.specs.Laws.{ChancesAreWorks, LinesHaveMoved, ListsAreWorks, OnlyTooLong};
 ghost use Rattle.explorer.specs.Laws.{ThreadsMakeCalls, VariedIsScript, VariedMakesCalls};
 
 /// The law of varied texts, with delays of at most 1,000,000 units: that of a script is too long,
@@ -21,4 +21,9 @@ pub fn threads_make_calls()
 /// The law of delays by chance: where their reach is at most 1,000,000, so are they.
 pub fn chances_are_works()
     ensures { ChancesAreWorks }
+{}
+
+/// The same law of lists of delays.
+pub fn lists_are_works()
+    ensures { ListsAreWorks }
 {}

@@ -67,7 +67,7 @@ pub use delay_list::{Delay, DelayList};
 pub use delays::Delays;
 pub use fault::RunFault;
 pub use groups::{Group, Groups};
-pub use laws::{chances_are_works, threads_make_calls, varied_is_script};
+pub use laws::{chances_are_works, lists_are_works, threads_make_calls, varied_is_script};
 pub use lists::Lists;
 pub use observation::Observation;
 pub use places::Place;
