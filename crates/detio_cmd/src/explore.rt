@@ -1,4 +1,5 @@
 use crate::input::{open_scripts, open_source};
+use crate::progress::ProgressLine;
 use crate::writing::write_scripts;
 use clap::ArgMatches;
 use commands::settings_of;
@@ -23,6 +24,7 @@ pub(crate) fn run_explore(rt: &HostRuntime, matches: &ArgMatches<'_>) -> Result<
         let to_write = to_write(alloc, settings, options, log, sources)?;
         return write_scripts(rt, to_write, folder, by_log);
     }
+    let mut progress = ProgressLine::new(rt);
     let (mut output, mut errors) = (rt.stdout(), rt.stderr());
     let status = explore_over(
         alloc,
@@ -30,6 +32,7 @@ pub(crate) fn run_explore(rt: &HostRuntime, matches: &ArgMatches<'_>) -> Result<
         options,
         log,
         sources,
+        &mut progress,
         &mut output,
         &mut errors,
     );

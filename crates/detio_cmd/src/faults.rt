@@ -1,4 +1,5 @@
 use crate::input::{open_scripts, open_source};
+use crate::progress::ProgressLine;
 use crate::writing::write_log;
 use clap::ArgMatches;
 use expectations::error_named;
@@ -31,11 +32,13 @@ pub(crate) fn run_faults(rt: &HostRuntime, matches: &ArgMatches<'_>) -> Result<u
     };
     let log = open_source(rt, path);
     let sources = open_scripts(rt, matches.get_strs("script").unwrap_or(&[]))?;
+    let mut progress = ProgressLine::new(rt);
     let status = faults_over(
         rt.alloc(),
         options,
         log,
         sources,
+        &mut progress,
         &mut rt.stdout(),
         &mut rt.stderr(),
     );

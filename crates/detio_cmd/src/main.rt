@@ -6,6 +6,7 @@ mod explore;
 mod faults;
 mod input;
 mod log_file;
+mod progress;
 mod record;
 mod writing;
 

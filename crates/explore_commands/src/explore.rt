@@ -10,7 +10,7 @@ use crate::trying::{ToTry, to_try};
 use command_inputs::{bad_settings, needs_scripts};
 use command_texts::{Printed, Source, TextReader, bad_line, fault, no_memory, print};
 use explore_texts::{Schedule, Schedules, cut_of, explored_printed, findings, unmet_in};
-use explorer::{Observation, RunFault, Trial};
+use explorer::{Observation, Progress, RunFault, Trial};
 use posix_terms::{Limits, Settings};
 use std::alloc::{AllocError, Global};
 use std::io;
@@ -35,13 +35,15 @@ pub struct ExploreOptions {
 /// ended alike, in the order of their first cases, and a line of sums; or one line for the first
 /// fault. It returns the exit status. The replies are held to what the texts expect: where one is
 /// not so in some run, the status is 1. Where there is no memory, a file cannot be read or the
-/// output cannot be written, that is the fault. An error is one of the writer `errors`.
-pub fn explore_over<R: TextReader + Drop, W: Write, E: Write>(
+/// output cannot be written, that is the fault. `progress` is told of each run. An error is one of
+/// the writer `errors`.
+pub fn explore_over<R: TextReader + Drop, P: Progress, W: Write, E: Write>(
     alloc: Global,
     settings: Settings,
     options: ExploreOptions,
     log: Option<Source<'_, R>>,
     sources: Vec<Source<'_, R>>,
+    progress: &mut P,
     output: &mut W,
     errors: &mut E,
 ) -> io::Result<u8>
@@ -53,19 +55,20 @@ pub fn explore_over<R: TextReader + Drop, W: Write, E: Write>(
         status (W.contents output.old) (W.contents output.new)
         (E.contents errors.old) (E.contents errors.new)) }
 {
-    match explore_printed(alloc, settings, options, log, sources) {
+    match explore_printed(alloc, settings, options, log, sources, progress) {
         Ok(printed) => print(&printed, output, errors),
         Err(AllocError) => no_memory(errors),
     }
 }
 
 // What is to be printed.
-fn explore_printed<R: TextReader + Drop>(
+fn explore_printed<R: TextReader + Drop, P: Progress>(
     alloc: Global,
     settings: Settings,
     options: ExploreOptions,
     log: Option<Source<'_, R>>,
     sources: Vec<Source<'_, R>>,
+    progress: &mut P,
 ) -> Result<Printed, AllocError>
     ensures { IfOk result (
         ExplorePrints settings options
@@ -79,17 +82,18 @@ fn explore_printed<R: TextReader + Drop>(
                 outcomes: &outcomes,
                 settings,
             };
-            trial_explored(alloc, trial, options)
+            trial_explored(alloc, trial, options, progress)
         }
         ToTry::Fault(printed) => Ok(printed),
     }
 }
 
 // What is to be printed for a trial.
-fn trial_explored(
+fn trial_explored<P: Progress>(
     alloc: Global,
     trial: Trial<'_>,
     options: ExploreOptions,
+    progress: &mut P,
 ) -> Result<Printed, AllocError>
     ensures { IfOk result (
         ReachExplores (nat_le options.reach limit.WORK) (subject trial.entry) options) }
@@ -99,39 +103,41 @@ fn trial_explored(
     }
     let schedule = Schedule::new(alloc, options.schedules, options.reach, trial.texts)?;
     match schedule {
-        Some(schedule) => scheduled_explored(alloc, trial, options, &schedule),
+        Some(schedule) => scheduled_explored(alloc, trial, options, &schedule, progress),
         None => too_many(alloc),
     }
 }
 
 // What is to be printed for a trial with these delays.
-fn scheduled_explored(
+fn scheduled_explored<P: Progress>(
     alloc: Global,
     trial: Trial<'_>,
     options: ExploreOptions,
     schedule: &Schedule,
+    progress: &mut P,
 ) -> Result<Printed, AllocError>
     ensures { IfOk result (SubjectExplores (subject trial.entry) options schedule.now) }
 {
     match trial.observe(alloc) {
-        Ok(before) => seen_explored(alloc, trial, options, schedule, &before),
+        Ok(before) => seen_explored(alloc, trial, options, schedule, &before, progress),
         Err(fault) => fault_printed(alloc, fault),
     }
 }
 
 // What is to be printed where this was seen in the run without delays.
-fn seen_explored(
+fn seen_explored<P: Progress>(
     alloc: Global,
     trial: Trial<'_>,
     options: ExploreOptions,
     schedule: &Schedule,
     before: &Observation,
+    progress: &mut P,
 ) -> Result<Printed, AllocError>
     ensures { IfOk result (
         SeenExplores (subject trial.entry) options schedule.now before.now) }
 {
     let cases = options.first..schedule.end(options.end);
-    let groups = match trial.explored(alloc, schedule, cases) {
+    let groups = match trial.explored(alloc, schedule, cases, progress) {
         Ok(groups) => groups,
         Err(fault) => return fault_printed(alloc, fault),
     };

@@ -13,7 +13,7 @@ use crate::trying::{ToTry, to_try_by_log};
 use call_machine::Plain;
 use command_texts::{Printed, Source, TextReader, no_memory, print};
 use explore_texts::{Finding, cases_printed, cut_of, found, push_case, unmet_in};
-use explorer::{Observation, RunFault, Trial, seen_in};
+use explorer::{Observation, Progress, RunFault, Trial, seen_in};
 use fault_injection::{Choice, FaultCase, Filling, fault_cases, run_fault, run_filled};
 use std::alloc::{AllocError, Global};
 use std::io;
@@ -37,12 +37,14 @@ pub struct FaultOptions<'a> {
 /// the outcomes as they are ended, a line for each case, and a line of sums; or one line for the
 /// first fault. It returns the exit status. The replies are held to what the texts expect: where
 /// one is not so in some run, the status is 1. Where there is no memory, a file cannot be read or
-/// the output cannot be written, that is the fault. An error is one of the writer `errors`.
-pub fn faults_over<R: TextReader + Drop, W: Write, E: Write>(
+/// the output cannot be written, that is the fault. `progress` is told of each case. An error is
+/// one of the writer `errors`.
+pub fn faults_over<R: TextReader + Drop, P: Progress, W: Write, E: Write>(
     alloc: Global,
     options: FaultOptions<'_>,
     log: Source<'_, R>,
     sources: Vec<Source<'_, R>>,
+    progress: &mut P,
     output: &mut W,
     errors: &mut E,
 ) -> io::Result<u8>
@@ -54,18 +56,19 @@ pub fn faults_over<R: TextReader + Drop, W: Write, E: Write>(
         status (W.contents output.old) (W.contents output.new)
         (E.contents errors.old) (E.contents errors.new)) }
 {
-    match faults_read(alloc, options, log, sources) {
+    match faults_read(alloc, options, log, sources, progress) {
         Ok(printed) => print(&printed, output, errors),
         Err(AllocError) => no_memory(errors),
     }
 }
 
 // What is to be printed.
-fn faults_read<R: TextReader + Drop>(
+fn faults_read<R: TextReader + Drop, P: Progress>(
     alloc: Global,
     options: FaultOptions<'_>,
     log: Source<'_, R>,
     sources: Vec<Source<'_, R>>,
+    progress: &mut P,
 ) -> Result<Printed, AllocError>
     ensures { IfOk result (
         InjectionsPrint options.entry
@@ -79,49 +82,52 @@ fn faults_read<R: TextReader + Drop>(
                 outcomes: &outcomes,
                 settings,
             };
-            trial_tried(alloc, options, trial)
+            trial_tried(alloc, options, trial, progress)
         }
         ToTry::Fault(printed) => Ok(printed),
     }
 }
 
 // What is to be printed for a trial.
-fn trial_tried(
+fn trial_tried<P: Progress>(
     alloc: Global,
     options: FaultOptions<'_>,
     trial: Trial<'_>,
+    progress: &mut P,
 ) -> Result<Printed, AllocError>
     ensures { IfOk result (SubjectInjects options.entry (subject trial.entry)) }
 {
     match trial.observe(alloc) {
-        Ok(before) => seen_tried(alloc, options, trial, &before),
+        Ok(before) => seen_tried(alloc, options, trial, &before, progress),
         Err(fault) => fault_printed(alloc, fault),
     }
 }
 
 // What is to be printed where this was seen in the run by the outcomes as they are.
-fn seen_tried(
+fn seen_tried<P: Progress>(
     alloc: Global,
     options: FaultOptions<'_>,
     trial: Trial<'_>,
     before: &Observation,
+    progress: &mut P,
 ) -> Result<Printed, AllocError>
     ensures { IfOk result (AreTried options.entry (subject trial.entry) before.now) }
 {
     let cut = cut_of(alloc, trial.texts, before)?;
     let unmet = unmet_in(alloc, trial.texts, before)?;
     let cases = fault_cases(alloc, trial.outcomes, options.choice)?;
-    let findings = cases_found(alloc, options.filling, trial, before, &cases)?;
+    let findings = cases_found(alloc, options.filling, trial, before, &cases, progress)?;
     cases_printed(alloc, before, &cut, &unmet, &findings)
 }
 
 // What is found of cases, in order.
-fn cases_found(
+fn cases_found<P: Progress>(
     alloc: Global,
     filling: Option<Filling>,
     trial: Trial<'_>,
     before: &Observation,
     cases: &[FaultCase],
+    progress: &mut P,
 ) -> Result<Vec<Finding>, AllocError>
     ensures { IfOk result (λ findings.
         AllZip (IsCaseFinding filling (subject trial.entry) before.now)
@@ -130,6 +136,7 @@ fn cases_found(
     let mut findings = Vec::new(alloc);
     for case in cases {
         findings.push(case_found(alloc, filling, trial, before, *case)?)?;
+        progress.made(findings.len() as u64, cases.len() as u64, 0);
     }
     Ok(findings)
 }

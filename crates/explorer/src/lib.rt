@@ -17,7 +17,7 @@
 //! none. Each run takes outcomes of its own, which [`outcomes_copied`] gives.
 //!
 //! ```rust
-//! use explorer::{Chance, Trial, varied};
+//! use explorer::{Chance, NoProgress, Trial, varied};
 //! use posix_terms::{Bytes, Outcomes, Settings};
 //!
 //! // Both threads look whether the file is there before they make it.
@@ -42,7 +42,7 @@
 //!     outcomes: &outcomes,
 //!     settings,
 //! };
-//! let groups = trial.explored(alloc, &chance, 0..20)?;
+//! let groups = trial.explored(alloc, &chance, 0..20, &mut NoProgress)?;
 //! assert!(rt; groups.as_slice().iter().map(|group| group.runs).sum::<u64>() == 20);
 //! ```
 #![tactic(auto)]
@@ -57,6 +57,7 @@ mod laws;
 mod lists;
 mod observation;
 mod places;
+mod progress;
 mod runs;
 mod trial;
 mod vary;
@@ -71,6 +72,7 @@ pub use laws::{chances_are_works, lists_are_works, threads_make_calls, varied_is
 pub use lists::Lists;
 pub use observation::Observation;
 pub use places::Place;
+pub use progress::{NoProgress, Progress};
 pub use runs::{run_texts, seen_in};
 pub use trial::Trial;
 pub use vary::{varied, varied_texts};

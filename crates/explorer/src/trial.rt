@@ -9,6 +9,7 @@ use crate::delays::Delays;
 use crate::fault::RunFault;
 use crate::groups::Groups;
 use crate::observation::Observation;
+use crate::progress::Progress;
 use crate::runs::{run_copied, seen_in};
 use crate::vary::varied_texts;
 use call_machine::Plain;
@@ -28,12 +29,13 @@ pub struct Trial<'a> {
 
 impl Trial<'_> {
     /// The groups of the runs of these cases, one run for each, in order. A run that cannot be made
-    /// is the fault.
-    pub fn explored<D: Delays>(
+    /// is the fault. `progress` is told of each run.
+    pub fn explored<D: Delays, P: Progress>(
         self,
         alloc: Global,
         delays: &D,
         cases: Range<u64>,
+        progress: &mut P,
     ) -> Result<Groups, RunFault>
         ensures ok { IfOk result (
             CasesJoin (subject self.entry) (D.delays_of delays.now) []
@@ -46,6 +48,8 @@ impl Trial<'_> {
         for case in cases.start..cases.end {
             let observation = self.observe_case(alloc, delays, case)?;
             groups.join(case, observation)?;
+            let made = case - cases.start + 1;
+            progress.made(made, cases.end - cases.start, groups.as_slice().len());
         }
         Ok(groups)
     }

@@ -12,7 +12,7 @@ use Rattle.explore_texts.specs.declared.finding.Finding.{Finding}
 use Rattle.explore_commands.proofs.explore.seen_explored.Goals as goal
 
 pub explored_printed-requires-clause-failed : goal.explored_printed-requires-clause-failed
-explored_printed-requires-clause-failed c =
+explored_printed-requires-clause-failed g c =
     let groups = c.in-Ok.groups in
     let findings = c.in_ok-findings.findings.items in
     let tried = subject c.args.trial in
@@ -25,7 +25,7 @@ explored_printed-requires-clause-failed c =
     subst (λ (all : List Finding). failed_of all < 2 ^ 64) (sym c.deref-2.ensures.value) less
 
 pub returns : goal.returns
-returns c =
+returns g c =
     let groups = c.in-Ok.groups in
     let findings = c.in_ok-findings.findings.items in
     let before = c.args.before.now in

@@ -8,7 +8,7 @@ use Rattle.explore_texts.specs.declared.schedule.Schedule.{Schedule}
 use Rattle.explore_commands.proofs.explore.trial_explored.Goals as goal
 
 pub returns-in-Some : goal.returns-in-Some
-returns-in-Some c =
+returns-in-Some g c =
     let tried = subject c.args.trial in
     let options = c.args.options in
     let in_reach = nat_le options.reach limit.WORK in

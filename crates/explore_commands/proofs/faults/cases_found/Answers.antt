@@ -15,7 +15,7 @@ abbrev no_case : FaultCase
 no_case = record { thread = 0; number = 0; injected = injected.Fail errno.EBADF }
 
 pub loop-case-preserved : goal.loop-case-preserved
-loop-case-preserved c =
+loop-case-preserved g c =
     let cases = c.args.cases.now in
     let k = c.loop-case.case-index in
     let before = c.loop-case.findings.items in

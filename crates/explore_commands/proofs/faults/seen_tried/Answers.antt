@@ -12,7 +12,7 @@ use Rattle.explore_commands.proofs.Failing.{cases_below}
 use Rattle.explore_commands.proofs.faults.seen_tried.Goals as goal
 
 pub cases_printed-requires : goal.cases_printed-requires
-cases_printed-requires c =
+cases_printed-requires g c =
     let tried = subject c.args.trial in
     let before = c.args.before.now in
     let findings = c.in_ok-findings.findings.items in
@@ -25,7 +25,7 @@ cases_printed-requires c =
     subst (λ (all : List Finding). failed_of all < 2 ^ 64) (sym c.deref-3.ensures.value) less
 
 pub returns : goal.returns
-returns c =
+returns g c =
     let tried = subject c.args.trial in
     let before = c.args.before.now in
     let findings = c.in_ok-findings.findings.items in
