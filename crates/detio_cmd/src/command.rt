@@ -177,6 +177,8 @@ those of one delay, by thread, line and units. The lines of groups, and the sums
   runs COUNT groups COUNT failed COUNT left out COUNT
 with the delays of the first list of the group, and how many lists were not run.
 
+--jobs N makes the runs in N threads. What is printed is the same.
+
 --only CASE runs one seed, or the list with this number. With --write its scripts are written, with their delays, to new files:
 their paths are printed, and detio plain, record and replay take them. With --log too, the log of
 that run goes to DIR/run.log, and detio replay takes it. detio minimise reduces them.
@@ -232,6 +234,8 @@ and error:
 The ends of these lines are those of detio explore. The last line is
   cases COUNT failed COUNT
 A case failed if a reply was not as expected.
+
+--jobs N makes the runs in N threads. What is printed is the same.
 
 --only THREAD NUMBER ERROR, or a count in place of ERROR, is one case. The log of its run is written
 to the new file --out, whose path is printed, and detio replay takes it. A count is that of a read or
@@ -681,7 +685,8 @@ fn explore<'a>(alloc: Global) -> Result<Command<'a>, AllocError> {
     );
     let command = command.arg(seeds(alloc))?.arg(delays(alloc)?)?;
     let command = command.arg(most(alloc)?)?.arg(only(alloc)?)?;
-    let command = command.arg(reach(alloc))?.arg(write(alloc)?)?;
+    let command = command.arg(reach(alloc))?.arg(jobs(alloc))?;
+    let command = command.arg(write(alloc)?)?;
     let command = command.arg(patience(alloc))?.arg(door_cost(alloc))?;
     command.arg(outcomes(alloc)?)?.arg(scripts(alloc))
 }
@@ -742,6 +747,15 @@ fn write<'a>(alloc: Global) -> Result<Arg<'a>, AllocError> {
         .requires_arg("only")
 }
 
+fn jobs<'a>(alloc: Global) -> Arg<'a> {
+    Arg::new(alloc, "jobs")
+        .long("jobs")
+        .value_name("N")
+        .value_parser(value_parser!(usize).range(1..=64))
+        .default_value("1")
+        .help("In how many threads runs are made, 1 to 64")
+}
+
 fn reach<'a>(alloc: Global) -> Arg<'a> {
     Arg::new(alloc, "reach")
         .long("reach")
@@ -765,7 +779,8 @@ fn faults<'a>(alloc: Global) -> Result<Command<'a>, AllocError> {
     );
     let command = command.arg(log)?.arg(errors(alloc))?;
     let command = command.arg(short(alloc))?.arg(then(alloc)?)?;
-    with_one_case(alloc, command)?.arg(scripts(alloc))
+    let command = with_one_case(alloc, command)?;
+    command.arg(jobs(alloc))?.arg(scripts(alloc))
 }
 
 fn minimise<'a>(alloc: Global) -> Result<Command<'a>, AllocError> {

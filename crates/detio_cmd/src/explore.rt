@@ -3,11 +3,16 @@ use crate::progress::ProgressLine;
 use crate::writing::write_scripts;
 use clap::ArgMatches;
 use commands::settings_of;
-use explore_commands::{ExploreOptions, Schedules, explore_over, to_minimise, to_write};
-use std::alloc::AllocError;
+use explore_commands::{ExploreOptions, Schedules, Workers, explore_over, to_minimise, to_write};
+use std::alloc::{AllocError, Global};
+use std::thread::Threads;
 
 // `detio explore`, as the command line has it.
-pub(crate) fn run_explore(rt: &HostRuntime, matches: &ArgMatches<'_>) -> Result<u8, AllocError> {
+pub(crate) fn run_explore<T: Threads + Sync>(
+    rt: &HostRuntime,
+    threads: &T,
+    matches: &ArgMatches<'_>,
+) -> Result<u8, AllocError> {
     let Some(options) = options(matches) else {
         return Ok(not_seeds(rt));
     };
@@ -24,9 +29,15 @@ pub(crate) fn run_explore(rt: &HostRuntime, matches: &ArgMatches<'_>) -> Result<
         let to_write = to_write(alloc, settings, options, log, sources)?;
         return write_scripts(rt, to_write, folder, by_log);
     }
+    keep_memory(alloc);
     let mut progress = ProgressLine::new(rt);
     let (mut output, mut errors) = (rt.stdout(), rt.stderr());
+    let workers = Workers {
+        threads,
+        jobs: jobs(matches),
+    };
     let status = explore_over(
+        &workers,
         alloc,
         settings,
         options,
@@ -52,8 +63,21 @@ pub(crate) fn run_minimise(rt: &HostRuntime, matches: &ArgMatches<'_>) -> Result
     let log = matches.get_str("log").map(|path| open_source(rt, path));
     let by_log = log.is_some();
     let sources = open_scripts(rt, matches.get_strs("script").unwrap_or(&[]))?;
+    keep_memory(rt.alloc());
     let to_write = to_minimise(rt.alloc(), settings, log, sources)?;
     write_scripts(rt, to_write, folder, by_log)
+}
+
+// Has the allocator keep what a run gives back, for the next run. That of glibc gives memory back to
+// the system where more is free than twice the largest block that was, and a run costs some forty
+// calls of the system for that. Without memory nothing is changed.
+pub(crate) fn keep_memory(alloc: Global) {
+    let _ = Vec::<u8>::with_capacity(alloc, 16 << 20);
+}
+
+// In how many threads runs are made.
+pub(crate) fn jobs(matches: &ArgMatches<'_>) -> usize {
+    matches.get_one::<usize>("jobs").unwrap_or(1)
 }
 
 fn options(matches: &ArgMatches<'_>) -> Option<ExploreOptions> {

@@ -1,15 +1,21 @@
+use crate::explore::{jobs, keep_memory};
 use crate::input::{open_scripts, open_source};
 use crate::progress::ProgressLine;
 use crate::writing::write_log;
 use clap::ArgMatches;
 use expectations::error_named;
-use explore_commands::{FaultOptions, faults_over, to_write_case};
+use explore_commands::{FaultOptions, Workers, faults_over, to_write_case};
 use fault_injection::{Choice, FaultCase, Filling, Injected};
 use posix_terms::Errno;
 use std::alloc::{AllocError, Global};
+use std::thread::Threads;
 
 // `detio faults`, as the command line has it.
-pub(crate) fn run_faults(rt: &HostRuntime, matches: &ArgMatches<'_>) -> Result<u8, AllocError> {
+pub(crate) fn run_faults<T: Threads + Sync>(
+    rt: &HostRuntime,
+    threads: &T,
+    matches: &ArgMatches<'_>,
+) -> Result<u8, AllocError> {
     let Some(path) = matches.get_str("log") else {
         return Ok(2);
     };
@@ -32,8 +38,14 @@ pub(crate) fn run_faults(rt: &HostRuntime, matches: &ArgMatches<'_>) -> Result<u
     };
     let log = open_source(rt, path);
     let sources = open_scripts(rt, matches.get_strs("script").unwrap_or(&[]))?;
+    keep_memory(rt.alloc());
     let mut progress = ProgressLine::new(rt);
+    let workers = Workers {
+        threads,
+        jobs: jobs(matches),
+    };
     let status = faults_over(
+        &workers,
         rt.alloc(),
         options,
         log,

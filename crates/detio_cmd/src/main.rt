@@ -83,8 +83,8 @@ fn run_matches<O: Outside + Send + Drop, N: NewOutsides<O> + Drop, T: Threads + 
 ) -> Result<u8, AllocError> {
     match matches.subcommand() {
         Some(("plain", matches)) => run_plain(rt, matches),
-        Some(("explore", matches)) => run_explore(rt, matches),
-        Some(("faults", matches)) => run_faults(rt, matches),
+        Some(("explore", matches)) => run_explore(rt, handles, matches),
+        Some(("faults", matches)) => run_faults(rt, handles, matches),
         Some(("minimise", matches)) => run_minimise(rt, matches),
         Some(("record", matches)) => run_record(rt, handles, outsides, matches),
         Some(("replay", matches)) => run_replay(rt, handles, matches),

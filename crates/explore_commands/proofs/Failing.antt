@@ -1,15 +1,19 @@
 -- What is found of cases, one after the other, and how many failed.
-use Rattle.std.proofs.Common.{◌≤◌, ℕ, Bool, true, false, List, [], ◌∷◌, ◌++◌, Option, length, arith}
+use Rattle.std.proofs.Common.{◌≡◌, ◌≤◌, ◌<◌, ◌+◌, ℕ, suc, Bool, true, false, List, [], ◌∷◌, ◌++◌, Option}
+use Rattle.std.proofs.Common.{Err, Ok, Result, ap, append_assoc, arith, get_or, length, subst, sym}
+use Rattle.std.proofs.lemmas.List.{append-nil, length-append}
 use Rattle.std.proofs.lemmas.List.Sums.{sum_by-cons}
 use Rattle.std.specs.List.{AllZip}
 use Rattle.std.specs.Option.{is_some}
-use Rattle.std.specs.Prelude.{if◌then◌else◌}
+use Rattle.std.specs.Prelude.{IfOk, if◌then◌else◌}
+use Rattle.std.specs.declared.alloc.AllocError.{AllocError}
 use Rattle.explorer.specs.Subject.{Subject}
 use Rattle.explorer.specs.declared.observation.Observation.{Observation}
 use Rattle.fault_injection.specs.declared.cases.FaultCase.{FaultCase}
 use Rattle.fault_injection.specs.declared.filling.Filling.{Filling}
 use Rattle.explore_texts.specs.Found.{failed_of}
 use Rattle.explore_commands.specs.Injections.{IsCaseFinding}
+use Rattle.explore_commands.specs.Pushed.{ArePushed}
 use Rattle.explore_texts.specs.declared.finding.Finding.{Finding}
 
 -- the elements and one more of each
@@ -38,3 +42,31 @@ cases_below filling subject before (case ∷ cases) (finding ∷ findings) all =
     let here = at_most (is_some found.unmet) 1 in
     let rest = cases_below filling subject before cases findings all.1 in
     omega (arith, failed, found.failed, here, rest)
+
+-- those that were found next are of the next cases
+pub pairs_pushed : (R : FaultCase → Finding → Type 0) (next : List FaultCase)
+    (found : List (Result Finding AllocError)) (cases : List FaultCase) (old new : List Finding)
+    → AllZip R cases old → length found ≡ length next → ArePushed found old new
+    → ((i : ℕ) (d : Result Finding AllocError) (e : FaultCase) → i < length next
+    → IfOk (get_or found i d) (R (get_or next i e)))
+    → AllZip R (cases ++ next) new
+pairs_pushed R [] [] cases old new all same is each =
+    subst (λ l. AllZip R l new) (sym (append-nil cases))
+    (subst (λ (l : List Finding). AllZip R cases l) (sym is) all)
+pairs_pushed R [] (one ∷ found) cases old new all same is each = absurd (cc same)
+pairs_pushed R (case ∷ next) [] cases old new all same is each = absurd (cc same)
+pairs_pushed R (case ∷ next) (Err none ∷ found) cases old new all same is each = elim is [ ]
+pairs_pushed R (case ∷ next) (Ok finding ∷ found) cases old new all same is each =
+    let here : R case finding = each 0 (Ok finding) case (omega arith) in
+    let more = pairs_more R cases old case finding all here in
+    let rest = pairs_pushed R next found (cases ++ case ∷ []) (old ++ finding ∷ []) new more
+    (omega (arith, same)) is
+    (λ i d e inside. each (suc i) d e (omega (arith, inside))) in
+    subst (λ l. AllZip R l new) (append_assoc cases (case ∷ []) next) rest
+
+pub pushed_length : (found : List (Result Finding AllocError)) (old new : List Finding)
+    → ArePushed found old new → length new ≡ length old + length found
+pushed_length [] old new is = omega (arith, ap length is)
+pushed_length (Err none ∷ found) old new is = elim is [ ]
+pushed_length (Ok finding ∷ found) old new is =
+    omega (arith, pushed_length found (old ++ finding ∷ []) new is, length-append old (finding ∷ []))

@@ -6,3 +6,4 @@ pub mod Injections
 pub mod Writes
 pub mod CaseWrites
 pub mod Minimises
+pub mod Pushed

@@ -10,11 +10,12 @@ use crate::trying::{ToTry, to_try};
 use command_inputs::{bad_settings, needs_scripts};
 use command_texts::{Printed, Source, TextReader, bad_line, fault, no_memory, print};
 use explore_texts::{Schedule, Schedules, cut_of, explored_printed, findings, unmet_in};
-use explorer::{Observation, Progress, RunFault, Trial};
+use explorer::{Observation, Progress, RunFault, Trial, Workers};
 use posix_terms::{Limits, Settings};
 use std::alloc::{AllocError, Global};
 use std::io;
 use std::io::Write;
+use std::thread::Threads;
 
 /// With which delays scripts are run.
 #[derive(Clone, Copy, Debug, PartialEq, Eq)]
@@ -37,7 +38,8 @@ pub struct ExploreOptions {
 /// not so in some run, the status is 1. Where there is no memory, a file cannot be read or the
 /// output cannot be written, that is the fault. `progress` is told of each run. An error is one of
 /// the writer `errors`.
-pub fn explore_over<R: TextReader + Drop, P: Progress, W: Write, E: Write>(
+pub fn explore_over<T: Threads + Sync, R: TextReader + Drop, P: Progress, W: Write, E: Write>(
+    workers: &Workers<'_, T>,
     alloc: Global,
     settings: Settings,
     options: ExploreOptions,
@@ -55,14 +57,15 @@ pub fn explore_over<R: TextReader + Drop, P: Progress, W: Write, E: Write>(
         status (W.contents output.old) (W.contents output.new)
         (E.contents errors.old) (E.contents errors.new)) }
 {
-    match explore_printed(alloc, settings, options, log, sources, progress) {
+    match explore_printed(workers, alloc, settings, options, log, sources, progress) {
         Ok(printed) => print(&printed, output, errors),
         Err(AllocError) => no_memory(errors),
     }
 }
 
 // What is to be printed.
-fn explore_printed<R: TextReader + Drop, P: Progress>(
+fn explore_printed<T: Threads + Sync, R: TextReader + Drop, P: Progress>(
+    workers: &Workers<'_, T>,
     alloc: Global,
     settings: Settings,
     options: ExploreOptions,
@@ -82,14 +85,15 @@ fn explore_printed<R: TextReader + Drop, P: Progress>(
                 outcomes: &outcomes,
                 settings,
             };
-            trial_explored(alloc, trial, options, progress)
+            trial_explored(workers, alloc, trial, options, progress)
         }
         ToTry::Fault(printed) => Ok(printed),
     }
 }
 
 // What is to be printed for a trial.
-fn trial_explored<P: Progress>(
+fn trial_explored<T: Threads + Sync, P: Progress>(
+    workers: &Workers<'_, T>,
     alloc: Global,
     trial: Trial<'_>,
     options: ExploreOptions,
@@ -103,13 +107,14 @@ fn trial_explored<P: Progress>(
     }
     let schedule = Schedule::new(alloc, options.schedules, options.reach, trial.texts)?;
     match schedule {
-        Some(schedule) => scheduled_explored(alloc, trial, options, &schedule, progress),
+        Some(schedule) => scheduled_explored(workers, alloc, trial, options, &schedule, progress),
         None => too_many(alloc),
     }
 }
 
 // What is to be printed for a trial with these delays.
-fn scheduled_explored<P: Progress>(
+fn scheduled_explored<T: Threads + Sync, P: Progress>(
+    workers: &Workers<'_, T>,
     alloc: Global,
     trial: Trial<'_>,
     options: ExploreOptions,
@@ -119,13 +124,14 @@ fn scheduled_explored<P: Progress>(
     ensures { IfOk result (SubjectExplores (subject trial.entry) options schedule.now) }
 {
     match trial.observe(alloc) {
-        Ok(before) => seen_explored(alloc, trial, options, schedule, &before, progress),
+        Ok(before) => seen_explored(workers, alloc, trial, options, schedule, &before, progress),
         Err(fault) => fault_printed(alloc, fault),
     }
 }
 
 // What is to be printed where this was seen in the run without delays.
-fn seen_explored<P: Progress>(
+fn seen_explored<T: Threads + Sync, P: Progress>(
+    workers: &Workers<'_, T>,
     alloc: Global,
     trial: Trial<'_>,
     options: ExploreOptions,
@@ -137,7 +143,7 @@ fn seen_explored<P: Progress>(
         SeenExplores (subject trial.entry) options schedule.now before.now) }
 {
     let cases = options.first..schedule.end(options.end);
-    let groups = match trial.explored(alloc, schedule, cases, progress) {
+    let groups = match trial.explored(workers, alloc, schedule, cases, progress) {
         Ok(groups) => groups,
         Err(fault) => return fault_printed(alloc, fault),
     };

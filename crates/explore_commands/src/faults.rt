@@ -1,4 +1,5 @@
-ghost use Rattle.std.specs.Prelude.{◌≡◌, IfErr, IfOk, map};
+ghost use Rattle.std.specs.Prelude.{◌≡◌, ◌+◌, ◌++◌, ◌<◌, ◌≤◌, ℕ, IfErr, IfOk, OnOk, length, map};
+ghost use Rattle.std.specs.Prelude.{slice_index_or, take};
 ghost use Rattle.std.specs.List.{AllZip};
 ghost use Rattle.command_texts.specs.Printing.{Prints};
 ghost use Rattle.explorer.specs.Runs.{IsFault};
@@ -6,6 +7,7 @@ ghost use Rattle.explorer.specs.Subject.{subject};
 ghost use Rattle.explore_commands.specs.Injections.{AreTried, InjectionsPrint, IsCaseFinding};
 ghost use Rattle.explore_commands.specs.Injections.{SeesCase};
 ghost use Rattle.explore_commands.specs.Injections.{RunsCase, SubjectInjects};
+ghost use Rattle.explore_commands.specs.Pushed.{ArePushed};
 ghost use Rattle.fault_injection.specs.Replaced.{subject_in};
 
 use crate::explore::fault_printed;
@@ -13,11 +15,12 @@ use crate::trying::{ToTry, to_try_by_log};
 use call_machine::Plain;
 use command_texts::{Printed, Source, TextReader, no_memory, print};
 use explore_texts::{Finding, cases_printed, cut_of, found, push_case, unmet_in};
-use explorer::{Observation, Progress, RunFault, Trial, seen_in};
+use explorer::{Observation, Progress, RunFault, Trial, Workers, seen_in};
 use fault_injection::{Choice, FaultCase, Filling, fault_cases, run_fault, run_filled};
 use std::alloc::{AllocError, Global};
 use std::io;
 use std::io::Write;
+use std::thread::{Threads, for_each_mut};
 
 /// How many outcomes are filled in at most in the run of a case.
 pub const MOST_FILLED: u32 = 100;
@@ -39,7 +42,8 @@ pub struct FaultOptions<'a> {
 /// one is not so in some run, the status is 1. Where there is no memory, a file cannot be read or
 /// the output cannot be written, that is the fault. `progress` is told of each case. An error is
 /// one of the writer `errors`.
-pub fn faults_over<R: TextReader + Drop, P: Progress, W: Write, E: Write>(
+pub fn faults_over<T: Threads + Sync, R: TextReader + Drop, P: Progress, W: Write, E: Write>(
+    workers: &Workers<'_, T>,
     alloc: Global,
     options: FaultOptions<'_>,
     log: Source<'_, R>,
@@ -56,14 +60,15 @@ pub fn faults_over<R: TextReader + Drop, P: Progress, W: Write, E: Write>(
         status (W.contents output.old) (W.contents output.new)
         (E.contents errors.old) (E.contents errors.new)) }
 {
-    match faults_read(alloc, options, log, sources, progress) {
+    match faults_read(workers, alloc, options, log, sources, progress) {
         Ok(printed) => print(&printed, output, errors),
         Err(AllocError) => no_memory(errors),
     }
 }
 
 // What is to be printed.
-fn faults_read<R: TextReader + Drop, P: Progress>(
+fn faults_read<T: Threads + Sync, R: TextReader + Drop, P: Progress>(
+    workers: &Workers<'_, T>,
     alloc: Global,
     options: FaultOptions<'_>,
     log: Source<'_, R>,
@@ -82,14 +87,15 @@ fn faults_read<R: TextReader + Drop, P: Progress>(
                 outcomes: &outcomes,
                 settings,
             };
-            trial_tried(alloc, options, trial, progress)
+            trial_tried(workers, alloc, options, trial, progress)
         }
         ToTry::Fault(printed) => Ok(printed),
     }
 }
 
 // What is to be printed for a trial.
-fn trial_tried<P: Progress>(
+fn trial_tried<T: Threads + Sync, P: Progress>(
+    workers: &Workers<'_, T>,
     alloc: Global,
     options: FaultOptions<'_>,
     trial: Trial<'_>,
@@ -98,13 +104,14 @@ fn trial_tried<P: Progress>(
     ensures { IfOk result (SubjectInjects options.entry (subject trial.entry)) }
 {
     match trial.observe(alloc) {
-        Ok(before) => seen_tried(alloc, options, trial, &before, progress),
+        Ok(before) => seen_tried(workers, alloc, options, trial, &before, progress),
         Err(fault) => fault_printed(alloc, fault),
     }
 }
 
 // What is to be printed where this was seen in the run by the outcomes as they are.
-fn seen_tried<P: Progress>(
+fn seen_tried<T: Threads + Sync, P: Progress>(
+    workers: &Workers<'_, T>,
     alloc: Global,
     options: FaultOptions<'_>,
     trial: Trial<'_>,
@@ -116,12 +123,21 @@ fn seen_tried<P: Progress>(
     let cut = cut_of(alloc, trial.texts, before)?;
     let unmet = unmet_in(alloc, trial.texts, before)?;
     let cases = fault_cases(alloc, trial.outcomes, options.choice)?;
-    let findings = cases_found(alloc, options.filling, trial, before, &cases, progress)?;
+    let findings = cases_found(
+        workers,
+        alloc,
+        options.filling,
+        trial,
+        before,
+        &cases,
+        progress,
+    )?;
     cases_printed(alloc, before, &cut, &unmet, &findings)
 }
 
 // What is found of cases, in order.
-fn cases_found<P: Progress>(
+fn cases_found<T: Threads + Sync, P: Progress>(
+    workers: &Workers<'_, T>,
     alloc: Global,
     filling: Option<Filling>,
     trial: Trial<'_>,
@@ -134,11 +150,72 @@ fn cases_found<P: Progress>(
         cases.now findings.items) }
 {
     let mut findings = Vec::new(alloc);
-    for case in cases {
-        findings.push(case_found(alloc, filling, trial, before, *case)?)?;
+    while findings.len() < cases.len() {
+        let made = findings.len();
+        let count = (cases.len() - made).min(workers.at_a_time());
+        let next = next_of(cases, made, count);
+        let found = some_found(workers, alloc, filling, trial, before, next)?;
+        push_all(&mut findings, found)?;
         progress.made(findings.len() as u64, cases.len() as u64, 0);
     }
     Ok(findings)
+}
+
+// So many cases, after so many.
+fn next_of(cases: &[FaultCase], made: usize, count: usize) -> &[FaultCase]
+    requires { made + count ≤ length cases.now }
+    ensures len { length result.now ≡ count }
+    ensures more { take (made + count) cases.now ≡ take made cases.now ++ result.now }
+{
+    &cases[made..made + count]
+}
+
+// Adds these, one after the other. One for which there was no memory is the fault.
+fn push_all(
+    findings: &mut Vec<Finding>,
+    found: Vec<Result<Finding, AllocError>>,
+) -> Result<(), AllocError>
+    ensures { OnOk result (ArePushed found.items findings.old.items findings.new.items) }
+{
+    for one in found {
+        findings.push(one?)?;
+    }
+    Ok(())
+}
+
+// What is found of these cases, in at most so many threads.
+fn some_found<T: Threads + Sync>(
+    workers: &Workers<'_, T>,
+    alloc: Global,
+    filling: Option<Filling>,
+    trial: Trial<'_>,
+    before: &Observation,
+    cases: &[FaultCase],
+) -> Result<Vec<Result<Finding, AllocError>>, AllocError>
+    ensures len { IfOk result (λ found. length found.items ≡ length cases.now) }
+    ensures each { IfOk result (λ found. (i : ℕ) (d : _) (e : _) → i < length cases.now
+        → IfOk (slice_index_or found.items i d)
+        (IsCaseFinding filling (subject trial.entry) before.now (slice_index_or cases.now i e))) }
+{
+    let mut found = places(alloc, cases.len())?;
+    for_each_mut(
+        workers.threads,
+        found.as_mut_slice(),
+        workers.jobs.max(1),
+        &|i, one| *one = case_found(alloc, filling, trial, before, cases[i]),
+    );
+    Ok(found)
+}
+
+// A place for what is found of each of so many cases.
+fn places(alloc: Global, count: usize) -> Result<Vec<Result<Finding, AllocError>>, AllocError>
+    ensures { IfOk result (λ places. length places.items ≡ count) }
+{
+    let mut places = Vec::with_capacity(alloc, count)?;
+    for _ in 0..count {
+        places.push(Err(AllocError))?;
+    }
+    Ok(places)
 }
 
 // What is found of a case.

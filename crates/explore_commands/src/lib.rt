@@ -24,7 +24,7 @@ mod writing;
 pub use case_log::to_write_case;
 pub use explore::{ExploreOptions, explore_over};
 pub use explore_texts::Schedules;
-pub use explorer::Progress;
+pub use explorer::{Progress, Workers};
 pub use faults::{FaultOptions, MOST_FILLED, faults_over};
 pub use minimise::to_minimise;
 pub use writing::{ToWrite, to_write};

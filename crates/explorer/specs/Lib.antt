@@ -10,3 +10,4 @@ pub mod Faults
 pub mod Runs
 pub mod Cases
 pub mod Laws
+pub mod Joining

@@ -17,7 +17,7 @@
 //! none. Each run takes outcomes of its own, which [`outcomes_copied`] gives.
 //!
 //! ```rust
-//! use explorer::{Chance, NoProgress, Trial, varied};
+//! use explorer::{Chance, NoProgress, Trial, Workers, varied};
 //! use posix_terms::{Bytes, Outcomes, Settings};
 //!
 //! // Both threads look whether the file is there before they make it.
@@ -42,7 +42,11 @@
 //!     outcomes: &outcomes,
 //!     settings,
 //! };
-//! let groups = trial.explored(alloc, &chance, 0..20, &mut NoProgress)?;
+//! let workers = Workers {
+//!     threads: &rt,
+//!     jobs: 2,
+//! };
+//! let groups = trial.explored(&workers, alloc, &chance, 0..20, &mut NoProgress)?;
 //! assert!(rt; groups.as_slice().iter().map(|group| group.runs).sum::<u64>() == 20);
 //! ```
 #![tactic(auto)]
@@ -56,11 +60,13 @@ mod groups;
 mod laws;
 mod lists;
 mod observation;
+mod observing;
 mod places;
 mod progress;
 mod runs;
 mod trial;
 mod vary;
+mod workers;
 
 pub use chance::Chance;
 pub use copies::{given_copied, outcomes_copied};
@@ -76,3 +82,4 @@ pub use progress::{NoProgress, Progress};
 pub use runs::{run_texts, seen_in};
 pub use trial::Trial;
 pub use vary::{varied, varied_texts};
+pub use workers::Workers;

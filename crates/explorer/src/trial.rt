@@ -9,13 +9,16 @@ use crate::delays::Delays;
 use crate::fault::RunFault;
 use crate::groups::Groups;
 use crate::observation::Observation;
+use crate::observing::{join_all, observe_cases};
 use crate::progress::Progress;
 use crate::runs::{run_copied, seen_in};
 use crate::vary::varied_texts;
+use crate::workers::Workers;
 use call_machine::Plain;
 use posix_terms::{Bytes, Outcomes, Settings};
 use std::alloc::Global;
 use std::ops::Range;
+use std::thread::Threads;
 
 /// Scripts to be run: as they are, or with changes.
 #[derive(Clone, Copy, Debug)]
@@ -29,9 +32,10 @@ pub struct Trial<'a> {
 
 impl Trial<'_> {
     /// The groups of the runs of these cases, one run for each, in order. A run that cannot be made
-    /// is the fault. `progress` is told of each run.
-    pub fn explored<D: Delays, P: Progress>(
+    /// is the fault. `progress` is told each time that the workers have made theirs.
+    pub fn explored<T: Threads + Sync, D: Delays + Sync, P: Progress>(
         self,
+        workers: &Workers<'_, T>,
         alloc: Global,
         delays: &D,
         cases: Range<u64>,
@@ -45,11 +49,14 @@ impl Trial<'_> {
             IsFaultOf (subject self.entry) (D.delays_of delays.now) cases.start cases.end) }
     {
         let mut groups = Groups::new(alloc);
-        for case in cases.start..cases.end {
-            let observation = self.observe_case(alloc, delays, case)?;
-            groups.join(case, observation)?;
-            let made = case - cases.start + 1;
-            progress.made(made, cases.end - cases.start, groups.as_slice().len());
+        let mut case = cases.start;
+        while case < cases.end {
+            let count = (cases.end - case).min(workers.at_a_time() as u64);
+            let seen = observe_cases(workers, alloc, self, delays, case, count as usize)?;
+            join_all(&mut groups, case, seen)?;
+            case += count;
+            let all = cases.end - cases.start;
+            progress.made(case - cases.start, all, groups.as_slice().len());
         }
         Ok(groups)
     }

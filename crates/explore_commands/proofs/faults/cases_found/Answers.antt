@@ -1,32 +1,51 @@
-use Rattle.std.proofs.Common.{◌≡◌, ◌+◌, ◌<◌, ◌++◌, [], ◌∷◌, List, length, take}
-use Rattle.std.proofs.Common.{get_or, subst, sym, rules}
-use Rattle.std.proofs.lemmas.List.{take_more}
+use Rattle.std.proofs.Common.{rules, ◌≡◌, ◌∙◌, ◌+◌, ◌<◌, ◌≤◌, ◌++◌, ℕ, List, arith, length, subst, sym, take}
 use Rattle.std.specs.List.{AllZip}
-use Rattle.posix_terms.specs.declared.errno.Errno.TheVariants as errno
 use Rattle.explorer.specs.Subject.{subject}
 use Rattle.fault_injection.specs.declared.cases.FaultCase.{FaultCase}
-use Rattle.fault_injection.specs.declared.injected.Injected.TheVariants as injected
 use Rattle.explore_commands.specs.Injections.{IsCaseFinding}
 use Rattle.explore_texts.specs.declared.finding.Finding.{Finding}
-use Rattle.explore_commands.proofs.Failing.{pairs_more}
+use Rattle.explore_commands.proofs.Failing.{pairs_pushed, pushed_length}
 use Rattle.explore_commands.proofs.faults.cases_found.Goals as goal
 
-abbrev no_case : FaultCase
-no_case = record { thread = 0; number = 0; injected = injected.Fail errno.EBADF }
+pub loop-alloc-smaller : goal.loop-alloc-smaller
+loop-alloc-smaller g c =
+    let made = c.len-made.result in
+    let is : made ≡ length c.loop-alloc.findings.items = search rules in
+    let some : 0 < c.min-count.result = search rules in
+    let found = c.in_ok-found.found.items in
+    let len : length found ≡ c.min-count.result =
+    c.in_ok-found.ensures.len ∙ c.next_of-next.ensures.len in
+    let grown = pushed_length found c.loop-alloc.findings.items c.push_all.new.findings.items
+    c.in_ok-push_all.ensures in
+    let before : length c.loop-alloc.findings.items < length c.args.cases.now = search rules in
+    omega (arith, is, some, len, grown, before)
 
-pub loop-case-preserved : goal.loop-case-preserved
-loop-case-preserved g c =
+pub loop-alloc-preserved : goal.loop-alloc-preserved
+loop-alloc-preserved g c =
     let cases = c.args.cases.now in
-    let k = c.loop-case.case-index in
-    let before = c.loop-case.findings.items in
-    let case = get_or cases k no_case in
-    let found = c.in_ok-case_found.field-0 in
+    let old = c.loop-alloc.findings.items in
+    let new = c.push_all.new.findings.items in
+    let found = c.in_ok-found.found.items in
+    let next = c.next_of-next.result.now in
+    let made = c.len-made.result in
+    let count = c.min-count.result in
     let R = IsCaseFinding c.args.filling (subject c.args.trial) c.args.before.now in
-    let inside : k < length cases = search rules in
-    let so_far : take (k + 1) cases ≡ take k cases ++ case ∷ [] =
-    take_more cases k no_case inside in
-    let added : c.push.new.self.items ≡ before ++ found ∷ [] = search rules in
-    let more = pairs_more R (take k cases) before case found c.loop-case.invariant
-    c.in_ok-case_found.ensures in
-    subst (λ (all : List FaultCase). AllZip R all c.push.new.self.items) (sym so_far)
-    (subst (λ (all : List Finding). AllZip R (take k cases ++ case ∷ []) all) (sym added) more)
+    let is : length old ≡ made = search rules in
+    let within : made + count ≤ length cases = search rules in
+    let so_far = subst (λ (n : ℕ). AllZip R (take n cases) old) is c.loop-alloc.invariant.found in
+    let pushed = c.in_ok-push_all.ensures in
+    let all = pairs_pushed R next found (take made cases) old new so_far
+    c.in_ok-found.ensures.len pushed c.in_ok-found.ensures.each in
+    let grown : length new ≡ made + count =
+    omega (
+      arith,
+      pushed_length found old new pushed,
+      is,
+      c.in_ok-found.ensures.len,
+      c.next_of-next.ensures.len,
+    ) in
+    record {
+      found = subst (λ (n : ℕ). AllZip R (take n cases) new) (sym grown)
+          (subst (λ (l : List FaultCase). AllZip R l new) (sym c.next_of-next.ensures.more) all);
+      within = omega (arith, grown, within);
+    }

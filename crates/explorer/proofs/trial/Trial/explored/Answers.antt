@@ -1,42 +1,73 @@
-use Rattle.std.proofs.Common.{◌≡◌, ◌+◌, ◌-◌, ◌<◌, ◌^◌, [], arith, rules, subst, ℕ}
+use Rattle.std.proofs.Common.{rules, ◌≡◌, ◌⊎◌, ◌+◌, ◌-◌, ◌<◌, ◌≤◌, ◌∙◌, [], ℕ, Err, IfErr, List, Result, arith}
+use Rattle.std.proofs.Common.{Option, inl, inr, length, subst, sym}
 use Rattle.std.specs.List.{range_with_len}
-use Rattle.explorer.specs.Cases.{CasesJoin}
+use Rattle.explorer.specs.Cases.{CasesJoin, IsFaultOf}
 use Rattle.explorer.specs.Groups.{runs_of}
-use Rattle.explorer.specs.Subject.{subject}
-use Rattle.explorer.proofs.Grouping.{each_below, next_case, one_more_run}
+use Rattle.explorer.specs.Joining.{HasFault}
+use Rattle.explorer.specs.Subject.{Subject, subject}
+use Rattle.explorer.specs.declared.fault.RunFault.{RunFault}
+use Rattle.explorer.specs.declared.fault.RunFault.TheVariants as fault
+use Rattle.explorer.specs.declared.groups.Group.{Group}
+use Rattle.explorer.specs.declared.observation.Observation.{Observation}
+use Rattle.explorer.proofs.Grouping.{EachGives, all_runs_more, fault_among, next_cases, no_memory}
 use Rattle.explorer.proofs.trial.Trial.explored.Goals as goal
 
-pub join-requires : goal.join-requires
-join-requires g c =
+-- why one of these cases was not made, where it was for want of memory or is among these
+of_either : (tried : Subject) (delays : ℕ → ℕ → ℕ → Option ℕ) (start case end : ℕ)
+    (seen : List (Result Observation RunFault)) (why : RunFault) → start ≤ case → case < end
+    → case + length seen ≤ end → EachGives tried delays case seen
+    → (why ≡ fault.Memory) ⊎ HasFault seen why → IsFaultOf tried delays start end why
+of_either tried delays start case end seen why from before within each (inl none) =
+    subst (IsFaultOf tried delays start end) (sym none)
+    (no_memory tried delays start case end from before)
+of_either tried delays start case end seen why from before within each (inr found) =
+    fault_among tried delays start case end seen why from within each found
+
+pub returns-in_err-join_all-clause-err : goal.returns-in_err-join_all-clause-err
+returns-in_err-join_all-clause-err g c =
     let inv = c.loop-case.invariant in
-    let fits : c.args.cases.end < 2 ^ 64 = search rules in
-    let less : runs_of c.loop-case.groups + 1 < 2 ^ 64 =
-    omega (arith, inv.counted, inv.from, inv.ends, c.loop-case-test.true, fits) in
-    each_below c.loop-case.groups (2 ^ 64) less
+    let tried = subject c.args.self in
+    let delays = g.D.Delays.delays_of c.args.delays.now in
+    let seen = c.in_ok-seen.seen.items in
+    let case = c.loop-case.case in
+    let end = c.args.cases.end in
+    let why = c.in_err-join_all.field-0.0 in
+    let count : length seen ≡ c.min-count.result = c.in_ok-seen.ensures.len in
+    let less : c.min-count.result ≤ end - case = search rules in
+    let before : case < end = c.loop-case-test.true in
+    let each : EachGives tried delays case seen =
+    λ i d inside. c.in_ok-seen.ensures.each i d (omega (arith, inside, count)) in
+    let is : c.from_residual-in_err-join_all.result ≡ Err why = search rules in
+    subst
+    (λ (r : Result (List Group) RunFault).
+    IfErr r (IsFaultOf tried delays c.args.cases.start end))
+    (sym is)
+    (of_either tried delays c.args.cases.start case end seen why inv.from before
+    (omega (arith, count, less, before)) each c.in_err-join_all.ensures.err)
 
 pub loop-case-preserved : goal.loop-case-preserved
 loop-case-preserved g c =
     let inv = c.loop-case.invariant in
+    let tried = subject c.args.self in
+    let delays = g.D.Delays.delays_of c.args.delays.now in
+    let seen = c.in_ok-seen.seen.items in
     let case = c.loop-case.case in
-    let seen = c.in_ok-observation.observation in
-    let joins = c.in_ok-join.ensures.ok in
-    let more = one_more_run case seen c.loop-case.groups c.join.new.self joins in
+    let start = c.args.cases.start in
+    let end = c.args.cases.end in
+    let now = c.join_all.new.groups in
+    let count : length seen ≡ c.min-count.result = c.in_ok-seen.ensures.len in
+    let less : c.min-count.result ≤ end - case = search rules in
+    let before : case < end = c.loop-case-test.true in
+    let each : EachGives tried delays case seen =
+    λ i d inside. c.in_ok-seen.ensures.each i d (omega (arith, inside, count)) in
+    let joins = c.in_ok-join_all.ensures.ok in
+    let more = all_runs_more case seen c.loop-case.groups now joins in
     record {
-      joined = next_case (subject c.args.self) (g.D.Delays.delays_of c.args.delays.now)
-          c.args.cases.start case c.loop-case.groups c.join.new.self inv.from inv.joined
-          (seen, c.in_ok-observation.ensures.ok, joins);
-      counted = omega (arith, more, inv.counted, inv.from);
+      joined = subst
+          (λ (n : ℕ). CasesJoin tried delays [] (range_with_len start (case + n - start)) now) count
+          (next_cases tried delays start case seen c.loop-case.groups now inv.from inv.joined joins
+          each);
+      counted = omega (arith, more, inv.counted, inv.from, count);
       from = omega (arith, inv.from);
-      within = omega (arith, inv.from, inv.ends, c.loop-case-test.true);
-      ends = inv.ends;
+      within = omega (arith, inv.from, less, before);
     }
-
-pub returns-clause-ok : goal.returns-clause-ok
-returns-clause-ok g c =
-    let inv = c.loop-case.invariant in
-    let all : c.loop-case.case - c.args.cases.start ≡ c.args.cases.end - c.args.cases.start =
-    omega (arith, inv.from, inv.within, inv.ends, c.loop-case-test.false) in
-    subst (λ (n : ℕ).
-    CasesJoin (subject c.args.self) (g.D.Delays.delays_of c.args.delays.now) []
-    (range_with_len c.args.cases.start n) c.loop-case.groups)
-    all inv.joined

@@ -13,5 +13,8 @@ invariant-loop-case g l = record {
   counted : runs_of l.groups ≡ l.case - l.fn.cases.start;
   from : l.fn.cases.start ≤ l.case;
   within : l.case - l.fn.cases.start ≤ l.fn.cases.end - l.fn.cases.start;
-  ends : l.case-end ≡ l.fn.cases.end;
 }
+
+-- the cases to come
+abbrev pub decreases-loop-case : goal.decreases-loop-case
+decreases-loop-case g l = l.cases.end - l.case

@@ -1,0 +1,72 @@
+ghost use Rattle.std.specs.Prelude.{◌≡◌, ◌⊎◌, ◌+◌, ◌<◌, ◌^◌, ℕ, IfErr, IfOk, OnOk, length};
+ghost use Rattle.std.specs.Prelude.{slice_index_or};
+ghost use Rattle.explorer.specs.Cases.{CaseGives};
+ghost use Rattle.explorer.specs.Groups.{runs_of};
+ghost use Rattle.explorer.specs.Joining.{AllJoin, HasFault};
+ghost use Rattle.explorer.specs.declared.fault.RunFault.TheVariants as fault;
+ghost use Rattle.explorer.specs.Subject.{subject};
+
+use crate::delays::Delays;
+use crate::fault::RunFault;
+use crate::groups::Groups;
+use crate::observation::Observation;
+use crate::trial::Trial;
+use crate::workers::Workers;
+use std::alloc::{AllocError, Global};
+use std::thread::{Threads, for_each_mut};
+
+// Has what the runs of cases gave join the groups, one after the other; the first case has this
+// number. A run that was not made is the fault.
+pub(crate) fn join_all(
+    groups: &mut Groups,
+    first: u64,
+    seen: Vec<Result<Observation, RunFault>>,
+) -> Result<(), RunFault>
+    requires runs { runs_of groups.old + length seen.items < 2 ^ 64 }
+    requires cases { first + length seen.items < 2 ^ 64 }
+    ensures ok { OnOk result (AllJoin first seen.items groups.old groups.new) }
+    ensures err { IfErr result (λ why. (why ≡ fault.Memory) ⊎ HasFault seen.items why) }
+{
+    let mut case = first;
+    for one in seen {
+        groups.join(case, one?)?;
+        case += 1;
+    }
+    Ok(())
+}
+
+// What so many cases give, from this one on, in at most so many threads.
+pub(crate) fn observe_cases<T: Threads + Sync, D: Delays + Sync>(
+    workers: &Workers<'_, T>,
+    alloc: Global,
+    trial: Trial<'_>,
+    delays: &D,
+    first: u64,
+    count: usize,
+) -> Result<Vec<Result<Observation, RunFault>>, AllocError>
+    requires { first + count < 2 ^ 64 }
+    ensures len { IfOk result (λ seen. length seen.items ≡ count) }
+    ensures each { IfOk result (λ seen. (i : ℕ) (d : _) → i < count
+        → CaseGives (subject trial.entry) (D.delays_of delays.now) (first + i)
+        (slice_index_or seen.items i d)) }
+{
+    let mut seen = places(alloc, count)?;
+    for_each_mut(
+        workers.threads,
+        seen.as_mut_slice(),
+        workers.jobs.max(1),
+        &|i, one| *one = trial.observe_case(alloc, delays, first + i as u64),
+    );
+    Ok(seen)
+}
+
+// A place for what each of so many cases gives.
+fn places(alloc: Global, count: usize) -> Result<Vec<Result<Observation, RunFault>>, AllocError>
+    ensures { IfOk result (λ places. length places.items ≡ count) }
+{
+    let mut places = Vec::with_capacity(alloc, count)?;
+    for _ in 0..count {
+        places.push(Err(RunFault::Memory))?;
+    }
+    Ok(places)
+}
