@@ -1,10 +1,11 @@
 #!/usr/bin/env python3
-"""Says what `detio explore` has to print, by runs of `detio plain`: `tools/explored.py [--seeds A..B] [--reach N] SCRIPT..`,
-or with `--delays D [--most N]` in place of seeds.
+"""Says what `detio explore` has to print, by runs of `detio plain`:
+`tools/explored.py [--seeds A..B] [--reach N] SCRIPT..`, or with `--delays D [--most N]` in place of seeds.
 
-It varies the scripts and groups the runs in code of its own, after docs/exploring.md, and takes what each run gives from
-`detio plain --expect`. With --check it compares that with what `detio explore` prints, and the scripts that it writes for the
-first seed or the last list with its own. tools/soak does the same for scripts made by chance.
+It varies the scripts and groups the runs in code of its own, after docs/exploring.md, and takes what each
+run gives from `detio plain --expect`. With --check it compares that with what `detio explore` prints, and the
+scripts that it writes for the first seed or the last list with its own. tools/soak does the same for scripts
+made by chance.
 """
 import argparse
 import os
@@ -116,8 +117,10 @@ def is_cut_off(text, rows):
 
 def ending(run, texts):
     """How a run ended, and which threads were cut off in it."""
-    cut = [str(thread) for thread, (text, rows) in enumerate(zip(texts, run[0])) if run[1] == "end" and is_cut_off(text, rows)]
-    return run[1] + (f" cut off {','.join(cut)}" if cut else "")
+    rows, end = run[:2]
+    seen = enumerate(zip(texts, rows)) if end == "end" else ()
+    cut = [str(thread) for thread, (text, rows_of) in seen if is_cut_off(text, rows_of)]
+    return end + (f" cut off {','.join(cut)}" if cut else "")
 
 
 def difference(before, now):
@@ -136,7 +139,7 @@ def by_seeds(texts, seeds, reach):
 
 
 def lists_of(texts, most_delays, reach):
-    """All lists of at most so many delays at two lines of calls: those of none, of one, of two; by thread, line and units."""
+    """All lists of at most so many delays, 1 or 2, each at a line of a call of its own: by thread, line and units."""
     places = [
         (thread, number)
         for thread, text in enumerate(texts)
@@ -170,7 +173,7 @@ def by_lists(texts, lists):
 
 
 def explored(program, texts, cases, left="", settings=()):
-    """Status, standard output and standard error of `detio explore`, for scripts that have no fault, and these cases."""
+    """Status, standard output and standard error of `detio explore`, for scripts without a fault and these cases."""
     before, groups, failed, count = plain(program, texts, settings), {}, 0, 0
     for words, varied_texts in cases:
         for thread, text in enumerate(varied_texts):

@@ -165,13 +165,13 @@ A thread ends once it has executed 10000 lines, and with its delays a long loop 
 Where all threads ended, such threads are named after END: cut off THREAD,THREAD. With its delays a
 script has at most 1000 lines.
 
-Without --log nothing comes from outside, as under detio plain, and a run stops where it asks for it.
-With --log the calls that go outside take the outcomes of that log, in their order and whatever
+Without --log nothing comes from outside, as under detio plain, and a run stops where it asks for
+it. With --log the calls that go outside take the outcomes of that log, in their order and whatever
 their clocks, and the patience and the door cost are the log's. A run stops where a thread asks what
 the log does not answer. Expectations after a stop are not looked at.
 
---delays D runs lists of delays in place of seeds (delay bounding): every list of at most D delays, 1
-or 2, each of 1 to --reach units at one line of a call, up to --most. List 0 is empty, then come
+--delays D runs lists of delays in place of seeds (delay bounding): every list of at most D delays,
+1 or 2, each of 1 to --reach units at one line of a call, up to --most. List 0 is empty, then come
 those of one delay, by thread, line and units. The lines of groups, and the sums, have
   list FIRST delay THREAD LINE UNITS runs COUNT ..
   runs COUNT groups COUNT failed COUNT left out COUNT
@@ -179,9 +179,10 @@ with the delays of the first list of the group, and how many lists were not run.
 
 --jobs N makes the runs in N threads. What is printed is the same.
 
---only CASE runs one seed, or the list with this number. With --write its scripts are written, with their delays, to new files:
-their paths are printed, and detio plain, record and replay take them. With --log too, the log of
-that run goes to DIR/run.log, and detio replay takes it. detio minimise reduces them.
+--only CASE runs one seed, or the list with this number. With --write its scripts are written, with
+their delays, to new files: their paths are printed, and detio plain, record and replay take them.
+With --log too, the log of that run goes to DIR/run.log, and detio replay takes it. detio minimise
+reduces them.
 
 Exit statuses:
   0  all replies are as expected, or the scripts were written
@@ -268,19 +269,21 @@ const MINIMISE_ABOUT: &str = "Reduces failing scripts to what the failure needs"
 
 const MINIMISE_LONG_ABOUT: &str = "Reduces failing scripts to what the failure needs.
 
-The scripts run as under detio plain, and a reply is not as a line #= of a script expects: detio plain
---help. Of the least thread that has one, the first such reply counts. Lines and threads are taken away
-one at a time (delta debugging), always in the same order: lines of work, then all lines of each thread
-from the last to the first, then threads, and so on again. What is taken away stays away if the same line
-#= then fails for the same call and with the same error, before all others. In the end each line and each
-thread that is left is needed: without any one of them that line #= does not fail so.
+The scripts run as under detio plain, and a reply is not as a line #= of a script expects: detio
+plain --help. Of the least thread that has one, the first such reply counts. Lines and threads are
+taken away one at a time (delta debugging), always in the same order: lines of work, then all lines
+of each thread from the last to the first, then threads, and so on again. What is taken away stays
+away if the same line #= then fails for the same call and with the same error, before all others. In
+the end each line and each thread that is left is needed: without any one of them that line #= does
+not fail so.
 
 What is left is written to new files, one for each thread that is left: their paths are printed, and
 detio plain, record and replay take them.
 
-Without --log nothing comes from outside, as under detio plain. With --log the calls that go outside take
-the outcomes of that log, in their order and whatever their clocks, and the patience and the door cost are
-the log's. The log of the run of what is left goes to DIR/run.log then, and detio replay takes it.
+Without --log nothing comes from outside, as under detio plain. With --log the calls that go outside
+take the outcomes of that log, in their order and whatever their clocks, and the patience and the
+door cost are the log's. The log of the run of what is left goes to DIR/run.log then, and detio
+replay takes it.
 
 Each step runs the scripts again, so long scripts take long.
 
