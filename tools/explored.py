@@ -103,7 +103,8 @@ def reply_of(row):
 
 
 def is_cut_off(text, rows):
-    """Whether a thread with these rows ended before its script did."""
+    """Whether a thread with these rows ended before its script did. Whatever stops a run, a thread that is not
+    at a call has ended by then."""
     script, replies = model.Script(text), map(reply_of, rows)
     while True:
         step = script.step()
@@ -118,8 +119,7 @@ def is_cut_off(text, rows):
 def ending(run, texts):
     """How a run ended, and which threads were cut off in it."""
     rows, end = run[:2]
-    seen = enumerate(zip(texts, rows)) if end == "end" else ()
-    cut = [str(thread) for thread, (text, rows_of) in seen if is_cut_off(text, rows_of)]
+    cut = [str(thread) for thread, (text, rows_of) in enumerate(zip(texts, rows)) if is_cut_off(text, rows_of)]
     return end + (f" cut off {','.join(cut)}" if cut else "")
 
 

@@ -7,8 +7,8 @@ Scripts of calls run against files, pipes and pairs of sockets in memory. The or
 comes from logical clocks alone, so a run prints the same each time, on every machine. What calls got
 from outside, from host files and over TCP, stands in a log, and a run is replayed by its log with no
 host file and no network. Two logs are compared by what the threads see when each is replayed. Many
-schedules of one set of scripts are explored by seeds, and many failures by a log; and scripts that
-fail are reduced to what the failure needs.";
+schedules of one set of scripts are explored, by seeds or by lists of delays, and many failures by a
+log; and scripts that fail are reduced to what the failure needs.";
 
 const AFTER_HELP: &str = "Example:
   printf 'open /a rw create\\nwrite 0 x6869\\nlseek 0 0 set\\nread 0 9\\n' > hi.script
@@ -162,8 +162,8 @@ for the least thread, LINE that of the script that was given. The last line is
 A run failed if a reply was not as expected.
 
 A thread ends once it has executed 10000 lines, and with its delays a long loop does so earlier.
-Where all threads ended, such threads are named after END: cut off THREAD,THREAD. With its delays a
-script has at most 1000 lines.
+Threads that ended so, before their scripts did, are named after END: cut off THREAD,THREAD. With its
+delays a script has at most 1000 lines.
 
 Without --log nothing comes from outside, as under detio plain, and a run stops where it asks for
 it. With --log the calls that go outside take the outcomes of that log, in their order and whatever
@@ -171,8 +171,9 @@ their clocks, and the patience and the door cost are the log's. A run stops wher
 the log does not answer. Expectations after a stop are not looked at.
 
 --delays D runs lists of delays in place of seeds (delay bounding): every list of at most D delays,
-1 or 2, each of 1 to --reach units at one line of a call, up to --most. List 0 is empty, then come
-those of one delay, by thread, line and units. The lines of groups, and the sums, have
+1 or 2, each of 1 to --reach units at one line of a call, up to --most. D is 1 where it is not given;
+then another option, or --, comes before the scripts. List 0 is empty, then come those of one delay,
+by thread, line and units. The lines of groups, and the sums, have
   list FIRST delay THREAD LINE UNITS runs COUNT ..
   runs COUNT groups COUNT failed COUNT left out COUNT
 with the delays of the first list of the group, and how many lists were not run.
@@ -240,7 +241,8 @@ A case failed if a reply was not as expected.
 
 --only THREAD NUMBER ERROR, or a count in place of ERROR, is one case. The log of its run is written
 to the new file --out, whose path is printed, and detio replay takes it. A count is that of a read or
-a write which brought more.
+a write which brought more. --then applies here too. Where that run stops, the log has no end, and its
+replay stops with end of log.
 
 Exit statuses:
   0  all replies are as expected, or the log was written
@@ -269,13 +271,14 @@ const MINIMISE_ABOUT: &str = "Reduces failing scripts to what the failure needs"
 
 const MINIMISE_LONG_ABOUT: &str = "Reduces failing scripts to what the failure needs.
 
-The scripts run as under detio plain, and a reply is not as a line #= of a script expects: detio
-plain --help. Of the least thread that has one, the first such reply counts. Lines and threads are
-taken away one at a time (delta debugging), always in the same order: lines of work, then all lines
-of each thread from the last to the first, then threads, and so on again. What is taken away stays
-away if the same line #= then fails for the same call and with the same error, before all others. In
-the end each line and each thread that is left is needed: without any one of them that line #= does
-not fail so.
+The scripts run as under detio plain, and some reply must not be as a line #= below its call expects
+(detio plain --help). The first such reply of the least thread is the failure. Lines and threads are
+taken away one at a time (delta debugging), always in the same order: first the lines of work; then
+all lines of each thread, from the last to the first, and the threads, again and again until nothing
+more goes. What is taken away stays away if the run still fails so: the first reply that is not as
+expected is that of the same call, held to the same line #=, and if it was an error it is the same
+error. In the end each line and each thread that is left is needed: without any one of them the run
+does not fail so.
 
 What is left is written to new files, one for each thread that is left: their paths are printed, and
 detio plain, record and replay take them.
@@ -728,8 +731,8 @@ fn most<'a>(alloc: Global) -> Result<Arg<'a>, AllocError> {
         .value_name("N")
         .value_parser(value_parser!(u64))
         .default_value("100000")
-        .help("How many lists are run at most")
-        .conflicts_with("seeds")?
+        .help("How many lists are run at most, with --delays")
+        .requires_arg("delays")?
         .conflicts_with("only")
 }
 

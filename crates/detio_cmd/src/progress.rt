@@ -26,13 +26,6 @@ impl<'a> ProgressLine<'a> {
             printed: None,
         }
     }
-
-    // Takes the line away again, if it is there.
-    fn end(&self) {
-        if self.printed.is_some() {
-            let _ = eprint!(self.rt; "\r\u{1b}[K");
-        }
-    }
 }
 
 impl Progress for ProgressLine<'_> {
@@ -40,9 +33,6 @@ impl Progress for ProgressLine<'_> {
         let Some(begun) = self.begun else {
             return;
         };
-        if runs == of {
-            return self.end();
-        }
         let Ok(now) = Instant::now(self.rt) else {
             return;
         };
@@ -56,6 +46,13 @@ impl Progress for ProgressLine<'_> {
         } else {
             eprint!(self.rt; "\r{runs} of {of} runs, {groups} groups, {rate} a second\u{1b}[K")
         };
+    }
+
+    // Takes the line away again, if it is there.
+    fn ended(&mut self) {
+        if self.printed.take().is_some() {
+            let _ = eprint!(self.rt; "\r\u{1b}[K");
+        }
     }
 }
 

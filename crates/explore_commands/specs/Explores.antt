@@ -1,12 +1,8 @@
 -- Believed: a contract of a command stands on it.
 -- What `detio explore` prints for the scripts that it reads.
-use Rattle.std.specs.Prelude.{◌≡◌, ◌⊎◌, Bool, true, false}
-use Rattle.std.specs.Prelude.{ℕ, ◌-◌, nat_le}
-use Rattle.std.specs.Prelude.{List, [], codes}
-use Rattle.std.specs.Prelude.{Option}
+use Rattle.std.specs.Prelude.{◌≡◌, ◌⊎◌, ℕ, ◌-◌, List, [], Option, codes}
 use Rattle.std.specs.Fmt.{decimal}
 use Rattle.std.specs.List.{AllZip, range_with_len}
-use Rattle.posix_terms.specs.declared.limits.TheConstants.Limits as limit
 use Rattle.posix_terms.specs.declared.transcript.Settings.{Settings}
 use Rattle.thread_scripts.specs.Faults.{Fault, bad_line, too_long}
 use Rattle.explorer.specs.Cases.{CasesJoin, IsFaultOf}
@@ -21,23 +17,19 @@ use Rattle.command_texts.specs.Transcripts.{◌+++◌}
 use Rattle.command_texts.specs.declared.printed.Printed.{Printed}
 use Rattle.explore_texts.specs.CutOffs.{cut_of}
 use Rattle.explore_texts.specs.Found.{IsFinding, IsUnmetIn, explored_printed}
-use Rattle.explore_texts.specs.Schedules.{IsTooMany, delays_by, end_by, schedule_for}
+use Rattle.explore_texts.specs.Schedules.{delays_by, end_by}
 use Rattle.command_inputs.specs.Faults.{bad_settings}
 use Rattle.explore_commands.specs.declared.explore.ExploreOptions.{ExploreOptions}
+use Rattle.explore_commands.specs.Scheduled.{AreScheduled}
 use Rattle.explore_commands.specs.Tries.{Tries}
 use Rattle.explore_texts.specs.declared.finding.Finding.{Finding}
 use Rattle.explore_texts.specs.declared.schedule.Schedule.{Schedule}
+use Rattle.explore_commands.specs.declared.scheduling.ToSchedule.{ToSchedule}
+use Rattle.explore_commands.specs.declared.scheduling.ToSchedule.TheVariants as delays
 use Rattle.explore_commands.specs.declared.trying.ToTry.{ToTry}
 use Rattle.explore_commands.specs.declared.trying.ToTry.TheVariants as tries
 
 -- ## Faults
-
-abbrev pub bad_reach : Printed
-bad_reach = fault_printed 2 (codes "the reach is 0 to 1000000\n")
-
--- the number of the lists of delays has no room
-abbrev pub too_many : Printed
-too_many = fault_printed 2 (codes "too many lists of delays: a smaller reach has fewer\n")
 
 -- a script has no room for its delays
 abbrev pub no_room : ℕ → Printed
@@ -59,10 +51,7 @@ FaultPrints fault.Memory printed = ⊥
 
 -- ## The command
 
--- the delays that texts run with, and the cases
-abbrev pub schedule_of : ExploreOptions → List (List ℕ) → Schedule
-schedule_of options texts = schedule_for options.schedules options.reach texts
-
+-- the cases that are asked for and are there
 abbrev pub cases_of : ExploreOptions → Schedule → List ℕ
 cases_of options schedule =
     range_with_len options.first (end_by schedule options.end - options.first)
@@ -96,27 +85,27 @@ SubjectExplores subject options schedule printed =
     × SeenExplores subject options schedule before printed)
     ⊎ ((why : RunFault) × IsFault subject why × FaultPrints why printed)
 
--- whether there are too many lists or not
-abbrev pub ScheduleExplores : Subject → ExploreOptions → Printed → Type 0
-ScheduleExplores subject options printed =
-    (IsTooMany (schedule_of options subject.texts) × (printed ≡ too_many))
-    ⊎ SubjectExplores subject options (schedule_of options subject.texts) printed
+-- with these delays, or where there are none
+abbrev pub ScheduleExplores : Subject → ExploreOptions → ToSchedule → Printed → Type 0
+ScheduleExplores subject options (delays.Delays schedule) printed =
+    SubjectExplores subject options schedule printed
+ScheduleExplores subject options (delays.Fault fault) printed = printed ≡ fault
 
--- whether the reach is in its range or not
-abbrev pub ReachExplores : Bool → Subject → ExploreOptions → Printed → Type 0
-ReachExplores false subject options printed = printed ≡ bad_reach
-ReachExplores true subject options printed = ScheduleExplores subject options printed
+abbrev pub TrialExplores : ExploreOptions → Subject → Printed → Type 0
+TrialExplores options subject printed =
+    (made : ToSchedule) × AreScheduled options subject.texts made
+    × ScheduleExplores subject options made printed
 
 -- what is printed for what is to be tried
 abbrev pub TryExplores : ExploreOptions → ToTry → Printed → Type 0
 TryExplores options (tries.Texts texts outcomes settings) printed =
-    ReachExplores (nat_le options.reach limit.WORK)
-    (record { texts = texts.items; outcomes = outcomes.items; settings = settings }) options printed
+    TrialExplores options
+    (record { texts = texts.items; outcomes = outcomes.items; settings = settings }) printed
 TryExplores options (tries.Fault fault) printed = printed ≡ fault
 
 -- What `detio explore` prints for these sources, and for that of a log, if one is given. Of its
--- faults those of what is read come first, then the reach, too many lists, the settings, a script
--- without room for its delays
+-- faults those of what is read come first, then those of the delays, the settings, a script without
+-- room for its delays
 abbrev pub ExplorePrints : Settings → ExploreOptions → Option (List ℕ × Option (List ℕ))
     → List (List ℕ × Option (List ℕ)) → Printed → Type 0
 ExplorePrints settings options log sources printed =

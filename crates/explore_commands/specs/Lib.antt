@@ -1,6 +1,7 @@
 pub mod Undated
 pub mod LogGives
 pub mod Tries
+pub mod Scheduled
 pub mod Explores
 pub mod Injections
 pub mod Writes

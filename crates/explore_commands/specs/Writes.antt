@@ -1,7 +1,6 @@
 -- Believed: a contract of a command stands on it.
 -- What `detio explore --write` writes of the scripts that it reads.
-use Rattle.std.specs.Prelude.{◌≡◌, ◌⊎◌, ℕ, nat_le, Bool, true, false, List, Option}
-use Rattle.posix_terms.specs.declared.limits.TheConstants.Limits as limit
+use Rattle.std.specs.Prelude.{◌≡◌, ◌⊎◌, ℕ, List, Option}
 use Rattle.posix_terms.specs.declared.transcript.Settings.{Settings}
 use Rattle.call_machine.specs.declared.plain.Plain.{Plain}
 use Rattle.explorer.specs.Cases.{with_delays}
@@ -9,11 +8,13 @@ use Rattle.explorer.specs.Runs.{IsFault, IsRun}
 use Rattle.explorer.specs.Subject.{Subject}
 use Rattle.explorer.specs.declared.fault.RunFault.{RunFault}
 use Rattle.command_texts.specs.declared.printed.Printed.{Printed}
-use Rattle.explore_commands.specs.Explores.{FaultPrints, bad_reach, too_many}
-use Rattle.explore_commands.specs.Explores.{schedule_of}
-use Rattle.explore_texts.specs.Schedules.{IsTooMany, delays_by}
+use Rattle.explore_texts.specs.Schedules.{delays_by}
+use Rattle.explore_commands.specs.Explores.{FaultPrints}
+use Rattle.explore_commands.specs.Scheduled.{AreScheduled}
 use Rattle.explore_commands.specs.Tries.{Tries}
 use Rattle.explore_commands.specs.declared.explore.ExploreOptions.{ExploreOptions}
+use Rattle.explore_commands.specs.declared.scheduling.ToSchedule.{ToSchedule}
+use Rattle.explore_commands.specs.declared.scheduling.ToSchedule.TheVariants as delays
 use Rattle.explore_commands.specs.declared.trying.ToTry.{ToTry}
 use Rattle.explore_commands.specs.declared.trying.ToTry.TheVariants as tries
 use Rattle.explore_commands.specs.declared.writing.ToWrite.{ToWrite}
@@ -41,23 +42,22 @@ SubjectWrites subject write =
     ((plain : Plain) × IsRun subject plain × IsWritten subject.texts plain write)
     ⊎ FaultWrites subject write
 
--- whether there are too many lists or not: of the subject with the delays of the first case
-abbrev pub ScheduleWrites : Subject → ExploreOptions → ToWrite → Type 0
-ScheduleWrites subject options write =
-    let schedule = schedule_of options subject.texts in
-    (IsTooMany schedule × IsNotWritten too_many write)
-    ⊎ SubjectWrites (with_delays (delays_by schedule options.first) subject) write
+-- of the subject with the delays of the first case, or where there are none
+abbrev pub ScheduleWrites : Subject → ExploreOptions → ToSchedule → ToWrite → Type 0
+ScheduleWrites subject options (delays.Delays schedule) write =
+    SubjectWrites (with_delays (delays_by schedule options.first) subject) write
+ScheduleWrites subject options (delays.Fault fault) write = IsNotWritten fault write
 
--- whether the reach is in its range or not
-abbrev pub ReachWrites : Bool → Subject → ExploreOptions → ToWrite → Type 0
-ReachWrites false subject options write = IsNotWritten bad_reach write
-ReachWrites true subject options write = ScheduleWrites subject options write
+abbrev pub TrialWrites : ExploreOptions → Subject → ToWrite → Type 0
+TrialWrites options subject write =
+    (made : ToSchedule) × AreScheduled options subject.texts made
+    × ScheduleWrites subject options made write
 
 -- what is written of what is to be tried
 abbrev pub TryWrites : ExploreOptions → ToTry → ToWrite → Type 0
 TryWrites options (tries.Texts texts outcomes settings) write =
-    ReachWrites (nat_le options.reach limit.WORK)
-    (record { texts = texts.items; outcomes = outcomes.items; settings = settings }) options write
+    TrialWrites options
+    (record { texts = texts.items; outcomes = outcomes.items; settings = settings }) write
 TryWrites options (tries.Fault fault) write = IsNotWritten fault write
 
 -- What is written of these sources, and of that of a log, if one is given. The first fault counts,

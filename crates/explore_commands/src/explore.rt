@@ -1,17 +1,16 @@
-ghost use Rattle.std.specs.Prelude.{◌≡◌, IfOk, map, nat_le, option_map};
-ghost use Rattle.posix_terms.specs.declared.limits.TheConstants.Limits as limit;
+ghost use Rattle.std.specs.Prelude.{◌≡◌, IfOk, map, option_map};
 ghost use Rattle.command_texts.specs.Printing.{Prints};
-ghost use Rattle.explore_commands.specs.Explores.{ExplorePrints, FaultPrints, ReachExplores};
-ghost use Rattle.explore_commands.specs.Explores.{SeenExplores, SubjectExplores, bad_reach};
-ghost use Rattle.explore_commands.specs.Explores.{no_room, too_many};
+ghost use Rattle.explore_commands.specs.Explores.{ExplorePrints, FaultPrints, SeenExplores};
+ghost use Rattle.explore_commands.specs.Explores.{SubjectExplores, TrialExplores, no_room};
 ghost use Rattle.explorer.specs.Subject.{subject};
 
+use crate::scheduling::{ToSchedule, to_schedule};
 use crate::trying::{ToTry, to_try};
 use command_inputs::{bad_settings, needs_scripts};
 use command_texts::{Printed, Source, TextReader, bad_line, fault, no_memory, print};
 use explore_texts::{Schedule, Schedules, cut_of, explored_printed, findings, unmet_in};
 use explorer::{Observation, Progress, RunFault, Trial, Workers};
-use posix_terms::{Limits, Settings};
+use posix_terms::Settings;
 use std::alloc::{AllocError, Global};
 use std::io;
 use std::io::Write;
@@ -21,7 +20,7 @@ use std::thread::Threads;
 #[derive(Clone, Copy, Debug, PartialEq, Eq)]
 pub struct ExploreOptions {
     pub schedules: Schedules,
-    /// The first case: a seed, or the number of a list.
+    /// The first case: a seed, or the number of a list, of which there must be one.
     pub first: u64,
     /// The case after the last. Where there are fewer lists, all count.
     pub end: u64,
@@ -36,8 +35,9 @@ pub struct ExploreOptions {
 /// ended alike, in the order of their first cases, and a line of sums; or one line for the first
 /// fault. It returns the exit status. The replies are held to what the texts expect: where one is
 /// not so in some run, the status is 1. Where there is no memory, a file cannot be read or the
-/// output cannot be written, that is the fault. `progress` is told of each run. An error is one of
-/// the writer `errors`.
+/// output cannot be written, that is the fault. `progress` is called after each batch of
+/// [`Workers::at_a_time`] runs, and once before anything is printed. An error is one of the writer
+/// `errors`.
 pub fn explore_over<T: Threads + Sync, R: TextReader + Drop, P: Progress, W: Write, E: Write>(
     workers: &Workers<'_, T>,
     alloc: Global,
@@ -57,7 +57,9 @@ pub fn explore_over<T: Threads + Sync, R: TextReader + Drop, P: Progress, W: Wri
         status (W.contents output.old) (W.contents output.new)
         (E.contents errors.old) (E.contents errors.new)) }
 {
-    match explore_printed(workers, alloc, settings, options, log, sources, progress) {
+    let printed = explore_printed(workers, alloc, settings, options, log, sources, progress);
+    progress.ended();
+    match printed {
         Ok(printed) => print(&printed, output, errors),
         Err(AllocError) => no_memory(errors),
     }
@@ -99,16 +101,13 @@ fn trial_explored<T: Threads + Sync, P: Progress>(
     options: ExploreOptions,
     progress: &mut P,
 ) -> Result<Printed, AllocError>
-    ensures { IfOk result (
-        ReachExplores (nat_le options.reach limit.WORK) (subject trial.entry) options) }
+    ensures { IfOk result (TrialExplores options (subject trial.entry)) }
 {
-    if u64::from(options.reach) > Limits::WORK {
-        return bad_reach(alloc);
-    }
-    let schedule = Schedule::new(alloc, options.schedules, options.reach, trial.texts)?;
-    match schedule {
-        Some(schedule) => scheduled_explored(workers, alloc, trial, options, &schedule, progress),
-        None => too_many(alloc),
+    match to_schedule(alloc, options, trial.texts)? {
+        ToSchedule::Delays(schedule) => {
+            scheduled_explored(workers, alloc, trial, options, &schedule, progress)
+        }
+        ToSchedule::Fault(printed) => Ok(printed),
     }
 }
 
@@ -179,20 +178,4 @@ pub fn no_room(alloc: Global, script: usize) -> Result<Printed, AllocError>
 {
     let line = format!(in alloc; "script {script}: no room for delays\n")?;
     fault(alloc, 3, line.as_str())
-}
-
-pub fn bad_reach(alloc: Global) -> Result<Printed, AllocError>
-    ensures { IfOk result (λ printed. printed ≡ bad_reach) }
-{
-    fault(alloc, 2, "the reach is 0 to 1000000\n")
-}
-
-pub fn too_many(alloc: Global) -> Result<Printed, AllocError>
-    ensures { IfOk result (λ printed. printed ≡ too_many) }
-{
-    fault(
-        alloc,
-        2,
-        "too many lists of delays: a smaller reach has fewer\n",
-    )
 }

@@ -15,7 +15,7 @@ use crate::trying::{ToTry, to_try_by_log};
 use call_machine::Plain;
 use command_texts::{Printed, Source, TextReader, no_memory, print};
 use explore_texts::{Finding, cases_printed, cut_of, found, push_case, unmet_in};
-use explorer::{Observation, Progress, RunFault, Trial, Workers, seen_in};
+use explorer::{Observation, Progress, RunFault, Trial, Workers};
 use fault_injection::{Choice, FaultCase, Filling, fault_cases, run_fault, run_filled};
 use std::alloc::{AllocError, Global};
 use std::io;
@@ -40,8 +40,9 @@ pub struct FaultOptions<'a> {
 /// the outcomes as they are ended, a line for each case, and a line of sums; or one line for the
 /// first fault. It returns the exit status. The replies are held to what the texts expect: where
 /// one is not so in some run, the status is 1. Where there is no memory, a file cannot be read or
-/// the output cannot be written, that is the fault. `progress` is told of each case. An error is
-/// one of the writer `errors`.
+/// the output cannot be written, that is the fault. `progress` is called after each batch of
+/// [`Workers::at_a_time`] cases, and once before anything is printed. An error is one of the writer
+/// `errors`.
 pub fn faults_over<T: Threads + Sync, R: TextReader + Drop, P: Progress, W: Write, E: Write>(
     workers: &Workers<'_, T>,
     alloc: Global,
@@ -60,7 +61,9 @@ pub fn faults_over<T: Threads + Sync, R: TextReader + Drop, P: Progress, W: Writ
         status (W.contents output.old) (W.contents output.new)
         (E.contents errors.old) (E.contents errors.new)) }
 {
-    match faults_read(workers, alloc, options, log, sources, progress) {
+    let printed = faults_read(workers, alloc, options, log, sources, progress);
+    progress.ended();
+    match printed {
         Ok(printed) => print(&printed, output, errors),
         Err(AllocError) => no_memory(errors),
     }
@@ -246,7 +249,7 @@ fn observe_case(
     ensures { IfOk result (SeesCase filling (subject_in case (subject trial.entry))) }
 {
     match run_case(alloc, filling, trial, case) {
-        Ok(plain) => seen_in(alloc, &plain),
+        Ok(plain) => Observation::new(alloc, &plain),
         // The scripts were run with these settings before: what is refused is memory.
         Err(_) => Err(AllocError),
     }

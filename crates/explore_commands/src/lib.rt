@@ -17,6 +17,7 @@ mod explore;
 mod faults;
 mod log_inputs;
 mod minimise;
+mod scheduling;
 mod trying;
 mod undated;
 mod writing;

@@ -17,7 +17,8 @@ use std::alloc::{AllocError, Global};
 /// What `detio minimise` writes of scripts whose replies are not all as their texts expect: what is
 /// left of the texts once lines and threads were taken away, as long as the same expectation fails,
 /// and the log of that run; or what is printed where all replies are as expected, or for the first
-/// fault. What comes from outside is as for [`explore_over`](crate::explore_over).
+/// fault. What comes from outside is as for [`explore_over`](crate::explore_over). An error means
+/// out of memory.
 pub fn to_minimise<R: TextReader + Drop>(
     alloc: Global,
     settings: Settings,

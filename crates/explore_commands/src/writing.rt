@@ -1,14 +1,13 @@
-ghost use Rattle.std.specs.Prelude.{IfOk, map, nat_le, option_map};
-ghost use Rattle.posix_terms.specs.declared.limits.TheConstants.Limits as limit;
+ghost use Rattle.std.specs.Prelude.{IfOk, map, option_map};
 ghost use Rattle.explorer.specs.Subject.{subject};
-ghost use Rattle.explore_commands.specs.Writes.{ReachWrites, SubjectWrites, Writes};
+ghost use Rattle.explore_commands.specs.Writes.{SubjectWrites, TrialWrites, Writes};
 
-use crate::explore::{ExploreOptions, bad_reach, fault_printed, too_many};
+use crate::explore::{ExploreOptions, fault_printed};
+use crate::scheduling::{ToSchedule, to_schedule};
 use crate::trying::{ToTry, to_try};
 use command_texts::{Printed, Source, TextReader};
-use explore_texts::Schedule;
 use explorer::{Trial, varied_texts};
-use posix_terms::{Bytes, Limits, Outcomes, Settings};
+use posix_terms::{Bytes, Outcomes, Settings};
 use std::alloc::{AllocError, Global};
 
 /// What a command writes of scripts.
@@ -22,7 +21,8 @@ pub enum ToWrite {
 
 /// What `detio explore --write` writes of scripts: their texts with the delays of the first case,
 /// all of which are scripts, and the log of their plain run; or what is printed for the first
-/// fault. What comes from outside is as for [`explore_over`](crate::explore_over).
+/// fault. What comes from outside is as for [`explore_over`](crate::explore_over). An error means
+/// out of memory.
 pub fn to_write<R: TextReader + Drop>(
     alloc: Global,
     settings: Settings,
@@ -54,18 +54,15 @@ fn trial_written(
     trial: Trial<'_>,
     options: ExploreOptions,
 ) -> Result<ToWrite, AllocError>
-    ensures { IfOk result (
-        ReachWrites (nat_le options.reach limit.WORK) (subject trial.entry) options) }
+    ensures { IfOk result (TrialWrites options (subject trial.entry)) }
 {
-    if u64::from(options.reach) > Limits::WORK {
-        return Ok(ToWrite::Fault(bad_reach(alloc)?));
+    match to_schedule(alloc, options, trial.texts)? {
+        ToSchedule::Delays(schedule) => {
+            let varied = varied_texts(alloc, &schedule, options.first, trial.texts)?;
+            run_written(alloc, varied, trial.outcomes, trial.settings)
+        }
+        ToSchedule::Fault(printed) => Ok(ToWrite::Fault(printed)),
     }
-    let schedule = Schedule::new(alloc, options.schedules, options.reach, trial.texts)?;
-    let Some(schedule) = schedule else {
-        return Ok(ToWrite::Fault(too_many(alloc)?));
-    };
-    let varied = varied_texts(alloc, &schedule, options.first, trial.texts)?;
-    run_written(alloc, varied, trial.outcomes, trial.settings)
 }
 
 // These texts, with the log of their plain run.

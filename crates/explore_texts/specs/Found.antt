@@ -13,6 +13,7 @@ use Rattle.comparator.specs.declared.verdict.Verdict.{Verdict}
 use Rattle.comparator.specs.declared.verdict.Verdict.TheVariants as verdict
 use Rattle.explorer.specs.Subject.{Subject}
 use Rattle.explorer.specs.Groups.{runs_of}
+use Rattle.explorer.specs.Observations.{EndAlike}
 use Rattle.explorer.specs.Varied.{varied_texts}
 use Rattle.explorer.specs.declared.groups.Group.{Group}
 use Rattle.explorer.specs.declared.observation.Observation.{Observation}
@@ -91,7 +92,7 @@ pub record IsFound
   pub verdict : Verdict
   pub differs : IsVerdictOn before.seen now.seen verdict
   pub ends_alike : Bool
-  pub ends : IsTrue ends_alike ↔ (before.stop ≡ now.stop)
+  pub ends : IsTrue ends_alike ↔ EndAlike before now
   pub unmet : Option (List ℕ)
   pub expected : IsUnmetIn texts now unmet
   pub line : finding.line ≡ front ++ found_text before now cut verdict ends_alike unmet

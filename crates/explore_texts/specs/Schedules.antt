@@ -1,6 +1,7 @@
 -- Believed: a contract of a command stands on it.
 -- The delays that `detio explore` runs scripts with: those of seeds, or lists of them.
-use Rattle.std.specs.Prelude.{ℕ, ◌-◌, ◌≤◌, ◌^◌, min, List, [], Option, Some, codes, length}
+use Rattle.std.specs.Prelude.{ℕ, ◌-◌, ◌≤◌, ◌^◌, nat_lt, min, Bool, true, List, [], Option, Some}
+use Rattle.std.specs.Prelude.{codes, length}
 use Rattle.std.specs.Fmt.{decimal}
 use Rattle.std.specs.List.{flat_map}
 use Rattle.explorer.specs.Delays.{chance_delay}
@@ -32,6 +33,11 @@ abbrev pub delays_by : Schedule → ℕ → ℕ → ℕ → Option ℕ
 delays_by (schedule.Seeds chance) seed thread line =
     Some (chance_delay chance.reach seed thread line)
 delays_by (schedule.Lists bounds) case thread line = delay_in (list_of bounds case) thread line
+
+-- there is a case of this number: each seed is one, and each list
+abbrev pub is_there : Schedule → ℕ → Bool
+is_there (schedule.Seeds chance) seed = true
+is_there (schedule.Lists bounds) case = nat_lt case (length (lists_of bounds))
 
 -- the case after the last that is asked for and is there
 abbrev pub end_by : Schedule → ℕ → ℕ

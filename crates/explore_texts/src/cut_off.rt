@@ -7,13 +7,13 @@ ghost use Rattle.explore_texts.specs.CutOffs.{cut_of, cut_text, cut_threads, if_
 
 use command_texts::{push_number, push_word};
 use expectations::is_cut_off;
-use explorer::Observation;
+use explorer::{Ended, Observation};
 use posix_terms::{Bytes, Row, Transcript};
 use std::alloc::{AllocError, Global};
 use thread_scripts::{ScriptFault, parse};
 
 /// The threads that ended only because they had executed as many lines as a thread may, where these
-/// texts were run and this was seen. Where the run stopped none is named.
+/// texts were run and this was seen. An error means out of memory.
 pub fn cut_of(
     alloc: Global,
     texts: &[Bytes],
@@ -21,19 +21,17 @@ pub fn cut_of(
 ) -> Result<Vec<usize>, AllocError>
     ensures { IfOk result (λ cut. cut.items ≡ cut_of texts.now observation.now) }
 {
-    match observation.stop {
-        Some(_) => Ok(Vec::new(alloc)),
-        None => cut_threads(alloc, texts, observation.seen.threads()),
-    }
+    cut_threads(alloc, texts, observation.seen.threads(), &observation.ended)
 }
 
-// Those of a run in which all threads ended.
+// Those of these texts, of which these rows were seen, and these threads had ended.
 fn cut_threads(
     alloc: Global,
     texts: &[Bytes],
     seen: &[Transcript],
+    ended: &Ended,
 ) -> Result<Vec<usize>, AllocError>
-    ensures { IfOk result (λ cut. cut.items ≡ cut_threads 0 texts.now seen.now) }
+    ensures { IfOk result (λ cut. cut.items ≡ cut_threads ended.now 0 texts.now seen.now) }
 {
     let mut cut = Vec::new(alloc);
     for thread in 0..texts.len() {
@@ -42,6 +40,7 @@ fn cut_threads(
         };
         push_if_cut(
             &mut cut,
+            ended.has(thread),
             thread,
             texts[thread].as_slice(),
             transcript.rows(),
@@ -50,23 +49,24 @@ fn cut_threads(
     Ok(cut)
 }
 
-// Adds a thread that ran this text, and saw these rows, if it did.
+// Adds a thread that ran this text, and saw these rows, if it had ended, and did so.
 fn push_if_cut(
     cut: &mut Vec<usize>,
+    ended: bool,
     thread: usize,
     text: &[u8],
     rows: &[Row],
 ) -> Result<(), AllocError>
     ensures { OnOk result (
-        cut.new.items ≡ cut.old.items ++ if_cut thread text.now rows.now) }
+        cut.new.items ≡ cut.old.items ++ if_cut ended thread text.now rows.now) }
 {
-    if is_cut(*cut.allocator(), text, rows)? {
+    if ended && is_cut(*cut.allocator(), text, rows)? {
         cut.push(thread)?;
     }
     Ok(())
 }
 
-// Whether a thread that ran this text, and saw these rows, did.
+// Whether a thread that ran this text, and ended after these rows, did.
 fn is_cut(alloc: Global, text: &[u8], rows: &[Row]) -> Result<bool, AllocError>
     ensures { IfOk result (λ cut. cut ≡ is_cut (script_of text.now) rows.now) }
 {

@@ -81,7 +81,7 @@ pub fn found(
 {
     let mut line = line;
     let verdict = compare(&before.seen, &now.seen);
-    let ends_alike = before.stop == now.stop;
+    let ends_alike = before.ends_alike(now);
     let unmet = unmet_in(*line.allocator(), texts, now)?;
     push_found(&mut line, before, now, cut, verdict, ends_alike, &unmet)?;
     Ok(Finding {

@@ -1,5 +1,6 @@
 ghost use Rattle.std.specs.Prelude.{◌≡◌, IfOk, MatchOption};
-ghost use Rattle.explore_texts.specs.Schedules.{IsTooMany, delays_by, end_by, schedule_for};
+ghost use Rattle.explore_texts.specs.Schedules.{IsTooMany, delays_by, end_by, is_there};
+ghost use Rattle.explore_texts.specs.Schedules.{schedule_for};
 
 use explorer::{Chance, Delays, Lists};
 use posix_terms::Bytes;
@@ -35,8 +36,8 @@ impl Delays for Schedule {
 }
 
 impl Schedule {
-    /// That of texts, each delay of at most `reach` units, if a `u64` holds the number of its
-    /// lists.
+    /// That of texts, each delay of at most `reach` units. Returns `None` exactly when the number
+    /// of its lists does not fit in a `u64`; an error means out of memory.
     pub fn new(
         alloc: Global,
         schedules: Schedules,
@@ -54,6 +55,16 @@ impl Schedule {
                 let lists = Lists::new(alloc, texts, reach, two)?;
                 Ok(lists.map(Schedule::Lists))
             }
+        }
+    }
+
+    /// Whether there is a case of this number: each seed is one, and each list.
+    pub fn is_there(&self, case: u64) -> bool
+        ensures { result ≡ is_there self.now case }
+    {
+        match self {
+            Schedule::Seeds(_) => true,
+            Schedule::Lists(lists) => case < lists.count(),
         }
     }
 

@@ -10,9 +10,9 @@ use Rattle.call_machine.specs.Plain.{Runs}
 use Rattle.call_machine.specs.Setup.{Inputs}
 use Rattle.call_machine.specs.declared.fault.PlainFault.{PlainFault}
 use Rattle.call_machine.specs.declared.fault.PlainFault.TheVariants as plain_fault
-use Rattle.explorer.specs.Cases.{CaseGives, CaseJoins, CasesJoin, IsFaultOf, with_delays}
+use Rattle.explorer.specs.Cases.{CaseJoins, CasesJoin, IsFaultOf, with_delays}
 use Rattle.explorer.specs.Groups.{Joins, runs_of}
-use Rattle.explorer.specs.Joining.{AllJoin, HasFault}
+use Rattle.explorer.specs.Joining.{AllJoin, CaseGives, HasFault}
 use Rattle.explorer.specs.Runs.{IsNotRun, Sees}
 use Rattle.explorer.specs.declared.fault.RunFault.{RunFault}
 use Rattle.explorer.specs.declared.fault.RunFault.TheVariants as fault
@@ -36,7 +36,7 @@ one_more_run case seen old new (inr begins) =
     (record { first = case; runs = 1; observation = seen })
 
 no_group : Group
-no_group = record { first = 0; runs = 0; observation = record { seen = []; stop = None } }
+no_group = record { first = 0; runs = 0; observation = record { seen = []; ended = []; stop = None } }
 
 -- no group has more runs than all together
 pub each_below : (groups : List Group) (limit : ℕ) → runs_of groups + 1 < limit

@@ -1,6 +1,6 @@
 -- Believed: a contract of a command stands on it.
 -- The runs of scripts with the delays of many cases, and the groups of those that saw the same.
-use Rattle.std.specs.Prelude.{◌≡◌, ◌≤◌, ◌<◌, ℕ, List, [], ◌∷◌, Option, Result, Ok, Err}
+use Rattle.std.specs.Prelude.{◌≡◌, ◌≤◌, ◌<◌, ℕ, List, [], ◌∷◌, Option}
 use Rattle.explorer.specs.Groups.{Joins}
 use Rattle.explorer.specs.Runs.{IsFault, Sees}
 use Rattle.explorer.specs.Subject.{Subject}
@@ -25,12 +25,6 @@ CasesJoin subject delays old [] new = new ≡ old
 CasesJoin subject delays old (case ∷ cases) new =
     (joined : List Group) × CaseJoins subject (delays case) case old joined
     × CasesJoin subject delays joined cases new
-
--- what a case gives: what is seen in its run, or why that was not made
-abbrev pub CaseGives : Subject → (ℕ → ℕ → ℕ → Option ℕ) → ℕ → Result Observation RunFault → Type 0
-CaseGives subject delays case (Ok observation) =
-    Sees (with_delays (delays case) subject) observation
-CaseGives subject delays case (Err fault) = IsFault (with_delays (delays case) subject) fault
 
 -- why the run of one of these cases was not made
 abbrev pub IsFaultOf : Subject → (ℕ → ℕ → ℕ → Option ℕ) → ℕ → ℕ → RunFault → Type 0

@@ -1,6 +1,8 @@
 -- Believed: a contract of a command stands on it.
--- What the threads of a run saw, whatever the clocks of their turns were.
-use Rattle.std.specs.Prelude.{List, map}
+-- What the threads of a run saw, whatever the clocks of their turns were, and how it ended.
+use Rattle.std.specs.Prelude.{◌≡◌, ◌-◌, Bool, true, false, List, Option, Some, length, map, slice_get}
+use Rattle.posix_terms.specs.declared.step.Step.{Step}
+use Rattle.posix_terms.specs.declared.step.Step.TheVariants as step
 use Rattle.posix_terms.specs.declared.transcript.Row.{Row}
 use Rattle.call_machine.specs.declared.plain.Plain.{Plain}
 use Rattle.explorer.specs.declared.observation.Observation.{Observation}
@@ -12,6 +14,22 @@ clockless row = record row { turn = record row.turn { clock = 0 } }
 abbrev pub seen_of : List (List Row) → List (List Row)
 seen_of transcripts = map (map clockless) transcripts
 
+abbrev pub is_end : Option Step → Bool
+is_end (Some step.End) = true
+is_end other = false
+
+-- a thread that asked these steps has ended
+abbrev pub has_ended : List Step → Bool
+has_ended asked = is_end (slice_get asked (length asked - 1))
+
 -- what was seen in a plain run
 abbrev pub observed : Plain → Observation
-observed plain = record { seen = seen_of plain.transcripts; stop = plain.stop }
+observed plain = record {
+  seen = seen_of plain.transcripts;
+  ended = map has_ended plain.history.asked;
+  stop = plain.stop;
+}
+
+-- the same threads had ended in two runs, and they stopped alike
+abbrev pub EndAlike : Observation → Observation → Type 0
+EndAlike one other = (one.stop ≡ other.stop) × (one.ended ≡ other.ended)

@@ -23,7 +23,8 @@ pub enum RunFault {
     /// The patience, the door cost or the version of the log is out of its range.
     #[error("patience and door cost are 1 to 1,000,000, and the version of the log is 1 or 2")]
     Settings,
-    #[error("out of memory")]
+    /// Out of memory.
+    #[error("no memory")]
     Memory,
 }
 

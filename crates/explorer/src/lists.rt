@@ -1,8 +1,7 @@
 ghost use Rattle.std.specs.Prelude.{◌≡◌, ◌+◌, ◌<◌, ◌≤◌, ◌^◌, [], IfOk, MatchOption, None, Some};
 ghost use Rattle.std.specs.Prelude.{drop, length, slice_get, slice_index_or};
 ghost use Rattle.explorer.specs.Lists.{Bounds, delay_in, delays_among, delays_in, list_of};
-ghost use Rattle.explorer.specs.Lists.{lists_of};
-ghost use Rattle.explorer.specs.Lists.{pairs_among, places_of};
+ghost use Rattle.explorer.specs.Lists.{lists_of, pairs_among, places_of};
 ghost use Rattle.explorer.specs.ListCounts.{list_count, pair_count};
 
 use crate::delay_list::{Delay, DelayList};
@@ -43,8 +42,8 @@ impl Delays for Lists {
 
 impl Lists {
     /// The lists of at most one delay, or with `two` of at most two, at the lines of calls of these
-    /// texts, each delay of 1 to `reach` units. There are none where a `u64` does not hold their
-    /// number.
+    /// texts, each delay of 1 to `reach` units. Returns `None` exactly when their number does not
+    /// fit in a `u64`; an error means out of memory.
     pub fn new(
         alloc: Global,
         texts: &[Bytes],

@@ -1,40 +1,47 @@
 ghost use Rattle.std.specs.Prelude.{◌≡◌, ◌↔◌, IfOk, IsTrue, map};
-ghost use Rattle.explorer.specs.Observations.{clockless, seen_of};
+ghost use Rattle.explorer.specs.Observations.{EndAlike, clockless, observed, seen_of};
 
-use call_machine::Stop;
+use crate::ended::Ended;
+use call_machine::{Plain, Stop};
 use comparator::{Verdict, compare};
 use posix_terms::{Row, Transcript, Transcripts, Turn};
 use std::alloc::{AllocError, Global};
 
-/// What the threads of a run saw, and why it stopped, if it did before all of them had ended.
+/// What the threads of a run saw, which of them had ended, and why it stopped, if it did before all
+/// of them had.
 #[derive(Debug, Drop)]
 pub struct Observation {
     /// Their calls and replies. The clock of each turn is 0.
     pub seen: Transcripts,
+    pub ended: Ended,
     pub stop: Option<Stop>,
 }
 
 impl Observation {
-    /// What the threads saw in a run that ended so.
-    pub fn new(
-        alloc: Global,
-        transcripts: &Transcripts,
-        stop: Option<Stop>,
-    ) -> Result<Observation, AllocError>
-        ensures { IfOk result (λ observation.
-            observation ≡ record { seen = seen_of transcripts.now; stop = stop }) }
+    /// What is seen in a run. An error means out of memory.
+    pub fn new(alloc: Global, plain: &Plain) -> Result<Observation, AllocError>
+        ensures { IfOk result (λ observation. observation ≡ observed plain.now) }
     {
         Ok(Observation {
-            seen: seen(alloc, transcripts.threads())?,
-            stop,
+            seen: seen(alloc, plain.transcripts.threads())?,
+            ended: Ended::new(alloc, plain.history.asked())?,
+            stop: plain.stop,
         })
+    }
+
+    /// Whether two runs ended alike: the same threads had ended, and they stopped for the same
+    /// reason, or neither stopped.
+    pub fn ends_alike(&self, other: &Observation) -> bool
+        ensures { IsTrue result ↔ EndAlike self.now other.now }
+    {
+        self.stop == other.stop && self.ended.is_same(&other.ended)
     }
 
     /// Whether two runs ended alike, and their threads saw the same.
     pub fn is_same(&self, other: &Observation) -> bool
         ensures { IsTrue result ↔ (self.now ≡ other.now) }
     {
-        self.stop == other.stop && matches!(compare(&self.seen, &other.seen), Verdict::Same)
+        self.ends_alike(other) && matches!(compare(&self.seen, &other.seen), Verdict::Same)
     }
 }
 

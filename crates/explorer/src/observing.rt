@@ -1,8 +1,7 @@
 ghost use Rattle.std.specs.Prelude.{◌≡◌, ◌⊎◌, ◌+◌, ◌<◌, ◌^◌, ℕ, IfErr, IfOk, OnOk, length};
 ghost use Rattle.std.specs.Prelude.{slice_index_or};
-ghost use Rattle.explorer.specs.Cases.{CaseGives};
 ghost use Rattle.explorer.specs.Groups.{runs_of};
-ghost use Rattle.explorer.specs.Joining.{AllJoin, HasFault};
+ghost use Rattle.explorer.specs.Joining.{AllJoin, CaseGives, HasFault};
 ghost use Rattle.explorer.specs.declared.fault.RunFault.TheVariants as fault;
 ghost use Rattle.explorer.specs.Subject.{subject};
 

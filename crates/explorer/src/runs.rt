@@ -1,21 +1,12 @@
 ghost use Rattle.std.specs.Prelude.{◌≡◌, IfErr, IfOk};
-ghost use Rattle.explorer.specs.Observations.{observed};
 ghost use Rattle.explorer.specs.Runs.{IsFault, IsRun};
 
 use crate::copies::outcomes_copied;
 use crate::fault::RunFault;
-use crate::observation::Observation;
 use call_machine::{Plain, plain_run};
 use command_texts::scripts;
 use posix_terms::{Bytes, Outcomes, Settings};
-use std::alloc::{AllocError, Global};
-
-/// What is seen in a run.
-pub fn seen_in(alloc: Global, plain: &Plain) -> Result<Observation, AllocError>
-    ensures { IfOk result (λ observation. observation ≡ observed plain.now) }
-{
-    Observation::new(alloc, &plain.transcripts, plain.stop)
-}
+use std::alloc::Global;
 
 // The plain run of the scripts that these texts are, with a copy of these outcomes.
 pub(crate) fn run_copied(
@@ -33,7 +24,10 @@ pub(crate) fn run_copied(
     run_texts(alloc, texts, copied, settings)
 }
 
-/// The plain run of the scripts that these texts are, with these outcomes.
+/// The plain run of the scripts that these texts are, with these outcomes. Of its errors
+/// [`RunFault::BadLine`] or [`RunFault::TooLong`] comes for the first text that is not a script,
+/// then [`RunFault::Threads`], then [`RunFault::Settings`]; [`RunFault::Memory`] can come at any
+/// time.
 #[tactic(auto, using(crate::proofs::Grouping::not_run))]
 pub fn run_texts(
     alloc: Global,

@@ -11,7 +11,7 @@ use crate::groups::Groups;
 use crate::observation::Observation;
 use crate::observing::{join_all, observe_cases};
 use crate::progress::Progress;
-use crate::runs::{run_copied, seen_in};
+use crate::runs::run_copied;
 use crate::vary::varied_texts;
 use crate::workers::Workers;
 use call_machine::Plain;
@@ -31,8 +31,9 @@ pub struct Trial<'a> {
 }
 
 impl Trial<'_> {
-    /// The groups of the runs of these cases, one run for each, in order. A run that cannot be made
-    /// is the fault. `progress` is told each time that the workers have made theirs.
+    /// The groups of the runs of these cases, one run for each, in order. The error is that of the
+    /// run of one of them, as for [`run_texts`](crate::run_texts). `progress` is called after each
+    /// batch of [`Workers::at_a_time`] runs.
     pub fn explored<T: Threads + Sync, D: Delays + Sync, P: Progress>(
         self,
         workers: &Workers<'_, T>,
@@ -61,7 +62,8 @@ impl Trial<'_> {
         Ok(groups)
     }
 
-    /// What is seen in the plain run of the scripts with the delays of this case.
+    /// What is seen in the plain run of the scripts with the delays of this case. The errors are
+    /// those of [`run_texts`](crate::run_texts) for the texts with their delays.
     pub fn observe_case<D: Delays>(
         self,
         alloc: Global,
@@ -75,19 +77,21 @@ impl Trial<'_> {
     {
         let texts = varied_texts(alloc, delays, case, self.texts)?;
         let plain = run_copied(alloc, &texts, self.outcomes, self.settings)?;
-        Ok(seen_in(alloc, &plain)?)
+        Ok(Observation::new(alloc, &plain)?)
     }
 
-    /// What is seen in the plain run of the scripts, as they are.
+    /// What is seen in the plain run of the scripts, as they are. The errors are those of
+    /// [`run_texts`](crate::run_texts).
     pub fn observe(self, alloc: Global) -> Result<Observation, RunFault>
         ensures ok { IfOk result (Sees (subject self.entry)) }
         ensures err { IfErr result (IsFault (subject self.entry)) }
     {
         let plain = self.run(alloc)?;
-        Ok(seen_in(alloc, &plain)?)
+        Ok(Observation::new(alloc, &plain)?)
     }
 
-    /// That run, with its log.
+    /// The plain run of the scripts, as they are, with its log. The errors are those of
+    /// [`run_texts`](crate::run_texts).
     pub fn run(self, alloc: Global) -> Result<Plain, RunFault>
         ensures ok { IfOk result (IsRun (subject self.entry)) }
         ensures err { IfErr result (IsFault (subject self.entry)) }

@@ -1,4 +1,4 @@
-ghost use Rattle.std.specs.Prelude.{◌<◌};
+ghost use Rattle.std.specs.Prelude.{◌≡◌, ◌^◌, ◌-◌, ◌*◌, ◌<◌, ◌≤◌, min};
 
 use std::thread::Threads;
 
@@ -11,10 +11,11 @@ pub struct Workers<'a, T: Threads + Sync> {
 }
 
 impl<T: Threads + Sync> Workers<'_, T> {
-    /// How many runs are made before what they gave is looked at: with one thread 1, else 256 for
-    /// each thread.
+    /// How many runs are made before what they gave is looked at.
     pub fn at_a_time(&self) -> usize
-        ensures { 0 < result }
+        ensures one { self.entry.now.jobs ≤ 1 → result ≡ 1 }
+        ensures many { 1 < self.entry.now.jobs
+            → result ≡ min (self.entry.now.jobs * 256) (2 ^ 64 - 1) }
     {
         match self.jobs {
             0 | 1 => 1,

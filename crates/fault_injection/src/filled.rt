@@ -20,8 +20,8 @@ use worker_notes::request_for;
 /// The plain run of the trial's scripts with the outcome of this case in its place, and with an
 /// outcome filled in wherever a thread asks for one that it does not have: its list is at its end,
 /// or has one there that does not answer, which is dropped then with those after it. The run is
-/// made again for each of these, of which there are so many at most: where more are asked for, it
-/// stops.
+/// made again for each of these, of which there are `most` at most: where more are asked for, it
+/// stops. The errors are those of [`run_texts`].
 pub fn run_filled(
     alloc: Global,
     trial: Trial<'_>,

@@ -4,9 +4,9 @@
 //! [`fault_cases`] gives the [`FaultCase`]s of the outcomes of threads: for each outcome the errors
 //! that its kind of request can meet ([`errors_of`]), or those that a [`Choice`] names, and in
 //! place of the bytes of a read or a write fewer ([`short_counts`]). By its contract they are all
-//! of these, in order. Any one is a case if it [`is_other`] than the outcome. [`with_outcome`]
-//! gives the outcomes of a case: one is [`Injected`], and all others are as they were. In no case
-//! are all as they were ([`cases_differ`]).
+//! of these, in order. [`is_other`] says whether a failure or a count differs from the outcome that
+//! it replaces. [`with_outcome`] gives the outcomes of a case: one is [`Injected`], and all others
+//! are as they were. In no case are all as they were ([`cases_differ`]).
 //!
 //! [`run_fault`] makes the plain run of a case. It may stop where a thread asks for an outcome that
 //! it does not have. [`run_filled`] goes on there, with an outcome of a [`Filling`]: a failure, or

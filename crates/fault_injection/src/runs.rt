@@ -10,7 +10,7 @@ use explorer::{RunFault, Trial, run_texts};
 use std::alloc::Global;
 
 /// The plain run of the trial's scripts with the outcome of this case in its place. The outcomes
-/// after it come so long as they answer what is asked.
+/// after it come so long as they answer what is asked. The errors are those of [`run_texts`].
 pub fn run_fault(alloc: Global, trial: Trial<'_>, case: FaultCase) -> Result<Plain, RunFault>
     ensures ok { IfOk result (IsRun (subject_in case (subject trial.entry))) }
     ensures err { IfErr result (IsFault (subject_in case (subject trial.entry))) }

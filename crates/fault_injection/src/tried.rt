@@ -151,8 +151,8 @@ fn shorter(alloc: Global, count: u64) -> Result<Vec<Injected>, AllocError>
     Ok(shorter)
 }
 
-/// Whether this in place of an outcome is another: a failure that the outcome is not, or fewer
-/// bytes than a read or a write brought.
+/// Whether this differs from the outcome that it replaces: it is a failure that the outcome is not,
+/// or fewer bytes than a read or a write brought.
 pub fn is_other(given: &Given, injected: Injected) -> bool
     ensures { result ≡ is_other given.now injected }
 {

@@ -10,6 +10,7 @@ pub enum MinimiseFault {
     /// These scripts do not fail so.
     #[error("the scripts do not fail so")]
     NotFailing,
+    /// Out of memory.
     #[error("no memory")]
     Memory,
 }

@@ -16,8 +16,9 @@ use std::alloc::{AllocError, Global};
 use thread_scripts::parse;
 
 /// How these scripts fail in their plain run: by the first reply that is not as expected, of the
-/// least thread that has one. They do not where all replies are; nor where a text is not a script,
-/// an expectation is bad, or the scripts are not run, as for their number or the settings.
+/// least thread that has one. Returns `None` where all replies are as expected, a text is not a
+/// script, an expectation is bad, or the scripts cannot be run, as for their number or the settings.
+/// An error means out of memory.
 pub fn find_target(alloc: Global, trial: Trial<'_>) -> Result<Option<Target>, AllocError>
     ensures { IfOk result (λ found.
         (target : Target) → (found ≡ Some target) ↔ Fails (subject trial.entry) target) }

@@ -18,7 +18,8 @@ use std::alloc::{AllocError, Global};
 /// Takes lines and threads away from scripts, as long as they fail the same in their plain run:
 /// each delay, then each line of each thread from its last to its first, then each thread, and the
 /// lines and threads again, until none is left to take. What is kept is minimal by the contract: it
-/// fails the same, and no longer without any one of its lines or threads.
+/// fails the same, and no longer without any one of its lines or threads. The error is
+/// [`MinimiseFault::NotFailing`] where the scripts do not fail so to begin with.
 pub fn minimised(
     alloc: Global,
     trial: Trial<'_>,

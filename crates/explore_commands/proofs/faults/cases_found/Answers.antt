@@ -1,9 +1,8 @@
-use Rattle.std.proofs.Common.{rules, ◌≡◌, ◌∙◌, ◌+◌, ◌<◌, ◌≤◌, ◌++◌, ℕ, List, arith, length, subst, sym, take}
+use Rattle.std.proofs.Common.{rules, ◌≡◌, ◌∙◌, ◌+◌, ◌<◌, ◌≤◌, ℕ, List, arith, length, subst, sym, take}
 use Rattle.std.specs.List.{AllZip}
 use Rattle.explorer.specs.Subject.{subject}
 use Rattle.fault_injection.specs.declared.cases.FaultCase.{FaultCase}
 use Rattle.explore_commands.specs.Injections.{IsCaseFinding}
-use Rattle.explore_texts.specs.declared.finding.Finding.{Finding}
 use Rattle.explore_commands.proofs.Failing.{pairs_pushed, pushed_length}
 use Rattle.explore_commands.proofs.faults.cases_found.Goals as goal
 

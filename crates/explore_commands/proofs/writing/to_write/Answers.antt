@@ -1,8 +1,6 @@
 use Rattle.std.proofs.lemmas.Result.{IfOk-weaker}
 use Rattle.explorer.specs.Subject.{Subject}
-use Rattle.std.specs.Prelude.{nat_le}
-use Rattle.posix_terms.specs.declared.limits.TheConstants.Limits as limit
-use Rattle.explore_commands.specs.Writes.{ReachWrites}
+use Rattle.explore_commands.specs.Writes.{TrialWrites}
 use Rattle.explore_commands.specs.declared.trying.ToTry.TheVariants as tries
 use Rattle.explore_commands.proofs.Tried.{of_tried}
 use Rattle.explore_commands.proofs.writing.to_write.Goals as goal
@@ -12,8 +10,7 @@ returns-in-Texts g c =
     let texts = c.in-Texts.texts in
     let outcomes = c.in-Texts.outcomes in
     let settings = c.in-Texts.settings in
-    let shows = λ (subject : Subject).
-    ReachWrites (nat_le c.args.options.reach limit.WORK) subject c.args.options in
+    let shows = λ (subject : Subject). TrialWrites c.args.options subject in
     IfOk-weaker c.trial_written.result _ _
     (λ made says.
     (tries.Texts texts outcomes settings, rw c.in-Texts.is at c.in_ok-texts.ensures, says))

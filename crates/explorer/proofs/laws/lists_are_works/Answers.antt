@@ -1,5 +1,5 @@
 use Rattle.std.proofs.Common.{◌==◌, ◌&&◌, ◌+◌, ◌≤◌, ◌++◌, [], ◌∷◌, ℕ, zero, suc, All, Bool, true, false}
-use Rattle.std.proofs.Common.{List, Option, Some, None, arith, get_or, map}
+use Rattle.std.proofs.Common.{List, Option, Some, arith, get_or, map}
 use Rattle.std.specs.List.{flat_map, range_with_len}
 use Rattle.std.specs.Prelude.{IfSome, if◌then◌else◌}
 use Rattle.std.proofs.lemmas.List.Elements.{All-append, All-cons, All-head, All-map, All-nil}

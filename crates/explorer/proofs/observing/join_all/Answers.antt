@@ -1,4 +1,4 @@
-use Rattle.std.proofs.Common.{rules, ◌≡◌, ◌+◌, ◌∷◌, suc, List, Ok, Result, ap, arith, length, subst, sym}
+use Rattle.std.proofs.Common.{rules, ◌≡◌, ◌∷◌, suc, List, Ok, Result, ap, arith, length, subst, sym}
 use Rattle.std.specs.Vec.Iter.{into_iter_items}
 use Rattle.explorer.specs.Joining.{AllJoin, HasFault}
 use Rattle.explorer.specs.declared.fault.RunFault.{RunFault}

@@ -1,8 +1,7 @@
-use Rattle.std.proofs.Common.{rules, ◌≡◌, ◌⊎◌, ◌+◌, ◌-◌, ◌<◌, ◌≤◌, ◌∙◌, [], ℕ, Err, IfErr, List, Result, arith}
+use Rattle.std.proofs.Common.{rules, ◌≡◌, ◌⊎◌, ◌+◌, ◌-◌, ◌<◌, ◌≤◌, [], ℕ, Err, IfErr, List, Result, arith}
 use Rattle.std.proofs.Common.{Option, inl, inr, length, subst, sym}
 use Rattle.std.specs.List.{range_with_len}
 use Rattle.explorer.specs.Cases.{CasesJoin, IsFaultOf}
-use Rattle.explorer.specs.Groups.{runs_of}
 use Rattle.explorer.specs.Joining.{HasFault}
 use Rattle.explorer.specs.Subject.{Subject, subject}
 use Rattle.explorer.specs.declared.fault.RunFault.{RunFault}
