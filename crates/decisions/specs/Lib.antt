@@ -1,0 +1,13 @@
+pub mod View
+pub mod Deciding
+pub mod Descriptors
+pub mod Duplicates
+pub mod Transfers
+pub mod Status
+pub mod Names
+pub mod Sockets
+pub mod Doors
+pub mod Decided
+pub mod Changes
+pub mod Acts
+pub mod Meant

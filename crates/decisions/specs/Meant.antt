@@ -1,0 +1,177 @@
+-- Internal: no contract of the headline or of a command stands on it.
+-- What a decision means for the state that it was made of: which object's lock the call takes, and
+-- what it does then.
+use Rattle.std.specs.Prelude.{ℕ, ◌-◌, ℤ, pos, negsuc, Bool, false, List, length, nat_le, Option}
+use Rattle.std.specs.Prelude.{Some, None, Result, Ok, Err, if◌then◌else◌}
+use Rattle.std.specs.FinMap as map
+use Rattle.sequential_object.specs.Descriptors as posix
+use Rattle.sequential_object.specs.Effects as effect
+use Rattle.sequential_object.specs.Effects.{Effect, Asks, Completes, alone, asks_of, locking}
+use Rattle.sequential_object.specs.Names.{has_entries, links_of}
+use Rattle.sequential_object.specs.Object.{State, Content, Description, content_of, with_content}
+use Rattle.sequential_object.specs.Paths.{components_of, node_at, resolved}
+use Rattle.sequential_object.specs.Refusals.{◌>>=◌}
+use Rattle.sequential_object.specs.Transfers.{with_offset}
+use Rattle.posix_terms.specs.Calls.{Call}
+use Rattle.posix_terms.specs.declared.call.Call.TheVariants as call
+use Rattle.posix_terms.specs.declared.errno.Errno.{Errno}
+use Rattle.posix_terms.specs.declared.limits.TheConstants.Limits as limit
+use Rattle.posix_terms.specs.declared.outcome.OutKind.{OutKind}
+use Rattle.posix_terms.specs.declared.outcome.OutKind.TheVariants as kind
+use Rattle.posix_terms.specs.declared.reply.Reply.{Reply}
+use Rattle.posix_terms.specs.declared.reply.Reply.TheVariants as reply
+use Rattle.decisions.specs.Acts.{Acted, Ending, Replies, Blocks, acted}
+use Rattle.decisions.specs.Changes.{changed, door_opened}
+use Rattle.decisions.specs.View.{View}
+use Rattle.decisions.specs.declared.decision.Act.{Act}
+use Rattle.decisions.specs.declared.decision.Act.TheVariants as act
+use Rattle.decisions.specs.declared.decision.Change.TheVariants as change
+use Rattle.decisions.specs.declared.decision.Decision.{Decision}
+use Rattle.decisions.specs.declared.decision.Decision.TheVariants as decision
+use Rattle.decisions.specs.declared.decision.NewDescriptor.{NewDescriptor}
+use Rattle.decisions.specs.declared.decision.Seen.{Seen}
+
+-- ## What a call sees of the state
+
+-- a number that is not negative; for others 0, which no decision is about
+abbrev pub natural_of : ℤ → ℕ
+natural_of (pos n) = n
+natural_of (negsuc n) = 0
+
+-- the key of a description is never used again, so it is its birth
+abbrev pub seen_of : State → ℤ → ℕ × Description → Seen
+seen_of s descriptor (key, d) = record {
+  number = natural_of descriptor;
+  key = key;
+  birth = key;
+  object = d.object;
+  «end» = d.«end»;
+  access = d.access;
+  append = d.append;
+  nonblock = d.nonblock;
+  last = posix.is_last s descriptor key;
+}
+
+abbrev pub next_of : State → Option ℕ
+next_of s = if nat_le limit.OBJECTS (map.len s.objects) then None else Some s.next_object
+
+unfoldable pub seen : State → View
+seen s = record {
+  described = λ descriptor.
+      posix.described s descriptor >>= (λ found. Ok (seen_of s descriptor found));
+  lowest = λ n. posix.lowest_from s (limit.DESCRIPTORS - n) n;
+  named = λ path.
+      resolved s.paths path >>= (λ components. Ok (node_at s.paths components));
+  names_full = nat_le limit.NAMES (map.len s.paths);
+  has_entries = λ path. has_entries s.paths (components_of path);
+  links = links_of s.paths;
+  is_open = posix.has_description s;
+  next = next_of s;
+}
+
+-- ## Acts, at the object and the description that they were decided for
+
+-- the description that an act reads or moves
+abbrev pub key_of : Act → Option ℕ
+key_of (act.Read from count) = Some from.key
+key_of (act.Write to before) = Some to.key
+key_of (act.Lseek at) = Some at.key
+key_of a = None
+
+abbrev pub description_of : State → Option ℕ → Option Description
+description_of s (Some key) = map.get s.descriptions key
+description_of s None = None
+
+-- its offset
+abbrev pub offset_in : Option Description → ℕ
+offset_in (Some d) = d.offset
+offset_in None = 0
+
+-- it has this offset from now on
+abbrev pub moved_to : State → Option ℕ → Option ℕ → Option Description → State
+moved_to s (Some offset) (Some key) (Some d) = with_offset s key d offset
+moved_to s offset key d = s
+
+-- an object holds this from now on
+abbrev pub holding : State → ℕ → Option Content → State
+holding s object (Some content) = with_content s object content
+holding s object None = s
+
+abbrev pub put : State → ℕ → Act → Acted → State
+put s object a done =
+    holding (moved_to s done.offset (key_of a) (description_of s (key_of a))) object done.content
+
+-- a failure leaves the state as it was
+abbrev pub ended : State → Ending → Result Effect Errno
+ended after (Replies (reply.Fail e)) = Err e
+ended after (Replies r) = Ok (Completes after r)
+ended after (Blocks moved) = Ok (effect.Blocks after moved)
+
+abbrev pub acts : State → ℕ → Act → Call → Result Effect Errno
+acts s object a c =
+    let stands = offset_in (description_of s (key_of a)) in
+    let done : Acted = acted (posix.has_end s object) a c (content_of s object) stands in
+    ended (put s object a done) done.ending
+
+-- ## What is asked outside
+
+-- what kind of request a call makes
+abbrev pub request_kind : Call → OutKind
+request_kind (call.Read descriptor count) = kind.Read
+request_kind (call.Write descriptor bytes) = kind.Write
+request_kind (call.Lseek descriptor offset whence) = kind.Seek
+request_kind (call.Close descriptor) = kind.Close
+request_kind (call.Shutdown descriptor how) = kind.Shutdown
+request_kind (call.HostOpen path access flags) = kind.Open
+request_kind (call.TcpListen port) = kind.Listen
+request_kind (call.TcpConnect port) = kind.Connect
+request_kind (call.TcpAccept descriptor) = kind.Accept
+-- never met: other calls ask nothing
+request_kind c = kind.Close
+
+-- how much it asks: bytes, or a port
+abbrev pub request_asked : Call → ℕ
+request_asked (call.Read descriptor count) = natural_of count
+request_asked (call.Write descriptor bytes) = length bytes
+request_asked (call.TcpListen port) = natural_of port
+request_asked (call.TcpConnect port) = natural_of port
+request_asked c = 0
+
+-- the reply to a success with this value and these bytes
+abbrev pub reply_outside : Call → ℕ → List ℕ → Reply
+reply_outside (call.Read descriptor count) value bytes = reply.Data bytes
+reply_outside (call.Write descriptor sent) value bytes = reply.Count value
+reply_outside (call.Lseek descriptor offset whence) value bytes = reply.Number (pos value)
+reply_outside (call.Close descriptor) value bytes = reply.Done
+reply_outside (call.Shutdown descriptor how) value bytes = reply.Done
+-- never met: other calls ask nothing, or open a door
+reply_outside c value bytes = reply.Done
+
+-- there is a new door only where it was opened outside
+abbrev pub asks_to_open : State → Call → Bool → NewDescriptor → Effect
+asks_to_open s c blocks new = Asks (record {
+  kind = request_kind c;
+  asked = request_asked c;
+  succeeds = λ value bytes. (door_opened s c new value, reply.Number (pos new.number));
+  otherwise = s;
+  waits = blocks;
+})
+
+-- ## All decisions
+
+abbrev pub meant : State → Call → Decision → effect.Decision
+meant s c (decision.Replies r x) = alone (changed s c x) r
+meant s c (decision.Locks object a x) = locking object (acts (changed s c x) object a c)
+meant s c (decision.Asks object blocks) =
+    locking object
+    (Ok (asks_of s (request_kind c) (request_asked c) blocks (reply_outside c)))
+meant s c (decision.Closes object n key) =
+    let after = changed s c (change.Close n key) in
+    locking object (Ok (asks_of after kind.Close 0 false (reply_outside c)))
+meant s c (decision.Opens blocks listener new) =
+    locking new.object (Ok (asks_to_open s c blocks new))
+
+-- a refusal means itself
+abbrev pub all_meant : State → Call → Result Decision Errno → Result effect.Decision Errno
+all_meant s c (Ok d) = Ok (meant s c d)
+all_meant s c (Err e) = Err e

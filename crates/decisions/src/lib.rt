@@ -1,0 +1,12 @@
+//! What is decided of a call, as a value: the definition that is to take the place of the chains of
+//! the sequential object.
+//!
+//! A call looks at a [`Seen`] description, at names and at free numbers, and never at the bytes of
+//! an object. What is decided of it is a [`Decision`]: its reply, or an object to lock and an
+//! [`Act`] there, or a request to the outside; with a [`Change`] of descriptors, descriptions and
+//! names. No code uses this crate yet (docs/DECISIONS.md).
+#![tactic(auto)]
+
+mod decision;
+
+pub use decision::{Act, Change, Decision, NewDescriptor, NewEnds, Seen};
