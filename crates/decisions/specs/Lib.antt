@@ -11,3 +11,4 @@ pub mod Decided
 pub mod Changes
 pub mod Acts
 pub mod Meant
+pub mod Laws

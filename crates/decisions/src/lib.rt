@@ -4,9 +4,14 @@
 //! A call looks at a [`Seen`] description, at names and at free numbers, and never at the bytes of
 //! an object. What is decided of it is a [`Decision`]: its reply, or an object to lock and an
 //! [`Act`] there, or a request to the outside; with a [`Change`] of descriptors, descriptions and
-//! names. No code uses this crate yet (docs/DECISIONS.md).
+//! names.
+//!
+//! By the law [`decides_same`] that is what the chains of the sequential object decide, call by
+//! call. No code uses this crate yet (docs/DECISIONS.md).
 #![tactic(auto)]
 
 mod decision;
+mod laws;
 
 pub use decision::{Act, Change, Decision, NewDescriptor, NewEnds, Seen};
+pub use laws::decides_same;
