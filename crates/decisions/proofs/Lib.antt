@@ -1,2 +1,4 @@
 pub mod Counting
 pub mod Same
+pub mod So
+pub mod Alike

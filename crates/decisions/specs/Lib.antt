@@ -12,3 +12,5 @@ pub mod Changes
 pub mod Acts
 pub mod Meant
 pub mod Laws
+pub mod So
+pub mod Renaming

@@ -7,11 +7,13 @@
 //! names.
 //!
 //! By the law [`decides_same`] that is what the chains of the sequential object decide, call by
-//! call. No code uses this crate yet (docs/DECISIONS.md).
+//! call. By [`decided_so`] all that a change or an act needs was looked up, and by
+//! [`names_do_not_matter`] a table may name objects and descriptions as it likes. No code uses this
+//! crate yet (docs/DECISIONS.md).
 #![tactic(auto)]
 
 mod decision;
 mod laws;
 
 pub use decision::{Act, Change, Decision, NewDescriptor, NewEnds, Seen};
-pub use laws::decides_same;
+pub use laws::{decided_so, decides_same, names_do_not_matter};

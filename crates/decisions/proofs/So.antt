@@ -1,0 +1,274 @@
+-- What holds of what is decided of each call: one lemma a call.
+use Rattle.std.proofs.Common.{◌≡◌, ℕ, ◌==◌, ◌&&◌, List, Bool, true, false, Result, Ok}
+use Rattle.std.proofs.Common.{Err, arith, refl}
+use Rattle.std.proofs.lemmas.Bool.{cond_both}
+use Rattle.std.specs.Ordering.{int_eq}
+use Rattle.decisions.specs.declared.decision.Change.TheVariants as change
+use Rattle.std.specs.Prelude.{ℤ, pos, negsuc, nat_lt, IfOk, length}
+use Rattle.sequential_object.specs.Transfers.{is_from}
+use Rattle.posix_terms.specs.declared.errno.Errno.{Errno}
+use Rattle.posix_terms.specs.declared.limits.TheConstants.Limits as limit
+use Rattle.posix_terms.specs.declared.call.Access.{Access}
+use Rattle.posix_terms.specs.declared.call.Call.TheVariants as call
+use Rattle.posix_terms.specs.declared.call.OpenFlags.{OpenFlags}
+use Rattle.posix_terms.specs.declared.call.ShutdownHow.{ShutdownHow}
+use Rattle.posix_terms.specs.declared.call.Whence.{Whence}
+use Rattle.posix_terms.specs.declared.carried.Moved.{Moved}
+use Rattle.decisions.specs.Deciding.{leads_outside}
+use Rattle.decisions.specs.Descriptors.{close_decided, open_decided}
+use Rattle.decisions.specs.Doors.{host_open_decided, port_decided, tcp_accept_decided}
+use Rattle.decisions.specs.Duplicates.{dup2_decided, dup_decided, dup_from_decided}
+use Rattle.decisions.specs.Names.{addable, file_named, link_decided, mkdir_decided}
+use Rattle.decisions.specs.Names.{rename_decided, rmdir_decided, unlink_decided}
+use Rattle.decisions.specs.Sockets.{pipe_decided, shutdown_decided, socketpair_decided}
+use Rattle.decisions.specs.Status.{fstat_decided, getfl_decided, setfl_decided}
+use Rattle.decisions.specs.Transfers.{first_write, ftruncate_decided, goes_on, is_pipe}
+use Rattle.decisions.specs.Transfers.{lseek_decided, pread_decided, pwrite_decided, read_decided}
+use Rattle.decisions.specs.Transfers.{write_decided}
+use Rattle.decisions.specs.So.{Can, DecidedSo, IsNumbered, IsSo}
+use Rattle.decisions.specs.View.{View}
+use Rattle.decisions.specs.declared.decision.Decision.{Decision}
+use Rattle.decisions.specs.declared.decision.Seen.{Seen}
+
+so-open : (v : View) (path : List ℕ) (access : Access) (flags : OpenFlags)
+    → IfOk (open_decided v path access flags)
+    (IsSo v (call.Open path access flags))
+unfolding open_decided
+so-open v path access flags = grind arith
+
+so-close : (v : View) → IsNumbered v → (descriptor : ℤ)
+    → IfOk (close_decided v descriptor)
+    (IsSo v (call.Close descriptor))
+unfolding close_decided
+so-close v numbered descriptor = by_found (v.described descriptor) refl
+  where
+    by_found : (found : Result Seen Errno) → v.described descriptor ≡ found
+        → IfOk (close_decided v descriptor) (IsSo v (call.Close descriptor))
+    by_found (Err e) is = rw is tt
+    by_found (Ok at) is = grind (arith, is, numbered descriptor at is)
+
+so-read : (v : View) (descriptor count : ℤ)
+    → IfOk (read_decided v descriptor count)
+    (IsSo v (call.Read descriptor count))
+unfolding read_decided
+so-read v descriptor count = grind arith
+
+so-first_write : (v : View) (descriptor : ℤ) (bytes : List ℕ)
+    → IfOk (first_write v descriptor (length bytes)) (IsSo v (call.Write descriptor bytes))
+so-first_write v descriptor bytes = grind arith
+
+so-goes_on : (v : View) (descriptor : ℤ) (bytes : List ℕ) (moved : Moved)
+    (found : Result Seen Errno) → v.described descriptor ≡ found
+    → IsSo v (call.Write descriptor bytes) (goes_on moved found)
+so-goes_on v descriptor bytes moved (Err e) is = (tt, refl)
+so-goes_on v descriptor bytes moved (Ok at) is =
+    cond_both (is_from moved at.birth && is_pipe at.«end») _ _
+    (IsSo v (call.Write descriptor bytes))
+    (λ goes. (tt, record { descriptor = descriptor; found = is }, refl))
+    (λ ends. (tt, refl))
+
+so-write : (v : View) (descriptor : ℤ) (bytes : List ℕ) (moved : Moved)
+    → IfOk (write_decided v descriptor (length bytes) moved)
+    (IsSo v (call.Write descriptor bytes))
+unfolding write_decided
+so-write v descriptor bytes moved =
+    cond_both {A = Result Decision Errno} (moved.bytes == 0) _ _
+    (λ d. IfOk d (IsSo v (call.Write descriptor bytes)))
+    (λ first. so-first_write v descriptor bytes)
+    (λ later. so-goes_on v descriptor bytes moved (v.described descriptor) refl)
+
+so-pread : (v : View) (descriptor count position : ℤ)
+    → IfOk (pread_decided v descriptor count position)
+    (IsSo v (call.Pread descriptor count position))
+unfolding pread_decided
+so-pread v descriptor count position = grind arith
+
+so-pwrite : (v : View) (descriptor : ℤ) (bytes : List ℕ) (position : ℤ)
+    → IfOk (pwrite_decided v descriptor (length bytes) position)
+    (IsSo v (call.Pwrite descriptor bytes position))
+unfolding pwrite_decided
+so-pwrite v descriptor bytes position = grind arith
+
+so-lseek : (v : View) (descriptor offset : ℤ) (whence : Whence)
+    → IfOk (lseek_decided v descriptor offset whence)
+    (IsSo v (call.Lseek descriptor offset whence))
+unfolding lseek_decided
+so-lseek v descriptor offset whence = grind arith
+
+so-ftruncate : (v : View) (descriptor size : ℤ)
+    → IfOk (ftruncate_decided v descriptor size)
+    (IsSo v (call.Ftruncate descriptor size))
+unfolding ftruncate_decided
+so-ftruncate v descriptor size = grind arith
+
+so-fstat : (v : View) (descriptor : ℤ)
+    → IfOk (fstat_decided v descriptor)
+    (IsSo v (call.Fstat descriptor))
+unfolding fstat_decided
+so-fstat v descriptor = grind arith
+
+so-dup : (v : View) (descriptor : ℤ)
+    → IfOk (dup_decided v descriptor)
+    (IsSo v (call.Dup descriptor))
+unfolding dup_decided
+so-dup v descriptor = grind arith
+
+so-dup_from : (v : View) (descriptor least : ℤ)
+    → IfOk (dup_from_decided v descriptor least)
+    (IsSo v (call.DupFrom descriptor least))
+unfolding dup_from_decided
+so-dup_from v descriptor least = grind arith
+
+so-dup2 : (v : View) (descriptor target : ℤ)
+    → IfOk (dup2_decided v descriptor target)
+    (IsSo v (call.Dup2 descriptor target))
+unfolding dup2_decided
+so-dup2 v descriptor (negsuc n) = grind arith
+so-dup2 v descriptor (pos n) =
+    by_found (v.described descriptor) refl (nat_lt n limit.DESCRIPTORS) refl
+    (v.described (pos n)) refl
+  where
+    by_found : (found : Result Seen Errno) → v.described descriptor ≡ found
+        → (b : Bool) → nat_lt n limit.DESCRIPTORS ≡ b
+        → (target : Result Seen Errno) → v.described (pos n) ≡ target
+        → IfOk (dup2_decided v descriptor (pos n)) (IsSo v (call.Dup2 descriptor (pos n)))
+    by_found (Err e) is b inside target its = rw is tt
+    by_found (Ok at) is false outside target its = rw (is, outside) tt
+    by_found (Ok at) is true inside (Err e) its = grind (arith, is, inside, its)
+    by_found (Ok at) is true inside (Ok to) its =
+        by_tests (int_eq descriptor (pos n)) refl (leads_outside to.«end» && to.last) refl
+      where
+        by_tests : (a : Bool) → int_eq descriptor (pos n) ≡ a
+            → (b : Bool) → (leads_outside to.«end» && to.last) ≡ b
+            → IfOk (dup2_decided v descriptor (pos n))
+            (IsSo v (call.Dup2 descriptor (pos n)))
+        by_tests true same b door = rw (is, inside, same) (tt, refl)
+        by_tests false apart true door = rw (is, inside, apart, its, door) tt
+        by_tests false apart false door =
+            rw (is, inside, apart, its, door)
+            (cond_both to.last _ _ (IsSo v (call.Dup2 descriptor (pos n)))
+            (λ last. (can, tt, refl)) (λ more. (can, refl)))
+          where
+            can : Can v (call.Dup2 descriptor (pos n)) (change.Replace n to.key at.key)
+            can = (
+              record { at = to; found = its; key_is = refl },
+              record {
+                at = at;
+                found = record { descriptor = descriptor; found = is };
+                key_is = refl;
+              },
+            )
+
+so-getfl : (v : View) (descriptor : ℤ)
+    → IfOk (getfl_decided v descriptor)
+    (IsSo v (call.Getfl descriptor))
+unfolding getfl_decided
+so-getfl v descriptor = grind arith
+
+so-setfl : (v : View) (descriptor : ℤ) (append nonblock : Bool)
+    → IfOk (setfl_decided v descriptor append nonblock)
+    (IsSo v (call.Setfl descriptor append nonblock))
+unfolding setfl_decided
+so-setfl v descriptor append nonblock = grind arith
+
+so-link : (v : View) (old_path new_path : List ℕ)
+    → IfOk (link_decided v old_path new_path)
+    (IsSo v (call.Link old_path new_path))
+unfolding link_decided file_named addable
+so-link v old_path new_path = grind arith
+
+so-unlink : (v : View) (path : List ℕ)
+    → IfOk (unlink_decided v path)
+    (IsSo v (call.Unlink path))
+unfolding unlink_decided file_named
+so-unlink v path = grind arith
+
+so-rename : (v : View) (old_path new_path : List ℕ)
+    → IfOk (rename_decided v old_path new_path)
+    (IsSo v (call.Rename old_path new_path))
+unfolding rename_decided file_named
+so-rename v old_path new_path = grind arith
+
+so-mkdir : (v : View) (path : List ℕ)
+    → IfOk (mkdir_decided v path)
+    (IsSo v (call.Mkdir path))
+unfolding mkdir_decided addable
+so-mkdir v path = grind arith
+
+so-rmdir : (v : View) (path : List ℕ)
+    → IfOk (rmdir_decided v path)
+    (IsSo v (call.Rmdir path))
+unfolding rmdir_decided
+so-rmdir v path = grind arith
+
+so-pipe : (v : View)
+    → IfOk (pipe_decided v)
+    (IsSo v call.Pipe)
+unfolding pipe_decided
+so-pipe v = grind arith
+
+so-socketpair : (v : View)
+    → IfOk (socketpair_decided v)
+    (IsSo v call.Socketpair)
+unfolding socketpair_decided
+so-socketpair v = grind arith
+
+so-shutdown : (v : View) (descriptor : ℤ) (how : ShutdownHow)
+    → IfOk (shutdown_decided v descriptor how)
+    (IsSo v (call.Shutdown descriptor how))
+unfolding shutdown_decided
+so-shutdown v descriptor how = grind arith
+
+so-host_open : (v : View) (path : List ℕ) (access : Access) (flags : OpenFlags)
+    → IfOk (host_open_decided v path access flags)
+    (IsSo v (call.HostOpen path access flags))
+unfolding host_open_decided
+so-host_open v path access flags = grind arith
+
+so-tcp_listen : (v : View) (port : ℤ)
+    → IfOk (port_decided v 0 port)
+    (IsSo v (call.TcpListen port))
+unfolding port_decided
+so-tcp_listen v port = grind arith
+
+so-tcp_connect : (v : View) (port : ℤ)
+    → IfOk (port_decided v 1 port)
+    (IsSo v (call.TcpConnect port))
+unfolding port_decided
+so-tcp_connect v port = grind arith
+
+so-tcp_accept : (v : View) (descriptor : ℤ)
+    → IfOk (tcp_accept_decided v descriptor)
+    (IsSo v (call.TcpAccept descriptor))
+unfolding tcp_accept_decided
+so-tcp_accept v descriptor = grind arith
+
+pub so : DecidedSo
+so v (call.Open path access flags) carried numbered = so-open v path access flags
+so v (call.Close descriptor) carried numbered = so-close v numbered descriptor
+so v (call.Read descriptor count) carried numbered = so-read v descriptor count
+so v (call.Write descriptor bytes) carried numbered = so-write v descriptor bytes carried.moved
+so v (call.Pread descriptor count position) carried numbered = so-pread v descriptor count position
+so v (call.Pwrite descriptor bytes position) carried numbered =
+    so-pwrite v descriptor bytes position
+so v (call.Lseek descriptor offset whence) carried numbered = so-lseek v descriptor offset whence
+so v (call.Ftruncate descriptor size) carried numbered = so-ftruncate v descriptor size
+so v (call.Fstat descriptor) carried numbered = so-fstat v descriptor
+so v (call.Dup descriptor) carried numbered = so-dup v descriptor
+so v (call.DupFrom descriptor least) carried numbered = so-dup_from v descriptor least
+so v (call.Dup2 descriptor target) carried numbered = so-dup2 v descriptor target
+so v (call.Getfl descriptor) carried numbered = so-getfl v descriptor
+so v (call.Setfl descriptor append nonblock) carried numbered =
+    so-setfl v descriptor append nonblock
+so v (call.Link old_path new_path) carried numbered = so-link v old_path new_path
+so v (call.Unlink path) carried numbered = so-unlink v path
+so v (call.Rename old_path new_path) carried numbered = so-rename v old_path new_path
+so v (call.Mkdir path) carried numbered = so-mkdir v path
+so v (call.Rmdir path) carried numbered = so-rmdir v path
+so v call.Pipe carried numbered = so-pipe v
+so v call.Socketpair carried numbered = so-socketpair v
+so v (call.Shutdown descriptor how) carried numbered = so-shutdown v descriptor how
+so v (call.HostOpen path access flags) carried numbered = so-host_open v path access flags
+so v (call.TcpListen port) carried numbered = so-tcp_listen v port
+so v (call.TcpConnect port) carried numbered = so-tcp_connect v port
+so v (call.TcpAccept descriptor) carried numbered = so-tcp_accept v descriptor
