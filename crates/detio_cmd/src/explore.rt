@@ -1,4 +1,5 @@
 use crate::input::{open_scripts, open_source};
+use crate::output::Output;
 use crate::progress::ProgressLine;
 use crate::writing::write_scripts;
 use clap::ArgMatches;
@@ -31,7 +32,7 @@ pub(crate) fn run_explore<T: Threads + Sync>(
     }
     keep_memory(alloc);
     let mut progress = ProgressLine::new(rt);
-    let (mut output, mut errors) = (rt.stdout(), rt.stderr());
+    let (mut output, mut errors) = (Output::new(rt), rt.stderr());
     let workers = Workers {
         threads,
         jobs: jobs(matches),

@@ -1,5 +1,6 @@
 use crate::explore::{jobs, keep_memory};
 use crate::input::{open_scripts, open_source};
+use crate::output::Output;
 use crate::progress::ProgressLine;
 use crate::writing::write_log;
 use clap::ArgMatches;
@@ -51,7 +52,7 @@ pub(crate) fn run_faults<T: Threads + Sync>(
         log,
         sources,
         &mut progress,
-        &mut rt.stdout(),
+        &mut Output::new(rt),
         &mut rt.stderr(),
     );
     Ok(status.unwrap_or(4))

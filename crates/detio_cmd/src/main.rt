@@ -6,6 +6,7 @@ mod explore;
 mod faults;
 mod input;
 mod log_file;
+mod output;
 mod progress;
 mod record;
 mod writing;
@@ -22,6 +23,7 @@ use faults::run_faults;
 use host_doors::Outside;
 use input::{open_scripts, open_source};
 use log_file::{LogFile, is_script, log_is_script};
+use output::Output;
 use record::{HostOutsides, NewOutsides, run_record};
 use std::alloc::AllocError;
 use std::fs::File;
@@ -107,14 +109,17 @@ fn not_text(rt: &HostRuntime) -> u8 {
     2
 }
 
-// The help, the version, or wrong usage, in the words of `clap`.
+// The help, the version, or wrong usage, in the words of `clap`. A pipe that nobody reads any more is
+// no fault.
 fn other_usage(rt: &HostRuntime, error: clap::Error) -> Result<u8, AllocError> {
     if error.kind() == ErrorKind::OutOfMemory {
         return Err(AllocError);
     }
     match error.print(rt) {
-        Ok(()) => Ok(error.exit_code() as u8),
-        Err(_) => Ok(cannot_write(&mut rt.stderr()).unwrap_or(4)),
+        Err(failed) if failed.kind() != io::ErrorKind::BrokenPipe => {
+            Ok(cannot_write(&mut rt.stderr()).unwrap_or(4))
+        }
+        _ => Ok(error.exit_code() as u8),
     }
 }
 
@@ -139,7 +144,7 @@ fn run_plain(rt: &HostRuntime, matches: &ArgMatches<'_>) -> Result<u8, AllocErro
         settings,
         run_options(matches),
         sources,
-        &mut rt.stdout(),
+        &mut Output::new(rt),
         &mut rt.stderr(),
     );
     Ok(status.unwrap_or(4))
@@ -158,7 +163,7 @@ fn run_replay<T: Threads + Wait + Sync>(
     let log = open_source(rt, path);
     let sources = open_scripts(rt, matches.get_strs("script").unwrap_or(&[]))?;
     let alloc = rt.alloc();
-    let (mut output, mut errors) = (rt.stdout(), rt.stderr());
+    let (mut output, mut errors) = (Output::new(rt), rt.stderr());
     let status = if matches.get_flag("threads") {
         replay_threads_over(
             handles,
@@ -188,7 +193,7 @@ fn run_compare(rt: &HostRuntime, matches: &ArgMatches<'_>) -> Result<u8, AllocEr
         log,
         other,
         sources,
-        &mut rt.stdout(),
+        &mut Output::new(rt),
         &mut rt.stderr(),
     );
     Ok(status.unwrap_or(4))
@@ -200,7 +205,7 @@ fn run_show(rt: &HostRuntime, matches: &ArgMatches<'_>) -> u8 {
         return 2;
     };
     let source = open_source(rt, path);
-    show_over(rt.alloc(), source, &mut rt.stdout(), &mut rt.stderr()).unwrap_or(4)
+    show_over(rt.alloc(), source, &mut Output::new(rt), &mut rt.stderr()).unwrap_or(4)
 }
 
 // `detio make`, as the command line has it.
@@ -214,7 +219,13 @@ fn run_make(rt: &HostRuntime, matches: &ArgMatches<'_>) -> u8 {
         path,
         log: LogFile { rt, path, force },
     };
-    let made = make_over(rt.alloc(), text, out, &mut rt.stdout(), &mut rt.stderr());
+    let made = make_over(
+        rt.alloc(),
+        text,
+        out,
+        &mut Output::new(rt),
+        &mut rt.stderr(),
+    );
     made.map(|it| it.status).unwrap_or(4)
 }
 
@@ -239,7 +250,7 @@ fn run_upgrade(rt: &HostRuntime, matches: &ArgMatches<'_>) -> Result<u8, AllocEr
         log,
         out,
         sources,
-        &mut rt.stdout(),
+        &mut Output::new(rt),
         &mut rt.stderr(),
     );
     Ok(upgraded.map(|it| it.status).unwrap_or(4))

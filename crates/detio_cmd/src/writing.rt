@@ -1,3 +1,4 @@
+use crate::output::Output;
 use commands::{cannot_write, print};
 use explore_commands::ToWrite;
 use posix_terms::Bytes;
@@ -16,7 +17,7 @@ pub(crate) fn write_scripts(
     let (texts, log) = match to_write {
         ToWrite::Texts(texts, log) => (texts, log),
         ToWrite::Fault(printed) => {
-            return Ok(print(&printed, &mut rt.stdout(), &mut rt.stderr()).unwrap_or(4));
+            return Ok(print(&printed, &mut Output::new(rt), &mut rt.stderr()).unwrap_or(4));
         }
     };
     // Where there is no directory, no file of it can be made.
@@ -41,7 +42,7 @@ pub(crate) fn write_log(rt: &HostRuntime, to_write: ToWrite, path: &str) -> u8 {
     match to_write {
         ToWrite::Texts(_, log) => { if write_new(rt, path, &log) { 0 } else { 4 } }
         ToWrite::Fault(printed) => {
-            print(&printed, &mut rt.stdout(), &mut rt.stderr()).unwrap_or(4)
+            print(&printed, &mut Output::new(rt), &mut rt.stderr()).unwrap_or(4)
         }
     }
 }
@@ -52,7 +53,8 @@ fn write_new(rt: &HostRuntime, path: &str, bytes: &Bytes) -> bool {
         let _ = eprintln!(rt; "cannot write {path}");
         return false;
     }
-    if println!(rt; "{path}").is_err() {
+    let mut output = Output::new(rt);
+    if writeln!(output, "{path}").is_err() {
         let _ = cannot_write(&mut rt.stderr());
         return false;
     }
