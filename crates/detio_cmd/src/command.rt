@@ -115,7 +115,8 @@ Without --expect it is a comment. So it is with detio record and detio replay.
 Threads that contend take turns by their clocks, and a thread that makes one call after another may be served
 each time before one of a greater number. work before a call, or in a loop, lets others go first.
 
-The path /dev/stdin reads a script from standard input.
+A SCRIPT that is - is read from standard input, and so is the log of a command that reads one. Only one
+input of a command can be -.
 
 Exit statuses:
   0  all threads came to their end
@@ -701,7 +702,7 @@ fn outcomes<'a>(alloc: Global) -> Result<Arg<'a>, AllocError> {
     Arg::new(alloc, "log")
         .long("log")
         .value_name("FILE")
-        .help("The log whose outcomes the calls that go outside take; /dev/stdin is standard input")
+        .help("The log whose outcomes the calls that go outside take; - is standard input")
         .conflicts_with("patience")?
         .conflicts_with("door-cost")
 }
@@ -774,7 +775,7 @@ fn reach<'a>(alloc: Global) -> Arg<'a> {
 fn faults<'a>(alloc: Global) -> Result<Command<'a>, AllocError> {
     let log = log(
         alloc,
-        "The log whose outcomes are replaced; /dev/stdin is standard input",
+        "The log whose outcomes are replaced; - is standard input",
     );
     let command = described(
         alloc,
@@ -901,7 +902,7 @@ fn in_turn<'a>(alloc: Global) -> Arg<'a> {
 }
 
 fn replay<'a>(alloc: Global) -> Result<Command<'a>, AllocError> {
-    let log = log(alloc, "The log to replay; /dev/stdin is standard input");
+    let log = log(alloc, "The log to replay; - is standard input");
     let command = described(
         alloc,
         "replay",
@@ -920,7 +921,7 @@ fn threads<'a>(alloc: Global) -> Arg<'a> {
 }
 
 fn compare<'a>(alloc: Global) -> Result<Command<'a>, AllocError> {
-    let log = log(alloc, "One log to replay; /dev/stdin is standard input");
+    let log = log(alloc, "One log to replay; - is standard input");
     let with = file(alloc, "with", "The log to compare it with");
     let command = described(
         alloc,
@@ -933,7 +934,7 @@ fn compare<'a>(alloc: Global) -> Result<Command<'a>, AllocError> {
 }
 
 fn show<'a>(alloc: Global) -> Result<Command<'a>, AllocError> {
-    let log = log(alloc, "The log to print; /dev/stdin is standard input");
+    let log = log(alloc, "The log to print; - is standard input");
     described(alloc, "show", SHOW_ABOUT, SHOW_LONG_ABOUT, SHOW_AFTER_HELP).arg(log)
 }
 
@@ -943,13 +944,13 @@ fn make<'a>(alloc: Global) -> Result<Command<'a>, AllocError> {
     let text = Arg::new(alloc, "text")
         .value_name("TEXT")
         .default_value("/dev/stdin")
-        .help("The text of the log; /dev/stdin is standard input");
+        .help("The text of the log; - is standard input too");
     let command = described(alloc, "make", MAKE_ABOUT, MAKE_LONG_ABOUT, MAKE_AFTER_HELP);
     command.arg(out)?.arg(force)?.arg(text)
 }
 
 fn upgrade<'a>(alloc: Global) -> Result<Command<'a>, AllocError> {
-    let log = log(alloc, "The log of version 1; /dev/stdin is standard input");
+    let log = log(alloc, "The log of version 1; - is standard input");
     let out = file(alloc, "out", "The log of version 2 to write");
     let force = force(
         alloc,
@@ -1014,5 +1015,5 @@ fn scripts<'a>(alloc: Global) -> Arg<'a> {
         .value_name("SCRIPT")
         .action(ArgAction::Append)
         .num_args(0..)
-        .help("The scripts to run, 1 to 16")
+        .help("The scripts to run, 1 to 16; - is standard input")
 }

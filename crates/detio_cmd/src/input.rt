@@ -1,10 +1,22 @@
 ghost use Rattle.std.specs.Prelude.{None};
 
+use clap::ArgMatches;
 use commands::{Source, SourceFault, TextReader, read_once};
-use std::alloc::AllocError;
+use std::alloc::{AllocError, Global};
 use std::fs;
 use std::fs::File;
 use std::io::Stdin;
+
+// Standard input, as the command line has it in place of a path.
+const STDIN: &str = "-";
+
+// Where the host has standard input.
+const STDIN_PATH: &str = "/dev/stdin";
+
+// Where the host has what the command line gives as the path of an input.
+pub(crate) fn path_of(path: &str) -> &str {
+    if path == STDIN { STDIN_PATH } else { path }
+}
 
 // Where a text comes from. One that could not be opened fails when it is read, so that the faults of all
 // scripts are found in one order.
@@ -42,7 +54,7 @@ pub(crate) fn open_scripts<'a>(
 // The text at this path. Standard input is read as such, since opening its path again is refused where
 // another user made the pipe behind it.
 pub(crate) fn open_source<'a>(rt: &HostRuntime, path: &'a str) -> Source<'a, Input> {
-    let reader = if path == "/dev/stdin" {
+    let reader = if path_of(path) == STDIN_PATH {
         Input::Stdin(rt.stdin())
     } else {
         match fs::open(rt, path) {
@@ -51,4 +63,43 @@ pub(crate) fn open_source<'a>(rt: &HostRuntime, path: &'a str) -> Source<'a, Inp
         }
     };
     Source { path, reader }
+}
+
+// Whether standard input, given as `-`, is to be read a second time.
+pub(crate) fn is_read_twice(
+    alloc: Global,
+    command: &str,
+    matches: &ArgMatches<'_>,
+) -> Result<bool, AllocError> {
+    let mut given = Vec::new(alloc);
+    for path in inputs(alloc, command, matches)? {
+        if path_of(path) == STDIN_PATH {
+            given.push(path)?;
+        }
+    }
+    Ok(given.len() > 1 && given.iter().any(|path| *path == STDIN))
+}
+
+// The paths of what a command reads. The log of `record` is written.
+fn inputs<'a>(
+    alloc: Global,
+    command: &str,
+    matches: &ArgMatches<'a>,
+) -> Result<Vec<&'a str>, AllocError> {
+    let mut paths = Vec::new(alloc);
+    paths.extend_from_slice(matches.get_strs("script").unwrap_or(&[]))?;
+    for id in ["log", "with", "text"] {
+        let is_written = id == "log" && command == "record";
+        match matches.get_str(id) {
+            Some(path) if !is_written => paths.push(path)?,
+            _ => {}
+        }
+    }
+    Ok(paths)
+}
+
+// Standard input can be read once: wrong usage.
+pub(crate) fn read_twice(rt: &HostRuntime) -> u8 {
+    let _ = eprintln!(rt; "error: standard input, -, can be read only once");
+    2
 }

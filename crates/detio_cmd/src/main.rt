@@ -21,7 +21,7 @@ use commands::{
 use explore::{run_explore, run_minimise};
 use faults::run_faults;
 use host_doors::Outside;
-use input::{open_scripts, open_source};
+use input::{is_read_twice, open_scripts, open_source, read_twice};
 use log_file::{LogFile, is_script, log_is_script};
 use output::Output;
 use record::{HostOutsides, NewOutsides, run_record};
@@ -83,17 +83,23 @@ fn run_matches<O: Outside + Send + Drop, N: NewOutsides<O> + Drop, T: Threads + 
     outsides: N,
     matches: &ArgMatches<'_>,
 ) -> Result<u8, AllocError> {
-    match matches.subcommand() {
-        Some(("plain", matches)) => run_plain(rt, matches),
-        Some(("explore", matches)) => run_explore(rt, handles, matches),
-        Some(("faults", matches)) => run_faults(rt, handles, matches),
-        Some(("minimise", matches)) => run_minimise(rt, matches),
-        Some(("record", matches)) => run_record(rt, handles, outsides, matches),
-        Some(("replay", matches)) => run_replay(rt, handles, matches),
-        Some(("compare", matches)) => run_compare(rt, matches),
-        Some(("show", matches)) => Ok(run_show(rt, matches)),
-        Some(("make", matches)) => Ok(run_make(rt, matches)),
-        Some(("upgrade", matches)) => run_upgrade(rt, matches),
+    let Some((command, matches)) = matches.subcommand() else {
+        return Ok(2);
+    };
+    if is_read_twice(rt.alloc(), command, matches)? {
+        return Ok(read_twice(rt));
+    }
+    match command {
+        "plain" => run_plain(rt, matches),
+        "explore" => run_explore(rt, handles, matches),
+        "faults" => run_faults(rt, handles, matches),
+        "minimise" => run_minimise(rt, matches),
+        "record" => run_record(rt, handles, outsides, matches),
+        "replay" => run_replay(rt, handles, matches),
+        "compare" => run_compare(rt, matches),
+        "show" => Ok(run_show(rt, matches)),
+        "make" => Ok(run_make(rt, matches)),
+        "upgrade" => run_upgrade(rt, matches),
         _ => Ok(2),
     }
 }
