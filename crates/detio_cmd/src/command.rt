@@ -631,7 +631,6 @@ fn wants_subcommand(command: Command<'_>) -> Command<'_> {
     command
         .subcommand_required(true)
         .arg_required_else_help(true)
-        .disable_help_subcommand(true)
 }
 
 // A subcommand with its help and no argument.
