@@ -1,0 +1,51 @@
+# Completion of detio for bash, made by tools/man of the help texts.
+_detio() {
+  local word=${COMP_WORDS[COMP_CWORD]} before=${COMP_WORDS[COMP_CWORD - 1]} command="" options="" paths=""
+  COMPREPLY=()
+  # --NAME=VALUE comes as three words.
+  if [[ $word == = ]]; then
+    word=
+  elif [[ $before == = ]]; then
+    before=${COMP_WORDS[COMP_CWORD - 2]}
+  fi
+  ((COMP_CWORD < 2)) || command=${COMP_WORDS[1]}
+  case $command in
+    '') options='plain explore faults minimise record replay compare show make upgrade help -h --help -V --version' ;;
+    help) options='plain explore faults minimise record replay compare show make upgrade help' ;;
+    plain) options='--patience --door-cost --turns --expect -h --help' paths=yes ;;
+    explore) options='--seeds --delays --most --only --reach --jobs --write --patience --door-cost --log -h --help' paths=yes ;;
+    faults) options='--log --errors --short --then --only --out --jobs -h --help' paths=yes ;;
+    minimise) options='--write --patience --door-cost --log -h --help' paths=yes ;;
+    record) options='--log --log-version --force --wait --in-turn --patience --door-cost --turns --expect -h --help' paths=yes ;;
+    replay) options='--log --threads --turns --expect -h --help' paths=yes ;;
+    compare) options='--log --with -h --help' paths=yes ;;
+    show) options='--log -h --help' ;;
+    make) options='--out --force -h --help' paths=yes ;;
+    upgrade) options='--log --out --force -h --help' paths=yes ;;
+  esac
+  case $command,$before in
+    plain,--patience | plain,--door-cost) return ;;
+    explore,--seeds | explore,--most | explore,--only | explore,--reach | explore,--jobs | explore,--patience | explore,--door-cost) return ;;
+    explore,--write) compopt -o dirnames; return ;;
+    explore,--log) compopt -o default; return ;;
+    faults,--log | faults,--out) compopt -o default; return ;;
+    faults,--errors | faults,--only | faults,--jobs) return ;;
+    faults,--then) mapfile -t COMPREPLY < <(compgen -W 'stop fail well' -- "$word"); return ;;
+    minimise,--write) compopt -o dirnames; return ;;
+    minimise,--patience | minimise,--door-cost) return ;;
+    minimise,--log) compopt -o default; return ;;
+    record,--log) compopt -o default; return ;;
+    record,--log-version | record,--wait | record,--patience | record,--door-cost) return ;;
+    replay,--log) compopt -o default; return ;;
+    compare,--log | compare,--with) compopt -o default; return ;;
+    show,--log) compopt -o default; return ;;
+    make,--out) compopt -o default; return ;;
+    upgrade,--log | upgrade,--out) compopt -o default; return ;;
+  esac
+  if [[ $paths && $word != -* ]]; then
+    compopt -o default
+  else
+    mapfile -t COMPREPLY < <(compgen -W "$options" -- "$word")
+  fi
+}
+complete -F _detio detio
