@@ -239,38 +239,38 @@ module _ (r : Names) (v u : View) (like : Alike r v u) where
   alike-tcp_accept descriptor = grind (arith, like.described descriptor, like.lowest 0, like.next)
 
 pub alike : DecidesAlike
-alike r v u (call.Open path access flags) carried like = alike-open r v u like path access flags
-alike r v u (call.Close descriptor) carried like = alike-close r v u like descriptor
-alike r v u (call.Read descriptor count) carried like = alike-read r v u like descriptor count
-alike r v u (call.Write descriptor bytes) carried like =
-    alike-write r v u like descriptor bytes carried.moved
-alike r v u (call.Pread descriptor count position) carried like =
+alike r v u (call.Open path access flags) moved like = alike-open r v u like path access flags
+alike r v u (call.Close descriptor) moved like = alike-close r v u like descriptor
+alike r v u (call.Read descriptor count) moved like = alike-read r v u like descriptor count
+alike r v u (call.Write descriptor bytes) moved like =
+    alike-write r v u like descriptor bytes moved
+alike r v u (call.Pread descriptor count position) moved like =
     alike-pread r v u like descriptor count position
-alike r v u (call.Pwrite descriptor bytes position) carried like =
+alike r v u (call.Pwrite descriptor bytes position) moved like =
     alike-pwrite r v u like descriptor bytes position
-alike r v u (call.Lseek descriptor offset whence) carried like =
+alike r v u (call.Lseek descriptor offset whence) moved like =
     alike-lseek r v u like descriptor offset whence
-alike r v u (call.Ftruncate descriptor size) carried like =
+alike r v u (call.Ftruncate descriptor size) moved like =
     alike-ftruncate r v u like descriptor size
-alike r v u (call.Fstat descriptor) carried like = alike-fstat r v u like descriptor
-alike r v u (call.Dup descriptor) carried like = alike-dup r v u like descriptor
-alike r v u (call.DupFrom descriptor least) carried like =
+alike r v u (call.Fstat descriptor) moved like = alike-fstat r v u like descriptor
+alike r v u (call.Dup descriptor) moved like = alike-dup r v u like descriptor
+alike r v u (call.DupFrom descriptor least) moved like =
     alike-dup_from r v u like descriptor least
-alike r v u (call.Dup2 descriptor target) carried like = alike-dup2 r v u like descriptor target
-alike r v u (call.Getfl descriptor) carried like = alike-getfl r v u like descriptor
-alike r v u (call.Setfl descriptor append nonblock) carried like =
+alike r v u (call.Dup2 descriptor target) moved like = alike-dup2 r v u like descriptor target
+alike r v u (call.Getfl descriptor) moved like = alike-getfl r v u like descriptor
+alike r v u (call.Setfl descriptor append nonblock) moved like =
     alike-setfl r v u like descriptor append nonblock
-alike r v u (call.Link old_path new_path) carried like = alike-link r v u like old_path new_path
-alike r v u (call.Unlink path) carried like = alike-unlink r v u like path
-alike r v u (call.Rename old_path new_path) carried like =
+alike r v u (call.Link old_path new_path) moved like = alike-link r v u like old_path new_path
+alike r v u (call.Unlink path) moved like = alike-unlink r v u like path
+alike r v u (call.Rename old_path new_path) moved like =
     alike-rename r v u like old_path new_path
-alike r v u (call.Mkdir path) carried like = alike-mkdir r v u like path
-alike r v u (call.Rmdir path) carried like = alike-rmdir r v u like path
-alike r v u call.Pipe carried like = alike-pipe r v u like
-alike r v u call.Socketpair carried like = alike-socketpair r v u like
-alike r v u (call.Shutdown descriptor how) carried like = alike-shutdown r v u like descriptor how
-alike r v u (call.HostOpen path access flags) carried like =
+alike r v u (call.Mkdir path) moved like = alike-mkdir r v u like path
+alike r v u (call.Rmdir path) moved like = alike-rmdir r v u like path
+alike r v u call.Pipe moved like = alike-pipe r v u like
+alike r v u call.Socketpair moved like = alike-socketpair r v u like
+alike r v u (call.Shutdown descriptor how) moved like = alike-shutdown r v u like descriptor how
+alike r v u (call.HostOpen path access flags) moved like =
     alike-host_open r v u like path access flags
-alike r v u (call.TcpListen port) carried like = alike-port r v u like 0 port
-alike r v u (call.TcpConnect port) carried like = alike-port r v u like 1 port
-alike r v u (call.TcpAccept descriptor) carried like = alike-tcp_accept r v u like descriptor
+alike r v u (call.TcpListen port) moved like = alike-port r v u like 0 port
+alike r v u (call.TcpConnect port) moved like = alike-port r v u like 1 port
+alike r v u (call.TcpAccept descriptor) moved like = alike-tcp_accept r v u like descriptor

@@ -1,7 +1,8 @@
 -- What holds of what is decided of each call: one lemma a call.
-use Rattle.std.proofs.Common.{◌≡◌, ℕ, ◌==◌, ◌&&◌, List, Bool, true, false, Result, Ok}
-use Rattle.std.proofs.Common.{Err, arith, refl}
-use Rattle.std.proofs.lemmas.Bool.{cond_both}
+use Rattle.std.proofs.Common.{◌≡◌, ◌≢◌, ℕ, ◌==◌, ◌&&◌, List, Bool, true, false, Result, Ok}
+use Rattle.std.proofs.Common.{Err, ap, ◌∙◌, arith, inr, refl, sym}
+use Rattle.std.proofs.lemmas.Bool.{cond_both, false≢true}
+use Rattle.std.proofs.lemmas.Bool.Decides.{nat_tests}
 use Rattle.std.specs.Ordering.{int_eq}
 use Rattle.decisions.specs.declared.decision.Change.TheVariants as change
 use Rattle.std.specs.Prelude.{ℤ, pos, negsuc, nat_lt, IfOk, length}
@@ -25,7 +26,12 @@ use Rattle.decisions.specs.Status.{fstat_decided, getfl_decided, setfl_decided}
 use Rattle.decisions.specs.Transfers.{first_write, ftruncate_decided, goes_on, is_pipe}
 use Rattle.decisions.specs.Transfers.{lseek_decided, pread_decided, pwrite_decided, read_decided}
 use Rattle.decisions.specs.Transfers.{write_decided}
-use Rattle.decisions.specs.So.{Can, DecidedSo, IsNumbered, IsSo}
+use Rattle.posix_terms.specs.Calls.{Call}
+use Rattle.sequential_object.specs.Object.{State}
+use Rattle.decisions.specs.Decided.{decided}
+use Rattle.decisions.specs.Meant.{seen}
+use Rattle.posix_terms.specs.declared.object.End.{End}
+use Rattle.decisions.specs.So.{Can, DecidedSo, IsNumbered, IsReferred, IsSo}
 use Rattle.decisions.specs.View.{View}
 use Rattle.decisions.specs.declared.decision.Decision.{Decision}
 use Rattle.decisions.specs.declared.decision.Seen.{Seen}
@@ -57,15 +63,30 @@ so-first_write : (v : View) (descriptor : ℤ) (bytes : List ℕ)
     → IfOk (first_write v descriptor (length bytes)) (IsSo v (call.Write descriptor bytes))
 so-first_write v descriptor bytes = grind arith
 
+pipe_inside : (e : End) → is_pipe e ≡ true → leads_outside e ≡ false
+pipe_inside e is = grind (arith, is)
+
+and_right : (a b : Bool) → (a && b) ≡ true → b ≡ true
+and_right a b is = grind (arith, is)
+
 so-goes_on : (v : View) (descriptor : ℤ) (bytes : List ℕ) (moved : Moved)
     (found : Result Seen Errno) → v.described descriptor ≡ found
     → IsSo v (call.Write descriptor bytes) (goes_on moved found)
-so-goes_on v descriptor bytes moved (Err e) is = (tt, refl)
+so-goes_on v descriptor bytes moved (Err e) is = (tt, refl, refl)
 so-goes_on v descriptor bytes moved (Ok at) is =
     cond_both (is_from moved at.birth && is_pipe at.«end») _ _
     (IsSo v (call.Write descriptor bytes))
-    (λ goes. (tt, record { descriptor = descriptor; found = is }, refl))
-    (λ ends. (tt, refl))
+    (λ goes. (
+      tt,
+      record {
+        found = record { descriptor = descriptor; found = is };
+        object_is = refl;
+        inside = pipe_inside at.«end» (and_right (is_from moved at.birth) (is_pipe at.«end») goes);
+      },
+      refl,
+      refl,
+    ))
+    (λ ends. (tt, refl, refl))
 
 so-write : (v : View) (descriptor : ℤ) (bytes : List ℕ) (moved : Moved)
     → IfOk (write_decided v descriptor (length bytes) moved)
@@ -119,6 +140,13 @@ so-dup_from : (v : View) (descriptor least : ℤ)
 unfolding dup_from_decided
 so-dup_from v descriptor least = grind arith
 
+apart_by : (descriptor : ℤ) (n : ℕ) → int_eq descriptor (pos n) ≡ false → descriptor ≢ pos n
+apart_by (pos m) n is same = false≢true (sym is ∙ ap (λ x. int_eq x (pos n)) same ∙ same_itself)
+  where
+    same_itself : int_eq (pos n) (pos n) ≡ true
+    same_itself = grind (arith, nat_tests)
+apart_by (negsuc m) n is same = cc
+
 so-dup2 : (v : View) (descriptor target : ℤ)
     → IfOk (dup2_decided v descriptor target)
     (IsSo v (call.Dup2 descriptor target))
@@ -142,20 +170,29 @@ so-dup2 v descriptor (pos n) =
             → (b : Bool) → (leads_outside to.«end» && to.last) ≡ b
             → IfOk (dup2_decided v descriptor (pos n))
             (IsSo v (call.Dup2 descriptor (pos n)))
-        by_tests true same b door = rw (is, inside, same) (tt, refl)
+        by_tests true same b door = rw (is, inside, same) (tt, refl, refl)
         by_tests false apart true door = rw (is, inside, apart, its, door) tt
         by_tests false apart false door =
             rw (is, inside, apart, its, door)
             (cond_both to.last _ _ (IsSo v (call.Dup2 descriptor (pos n)))
-            (λ last. (can, tt, refl)) (λ more. (can, refl)))
+            (λ last. (can, inr referred, tt, refl)) (λ more. (can, refl, refl)))
           where
+            referred : IsReferred v to.object
+            referred = record {
+              at = to;
+              found = record { descriptor = pos n; found = its };
+              object_is = refl;
+            }
+
             can : Can v (call.Dup2 descriptor (pos n)) (change.Replace n to.key at.key)
             can = (
               record { at = to; found = its; key_is = refl },
               record {
+                descriptor = descriptor;
                 at = at;
-                found = record { descriptor = descriptor; found = is };
+                found = is;
                 key_is = refl;
+                apart = apart_by descriptor n apart;
               },
             )
 
@@ -243,32 +280,42 @@ so-tcp_accept : (v : View) (descriptor : ℤ)
 unfolding tcp_accept_decided
 so-tcp_accept v descriptor = grind arith
 
-pub so : DecidedSo
-so v (call.Open path access flags) carried numbered = so-open v path access flags
-so v (call.Close descriptor) carried numbered = so-close v numbered descriptor
-so v (call.Read descriptor count) carried numbered = so-read v descriptor count
-so v (call.Write descriptor bytes) carried numbered = so-write v descriptor bytes carried.moved
-so v (call.Pread descriptor count position) carried numbered = so-pread v descriptor count position
-so v (call.Pwrite descriptor bytes position) carried numbered =
+so : (v : View) (c : Call) (moved : Moved) → IsNumbered v → IfOk (decided v c moved) (IsSo v c)
+so v (call.Open path access flags) moved numbered = so-open v path access flags
+so v (call.Close descriptor) moved numbered = so-close v numbered descriptor
+so v (call.Read descriptor count) moved numbered = so-read v descriptor count
+so v (call.Write descriptor bytes) moved numbered = so-write v descriptor bytes moved
+so v (call.Pread descriptor count position) moved numbered = so-pread v descriptor count position
+so v (call.Pwrite descriptor bytes position) moved numbered =
     so-pwrite v descriptor bytes position
-so v (call.Lseek descriptor offset whence) carried numbered = so-lseek v descriptor offset whence
-so v (call.Ftruncate descriptor size) carried numbered = so-ftruncate v descriptor size
-so v (call.Fstat descriptor) carried numbered = so-fstat v descriptor
-so v (call.Dup descriptor) carried numbered = so-dup v descriptor
-so v (call.DupFrom descriptor least) carried numbered = so-dup_from v descriptor least
-so v (call.Dup2 descriptor target) carried numbered = so-dup2 v descriptor target
-so v (call.Getfl descriptor) carried numbered = so-getfl v descriptor
-so v (call.Setfl descriptor append nonblock) carried numbered =
+so v (call.Lseek descriptor offset whence) moved numbered = so-lseek v descriptor offset whence
+so v (call.Ftruncate descriptor size) moved numbered = so-ftruncate v descriptor size
+so v (call.Fstat descriptor) moved numbered = so-fstat v descriptor
+so v (call.Dup descriptor) moved numbered = so-dup v descriptor
+so v (call.DupFrom descriptor least) moved numbered = so-dup_from v descriptor least
+so v (call.Dup2 descriptor target) moved numbered = so-dup2 v descriptor target
+so v (call.Getfl descriptor) moved numbered = so-getfl v descriptor
+so v (call.Setfl descriptor append nonblock) moved numbered =
     so-setfl v descriptor append nonblock
-so v (call.Link old_path new_path) carried numbered = so-link v old_path new_path
-so v (call.Unlink path) carried numbered = so-unlink v path
-so v (call.Rename old_path new_path) carried numbered = so-rename v old_path new_path
-so v (call.Mkdir path) carried numbered = so-mkdir v path
-so v (call.Rmdir path) carried numbered = so-rmdir v path
-so v call.Pipe carried numbered = so-pipe v
-so v call.Socketpair carried numbered = so-socketpair v
-so v (call.Shutdown descriptor how) carried numbered = so-shutdown v descriptor how
-so v (call.HostOpen path access flags) carried numbered = so-host_open v path access flags
-so v (call.TcpListen port) carried numbered = so-tcp_listen v port
-so v (call.TcpConnect port) carried numbered = so-tcp_connect v port
-so v (call.TcpAccept descriptor) carried numbered = so-tcp_accept v descriptor
+so v (call.Link old_path new_path) moved numbered = so-link v old_path new_path
+so v (call.Unlink path) moved numbered = so-unlink v path
+so v (call.Rename old_path new_path) moved numbered = so-rename v old_path new_path
+so v (call.Mkdir path) moved numbered = so-mkdir v path
+so v (call.Rmdir path) moved numbered = so-rmdir v path
+so v call.Pipe moved numbered = so-pipe v
+so v call.Socketpair moved numbered = so-socketpair v
+so v (call.Shutdown descriptor how) moved numbered = so-shutdown v descriptor how
+so v (call.HostOpen path access flags) moved numbered = so-host_open v path access flags
+so v (call.TcpListen port) moved numbered = so-tcp_listen v port
+so v (call.TcpConnect port) moved numbered = so-tcp_connect v port
+so v (call.TcpAccept descriptor) moved numbered = so-tcp_accept v descriptor
+
+-- ## What a state shows
+
+numbered : (s : State) → IsNumbered (seen s)
+unfolding seen
+numbered s (pos n) at is = grind (arith, is)
+numbered s (negsuc n) at is = grind (arith, is)
+
+pub decided_so : DecidedSo
+decided_so = record { numbered = numbered; so = so }

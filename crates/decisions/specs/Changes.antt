@@ -1,7 +1,7 @@
 -- Internal: no contract of the headline or of a command stands on it.
 -- What a change makes of the state: of all but contents and offsets; and of the content of what is
 -- made or ends.
-use Rattle.std.specs.Prelude.{ℕ, List, [], pos, Option, Some, None, false}
+use Rattle.std.specs.Prelude.{ℕ, List, [], pos, Bool, Option, Some, None, false}
 use Rattle.std.specs.FinMap as map
 use Rattle.sequential_object.specs.Descriptors.{freed, opened, released, with_file, without_unused}
 use Rattle.sequential_object.specs.Duplicates.{shared}
@@ -58,6 +58,11 @@ abbrev pub closed : State → ℕ → ℕ → Option Description → State
 closed s n key (Some d) = released (freed s (pos n)) key d
 closed s n key None = s
 
+-- a description has these flags
+abbrev pub flagged : State → ℕ → (append nonblock : Bool) → Option Description → State
+flagged s key append nonblock (Some d) = with_flags s key d append nonblock
+flagged s key append nonblock None = s
+
 -- the path of the call names this from now on
 abbrev pub with_name : State → Call → Node → State
 with_name s c node = with_paths s (map.insert s.paths (components_of (path_of c)) node)
@@ -96,11 +101,7 @@ changed s c (change.Close n key) = closed s n key (map.get s.descriptions key)
 changed s c (change.Replace n old_key key) =
     shared (closed s n old_key (map.get s.descriptions old_key)) n key
 changed s c (change.SetFlags key append nonblock) =
-    flagged (map.get s.descriptions key)
-  where
-    flagged : Option Description → State
-    flagged (Some d) = with_flags s key d append nonblock
-    flagged None = s
+    flagged s key append nonblock (map.get s.descriptions key)
 changed s c (change.AddFile object) = with_name s c (FileNode object)
 changed s c change.AddDirectory = with_name s c Directory
 changed s c (change.RemoveFile object) = without_unused (without_name s c) object

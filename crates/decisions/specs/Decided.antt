@@ -7,7 +7,7 @@
 -- POSIX.1-2017, System Interfaces; choices and departures are in docs/profile.md.
 use Rattle.std.specs.Prelude.{length}
 use Rattle.std.specs.Prelude.{Result}
-use Rattle.sequential_object.specs.Step.{Carried}
+use Rattle.posix_terms.specs.declared.carried.Moved.{Moved}
 use Rattle.posix_terms.specs.Calls.{Call}
 use Rattle.posix_terms.specs.declared.call.Call.TheVariants as call
 use Rattle.posix_terms.specs.declared.errno.Errno.{Errno}
@@ -23,35 +23,31 @@ use Rattle.decisions.specs.Status.{fstat_decided, getfl_decided, setfl_decided}
 use Rattle.decisions.specs.Transfers.{ftruncate_decided, lseek_decided, pread_decided}
 use Rattle.decisions.specs.Transfers.{pwrite_decided, read_decided, write_decided}
 
-abbrev pub decided : View → Call → Carried → Result Decision Errno
-decided v (call.Open path access flags) carried = open_decided v path access flags
-decided v (call.Close descriptor) carried = close_decided v descriptor
-decided v (call.Read descriptor count) carried = read_decided v descriptor count
-decided v (call.Write descriptor bytes) carried =
-    write_decided v descriptor (length bytes) carried.moved
-decided v (call.Pread descriptor count position) carried =
-    pread_decided v descriptor count position
-decided v (call.Pwrite descriptor bytes position) carried =
+abbrev pub decided : View → Call → Moved → Result Decision Errno
+decided v (call.Open path access flags) moved = open_decided v path access flags
+decided v (call.Close descriptor) moved = close_decided v descriptor
+decided v (call.Read descriptor count) moved = read_decided v descriptor count
+decided v (call.Write descriptor bytes) moved = write_decided v descriptor (length bytes) moved
+decided v (call.Pread descriptor count position) moved = pread_decided v descriptor count position
+decided v (call.Pwrite descriptor bytes position) moved =
     pwrite_decided v descriptor (length bytes) position
-decided v (call.Lseek descriptor offset whence) carried =
-    lseek_decided v descriptor offset whence
-decided v (call.Ftruncate descriptor size) carried = ftruncate_decided v descriptor size
-decided v (call.Fstat descriptor) carried = fstat_decided v descriptor
-decided v (call.Dup descriptor) carried = dup_decided v descriptor
-decided v (call.DupFrom descriptor least) carried = dup_from_decided v descriptor least
-decided v (call.Dup2 descriptor target) carried = dup2_decided v descriptor target
-decided v (call.Getfl descriptor) carried = getfl_decided v descriptor
-decided v (call.Setfl descriptor append nonblock) carried =
-    setfl_decided v descriptor append nonblock
-decided v (call.Link old_path new_path) carried = link_decided v old_path new_path
-decided v (call.Unlink path) carried = unlink_decided v path
-decided v (call.Rename old_path new_path) carried = rename_decided v old_path new_path
-decided v (call.Mkdir path) carried = mkdir_decided v path
-decided v (call.Rmdir path) carried = rmdir_decided v path
-decided v call.Pipe carried = pipe_decided v
-decided v call.Socketpair carried = socketpair_decided v
-decided v (call.Shutdown descriptor how) carried = shutdown_decided v descriptor how
-decided v (call.HostOpen path access flags) carried = host_open_decided v path access flags
-decided v (call.TcpListen port) carried = port_decided v 0 port
-decided v (call.TcpConnect port) carried = port_decided v 1 port
-decided v (call.TcpAccept descriptor) carried = tcp_accept_decided v descriptor
+decided v (call.Lseek descriptor offset whence) moved = lseek_decided v descriptor offset whence
+decided v (call.Ftruncate descriptor size) moved = ftruncate_decided v descriptor size
+decided v (call.Fstat descriptor) moved = fstat_decided v descriptor
+decided v (call.Dup descriptor) moved = dup_decided v descriptor
+decided v (call.DupFrom descriptor least) moved = dup_from_decided v descriptor least
+decided v (call.Dup2 descriptor target) moved = dup2_decided v descriptor target
+decided v (call.Getfl descriptor) moved = getfl_decided v descriptor
+decided v (call.Setfl descriptor append nonblock) moved = setfl_decided v descriptor append nonblock
+decided v (call.Link old_path new_path) moved = link_decided v old_path new_path
+decided v (call.Unlink path) moved = unlink_decided v path
+decided v (call.Rename old_path new_path) moved = rename_decided v old_path new_path
+decided v (call.Mkdir path) moved = mkdir_decided v path
+decided v (call.Rmdir path) moved = rmdir_decided v path
+decided v call.Pipe moved = pipe_decided v
+decided v call.Socketpair moved = socketpair_decided v
+decided v (call.Shutdown descriptor how) moved = shutdown_decided v descriptor how
+decided v (call.HostOpen path access flags) moved = host_open_decided v path access flags
+decided v (call.TcpListen port) moved = port_decided v 0 port
+decided v (call.TcpConnect port) moved = port_decided v 1 port
+decided v (call.TcpAccept descriptor) moved = tcp_accept_decided v descriptor

@@ -14,6 +14,7 @@ use Rattle.decisions.specs.declared.decision.Act.{Act}
 use Rattle.decisions.specs.declared.decision.Change.TheVariants as change
 use Rattle.decisions.specs.declared.decision.Decision.{Decision}
 use Rattle.decisions.specs.declared.decision.Decision.TheVariants as decision
+use Rattle.decisions.specs.declared.decision.Deed.TheVariants as deed
 use Rattle.decisions.specs.declared.decision.Seen.{Seen}
 
 -- the table alone replies, and changes nothing
@@ -22,7 +23,7 @@ tells r = decision.Replies r change.Nothing
 
 -- an act that changes nothing in the table
 abbrev pub locks : Seen → Act → Decision
-locks at does = decision.Locks at.object does change.Nothing
+locks at does = decision.Locks at.object (deed.Acts does change.Nothing)
 
 abbrev pub is_file : Seen → Bool
 is_file at = is_end at.«end» part.Only
@@ -34,7 +35,7 @@ leads_outside e = false
 -- an act on an object in memory, and a request where the object is a door
 abbrev pub acts_or_asks : Seen → Bool → Act → Decision
 acts_or_asks at blocks does =
-    if leads_outside at.«end» then decision.Asks at.object blocks else locks at does
+    if leads_outside at.«end» then decision.Locks at.object (deed.Asks blocks) else locks at does
 
 -- it is refused with this error unless it is of a regular file
 abbrev pub must_be_file : Seen → Errno → Result (Unit {0}) Errno

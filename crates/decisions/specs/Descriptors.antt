@@ -18,6 +18,7 @@ use Rattle.decisions.specs.declared.decision.Act.TheVariants as act
 use Rattle.decisions.specs.declared.decision.Change.TheVariants as change
 use Rattle.decisions.specs.declared.decision.Decision.{Decision}
 use Rattle.decisions.specs.declared.decision.Decision.TheVariants as decision
+use Rattle.decisions.specs.declared.decision.Deed.TheVariants as deed
 use Rattle.decisions.specs.declared.decision.NewDescriptor.{NewDescriptor}
 use Rattle.decisions.specs.declared.decision.Seen.{Seen}
 use Rattle.decisions.specs.Deciding.{leads_outside}
@@ -39,8 +40,9 @@ abbrev pub open_there : View → Node → Access → OpenFlags → Result Decisi
 open_there v Directory access flags = Err EISDIR
 open_there v (FileNode object) access flags = do
   n ← some_or (v.lowest 0) EMFILE
-  Ok (decision.Locks object (act.Open n flags.truncate)
-      (change.OpenFile (opened_with n object access flags)))
+  Ok (decision.Locks object
+      (deed.Acts (act.Open n flags.truncate)
+      (change.OpenFile (opened_with n object access flags))))
 
 -- `open` of a path that names nothing
 abbrev pub open_new : View → Access → OpenFlags → Result Decision Errno
@@ -49,8 +51,8 @@ open_new v access flags = do
   _ ← refuse_if v.names_full ENOSPC
   object ← some_or v.next ENOSPC
   n ← some_or (v.lowest 0) EMFILE
-  Ok (decision.Locks object (act.Create n)
-      (change.MakeFile (opened_with n object access flags)))
+  Ok (decision.Locks object
+      (deed.Acts (act.Create n) (change.MakeFile (opened_with n object access flags))))
 
 abbrev pub open_node : View → Option Node → Access → OpenFlags → Result Decision Errno
 open_node v None access flags = open_new v access flags
@@ -69,8 +71,8 @@ open_decided v path access flags = do
 abbrev pub closes : Seen → Decision
 closes at =
     if not at.last then decision.Replies reply.Done (change.Close at.number at.key) else
-    if leads_outside at.«end» then decision.Closes at.object at.number at.key else
-    decision.Locks at.object act.Release (change.Close at.number at.key)
+    if leads_outside at.«end» then decision.Locks at.object (deed.Closes at.number at.key) else
+    decision.Locks at.object (deed.Acts act.Release (change.Close at.number at.key))
 
 -- `close`
 unfoldable pub close_decided : View → ℤ → Result Decision Errno

@@ -19,6 +19,7 @@ use Rattle.posix_terms.specs.declared.object.End.TheVariants as part
 use Rattle.decisions.specs.View.{View}
 use Rattle.decisions.specs.declared.decision.Decision.{Decision}
 use Rattle.decisions.specs.declared.decision.Decision.TheVariants as decision
+use Rattle.decisions.specs.declared.decision.Deed.TheVariants as deed
 use Rattle.decisions.specs.Descriptors.{new_descriptor}
 
 -- opening a door: there are a free number and room for an object
@@ -26,7 +27,8 @@ abbrev pub opens : View → Bool → Option ℕ → Access → Bool → Result D
 opens v blocks listener access append = do
   n ← some_or (v.lowest 0) EMFILE
   object ← some_or v.next ENFILE
-  Ok (decision.Opens blocks listener (new_descriptor n object access append false))
+  Ok (decision.Locks object
+      (deed.Opens blocks listener (new_descriptor n object access append false)))
 
 -- `host_open`
 unfoldable pub host_open_decided : View → List ℕ → Access → OpenFlags → Result Decision Errno

@@ -16,6 +16,7 @@ use Rattle.decisions.specs.declared.decision.Act.TheVariants as act
 use Rattle.decisions.specs.declared.decision.Change.TheVariants as change
 use Rattle.decisions.specs.declared.decision.Decision.{Decision}
 use Rattle.decisions.specs.declared.decision.Decision.TheVariants as decision
+use Rattle.decisions.specs.declared.decision.Deed.TheVariants as deed
 use Rattle.decisions.specs.declared.decision.Seen.{Seen}
 use Rattle.decisions.specs.Deciding.{leads_outside, tells}
 
@@ -42,7 +43,7 @@ is_last_of_door (Err e) = false
 -- number n, which is closed first if it is open, refers to the description of this key
 abbrev pub replaces : ℕ → ℕ → Result Seen Errno → Decision
 replaces n key (Ok to) =
-    if to.last then decision.Locks to.object act.Release (change.Replace n to.key key) else
+    if to.last then decision.Locks to.object (deed.Acts act.Release (change.Replace n to.key key)) else
     decision.Replies (reply.Number (pos n)) (change.Replace n to.key key)
 replaces n key (Err e) = decision.Replies (reply.Number (pos n)) (change.Share n key)
 

@@ -29,4 +29,4 @@ EndsMatch s =
 abbrev pub DecidesSame : Type 0
 DecidesSame =
     (s : State) (c : Call) (carried : Carried) → EndsMatch s
-    → chains.decided s c carried ≡ all_meant s c (decided (seen s) c carried)
+    → chains.decided s c carried ≡ all_meant s c (decided (seen s) c carried.moved)

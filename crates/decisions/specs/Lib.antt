@@ -1,4 +1,5 @@
 pub mod View
+pub mod Bytes
 pub mod Deciding
 pub mod Descriptors
 pub mod Duplicates

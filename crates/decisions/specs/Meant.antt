@@ -28,6 +28,8 @@ use Rattle.decisions.specs.declared.decision.Act.TheVariants as act
 use Rattle.decisions.specs.declared.decision.Change.TheVariants as change
 use Rattle.decisions.specs.declared.decision.Decision.{Decision}
 use Rattle.decisions.specs.declared.decision.Decision.TheVariants as decision
+use Rattle.decisions.specs.declared.decision.Deed.{Deed}
+use Rattle.decisions.specs.declared.decision.Deed.TheVariants as deed
 use Rattle.decisions.specs.declared.decision.NewDescriptor.{NewDescriptor}
 use Rattle.decisions.specs.declared.decision.Seen.{Seen}
 
@@ -159,17 +161,19 @@ asks_to_open s c blocks new = Asks (record {
 
 -- ## All decisions
 
+-- what a call does with the object that it locks
+abbrev pub does : State → Call → ℕ → Deed → Result Effect Errno
+does s c object (deed.Acts a x) = acts (changed s c x) object a c
+does s c object (deed.Asks blocks) =
+    Ok (asks_of s (request_kind c) (request_asked c) blocks (reply_outside c))
+does s c object (deed.Closes n key) =
+    let after = changed s c (change.Close n key) in
+    Ok (asks_of after (request_kind c) (request_asked c) false (reply_outside c))
+does s c object (deed.Opens blocks listener new) = Ok (asks_to_open s c blocks new)
+
 abbrev pub meant : State → Call → Decision → effect.Decision
 meant s c (decision.Replies r x) = alone (changed s c x) r
-meant s c (decision.Locks object a x) = locking object (acts (changed s c x) object a c)
-meant s c (decision.Asks object blocks) =
-    locking object
-    (Ok (asks_of s (request_kind c) (request_asked c) blocks (reply_outside c)))
-meant s c (decision.Closes object n key) =
-    let after = changed s c (change.Close n key) in
-    locking object (Ok (asks_of after kind.Close 0 false (reply_outside c)))
-meant s c (decision.Opens blocks listener new) =
-    locking new.object (Ok (asks_to_open s c blocks new))
+meant s c (decision.Locks object d) = locking object (does s c object d)
 
 -- a refusal means itself
 abbrev pub all_meant : State → Call → Result Decision Errno → Result effect.Decision Errno

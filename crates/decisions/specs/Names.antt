@@ -18,6 +18,7 @@ use Rattle.decisions.specs.declared.decision.Change.{Change}
 use Rattle.decisions.specs.declared.decision.Change.TheVariants as change
 use Rattle.decisions.specs.declared.decision.Decision.{Decision}
 use Rattle.decisions.specs.declared.decision.Decision.TheVariants as decision
+use Rattle.decisions.specs.declared.decision.Deed.TheVariants as deed
 use Rattle.decisions.specs.Deciding.{tells}
 
 -- the file of a name; a directory is refused with this error
@@ -52,7 +53,7 @@ ends_by_name v object = not (v.is_open object) && (v.links object == 1)
 -- a file loses a name, and is locked where it ends with that
 abbrev pub loses_name : View → ℕ → Change → Decision
 loses_name v object changes =
-    if ends_by_name v object then decision.Locks object act.Release changes else
+    if ends_by_name v object then decision.Locks object (deed.Acts act.Release changes) else
     decision.Replies reply.Done changes
 
 -- `unlink`

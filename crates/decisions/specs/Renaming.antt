@@ -3,11 +3,11 @@
 use Rattle.std.specs.Prelude.{◌≡◌, ◌⊎◌, ℕ, ◌==◌, ℤ, List, Result, Ok, Err}
 use Rattle.std.specs.Option.{option_map}
 use Rattle.sequential_object.specs.Object.{Node, FileNode, Directory}
-use Rattle.sequential_object.specs.Step.{Carried}
 use Rattle.posix_terms.specs.Calls.{Call}
+use Rattle.posix_terms.specs.declared.carried.Moved.{Moved}
 use Rattle.posix_terms.specs.declared.errno.Errno.{Errno}
 use Rattle.decisions.specs.Decided.{decided}
-use Rattle.decisions.specs.So.{IsNamed, IsSeen}
+use Rattle.decisions.specs.So.{IsNamed, IsReferred}
 use Rattle.decisions.specs.View.{View}
 use Rattle.decisions.specs.declared.decision.Act.{Act}
 use Rattle.decisions.specs.declared.decision.Act.TheVariants as act
@@ -15,6 +15,8 @@ use Rattle.decisions.specs.declared.decision.Change.{Change}
 use Rattle.decisions.specs.declared.decision.Change.TheVariants as change
 use Rattle.decisions.specs.declared.decision.Decision.{Decision}
 use Rattle.decisions.specs.declared.decision.Decision.TheVariants as decision
+use Rattle.decisions.specs.declared.decision.Deed.{Deed}
+use Rattle.decisions.specs.declared.decision.Deed.TheVariants as deed
 use Rattle.decisions.specs.declared.decision.NewDescriptor.{NewDescriptor}
 use Rattle.decisions.specs.declared.decision.NewEnds.{NewEnds}
 use Rattle.decisions.specs.declared.decision.Seen.{Seen}
@@ -62,26 +64,22 @@ change_by r (change.MakeFile new) = change.MakeFile (new_by r new)
 change_by r (change.MakePipe new) = change.MakePipe (ends_by r new)
 change_by r (change.MakeSockets new) = change.MakeSockets (ends_by r new)
 
+abbrev pub deed_by : Names → Deed → Deed
+deed_by r (deed.Acts a x) = deed.Acts (act_by r a) (change_by r x)
+deed_by r (deed.Asks blocks) = deed.Asks blocks
+deed_by r (deed.Closes n key) = deed.Closes n (r.key key)
+deed_by r (deed.Opens blocks listener new) =
+    deed.Opens blocks (option_map r.object listener) (new_by r new)
+
 abbrev pub decision_by : Names → Decision → Decision
 decision_by r (decision.Replies reply x) = decision.Replies reply (change_by r x)
-decision_by r (decision.Locks object a x) =
-    decision.Locks (r.object object) (act_by r a) (change_by r x)
-decision_by r (decision.Asks object blocks) = decision.Asks (r.object object) blocks
-decision_by r (decision.Closes object n key) = decision.Closes (r.object object) n (r.key key)
-decision_by r (decision.Opens blocks listener new) =
-    decision.Opens blocks (option_map r.object listener) (new_by r new)
+decision_by r (decision.Locks object does) = decision.Locks (r.object object) (deed_by r does)
 
 abbrev pub ok_by : {A : Type 0} → (A → A) → Result A Errno → Result A Errno
 ok_by f (Ok x) = Ok (f x)
 ok_by f (Err e) = Err e
 
 -- ## Views under other names
-
--- a descriptor refers to this object
-pub record IsReferred (v : View) (object : ℕ) : Type 0 where
-  pub at : Seen
-  pub found : IsSeen v at
-  pub object_is : at.object ≡ object
 
 -- two views of one table. Of objects in use alone the links and descriptions are alike
 pub record Alike (r : Names) (v u : View) : Type 0 where
@@ -100,5 +98,5 @@ pub record Alike (r : Names) (v u : View) : Type 0 where
 
 abbrev pub DecidesAlike : Type 0
 DecidesAlike =
-    (r : Names) (v u : View) (c : Call) (carried : Carried) → Alike r v u
-    → decided u c carried ≡ ok_by (decision_by r) (decided v c carried)
+    (r : Names) (v u : View) (c : Call) (moved : Moved) → Alike r v u
+    → decided u c moved ≡ ok_by (decision_by r) (decided v c moved)

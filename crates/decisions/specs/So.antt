@@ -1,19 +1,22 @@
 -- Internal: no contract of the headline or of a command stands on it.
 -- What is decided of a call was looked up so: what a change and an act need is there.
-use Rattle.std.specs.Prelude.{◌≡◌, ◌⊎◌, ℕ, ◌+◌, ℤ, pos, nat_lt, List, true, false, Option, Some}
-use Rattle.std.specs.Prelude.{None}
-use Rattle.std.specs.Prelude.{Ok, Err, IfOk}
+use Rattle.std.specs.Prelude.{◌≡◌, ◌≢◌, ◌⊎◌, ℕ, ◌+◌, ◌≤◌, ℤ, pos, nat_lt, List, true, false}
+use Rattle.std.specs.Prelude.{Option, Some, None, Ok, Err, IfOk}
 use Rattle.std.specs.Option.{option_map}
 use Rattle.sequential_object.specs.Locked.{keeps_table}
-use Rattle.sequential_object.specs.Object.{Directory, FileNode}
-use Rattle.sequential_object.specs.Step.{Carried}
+use Rattle.sequential_object.specs.Object.{State, Directory, FileNode}
 use Rattle.posix_terms.specs.Calls.{Call}
 use Rattle.posix_terms.specs.declared.call.Call.TheVariants as call
+use Rattle.posix_terms.specs.declared.carried.Moved.{Moved}
 use Rattle.posix_terms.specs.declared.errno.Errno.{Errno}
 use Rattle.posix_terms.specs.declared.limits.TheConstants.Limits as limit
+use Rattle.posix_terms.specs.declared.object.End.TheVariants as part
+use Rattle.posix_terms.specs.declared.object.Side.{Side}
 use Rattle.decisions.specs.Changes.{old_path_of, path_of}
 use Rattle.decisions.specs.Decided.{decided}
 use Rattle.decisions.specs.Deciding.{leads_outside}
+use Rattle.decisions.specs.Bytes.{bytes_of_kind, read_count, reply_bytes}
+use Rattle.decisions.specs.Meant.{request_asked, request_kind, seen}
 use Rattle.decisions.specs.View.{View}
 use Rattle.decisions.specs.declared.decision.Act.{Act}
 use Rattle.decisions.specs.declared.decision.Act.TheVariants as act
@@ -21,6 +24,8 @@ use Rattle.decisions.specs.declared.decision.Change.{Change}
 use Rattle.decisions.specs.declared.decision.Change.TheVariants as change
 use Rattle.decisions.specs.declared.decision.Decision.{Decision}
 use Rattle.decisions.specs.declared.decision.Decision.TheVariants as decision
+use Rattle.decisions.specs.declared.decision.Deed.{Deed}
+use Rattle.decisions.specs.declared.decision.Deed.TheVariants as deed
 use Rattle.decisions.specs.declared.decision.NewDescriptor.{NewDescriptor}
 use Rattle.decisions.specs.declared.decision.NewEnds.{NewEnds}
 use Rattle.decisions.specs.declared.decision.Seen.{Seen}
@@ -43,6 +48,14 @@ pub record IsKey (v : View) (key : ℕ) : Type 0 where
   pub at : Seen
   pub found : IsSeen v at
   pub key_is : at.key ≡ key
+
+-- another descriptor than number n does
+pub record IsOtherKey (v : View) (n key : ℕ) : Type 0 where
+  pub descriptor : ℤ
+  pub at : Seen
+  pub found : v.described descriptor ≡ Ok at
+  pub key_is : at.key ≡ key
+  pub apart : descriptor ≢ pos n
 
 -- a number is the least from some number on that is not open
 pub record IsFree (v : View) (n : ℕ) : Type 0 where
@@ -76,7 +89,7 @@ abbrev pub Can : View → Call → Change → Type 0
 Can v c change.Nothing = Unit {0}
 Can v c (change.Share n key) = (IsFree v n ⊎ IsShut v n) × IsKey v key
 Can v c (change.Close n key) = Refers v n key
-Can v c (change.Replace n old_key key) = Refers v n old_key × IsKey v key
+Can v c (change.Replace n old_key key) = Refers v n old_key × IsOtherKey v n key
 Can v c (change.SetFlags key append nonblock) = IsKey v key
 Can v c (change.AddFile object) = IsNamed v object × CanAdd v (path_of c)
 Can v c change.AddDirectory = CanAdd v (path_of c)
@@ -91,12 +104,69 @@ Can v c (change.MakeFile new) =
 Can v c (change.MakePipe new) = CanEnds v new
 Can v c (change.MakeSockets new) = CanEnds v new
 
--- the description that an act reads or moves is one that was found
-abbrev pub Moves : View → Act → Type 0
-Moves v (act.Read from count) = IsSeen v from
-Moves v (act.Write to before) = IsSeen v to
-Moves v (act.Lseek at) = IsSeen v at
-Moves v a = Unit {0}
+-- ## What a call does with the object that it locks
+
+-- a descriptor refers to this object
+pub record IsReferred (v : View) (object : ℕ) : Type 0 where
+  pub at : Seen
+  pub found : IsSeen v at
+  pub object_is : at.object ≡ object
+
+-- to an object in memory, by the description that an act reads or moves
+pub record IsHeld (v : View) (object : ℕ) (at : Seen) : Type 0 where
+  pub found : IsSeen v at
+  pub object_is : at.object ≡ object
+  pub inside : leads_outside at.«end» ≡ false
+
+-- to a file
+pub record IsFile (v : View) (object : ℕ) (at : Seen) : Type 0 where
+  pub found : IsSeen v at
+  pub object_is : at.object ≡ object
+  pub only : at.«end» ≡ part.Only
+
+pub record IsFileOfSome (v : View) (object : ℕ) : Type 0 where
+  pub at : Seen
+  pub file : IsFile v object at
+
+-- to a pair of sockets, by one side
+pub record IsSocket (v : View) (object : ℕ) (side : Side) : Type 0 where
+  pub at : Seen
+  pub found : IsSeen v at
+  pub object_is : at.object ≡ object
+  pub socket : at.«end» ≡ part.Socket side
+
+-- the object and the description of an act were found, and it reads no more bytes than the call
+abbrev pub CanAct : View → Call → ℕ → Act → Type 0
+CanAct v c object (act.Open n cut) = IsNamed v object × IsFree v n
+CanAct v c object (act.Create n) = (v.next ≡ Some object) × IsFree v n
+CanAct v c object act.Release = IsNamed v object ⊎ IsReferred v object
+CanAct v c object (act.Read from count) = IsHeld v object from × (count ≤ read_count c)
+CanAct v c object (act.Write to before) = IsHeld v object to
+CanAct v c object (act.Pread count position) = IsFileOfSome v object × (count ≤ read_count c)
+CanAct v c object (act.Pwrite position) = IsFileOfSome v object
+CanAct v c object (act.Lseek at) = IsFile v object at
+CanAct v c object (act.Ftruncate size) = IsFileOfSome v object × (size ≤ limit.FILE_BYTES)
+CanAct v c object (act.Fstat links) = IsFileOfSome v object
+CanAct v c object (act.Pipe first second) =
+    CanEnds v (record { first = first; second = second; object = object })
+CanAct v c object (act.Socketpair first second) =
+    CanEnds v (record { first = first; second = second; object = object })
+CanAct v c object (act.Shutdown side how) = IsSocket v object side
+
+-- an act that reads or writes its object changes nothing in the table, and one that opens a file
+-- that is there opens it there
+abbrev pub ChangesWith : ℕ → Act → Change → Type 0
+ChangesWith object (act.Open n cut) x =
+    (new : NewDescriptor) × (x ≡ change.OpenFile new) × (new.object ≡ object)
+ChangesWith object (act.Create n) x = Unit {0}
+ChangesWith object act.Release x = Unit {0}
+ChangesWith object (act.Pipe first second) x = Unit {0}
+ChangesWith object (act.Socketpair first second) x = Unit {0}
+ChangesWith object a x = x ≡ change.Nothing
+
+-- how many bytes a call asks of the outside
+abbrev pub read_asked : Call → ℕ
+read_asked c = bytes_of_kind (request_kind c) (request_asked c)
 
 -- a door that a descriptor refers to
 pub record IsDoor (v : View) (object : ℕ) : Type 0 where
@@ -124,21 +194,30 @@ pub record IsOpening (v : View) (c : Call) (listener : Option ℕ) (new : NewDes
   pub number : IsFree v new.number
   pub next : v.next ≡ Some new.object
 
--- all that holds of what is decided of a call
+-- all that holds of what a call does with the object that it locks
+abbrev pub CanDo : View → Call → ℕ → Deed → Type 0
+CanDo v c object (deed.Acts a x) =
+    Can v c x × CanAct v c object a × ChangesWith object a x × (keeps_table c ≡ false)
+CanDo v c object (deed.Asks blocks) =
+    IsDoor v object × (read_asked c ≤ read_count c) × (keeps_table c ≡ false)
+CanDo v c object (deed.Closes n key) =
+    IsDoor v object × Refers v n key × (read_asked c ≤ read_count c) × (keeps_table c ≡ false)
+CanDo v c object (deed.Opens blocks listener new) =
+    IsOpening v c listener new × (object ≡ new.object)
+
+-- and of what is decided of a call
 abbrev pub IsSo : View → Call → Decision → Type 0
-IsSo v c (decision.Replies r x) = Can v c x × (keeps_table c ≡ false)
-IsSo v c (decision.Locks object a x) = Can v c x × Moves v a × (keeps_table c ≡ false)
-IsSo v c (decision.Asks object blocks) = IsDoor v object × (keeps_table c ≡ false)
-IsSo v c (decision.Closes object n key) =
-    IsDoor v object × Refers v n key × (keeps_table c ≡ false)
-IsSo v c (decision.Opens blocks listener new) = IsOpening v c listener new
+IsSo v c (decision.Replies r x) =
+    Can v c x × (reply_bytes r ≡ 0) × (keeps_table c ≡ false)
+IsSo v c (decision.Locks object does) = CanDo v c object does
 
 -- a descriptor that was found has its own number
 abbrev pub IsNumbered : View → Type 0
 IsNumbered v =
     (descriptor : ℤ) (at : Seen) → v.described descriptor ≡ Ok at → descriptor ≡ pos at.number
 
-abbrev pub DecidedSo : Type 0
-DecidedSo =
-    (v : View) (c : Call) (carried : Carried) → IsNumbered v
-    → IfOk (decided v c carried) (IsSo v c)
+pub record DecidedSo : Type 0 where
+  -- what a state shows is so
+  pub numbered : (s : State) → IsNumbered (seen s)
+  pub so : (v : View) (c : Call) (moved : Moved) → IsNumbered v
+      → IfOk (decided v c moved) (IsSo v c)

@@ -17,6 +17,7 @@ use Rattle.decisions.specs.declared.decision.Act.TheVariants as act
 use Rattle.decisions.specs.declared.decision.Change.TheVariants as change
 use Rattle.decisions.specs.declared.decision.Decision.{Decision}
 use Rattle.decisions.specs.declared.decision.Decision.TheVariants as decision
+use Rattle.decisions.specs.declared.decision.Deed.TheVariants as deed
 use Rattle.decisions.specs.declared.decision.NewEnds.{NewEnds}
 use Rattle.decisions.specs.declared.decision.Seen.{Seen}
 use Rattle.decisions.specs.Deciding.{locks}
@@ -33,18 +34,19 @@ new_ends v = do
 unfoldable pub pipe_decided : View → Result Decision Errno
 pipe_decided v = do
   new ← new_ends v
-  Ok (decision.Locks new.object (act.Pipe new.first new.second) (change.MakePipe new))
+  Ok (decision.Locks new.object (deed.Acts (act.Pipe new.first new.second) (change.MakePipe new)))
 
 -- `socketpair`
 unfoldable pub socketpair_decided : View → Result Decision Errno
 socketpair_decided v = do
   new ← new_ends v
-  Ok (decision.Locks new.object (act.Socketpair new.first new.second) (change.MakeSockets new))
+  Ok (decision.Locks new.object
+      (deed.Acts (act.Socketpair new.first new.second) (change.MakeSockets new)))
 
 -- a socket in memory or a stream outside; not a listener, a file, a pipe or a file of the host
 abbrev pub shuts : Seen → ShutdownHow → End → Result Decision Errno
 shuts at how (part.Socket side) = Ok (locks at (act.Shutdown side how))
-shuts at how (part.Door door.Stream) = Ok (decision.Asks at.object false)
+shuts at how (part.Door door.Stream) = Ok (decision.Locks at.object (deed.Asks false))
 shuts at how (part.Door (door.Listener port)) = Err EINVAL
 shuts at how e = Err ENOTSOCK
 

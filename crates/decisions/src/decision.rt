@@ -118,38 +118,39 @@ pub enum Change {
     MakeSockets(NewEnds),
 }
 
-/// What is decided of a call that is not refused.
-#[derive(Debug, PartialEq, Eq, Drop)]
-pub enum Decision {
-    /// No object is locked.
-    Replies {
-        reply: Reply,
-        change: Change,
-    },
-    /// An object is locked, and the call acts on it.
-    Locks {
-        object: usize,
+/// What a call does with the object that it locked.
+#[derive(Clone, Copy, Debug, PartialEq, Eq)]
+pub enum Deed {
+    /// It acts on it, after a change of the table.
+    Acts {
         act: Act,
         change: Change,
     },
-    /// A door is locked, and the call goes outside through it. Nothing changes. `blocks`: whether
-    /// `EAGAIN` blocks the call instead of being its reply.
+    /// It goes outside through it, since it is a door. Nothing changes. `blocks`: whether `EAGAIN`
+    /// blocks the call instead of being its reply.
     Asks {
-        object: usize,
         blocks: bool,
     },
-    /// A door is locked, and closed outside with its last descriptor, which is free whatever comes
-    /// of that.
+    /// It closes it outside, a door, with its last descriptor, which is free whatever comes of that.
     Closes {
-        object: usize,
         number: usize,
         key: usize,
     },
-    /// A door is opened outside, under the lock of the table and that of the new object.
-    /// `listener`: whose door the call takes along. The descriptor is made only where that succeeds.
+    /// It opens a door outside, which the object becomes, and keeps the table locked until that
+    /// ended. `listener`: whose door the call takes along. The descriptor is made only where that
+    /// succeeds.
     Opens {
         blocks: bool,
         listener: Option<usize>,
         new: NewDescriptor,
     },
+}
+
+/// What is decided of a call that is not refused.
+#[derive(Debug, PartialEq, Eq, Drop)]
+pub enum Decision {
+    /// The table alone replies.
+    Replies { reply: Reply, change: Change },
+    /// An object is locked.
+    Locks { object: usize, deed: Deed },
 }
