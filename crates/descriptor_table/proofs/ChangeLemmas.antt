@@ -4,7 +4,7 @@ use Rattle.std.proofs.lemmas.Bool.{and_parts, cases_eq, eq-eqb, eqb-true, false�
 use Rattle.std.proofs.lemmas.List.{get_or-set_same, get_or-set_other}
 use Rattle.std.proofs.lemmas.Option.{none-some, same_Some}
 use Rattle.std.specs.FinMap as fin
-use Rattle.std.specs.FinMap.{FinMap, get-insert}
+use Rattle.std.specs.FinMap.{FinMap, get-insert, get-remove}
 use Rattle.std.specs.Option.{option_map}
 use Rattle.std.specs.Ordering.{nat_cmp, eq_by_cmp}
 use Rattle.std.specs.Prelude.{pos, slice_index_or, slice_set}
@@ -23,10 +23,10 @@ use Rattle.file_descriptions.specs.declared.description.StatusFlags.{StatusFlags
 use Rattle.posix_terms.specs.declared.call.Access.{Access}
 use Rattle.std.specs.Cmp.{nat_cmp_total}
 use Rattle.descriptor_table.proofs.MapLemmas.{each_put, get-insert_other, get-insert_same, get-remove_other, get-remove_same, got_less, got_put, less_at, paths_total, put_at, some_less, some_put, still_some}
-use Rattle.descriptor_table.proofs.EndLemmas.{HasEndsOf}
+use Rattle.descriptor_table.specs.Laws.{HasEndsOf}
 use Rattle.descriptor_table.proofs.ObjectLemmas.{IsNew, IsOld, Taken, freed_slot, taken_slot}
 use Rattle.descriptor_table.proofs.PathLemmas.{birth_below, birth_is, closed_shown, first_of_any, linked_shown, one_object}
-use Rattle.descriptor_table.proofs.PlanLemmas.{shows-without_name}
+use Rattle.decisions.specs.Meant.{moved_to}
 use Rattle.descriptor_table.proofs.ShownLemmas.{key_known, last_shown}
 use Rattle.descriptor_table.proofs.SoundLemmas.{not_described, not_named, known_at, sound-let_go, description_got, key_inside, same_file, with_other, with_same, without_other}
 use Rattle.descriptor_table.specs.Changes.{closed, opened, shared, with_file, with_object, without_gone}
@@ -37,26 +37,26 @@ use Rattle.descriptor_table.specs.Table.{TableState, IsSound, is_closed, is_gone
 
 -- the part of the descriptions, as a table with these objects shows it
 pub record Describes (t : TableState) (m : DescriptionMap) (sd : FinMap nat_cmp object.Description) : Type 0 where
-  pub there : (key : ℕ) (d : Description) → fin.get m.by_key key ≡ Some d → (offset : ℕ) × (fin.get sd d.birth ≡ Some (shown t d offset))
+  pub there : (key : ℕ) (d : Description) → fin.get m.by_key key ≡ Some d → fin.get sd d.birth ≡ Some (shown t d)
   pub own : (birth : ℕ) → is_some (fin.get sd birth) ≡ true → (key : ℕ) × (d : Description) × (fin.get m.by_key key ≡ Some d) × (d.birth ≡ birth)
 
 pub describes_of : (t : TableState) (s : State) → Shows t s → Describes t t.descriptions s.descriptions
 describes_of t s shows = record { there = shows.descriptions; own = shows.described }
 
 -- a description under a key, whose birth no other key has
-pub describes_put : (t : TableState) (m : DescriptionMap) (sd after : FinMap nat_cmp object.Description) (key : ℕ) (d : Description) (offset : ℕ) → Describes t m sd
+pub describes_put : (t : TableState) (m : DescriptionMap) (sd after : FinMap nat_cmp object.Description) (key : ℕ) (d : Description) → Describes t m sd
     → ((q : ℕ) (e : Description) → fin.get m.by_key q ≡ Some e → e.birth ≡ d.birth → q ≡ key)
     → ((e : Description) → fin.get m.by_key key ≡ Some e → e.birth ≡ d.birth)
-    → fin.get after d.birth ≡ Some (shown t d offset)
+    → fin.get after d.birth ≡ Some (shown t d)
     → ((birth : ℕ) → birth ≢ d.birth → fin.get after birth ≡ fin.get sd birth)
     → Describes t (with_description m key d) after
-describes_put t m sd after key d offset was only same here others = record { there = there; own = own }
+describes_put t m sd after key d was only same here others = record { there = there; own = own }
   where
-    there : (q : ℕ) (e : Description) → fin.get (fin.insert m.by_key key d) q ≡ Some e → (offset : ℕ) × (fin.get after e.birth ≡ Some (shown t e offset))
+    there : (q : ℕ) (e : Description) → fin.get (fin.insert m.by_key key d) q ≡ Some e → fin.get after e.birth ≡ Some (shown t e)
     there q e is =
         elim (put_at m.by_key key d q e is) [
-          | inl new ↦ subst (λ (x : Description). (offset : ℕ) × (fin.get after x.birth ≡ Some (shown t x offset))) new.1 (offset, here)
-          | inr old ↦ (let before = was.there q e old.1 in (before.0, others e.birth (λ b. old.0 (only q e old.1 b)) ∙ before.1))
+          | inl new ↦ subst (λ (x : Description). fin.get after x.birth ≡ Some (shown t x)) new.1 here
+          | inr old ↦ (others e.birth (λ b. old.0 (only q e old.1 b)) ∙ was.there q e old.1)
         ]
 
     own : (birth : ℕ) → is_some (fin.get after birth) ≡ true → (q : ℕ) × (e : Description) × (fin.get (fin.insert m.by_key key d) q ≡ Some e) × (e.birth ≡ birth)
@@ -76,11 +76,10 @@ same_birth m key d got e is = ap (λ (x : Description). x.birth) (same_Some _ _ 
 pub describes_less : (t : TableState) (m : DescriptionMap) (sd : FinMap nat_cmp object.Description) (key : ℕ) (d : Description) → AreSound m → Describes t m sd → fin.get m.by_key key ≡ Some d → Describes t (without m key) (fin.remove sd d.birth)
 describes_less t m sd key d all was got = record { there = there; own = own }
   where
-    there : (q : ℕ) (e : Description) → fin.get (fin.remove m.by_key key) q ≡ Some e → (offset : ℕ) × (fin.get (fin.remove sd d.birth) e.birth ≡ Some (shown t e offset))
+    there : (q : ℕ) (e : Description) → fin.get (fin.remove m.by_key key) q ≡ Some e → fin.get (fin.remove sd d.birth) e.birth ≡ Some (shown t e)
     there q e is =
         let old = less_at m.by_key key q e is in
-        let before = was.there q e old.1 in
-        (before.0, get-remove_other sd d.birth e.birth (λ b. old.0 (all.distinct q key e d old.1 got b)) ∙ before.1)
+        get-remove_other sd d.birth e.birth (λ b. old.0 (all.distinct q key e d old.1 got b)) ∙ was.there q e old.1
 
     own : (birth : ℕ) → is_some (fin.get (fin.remove sd d.birth) birth) ≡ true → (q : ℕ) × (e : Description) × (fin.get (fin.remove m.by_key key) q ≡ Some e) × (e.birth ≡ birth)
     own birth is =
@@ -153,8 +152,8 @@ only_birth m key d all got q e is same = all.distinct q key e d is got same
 -- a description with another number of holders is shown as it was
 describes_held : (t : TableState) (s : State) (key holders : ℕ) (d : Description) → AreSound t.descriptions → Shows t s → fin.get t.descriptions.by_key key ≡ Some d → Describes t (with_description t.descriptions key (record d { holders = holders })) s.descriptions
 describes_held t s key holders d all shows got =
-    let there = shows.descriptions key d got in
-    describes_put t t.descriptions s.descriptions s.descriptions key (record d { holders = holders }) there.0 (describes_of t s shows) (only_birth t.descriptions key d all got) (same_birth t.descriptions key d got) there.1 (λ birth apart. refl)
+    describes_put t t.descriptions s.descriptions s.descriptions key (record d { holders = holders }) (describes_of t s shows)
+    (only_birth t.descriptions key d all got) (same_birth t.descriptions key d got) (shows.descriptions key d got) (λ birth apart. refl)
 
 pub shows-shared : (t : TableState) (s : State) (n key : ℕ) (d : Description) → AreSound t.descriptions → Shows t s → n < length t.descriptors → fin.get t.descriptions.by_key key ≡ Some d → Shows (shared t n key) (duplicates.shared s n d.birth)
 shows-shared t s n key d all shows inside got =
@@ -225,6 +224,17 @@ module _ (t : TableState) (s : State) (n key : ℕ) (d : Description) (sound : I
       less : Describes t (without t.descriptions key) (fin.remove s.descriptions d.birth)
       less = describes_less t t.descriptions s.descriptions key d all (describes_of t s shows) got
 
+-- a description of the object of this birth
+abbrev shown_at : Description → ℕ → Option object.Description
+shown_at d b = Some (record {
+  object = b;
+  «end» = d.«end»;
+  access = d.access;
+  offset = d.offset;
+  append = d.flags.append;
+  nonblock = d.flags.nonblock;
+})
+
 -- ## An object less
 
 birth_apart : (t : TableState) (node n : ℕ) → n ≢ node → birth_at (record t { objects = slice_set t.objects node None }) n ≡ birth_at t n
@@ -237,8 +247,7 @@ shows-freed : (t : TableState) (s : State) (node : ℕ) → IsSound t → Shows 
 shows-freed t s node sound shows used undescribed unnamed =
     record {
       descriptors = shows.descriptors;
-      descriptions = λ key d got. (let there = shows.descriptions key d got in
-          (there.0, there.1 ∙ ap (λ (b : ℕ). Some (record { object = b; «end» = d.«end»; access = d.access; offset = there.0; append = d.flags.append; nonblock = d.flags.nonblock })) (sym (birth_apart t node d.node (undescribed key d got)))));
+      descriptions = λ key d got. shows.descriptions key d got ∙ ap (shown_at d) (sym (birth_apart t node d.node (undescribed key d got)));
       described = shows.described;
       paths = λ path. shows.paths path ∙ names (fin.get t.paths path) (λ n is. unnamed path n is);
       objects = λ n birth is. (let was = freed_slot t.objects node n birth is in
@@ -303,9 +312,9 @@ alone_at t s n key d sound all shows at got last k apart is =
     (ap (λ (o : Option ℕ). is_key o d.birth) refers ∙ eq-eqb (birth_of t key) d.birth (birth_got t.descriptions key d got)) in
     true≢false (sym found ∙ last_shown t s n key d sound all shows at got ∙ ap not last)
 
-pub shows-closed : ChangesKeepSound → (t : TableState) (s : State) (n key offset : ℕ) → IsSound t → AreSound t.descriptions → Shows t s → slice_index_or t.descriptors n None ≡ Some key → fin.get t.descriptions.by_key key ≡ Some (description_at t.descriptions key)
-    → Shows (closed t n key) (posix.released (posix.freed s (pos n)) (birth_of t key) (shown t (description_at t.descriptions key) offset))
-shows-closed keep t s n key offset sound all shows at got =
+pub shows-closed : ChangesKeepSound → (t : TableState) (s : State) (n key : ℕ) → IsSound t → AreSound t.descriptions → Shows t s → slice_index_or t.descriptors n None ≡ Some key → fin.get t.descriptions.by_key key ≡ Some (description_at t.descriptions key)
+    → Shows (closed t n key) (posix.released (posix.freed s (pos n)) (birth_of t key) (shown t (description_at t.descriptions key)))
+shows-closed keep t s n key sound all shows at got =
     subst (λ (b : Bool). Shows (closed t n key) (if b then posix.freed s (pos n) else posix.without_unused (record (posix.freed s (pos n)) { descriptions = fin.remove s.descriptions d.birth }) (birth_at t d.node)))
     (sym (last_shown t s n key d sound all shows at got))
     (by_last (d.holders == 1) refl)
@@ -353,58 +362,25 @@ shows-put t s key d new after shows got same ends put =
     births (Some q) =
         ap (λ (b : ℕ). Some b) (sym (birth_kept t.descriptions key q new (same ∙ sym (birth_got t.descriptions key d got))))
 
-pub shows-flags : (t : TableState) (s : State) (key offset : ℕ) (d : Description) (flags : StatusFlags)
+pub shows-flags : (t : TableState) (s : State) (key : ℕ) (d : Description) (flags : StatusFlags)
     → AreSound t.descriptions → Shows t s → fin.get t.descriptions.by_key key ≡ Some d
-    → let new = record (shown t d offset) { append = flags.append; nonblock = flags.nonblock } in
+    → let new = record (shown t d) { append = flags.append; nonblock = flags.nonblock } in
     Shows (record t { descriptions = with_description t.descriptions key (record d { flags = flags }) })
     (record s { descriptions = fin.insert s.descriptions d.birth new })
-shows-flags t s key offset d flags all shows got = shows-put t s key d new after shows got refl (shows.ends key d got) put
+shows-flags t s key d flags all shows got = shows-put t s key d new after shows got refl (shows.ends key d got) put
   where
     new : Description
     new = record d { flags = flags }
 
     after : FinMap nat_cmp object.Description
-    after = fin.insert s.descriptions d.birth (shown t new offset)
+    after = fin.insert s.descriptions d.birth (shown t new)
 
     put : Describes t (with_description t.descriptions key new) after
     put =
-        describes_put t t.descriptions s.descriptions after key new offset (describes_of t s shows)
+        describes_put t t.descriptions s.descriptions after key new (describes_of t s shows)
         (only_birth t.descriptions key d all got) (same_birth t.descriptions key d got)
-        (get-insert_same s.descriptions d.birth (shown t new offset))
-        (λ birth apart. get-insert_other s.descriptions d.birth (shown t new offset) birth apart)
-
--- wherever the offsets are
-pub shows-offset : (t : TableState) (s : State) (key offset : ℕ) (d : Description) → AreSound t.descriptions → Shows t s → fin.get t.descriptions.by_key key ≡ Some d → Shows t (record s { descriptions = fin.insert s.descriptions d.birth (shown t d offset) })
-shows-offset t s key offset d all shows got =
-    record {
-      descriptors = shows.descriptors;
-      descriptions = there;
-      described = own;
-      paths = shows.paths;
-      objects = shows.objects;
-      numbered = shows.numbered;
-      ends = shows.ends;
-      files = shows.files;
-      next_description = shows.next_description;
-      next_object = shows.next_object;
-    }
-  where
-    there : (q : ℕ) (e : Description) → fin.get t.descriptions.by_key q ≡ Some e → (o : ℕ) × (fin.get (fin.insert s.descriptions d.birth (shown t d offset)) e.birth ≡ Some (shown t e o))
-    there q e is =
-        elim (cases_eq e.birth d.birth) [
-          | inl same ↦ (
-              let at : q ≡ key = all.distinct q key e d is got same in
-              let one : d ≡ e = same_Some _ _ (sym got ∙ ap (fin.get t.descriptions.by_key) (sym at) ∙ is) in
-              (offset, ap (fin.get (fin.insert s.descriptions d.birth (shown t d offset))) same ∙ get-insert_same s.descriptions d.birth (shown t d offset) ∙ ap (λ (x : Description). Some (shown t x offset)) one))
-          | inr apart ↦ (let was = shows.descriptions q e is in (was.0, get-insert_other s.descriptions d.birth (shown t d offset) e.birth apart ∙ was.1))
-        ]
-
-    own : (birth : ℕ) → is_some (fin.get (fin.insert s.descriptions d.birth (shown t d offset)) birth) ≡ true → (q : ℕ) × (e : Description) × (fin.get t.descriptions.by_key q ≡ Some e) × (e.birth ≡ birth)
-    own birth is =
-        elim (some_put s.descriptions d.birth (shown t d offset) birth is) [
-          | inl at ↦ (key, d, got, sym at)
-          | inr old ↦ shows.described birth old.1
-        ]
+        (get-insert_same s.descriptions d.birth (shown t new))
+        (λ birth apart. get-insert_other s.descriptions d.birth (shown t new) birth apart)
 
 -- whatever the objects hold
 pub shows-content : (t : TableState) (s : State) (birth : ℕ) (content : Content) → Shows t s → is_some (fin.get s.objects birth) ≡ true → HasEndsOf content (content_of s birth) → Shows t (object.with_content s birth content)
@@ -468,6 +444,30 @@ shows-name t s path node shows file =
     file_of q n (inl same) = file n same
     file_of q n (inr old) = shows.files q n old
 
+-- a name less
+pub shows-without_name : (t : TableState) (s : State) (path : List (List ℕ)) → Shows t s → Shows (record t { paths = fin.remove t.paths path }) (with_paths s (fin.remove s.paths path))
+shows-without_name t s path shows =
+    record {
+      descriptors = shows.descriptors;
+      descriptions = shows.descriptions;
+      described = shows.described;
+      paths = λ q.
+          get-remove paths_total s.paths path q
+          ∙ ap (cond (eq_by_cmp path_cmp q path) None) (shows.paths q)
+          ∙ left_shown (eq_by_cmp path_cmp q path) (fin.get t.paths q)
+          ∙ ap (option_map (shown_node t)) (sym (get-remove paths_total t.paths path q));
+      objects = shows.objects;
+      numbered = shows.numbered;
+      ends = shows.ends;
+      files = λ q n is. shows.files q n (got_less paths_total t.paths path q (FileNode n) is);
+      next_description = shows.next_description;
+      next_object = shows.next_object;
+    }
+  where
+    left_shown : (b : Bool) (o : Option Node)
+        → cond b None (option_map (shown_node t) o) ≡ option_map (shown_node t) (cond b None o)
+    left_shown b o = grind arith
+
 -- a name of a file in the place of another one
 pub shows-moved : (t : TableState) (s : State) (old new : List (List ℕ)) (node : ℕ)
     → fin.get t.paths old ≡ Some (FileNode node) → Shows t s
@@ -512,15 +512,15 @@ shows-opened t s n key node which access flags sound all shows inside fresh has 
     m = with_new t.descriptions key new
 
     after : FinMap nat_cmp object.Description
-    after = fin.insert s.descriptions s.next_description (shown t new 0)
+    after = fin.insert s.descriptions s.next_description (shown t new)
 
     put : Describes t (with_description t.descriptions key new) after
     put =
-        describes_put t t.descriptions s.descriptions after key new 0 (describes_of t s shows)
+        describes_put t t.descriptions s.descriptions after key new (describes_of t s shows)
         (λ q e is same. let h : e.birth < t.descriptions.made = all.born q e is in absurd (omega (arith, h, same)))
         (λ e is. absurd (none-some _ (sym fresh ∙ is)))
-        (ap (fin.get after) (sym shows.next_description) ∙ get-insert_same s.descriptions s.next_description (shown t new 0))
-        (λ birth apart. get-insert_other s.descriptions s.next_description (shown t new 0) birth (λ same. apart (same ∙ shows.next_description)))
+        (ap (fin.get after) (sym shows.next_description) ∙ get-insert_same s.descriptions s.next_description (shown t new))
+        (λ birth apart. get-insert_other s.descriptions s.next_description (shown t new) birth (λ same. apart (same ∙ shows.next_description)))
 
 -- ## A new object
 
@@ -544,8 +544,7 @@ pub shows-with_object : (t : TableState) (s : State) (content : Content) (node :
 shows-with_object t s content node sound shows inside free =
     record {
       descriptors = shows.descriptors;
-      descriptions = λ key d got. (let there = shows.descriptions key d got in
-          (there.0, there.1 ∙ ap (λ (b : ℕ). Some (record { object = b; «end» = d.«end»; access = d.access; offset = there.0; append = d.flags.append; nonblock = d.flags.nonblock })) (sym (birth_still t node d.node free (sound.described_objects key d got)))));
+      descriptions = λ key d got. shows.descriptions key d got ∙ ap (shown_at d) (sym (birth_still t node d.node free (sound.described_objects key d got)));
       described = shows.described;
       paths = λ q. shows.paths q ∙ named (fin.get t.paths q) (λ n is. sound.named_objects q n is);
       objects = λ n birth is. there n birth (taken_slot t.objects node t.made_objects n birth inside is);
@@ -599,8 +598,11 @@ shows-with_file t s components node sound shows inside free =
 
 -- ## An offset that is set
 
-pub shows-set_offset : (t : TableState) (s : State) (key offset : ℕ) → AreSound t.descriptions → ContainsKey t.descriptions key → Shows t s → Shows (record t { descriptions = with_offset t.descriptions key offset }) s
-shows-set_offset t s key offset all known shows = shows-put t s key d new s.descriptions shows got refl (shows.ends key d got) put
+pub shows-set_offset : (t : TableState) (s : State) (key offset : ℕ) → AreSound t.descriptions → ContainsKey t.descriptions key → Shows t s
+    → Shows (record t { descriptions = with_offset t.descriptions key offset })
+    (moved_to s (Some offset) (Some (birth_of t key)) (fin.get s.descriptions (birth_of t key)))
+shows-set_offset t s key offset all known shows =
+    rw (shows.descriptions key d got) (shows-put t s key d new after shows got refl (shows.ends key d got) put)
   where
     d : Description
     d = description_at t.descriptions key
@@ -611,8 +613,12 @@ shows-set_offset t s key offset all known shows = shows-put t s key d new s.desc
     got : fin.get t.descriptions.by_key key ≡ Some d
     got = known_at t.descriptions key known
 
-    put : Describes t (with_description t.descriptions key new) s.descriptions
+    after : FinMap nat_cmp object.Description
+    after = fin.insert s.descriptions d.birth (shown t new)
+
+    put : Describes t (with_description t.descriptions key new) after
     put =
-        let there = shows.descriptions key d got in
-        describes_put t t.descriptions s.descriptions s.descriptions key new there.0 (describes_of t s shows)
-        (only_birth t.descriptions key d all got) (same_birth t.descriptions key d got) there.1 (λ birth apart. refl)
+        describes_put t t.descriptions s.descriptions after key new (describes_of t s shows)
+        (only_birth t.descriptions key d all got) (same_birth t.descriptions key d got)
+        (get-insert_same s.descriptions d.birth (shown t new))
+        (λ birth apart. get-insert_other s.descriptions d.birth (shown t new) birth apart)

@@ -20,9 +20,8 @@ use Rattle.file_descriptions.specs.Descriptions.{AreSound, ends_of, has_first_en
 use Rattle.file_descriptions.specs.declared.description.Description.{Description}
 use Rattle.descriptor_table.proofs.EntryLemmas.{any_of, any_second, counted_none, standing_in}
 use Rattle.descriptor_table.proofs.PathLemmas.{any_of_first, births_alike, first_of_any}
-use Rattle.descriptor_table.specs.Acts.{is_open}
 use Rattle.descriptor_table.specs.Shows.{Shows, birth_at, is_of, same_door, shown}
-use Rattle.descriptor_table.specs.Table.{TableState, IsSound, is_used}
+use Rattle.descriptor_table.specs.Table.{TableState, IsSound, is_open, is_used}
 
 -- ## What an object is
 
@@ -42,29 +41,11 @@ over_kind P file reads writes pair door part.Only (Pipe waiting) has = absurd (f
 over_kind P file reads writes pair door (part.Socket side) (Pipe waiting) has = absurd (false≢true has)
 over_kind P file reads writes pair door (part.Door one) (Pipe waiting) has = absurd (false≢true has)
 
--- ## Contents of one kind
-
--- a content that has the ends of another
-abbrev pub HasEndsOf : Content → Content → Type 0
-HasEndsOf content other = (which : End) → is_of which other ≡ true → is_of which content ≡ true
-
-pub file_alike : (c : Content) (file : List ℕ) → is_of part.Only c ≡ true → HasEndsOf (File file) c
-file_alike c file has which its = grind (arith, has, its)
-
-pub alike_file : (c : Content) (file other : List ℕ) → c ≡ File other → HasEndsOf (File file) c
-alike_file c file other is = file_alike c file (ap (is_of part.Only) is)
-
-pub alike_pipe : (c : Content) (bytes other : List ℕ) → c ≡ Pipe other → HasEndsOf (Pipe bytes) c
-alike_pipe c bytes other is which its = grind (arith, is, its)
-
-pub alike_pair : (c : Content) (p other : PairState) → c ≡ Pair other → HasEndsOf (Pair p) c
-alike_pair c p other is which its = grind (arith, is, its)
-
 -- ## Ends that are open
 
 -- a description for which a test holds is there in both, or in neither
 counted_shown : (t : TableState) (s : State) (p : Option object.Description → Bool) (q : Description → Bool) → AreSound t.descriptions → Shows t s → p None ≡ false
-    → ((key : ℕ) (d : Description) (offset : ℕ) → fin.get t.descriptions.by_key key ≡ Some d → p (Some (shown t d offset)) ≡ q d)
+    → ((key : ℕ) (d : Description) → fin.get t.descriptions.by_key key ≡ Some d → p (Some (shown t d)) ≡ q d)
     → any_below s.next_description (λ key. p (fin.get s.descriptions key)) ≡ not (count_by q (fin.values t.descriptions.by_key) == 0)
 counted_shown t s p q all shows none alike =
     both_ways (any_below s.next_description (λ key. p (fin.get s.descriptions key)))
@@ -83,17 +64,15 @@ counted_shown t s p q all shows none alike =
     to_table any =
         let at = any_of_first s.next_description (λ key. p (fin.get s.descriptions key)) any in
         let own = shows.described at.0 (some_by (fin.get s.descriptions at.0) at.2) in
-        let there = shows.descriptions own.0 own.1 own.2 in
-        let found : fin.get s.descriptions at.0 ≡ Some (shown t own.1 there.0) = ap (fin.get s.descriptions) (sym own.3) ∙ there.1 in
-        let holds : q own.1 ≡ true = sym (alike own.0 own.1 there.0 own.2) ∙ ap p (sym found) ∙ at.2 in
+        let found : fin.get s.descriptions at.0 ≡ Some (shown t own.1) = ap (fin.get s.descriptions) (sym own.3) ∙ shows.descriptions own.0 own.1 own.2 in
+        let holds : q own.1 ≡ true = sym (alike own.0 own.1 own.2) ∙ ap p (sym found) ∙ at.2 in
         any_second q (fin.entries t.descriptions.by_key) ∙ any_of nat_cmp q t.descriptions.by_key own.0 own.1 own.2 holds
 
     to_state : list_any q (fin.values t.descriptions.by_key) ≡ true → any_below s.next_description (λ key. p (fin.get s.descriptions key)) ≡ true
     to_state any =
         let at = standing_in nat_cmp_total (λ (e : ℕ × Description). q e.1) t.descriptions.by_key (sym (any_second q (fin.entries t.descriptions.by_key)) ∙ any) in
-        let there = shows.descriptions at.0 at.1 at.2 in
         let below : at.1.birth < s.next_description = rw shows.next_description (all.born at.0 at.1 at.2) in
-        first_of_any s.next_description (λ key. p (fin.get s.descriptions key)) at.1.birth below (ap p there.1 ∙ alike at.0 at.1 there.0 at.2 ∙ at.3)
+        first_of_any s.next_description (λ key. p (fin.get s.descriptions key)) at.1.birth below (ap p (shows.descriptions at.0 at.1 at.2) ∙ alike at.0 at.1 at.2 ∙ at.3)
 
 -- two ends of one object are the same just where both count first, or neither
 same_end : (c : Content) (a b : End) → is_of a c ≡ true → is_of b c ≡ true → is_end a b ≡ (if is_first b then is_first a else not (is_first a))
@@ -103,8 +82,8 @@ same_end c a b x y = grind (arith, x, y)
 pub has_end_shown : (t : TableState) (s : State) (node : ℕ) (which : End) → IsSound t → AreSound t.descriptions → Shows t s → is_used t node ≡ true → is_of which (content_of s (birth_at t node)) ≡ true → posix.has_end s (birth_at t node) which ≡ is_open t node which
 has_end_shown t s node which sound all shows used its = by_first (is_first which) refl
   where
-    alike : (first : Bool) → is_first which ≡ first → (key : ℕ) (d : Description) (offset : ℕ) → fin.get t.descriptions.by_key key ≡ Some d → is_of_end (Some (shown t d offset)) (birth_at t node) which ≡ ((d.node == node) && (if first then is_first d.«end» else not (is_first d.«end»)))
-    alike first is key d offset got =
+    alike : (first : Bool) → is_first which ≡ first → (key : ℕ) (d : Description) → fin.get t.descriptions.by_key key ≡ Some d → is_of_end (Some (shown t d)) (birth_at t node) which ≡ ((d.node == node) && (if first then is_first d.«end» else not (is_first d.«end»)))
+    alike first is key d got =
         ap (λ (b : Bool). b && is_end d.«end» which) (births_alike t d.node node sound (sound.described_objects key d got) used) ∙ by_node (d.node == node) refl
       where
         by_node : (b : Bool) → (d.node == node) ≡ b → (b && is_end d.«end» which) ≡ (b && (if first then is_first d.«end» else not (is_first d.«end»)))

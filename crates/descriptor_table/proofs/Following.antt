@@ -1,50 +1,83 @@
--- What each table plans and changes is what the sequential object does.
-use Rattle.std.proofs.Common.{ℕ, None, refl}
+-- The laws of every table.
+use Rattle.std.proofs.Common.{◌≡◌, ℕ, true, refl}
 use Rattle.posix_terms.specs.Calls.{Call}
 use Rattle.posix_terms.specs.declared.carried.Moved.{Moved}
+use Rattle.std.specs.FinMap as fin
 use Rattle.file_descriptions.specs.Descriptions.{AreSound, ContainsKey, description_at}
-use Rattle.file_descriptions.specs.declared.description.Description.{Description}
 use Rattle.file_descriptions.specs.Laws.{ChangesKeepSound}
-use Rattle.descriptor_table.specs.Laws.{FollowsStep, OffsetIsFree, TableFollows}
-use Rattle.descriptor_table.specs.Plans.{change_of}
-use Rattle.descriptor_table.specs.Table.{IsSound, TableState}
-use Rattle.descriptor_table.proofs.ChangeLemmas.{shows-set_offset}
-use Rattle.descriptor_table.proofs.BesideLemmas.{acts-as_step, changes-as_step, plans-as_step, same_change, stays-as_step}
-use Rattle.descriptor_table.proofs.EndLemmas.{one_door}
-use Rattle.descriptor_table.proofs.KnownLemmas.{known-change, known-planned}
-use Rattle.descriptor_table.proofs.ShownLemmas.{found_both, shows-empty}
-use Rattle.descriptor_table.proofs.SoundLemmas.{known_at, sound-empty, sound-kept, used-named}
+use Rattle.file_descriptions.specs.declared.description.Description.{Description}
+use Rattle.descriptor_table.proofs.ChangeLemmas.{shows-content, shows-set_offset}
+use Rattle.decisions.specs.Decided.{decided}
+use Rattle.decisions.specs.Laws.{DecidesSame}
+use Rattle.decisions.specs.Renaming.{DecidesAlike}
+use Rattle.sequential_object.specs.Object.{State, content_of}
+use Rattle.posix_terms.specs.declared.object.End.TheVariants as part
+use Rattle.decisions.specs.So.{DecidedSo, IsNamed, IsSeen}
+use Rattle.decisions.specs.declared.decision.Seen.{Seen}
+use Rattle.descriptor_table.proofs.AlikeLemmas.{alike_shown, numbered}
+use Rattle.descriptor_table.proofs.CanLemmas.{found_at, number_free, numbers_so, object_known}
+use Rattle.descriptor_table.proofs.DecideLemmas.{decides_as}
+use Rattle.descriptor_table.proofs.EndLemmas.{has_end_shown, one_door}
+use Rattle.descriptor_table.proofs.FreeLemmas.{next_object}
+use Rattle.descriptor_table.proofs.PathLemmas.{file_at_name}
+use Rattle.descriptor_table.proofs.ShownLemmas.{shows-empty}
+use Rattle.descriptor_table.proofs.SoundLemmas.{known_at, sound-empty, sound-kept}
+use Rattle.descriptor_table.proofs.UseLemmas as uses
+use Rattle.descriptor_table.proofs.UseLemmas.{named_used, seen_end, seen_key, seen_there, seen_used}
+use Rattle.descriptor_table.specs.Laws.{Follows, IsThere, OffsetMoves, TableFollows}
+use Rattle.descriptor_table.specs.Shows.{Shows, birth_at, is_of}
+use Rattle.descriptor_table.specs.Table.{TableState, IsSound}
+use Rattle.descriptor_table.specs.View.{view}
+use Rattle.sequential_object.specs.Object.{FileNode}
+use Rattle.sequential_object.specs.Paths.{components_of}
+use Rattle.std.proofs.Common.{Some}
 
-follows-step : ChangesKeepSound → (t : TableState) (c : Call) (so_far : Moved) → IsSound t → AreSound t.descriptions → FollowsStep t c so_far
-follows-step keep t c so_far sound all =
+is_there : (t : TableState) (at : Seen) → IsSound t → IsSeen (view t) at → IsThere t at
+is_there t at sound its =
+    let there : uses.IsThere t at = seen_there t at its in
     record {
-      known = known-planned t c so_far sound;
-      same = same_change t c so_far;
-      can = known-change t c sound;
-      plans = plans-as_step keep t c sound all so_far;
-      acts = acts-as_step keep t c sound all so_far;
-      stays = stays-as_step keep t c sound all so_far;
-      unchanged = λ same. changes-as_step keep t c sound all (change_of t c) None t refl same;
+      key = seen_key t at sound its;
+      used = seen_used t at sound its;
+      birth = there.birth_is;
+      ends = λ s shows. seen_end t s at sound shows its;
     }
 
-offset-free : ChangesKeepSound → (t : TableState) (key offset : ℕ) → IsSound t → AreSound t.descriptions → ContainsKey t.descriptions key
-    → OffsetIsFree t key offset
-offset-free keep t key offset sound all there =
-    let was : Description = description_at t.descriptions key in
-    let at = known_at t.descriptions key there in
+named_file : (t : TableState) (object : ℕ) → IsNamed (view t) object → (s : State) → Shows t s
+    → is_of part.Only (content_of s (birth_at t object)) ≡ true
+named_file t object named s shows =
+    file_at_name t s (components_of named.path) object shows (found_at t.paths named.path (Some (FileNode object)) named.found).0
+
+follows : DecidesSame → DecidesAlike → DecidedSo → (t : TableState) (c : Call) (moved : Moved) → IsSound t → AreSound t.descriptions
+    → Follows t c moved
+follows same names so t c moved sound all = record {
+  so = so.so (view t) c moved (numbered t);
+  step = λ s carried its shows. decides_as same names t s sound all shows c carried moved (decided (view t) c moved) its refl;
+}
+
+offset_moves : ChangesKeepSound → (t : TableState) (key offset : ℕ) → IsSound t → AreSound t.descriptions → ContainsKey t.descriptions key
+    → OffsetMoves t key offset
+offset_moves keep t key offset sound all known =
+    let d : Description = description_at t.descriptions key in
+    let got : fin.get t.descriptions.by_key key ≡ Some d = known_at t.descriptions key known in
     record {
-      sound = sound-kept t key (record was { offset = offset }) sound there refl refl;
-      described = keep.changed t.descriptions key was (record was { offset = offset }) all at (all.held key was at) refl;
-      shows = λ s shows. shows-set_offset t s key offset all there shows;
+      sound = sound-kept t key (record d { offset = offset }) sound known refl refl;
+      described = keep.changed t.descriptions key d (record d { offset = offset }) all got (all.held key d got) refl;
+      shows = λ s shows. shows-set_offset t s key offset all known shows;
     }
 
-pub table_follows : ChangesKeepSound → TableFollows
-table_follows keep =
-    record {
-      first = (sound-empty, shows-empty);
-      calls = follows-step keep;
-      found = found_both;
-      named = λ t path node sound is. used-named t path node is sound;
-      doors = one_door;
-      offsets = offset-free keep;
-    }
+pub table_follows : ChangesKeepSound → DecidesSame → DecidesAlike → DecidedSo → TableFollows
+table_follows keep same names so = record {
+  first = (sound-empty, shows-empty);
+  calls = follows same names so;
+  alike = alike_shown;
+  seen = is_there;
+  named = λ t object sound named. (named_used t object sound named, named_file t object named);
+  next = next_object;
+  free = number_free;
+  numbers = numbers_so;
+  known = object_known;
+  ends = has_end_shown;
+  offsets = offset_moves keep;
+  contents = shows-content;
+  doors = one_door;
+}

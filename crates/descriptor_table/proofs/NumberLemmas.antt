@@ -11,18 +11,17 @@ use Rattle.posix_terms.specs.declared.object.End.{End}
 use Rattle.posix_terms.specs.declared.object.End.TheVariants as part
 use Rattle.posix_terms.specs.declared.object.Side.TheVariants.{Side0, Side1}
 use Rattle.posix_terms.specs.Calls.{Call}
-use Rattle.posix_terms.specs.declared.outcome.Outcome.{Outcome}
-use Rattle.posix_terms.specs.declared.outcome.Outcome.TheVariants as came
 use Rattle.file_descriptions.specs.Descriptions.{DescriptionMap}
 use Rattle.descriptor_table.proofs.Closing.{over_closed, over_gone, over_holder}
 use Rattle.descriptor_table.proofs.ObjectLemmas.{IsNew, IsOld, Taken, freed_slot, taken_slot}
 use Rattle.descriptor_table.specs.Agreement.{IsBorn, NumbersStay}
-use Rattle.descriptor_table.specs.Changes.{AreOpened, CanChange, Changed, IsNextObject, IsOpened, OpensDoor, closed, door_of, let_go, named, renamed, shared, unnamed, with_file, with_object, with_paths, without_gone, without_lost}
+use Rattle.decisions.specs.Changes.{door_of}
+use Rattle.descriptor_table.specs.Changes.{AreOpened, CanChange, Changed, IsDoorOpened, IsNextObject, IsOpened, closed, let_go, named, renamed, shared, unnamed, with_file, with_object, with_paths, without_gone, without_lost}
+use Rattle.decisions.specs.declared.decision.Change.{Change}
+use Rattle.decisions.specs.declared.decision.Change.TheVariants as change
+use Rattle.decisions.specs.declared.decision.NewDescriptor.{NewDescriptor}
+use Rattle.decisions.specs.declared.decision.NewEnds.{NewEnds}
 use Rattle.descriptor_table.specs.Table.{TableState, IsSound, free_object}
-use Rattle.descriptor_table.specs.declared.plan.Change.{Change}
-use Rattle.descriptor_table.specs.declared.plan.Change.TheVariants as change
-use Rattle.descriptor_table.specs.declared.plan.NewDescriptor.{NewDescriptor}
-use Rattle.descriptor_table.specs.declared.plan.NewPair.{NewPair}
 
 numbers_same : (t u : TableState) → u.objects ≡ t.objects → u.made_objects ≡ t.made_objects → u.descriptions.made ≡ t.descriptions.made → NumbersStay t u
 numbers_same t u objects made descriptions =
@@ -108,42 +107,40 @@ opened_stay : (t u after : TableState) (new : NewDescriptor) (which : End) → R
 opened_stay t u after new which ready (key, fresh, is) =
     subst (NumbersStay t) (sym is) (record { numbers = ready.0.numbers; objects = ready.0.objects; born = born_along t u _ refl refl ready.0.born; descriptions = omega (arith, ready.1) })
 
-pair_stay : (t after : TableState) (one other : End × Access) (new : NewPair) → IsSound t → IsNextObject t new.node → AreOpened t one other new after → NumbersStay t after
+pair_stay : (t after : TableState) (one other : End × Access) (new : NewEnds) → IsSound t → IsNextObject t new.object → AreOpened t one other new after → NumbersStay t after
 pair_stay t after one other new sound next (key, fresh, (later, fresh_too, is)) =
-    let ready = ready_file t t.paths new.node sound next in
-    subst (NumbersStay t) (sym is) (record { numbers = ready.0.numbers; objects = ready.0.objects; born = born_along t (with_object t new.node) _ refl refl ready.0.born; descriptions = omega arith })
+    let ready = ready_file t t.paths new.object sound next in
+    subst (NumbersStay t) (sym is) (record { numbers = ready.0.numbers; objects = ready.0.objects; born = born_along t (with_object t new.object) _ refl refl ready.0.born; descriptions = omega arith })
 
 -- ## All changes
 
-pub numbers-unchanged : (t : TableState) → NumbersStay t t
+numbers-unchanged : (t : TableState) → NumbersStay t t
 numbers-unchanged t = numbers_same t t refl refl refl
 
-door_stay : (t : TableState) (c : Call) (new : NewDescriptor) (o : Option Outcome) (after : TableState) → IsSound t → IsNextObject t new.node
-    → OpensDoor t c new o after → NumbersStay t after
-door_stay t c new (Some (came.Ok value bytes)) after sound next is =
-    opened_stay t (with_object t new.node) after new (part.Door (door_of c value)) (ready_file t t.paths new.node sound next) is
-door_stay t c new (Some (came.Fail e)) after sound next is = subst (NumbersStay t) (sym is) (numbers-unchanged t)
-door_stay t c new None after sound next is = subst (NumbersStay t) (sym is) (numbers-unchanged t)
+pub door_stay : (t : TableState) (c : Call) (new : NewDescriptor) (value : ℕ) (after : TableState) → IsSound t → IsNextObject t new.object
+    → IsDoorOpened t c new value after → NumbersStay t after
+door_stay t c new value after sound next is =
+    opened_stay t (with_object t new.object) after new (part.Door (door_of c value)) (ready_file t t.paths new.object sound next) is
 
-pub numbers-stay : (t : TableState) (c : Call) (x : Change) (o : Option Outcome) (after : TableState) → IsSound t → CanChange t c x → Changed t c x o after → NumbersStay t after
-numbers-stay t c change.Nothing o after sound can is = subst (NumbersStay t) (sym is) (numbers-unchanged t)
-numbers-stay t c (change.Share n key) o after sound can is = subst (NumbersStay t) (sym is) (numbers_shared t t n key (numbers-unchanged t))
-numbers-stay t c (change.Close n key) o after sound can is = subst (NumbersStay t) (sym is) (numbers_closed t n key)
-numbers-stay t c (change.Replace n target key) o after sound can is =
-    subst (NumbersStay t) (sym is) (numbers_shared t (closed t n target) n key (numbers_closed t n target))
-numbers-stay t c (change.SetFlags key flags) o after sound can is = subst (NumbersStay t) (sym is) (numbers_same t _ refl refl refl)
-numbers-stay t c (change.AddName node) o after sound can is = subst (NumbersStay t) (sym is) (numbers_same t _ refl refl refl)
-numbers-stay t c (change.RemoveFile node) o after sound can is =
+pub numbers-stay : (t : TableState) (c : Call) (x : Change) (after : TableState) → IsSound t → CanChange t c x → Changed t c x after → NumbersStay t after
+numbers-stay t c change.Nothing after sound can is = subst (NumbersStay t) (sym is) (numbers-unchanged t)
+numbers-stay t c (change.Share n key) after sound can is = subst (NumbersStay t) (sym is) (numbers_shared t t n key (numbers-unchanged t))
+numbers-stay t c (change.Close n key) after sound can is = subst (NumbersStay t) (sym is) (numbers_closed t n key)
+numbers-stay t c (change.Replace n old_key key) after sound can is =
+    subst (NumbersStay t) (sym is) (numbers_shared t (closed t n old_key) n key (numbers_closed t n old_key))
+numbers-stay t c (change.SetFlags key append nonblock) after sound can is = subst (NumbersStay t) (sym is) (numbers_same t _ refl refl refl)
+numbers-stay t c (change.AddFile object) after sound can is = subst (NumbersStay t) (sym is) (numbers_same t _ refl refl refl)
+numbers-stay t c change.AddDirectory after sound can is = subst (NumbersStay t) (sym is) (numbers_same t _ refl refl refl)
+numbers-stay t c (change.RemoveFile object) after sound can is =
     let less : TableState = with_paths t (unnamed t c) in
-    subst (NumbersStay t) (sym is) (numbers_gone t less node (numbers_same t less refl refl refl) refl)
-numbers-stay t c change.RemoveDirectory o after sound can is = subst (NumbersStay t) (sym is) (numbers_same t _ refl refl refl)
-numbers-stay t c (change.Rename node replaced) o after sound can is =
-    let moved : TableState = with_paths t (renamed t c node) in
+    subst (NumbersStay t) (sym is) (numbers_gone t less object (numbers_same t less refl refl refl) refl)
+numbers-stay t c change.RemoveDirectory after sound can is = subst (NumbersStay t) (sym is) (numbers_same t _ refl refl refl)
+numbers-stay t c (change.Rename object lost) after sound can is =
+    let moved : TableState = with_paths t (renamed t c object) in
     subst (NumbersStay t) (sym is)
-    (numbers_lost t moved replaced (numbers_same t moved refl refl refl) refl)
-numbers-stay t c (change.OpenFile new) o after sound can is = opened_stay t t after new part.Only (numbers-unchanged t, refl) is
-numbers-stay t c (change.MakeFile new) o after sound can is =
-    opened_stay t (with_file t (named t c (FileNode new.node)) new.node) after new part.Only (ready_file t (named t c (FileNode new.node)) new.node sound can.1) is
-numbers-stay t c (change.MakePipe new) o after sound can is = pair_stay t after (part.Read, ReadOnly) (part.Write, WriteOnly) new sound can.3 is
-numbers-stay t c (change.MakeSockets new) o after sound can is = pair_stay t after (part.Socket Side0, ReadWrite) (part.Socket Side1, ReadWrite) new sound can.3 is
-numbers-stay t c (change.OpenDoor new) o after sound can is = door_stay t c new o after sound can.1 is
+    (numbers_lost t moved lost (numbers_same t moved refl refl refl) refl)
+numbers-stay t c (change.OpenFile new) after sound can is = opened_stay t t after new part.Only (numbers-unchanged t, refl) is
+numbers-stay t c (change.MakeFile new) after sound can is =
+    opened_stay t (with_file t (named t c (FileNode new.object)) new.object) after new part.Only (ready_file t (named t c (FileNode new.object)) new.object sound can.1) is
+numbers-stay t c (change.MakePipe new) after sound can is = pair_stay t after (part.Read, ReadOnly) (part.Write, WriteOnly) new sound can.3 is
+numbers-stay t c (change.MakeSockets new) after sound can is = pair_stay t after (part.Socket Side0, ReadWrite) (part.Socket Side1, ReadWrite) new sound can.3 is

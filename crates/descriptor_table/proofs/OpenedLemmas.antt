@@ -1,24 +1,19 @@
--- What is opened, in the table beside the state: both ends of a new object, and a door.
-use Rattle.std.proofs.Common.{◌≡◌, ℕ, Bool, ◌<◌, length, Option, Some, None, is_some, true, false, refl, sym, ap, ◌∙◌, subst, arith}
-use Rattle.std.proofs.lemmas.Bool.{eq-eqb}
+-- What is opened, in the table beside the state: both ends of a new object.
+use Rattle.std.proofs.Common.{◌≡◌, ℕ, ◌<◌, length, Option, Some, None, is_some, true, false, refl, sym, ap, ◌∙◌, subst, arith}
 use Rattle.std.proofs.lemmas.List.{get_or-set_same}
 use Rattle.std.specs.FinMap as fin
 use Rattle.sequential_object.specs.Descriptors as posix
 use Rattle.sequential_object.specs.Object.{State, Content, DoorTo}
 use Rattle.sequential_object.specs.Object as object
 use Rattle.posix_terms.specs.declared.call.Access.{Access}
-use Rattle.posix_terms.specs.declared.object.Door.{Door}
-use Rattle.posix_terms.specs.declared.object.Door.TheVariants as door
 use Rattle.posix_terms.specs.declared.object.End.{End}
-use Rattle.posix_terms.specs.declared.object.End.TheVariants as part
 use Rattle.file_descriptions.specs.Descriptions.{AreSound, new_description}
 use Rattle.file_descriptions.specs.Laws.{ChangesKeepSound}
 use Rattle.file_descriptions.specs.declared.description.Description.{Description}
 use Rattle.descriptor_table.proofs.ChangeLemmas.{birth_of_new, content_of_new, shows-opened, shows-with_object}
 use Rattle.descriptor_table.proofs.SoundLemmas.{room_of, sound-opened, sound-with_object}
 use Rattle.descriptor_table.specs.Changes.{IsFreeNumber, IsNextObject, no_flags, opened, with_object}
-use Rattle.descriptor_table.specs.Plans.{door_flags}
-use Rattle.descriptor_table.specs.Shows.{Shows, birth_at, is_of, same_door}
+use Rattle.descriptor_table.specs.Shows.{Shows, birth_at, is_of}
 use Rattle.descriptor_table.specs.Table.{TableState, IsSound}
 
 -- ## Both ends of a new object
@@ -68,31 +63,3 @@ module _ (t : TableState) (s : State) (sound : IsSound t) (all : AreSound t.desc
       shown_between =
           shows-opened made (object.with_object s content) first key node one.0 one.1 no_flags sound_made all (shows-with_object t s content node sound shows inside free)
           (omega (arith, one_low, sound_made.numbers)) fresh (ap (is_of one.0) (content_of_new t s node content shows inside) ∙ has)
-
--- ## A door
-
--- a door is the same as itself
-same_itself : (d : Door) → same_door d d ≡ true
-same_itself door.HostFile = refl
-same_itself (door.Listener port) = eq-eqb port port refl
-same_itself door.Stream = refl
-
-module _ (t : TableState) (s : State) (sound : IsSound t) (all : AreSound t.descriptions) (shows : Shows t s) where
-  pub shows-door : (node n key : ℕ) (opens_as : Door) (access : Access) (append : Bool) → IsNextObject t node → IsFreeNumber t n → fin.get t.descriptions.by_key key ≡ None
-      → Shows (opened (with_object t node) n key node (part.Door opens_as) access (door_flags append)) (posix.opened (object.with_object s (DoorTo opens_as)) n s.next_object (part.Door opens_as) access append false)
-  shows-door node n key opens_as access append (low, free, is_next) (inside, shut) fresh =
-      subst (λ (b : ℕ). Shows (opened made n key node (part.Door opens_as) access (door_flags append)) (posix.opened (object.with_object s content) n b (part.Door opens_as) access append false)) (birth_of_new t node within_objects ∙ sym shows.next_object)
-      (shows-opened made (object.with_object s content) n key node (part.Door opens_as) access (door_flags append) sound_made all (shows-with_object t s content node sound shows within_objects free)
-      (omega (arith, inside, sound_made.numbers)) fresh (ap (is_of (part.Door opens_as)) (content_of_new t s node content shows within_objects) ∙ same_itself opens_as))
-    where
-      content : Content
-      content = DoorTo opens_as
-
-      made : TableState
-      made = with_object t node
-
-      within_objects : node < length t.objects
-      within_objects = let objects : length t.objects ≡ 48 = sound.object_numbers in omega (arith, objects)
-
-      sound_made : IsSound made
-      sound_made = sound-with_object t node low free sound

@@ -135,18 +135,16 @@ described_object t s node sound shows used any =
     let at = any_of_first s.next_description (λ key. is_of (fin.get s.descriptions key) (birth_at t node)) any in
     let its = is_of_some (fin.get s.descriptions at.0) (birth_at t node) at.2 in
     let own = shows.described at.0 (ap (λ (o : Option object.Description). is_some o) its.1) in
-    let there = shows.descriptions own.0 own.1 own.2 in
     let found : fin.get s.descriptions own.1.birth ≡ Some its.0 = ap (fin.get s.descriptions) own.3 ∙ its.1 in
-    let same : Some (shown t own.1 there.0) ≡ Some its.0 = sym there.1 ∙ found in
+    let same : Some (shown t own.1) ≡ Some its.0 = sym (shows.descriptions own.0 own.1 own.2) ∙ found in
     let object : birth_at t own.1.node ≡ its.0.object = ap (λ (d : object.Description). d.object) (same_Some _ _ same) in
     Of own.0 own.1 own.2 (one_object t own.1.node node sound (sound.described_objects own.0 own.1 own.2) used (object ∙ its.2))
 
 object_described : (t : TableState) (s : State) (node : ℕ) → AreSound t.descriptions → Shows t s → HasDescription t node → posix.has_description s (birth_at t node) ≡ true
 object_described t s node all shows (Of key d got same) =
-    let there = shows.descriptions key d got in
     let below : d.birth < s.next_description = rw shows.next_description (all.born key d got) in
     first_of_any s.next_description (λ key. is_of (fin.get s.descriptions key) (birth_at t node)) d.birth below
-    (ap (λ (o : Option object.Description). is_of o (birth_at t node)) there.1
+    (ap (λ (o : Option object.Description). is_of o (birth_at t node)) (shows.descriptions key d got)
     ∙ eq-eqb (birth_at t d.node) (birth_at t node) (ap (birth_at t) same))
 
 -- where no description is of an object it is closed

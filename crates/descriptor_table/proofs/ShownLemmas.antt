@@ -18,9 +18,8 @@ use Rattle.file_descriptions.specs.declared.description.Description.{Description
 use Rattle.std.specs.Cmp.{both_ways}
 use Rattle.descriptor_table.proofs.MapLemmas.{get-remove_other, get-remove_same}
 use Rattle.descriptor_table.proofs.SoundLemmas.{description_got, held-set, held_by, key_inside, known_at, known_of, slot_replicate}
-use Rattle.descriptor_table.specs.Laws.{RefersAlike}
-use Rattle.descriptor_table.specs.Laws.RefersAlike.{Open, Shut}
-use Rattle.descriptor_table.specs.Shows.{Shows, birth_of, shown_node}
+use Rattle.descriptor_table.specs.Shows.{RefersAlike, Shows, birth_of, shown_node}
+use Rattle.descriptor_table.specs.Shows.RefersAlike.{Open, Shut}
 use Rattle.descriptor_table.specs.Table.{TableState, IsSound, empty_table, key_at, lowest_from}
 
 pub key_shown : (t : TableState) (s : State) (descriptor : ℤ) → Shows t s → posix.key_at s descriptor ≡ option_map (birth_of t) (key_at t descriptor)
@@ -43,7 +42,7 @@ found_both t s descriptor sound shows = by_key (key_at t descriptor) refl
         let got : fin.get t.descriptions.by_key key ≡ Some d = key_known t descriptor key sound at in
         let there = shows.descriptions key d got in
         let under : posix.key_at s descriptor ≡ Some d.birth = key_shown t s descriptor shows ∙ ap (option_map (birth_of t)) at in
-        Open key d there.0 at got there.1 (rw at refl) (rw (under, there.1) refl)
+        Open key d at got there (rw at refl) (rw (under, there) refl)
 
 -- ## The lowest number
 
@@ -168,6 +167,13 @@ last_shown t s n key d sound all shows at got =
         (λ (o : Option ℕ). cond (is_key o key) 1 0) at ∙ ap (λ (b : Bool). cond b 1 0) (eq-eqb key key refl) in
         let count : (description_at t.descriptions key).holders ≡ held_by t.descriptors key = sound.held key in
         omega (arith, set, was, count, ap (λ (x : Description). x.holders) here)
+
+-- whether a description ends with this descriptor
+pub last_open : (t : TableState) (s : State) → IsSound t → AreSound t.descriptions → Shows t s
+    → (descriptor : ℤ) (key : ℕ) (d : Description) → key_at t descriptor ≡ Some key → fin.get t.descriptions.by_key key ≡ Some d
+    → posix.has_descriptor (posix.freed s descriptor) d.birth ≡ not (d.holders == 1)
+last_open t s sound all shows (pos n) key d at got = last_shown t s n key d sound all shows at got
+last_open t s sound all shows (negsuc n) key d at got = cc
 
 -- ## The empty table
 

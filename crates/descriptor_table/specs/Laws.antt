@@ -1,70 +1,94 @@
 -- Internal: no contract of the headline or of a command stands on it.
--- What holds of every table, whose plan and change of a call are what the sequential object does.
-use Rattle.std.specs.Prelude.{◌≡◌, ℕ, ℤ, List, true, Some, None, Ok, Err}
+-- What holds of every table.
+use Rattle.std.specs.Prelude.{◌≡◌, ◌⊎◌, ◌<◌, ℕ, true, Some, is_some, IfOk}
 use Rattle.std.specs.FinMap as map
 use Rattle.sequential_object.specs.Descriptors as posix
-use Rattle.sequential_object.specs.Names.{file_named}
-use Rattle.sequential_object.specs.Object.{State, empty_state}
+use Rattle.sequential_object.specs.Object.{State, Content, content_of, empty_state, with_content}
 use Rattle.posix_terms.specs.Calls.{Call}
 use Rattle.posix_terms.specs.declared.carried.Moved.{Moved}
-use Rattle.posix_terms.specs.declared.errno.Errno.TheVariants.{EBADF}
+use Rattle.posix_terms.specs.declared.limits.TheConstants.Limits as limit
 use Rattle.posix_terms.specs.declared.object.Door.{Door}
+use Rattle.posix_terms.specs.declared.object.End.{End}
+use Rattle.posix_terms.specs.declared.object.End.TheVariants as part
 use Rattle.file_descriptions.specs.Descriptions.{AreSound, ContainsKey, with_offset}
-use Rattle.file_descriptions.specs.declared.description.Description.{Description}
-use Rattle.descriptor_table.specs.Acts.{ActsAsStep, StaysAsStep}
-use Rattle.descriptor_table.specs.Agreement.{ChangesAsStep, PlansAsStep}
-use Rattle.descriptor_table.specs.Changes.{CanChange, Changes}
-use Rattle.descriptor_table.specs.Plans.{LocksKnown, change_of, decided_with, planned, read_count}
-use Rattle.descriptor_table.specs.Shows.{Shows, same_door, shown}
-use Rattle.descriptor_table.specs.Table.{IsSound, TableState, described, empty_table, is_used, key_at}
-
--- what is planned of a call that moved so much before is what its step does
-pub record FollowsStep (t : TableState) (c : Call) (so_far : Moved) : Type 0 where
-  pub known : LocksKnown t (read_count c) (planned t c so_far)
-  -- its change is that of the call, whatever it moved before
-  pub same : (decided_with t c so_far).change ≡ change_of t c
-  -- and what was looked up for its change is so
-  pub can : CanChange t c (change_of t c)
-  pub plans : PlansAsStep t c so_far (planned t c so_far)
-  pub acts : ActsAsStep t c so_far (planned t c so_far)
-  pub stays : StaysAsStep t c so_far (planned t c so_far)
-  -- where it changes no table, the table as it is shows the state after it
-  pub unchanged : Changes t c None t → ChangesAsStep t c None t
-
--- a descriptor refers to the same in the table and in the state: to nothing, or to a description that each has
-pub data RefersAlike (t : TableState) (s : State) (descriptor : ℤ) : Type 0 where
-  Shut : (table : described t descriptor ≡ Err EBADF) → (state : posix.described s descriptor ≡ Err EBADF) → RefersAlike t s descriptor
-  Open : (key : ℕ) (d : Description) (offset : ℕ)
-      → (at : key_at t descriptor ≡ Some key)
-      → (got : map.get t.descriptions.by_key key ≡ Some d)
-      → (there : map.get s.descriptions d.birth ≡ Some (shown t d offset))
-      → (table : described t descriptor ≡ Ok (key, d))
-      → (state : posix.described s descriptor ≡ Ok (d.birth, shown t d offset))
-      → RefersAlike t s descriptor
+use Rattle.decisions.specs.Meant.{moved_to, seen}
+use Rattle.decisions.specs.Renaming.{Alike}
+use Rattle.decisions.specs.Decided.{decided}
+use Rattle.decisions.specs.So.{CanAct, CanDo, IsFree, IsNamed, IsSeen, IsSo}
+use Rattle.decisions.specs.declared.decision.Act.{Act}
+use Rattle.decisions.specs.declared.decision.Deed.{Deed}
+use Rattle.decisions.specs.declared.decision.Seen.{Seen}
+use Rattle.descriptor_table.specs.Agreement.{DecidesAsStep}
+use Rattle.descriptor_table.specs.Applied.{AreNumbers}
+use Rattle.descriptor_table.specs.Changes.{IsFreeNumber, IsNextObject}
+use Rattle.descriptor_table.specs.Shows.{Shows, birth_at, birth_of, is_of, same_door}
+use Rattle.descriptor_table.specs.Table.{IsSound, TableState, empty_table, free_object, is_open, is_used}
+use Rattle.descriptor_table.specs.View.{names_of, view}
 
 -- the table with another offset of one description
 abbrev pub with_offset_at : TableState → ℕ → ℕ → TableState
-with_offset_at t key offset = record t { descriptions = with_offset t.descriptions key offset }
+with_offset_at t key offset =
+    record t { descriptions = with_offset t.descriptions key offset }
 
--- a table with another offset is sound, and shows what it showed
-pub record OffsetIsFree (t : TableState) (key offset : ℕ) : Type 0 where
+-- a content that has the ends of another
+abbrev pub HasEndsOf : Content → Content → Type 0
+HasEndsOf content other = (which : End) → is_of which other ≡ true → is_of which content ≡ true
+
+-- what was seen by a descriptor is there: the description, under its birth, and its object, which has the end that it is of
+pub record IsThere (t : TableState) (at : Seen) : Type 0 where
+  pub key : ContainsKey t.descriptions at.key
+  pub used : is_used t at.object ≡ true
+  pub birth : birth_of t at.key ≡ at.birth
+  pub ends : (s : State) → Shows t s → is_of at.«end» (content_of s (birth_at t at.object)) ≡ true
+
+-- what is decided of a call was looked up, and is what the sequential object decides
+pub record Follows (t : TableState) (c : Call) (moved : Moved) : Type 0 where
+  pub so : IfOk (decided (view t) c moved) (IsSo (view t) c)
+  pub step : DecidesAsStep t c moved (decided (view t) c moved)
+
+-- a table with another offset of one description is sound, and shows the state with that offset
+pub record OffsetMoves (t : TableState) (key offset : ℕ) : Type 0 where
   pub sound : IsSound (with_offset_at t key offset)
   pub described : AreSound (with_offset_at t key offset).descriptions
-  pub shows : (s : State) → Shows t s → Shows (with_offset_at t key offset) s
+  pub shows : (s : State) → Shows t s
+      → Shows (with_offset_at t key offset)
+      (moved_to s (Some offset) (Some (birth_of t key)) (map.get s.descriptions (birth_of t key)))
+
+-- an object that is there, or the one that is made next; so it has one of the numbers of objects
+abbrev pub IsKnownNumber : TableState → ℕ → Type 0
+IsKnownNumber t node =
+    (node < limit.OBJECTS) × ((is_used t node ≡ true) ⊎ (free_object t ≡ Some node))
 
 pub record TableFollows : Type 0 where
   -- the first table is sound, and shows the first state
   pub first : IsSound empty_table × Shows empty_table empty_state
-  -- what is planned of a call is what its step does
-  pub calls : (t : TableState) (c : Call) (so_far : Moved) → IsSound t → AreSound t.descriptions
-      → FollowsStep t c so_far
-  -- a descriptor refers to what it refers to in the state that the table shows
-  pub found : (t : TableState) (s : State) (descriptor : ℤ) → IsSound t → Shows t s → RefersAlike t s descriptor
-  -- the file that a path names is one of the objects in use
-  pub named : (t : TableState) (path : List ℕ) (node : ℕ) → IsSound t
-      → file_named t.paths path ≡ Ok node → is_used t node ≡ true
+  pub calls : (t : TableState) (c : Call) (moved : Moved) → IsSound t → AreSound t.descriptions
+      → Follows t c moved
+  -- a table and a state that it shows look alike but for the names
+  pub alike : (t : TableState) (s : State) → IsSound t → AreSound t.descriptions → Shows t s
+      → Alike (names_of t) (view t) (seen s)
+  pub seen : (t : TableState) (at : Seen) → IsSound t → IsSeen (view t) at → IsThere t at
+  -- what a path names is there, and is a file
+  pub named : (t : TableState) (object : ℕ) → IsSound t → IsNamed (view t) object
+      → (is_used t object ≡ true)
+      × ((s : State) → Shows t s → is_of part.Only (content_of s (birth_at t object)) ≡ true)
+  -- the next object has a number that is free, and so has a descriptor that is to be opened
+  pub next : (t : TableState) (node : ℕ) → free_object t ≡ Some node → IsNextObject t node
+  pub free : (t : TableState) (n : ℕ) → IsFree (view t) n → IsFreeNumber t n
+  -- an act opens numbers of descriptors, and the object that is locked is there or is the next
+  pub numbers : (t : TableState) (c : Call) (object : ℕ) (a : Act) → CanAct (view t) c object a
+      → AreNumbers a
+  pub known : (t : TableState) (c : Call) (object : ℕ) (d : Deed) → IsSound t
+      → CanDo (view t) c object d → IsKnownNumber t object
+  -- an end that an object has is open in the table exactly when it is in the state
+  pub ends : (t : TableState) (s : State) (node : ℕ) (which : End) → IsSound t → AreSound t.descriptions
+      → Shows t s → is_used t node ≡ true → is_of which (content_of s (birth_at t node)) ≡ true
+      → posix.has_end s (birth_at t node) which ≡ is_open t node which
+  pub offsets : (t : TableState) (key offset : ℕ) → IsSound t → AreSound t.descriptions
+      → ContainsKey t.descriptions key → OffsetMoves t key offset
+  -- what an object holds is no matter, as long as it has the same ends
+  pub contents : (t : TableState) (s : State) (birth : ℕ) (content : Content) → Shows t s
+      → is_some (map.get s.objects birth) ≡ true → HasEndsOf content (content_of s birth)
+      → Shows t (with_content s birth content)
   -- two doors of one kind, or listeners of one port, are the same
   pub doors : (one other : Door) → same_door one other ≡ true → other ≡ one
-  -- no description's offset matters
-  pub offsets : (t : TableState) (key offset : ℕ) → IsSound t → AreSound t.descriptions
-      → ContainsKey t.descriptions key → OffsetIsFree t key offset

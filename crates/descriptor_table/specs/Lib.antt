@@ -1,8 +1,9 @@
 pub mod Table
 pub mod TableCode
-pub mod Plans
-pub mod Changes
 pub mod Shows
+pub mod View
+pub mod Changes
+pub mod Plans
 pub mod Agreement
-pub mod Acts
+pub mod Applied
 pub mod Laws

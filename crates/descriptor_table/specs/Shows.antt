@@ -1,7 +1,7 @@
 -- Believed: a contract of the headline stands on it.
--- What a table shows of the sequential object: all but what the objects hold, and but the offsets, which a call
--- moves at its answer. The keys of the sequential object are the births of descriptions and of objects.
-use Rattle.std.specs.Prelude.{◌≡◌, ℕ, ◌==◌, List, Bool, true, false, Some, None, is_some, unwrap_or, slice_index_or}
+-- What a table shows of the sequential object: all but what the objects hold. The keys of the sequential object are the
+-- births of descriptions and of objects.
+use Rattle.std.specs.Prelude.{◌≡◌, ℕ, ◌==◌, ℤ, List, Bool, true, false, Some, None, Ok, Err, is_some, unwrap_or, slice_index_or}
 use Rattle.std.specs.Option.{option_map}
 use Rattle.std.specs.FinMap as map
 use Rattle.sequential_object.specs.Object as posix
@@ -12,7 +12,9 @@ use Rattle.posix_terms.specs.declared.object.End.{End}
 use Rattle.posix_terms.specs.declared.object.End.TheVariants as part
 use Rattle.file_descriptions.specs.Descriptions.{description_at}
 use Rattle.file_descriptions.specs.declared.description.Description.{Description}
-use Rattle.descriptor_table.specs.Table.{TableState}
+use Rattle.posix_terms.specs.declared.errno.Errno.TheVariants.{EBADF}
+use Rattle.sequential_object.specs.Descriptors as descriptors
+use Rattle.descriptor_table.specs.Table.{TableState, described, key_at}
 
 -- the birth of the object with this number; a number that is free is for the object to come
 abbrev pub birth_at : TableState → ℕ → ℕ
@@ -22,9 +24,16 @@ birth_at t node = unwrap_or (slice_index_or t.objects node None) t.made_objects
 abbrev pub birth_of : TableState → ℕ → ℕ
 birth_of t key = let d : Description = description_at t.descriptions key in d.birth
 
--- a description as the sequential object has it, at an offset
-abbrev pub shown : TableState → Description → ℕ → posix.Description
-shown t d offset = record { object = birth_at t d.node; «end» = d.«end»; access = d.access; offset = offset; append = d.flags.append; nonblock = d.flags.nonblock }
+-- a description as the sequential object has it
+abbrev pub shown : TableState → Description → posix.Description
+shown t d = record {
+  object = birth_at t d.node;
+  «end» = d.«end»;
+  access = d.access;
+  offset = d.offset;
+  append = d.flags.append;
+  nonblock = d.flags.nonblock;
+}
 
 abbrev pub shown_node : TableState → Node → Node
 shown_node t (FileNode node) = FileNode (birth_at t node)
@@ -49,7 +58,7 @@ is_of which content = false
 pub record Shows (t : TableState) (s : State) : Type 0 where
   pub descriptors : (n : ℕ) → map.get s.descriptors n ≡ option_map (birth_of t) (slice_index_or t.descriptors n None)
   -- each description is there under its birth, and no other one
-  pub descriptions : (key : ℕ) (d : Description) → map.get t.descriptions.by_key key ≡ Some d → (offset : ℕ) × (map.get s.descriptions d.birth ≡ Some (shown t d offset))
+  pub descriptions : (key : ℕ) (d : Description) → map.get t.descriptions.by_key key ≡ Some d → map.get s.descriptions d.birth ≡ Some (shown t d)
   pub described : (birth : ℕ) → is_some (map.get s.descriptions birth) ≡ true → (key : ℕ) × (d : Description) × (map.get t.descriptions.by_key key ≡ Some d) × (d.birth ≡ birth)
   pub paths : (path : List (List ℕ)) → map.get s.paths path ≡ option_map (shown_node t) (map.get t.paths path)
   -- each object is there under its birth, and no other one
@@ -60,3 +69,15 @@ pub record Shows (t : TableState) (s : State) : Type 0 where
   pub files : (path : List (List ℕ)) (node : ℕ) → map.get t.paths path ≡ Some (FileNode node) → is_of part.Only (content_of s (birth_at t node)) ≡ true
   pub next_description : s.next_description ≡ t.descriptions.made
   pub next_object : s.next_object ≡ t.made_objects
+
+-- a descriptor refers to the same in the table and in the state: to nothing, or to a description that each has
+pub data RefersAlike (t : TableState) (s : State) (descriptor : ℤ) : Type 0 where
+  Shut : (table : described t descriptor ≡ Err EBADF)
+      → (state : descriptors.described s descriptor ≡ Err EBADF) → RefersAlike t s descriptor
+  Open : (key : ℕ) (d : Description)
+      → (at : key_at t descriptor ≡ Some key)
+      → (got : map.get t.descriptions.by_key key ≡ Some d)
+      → (there : map.get s.descriptions d.birth ≡ Some (shown t d))
+      → (table : described t descriptor ≡ Ok (key, d))
+      → (state : descriptors.described s descriptor ≡ Ok (d.birth, shown t d))
+      → RefersAlike t s descriptor

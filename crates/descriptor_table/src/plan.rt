@@ -1,17 +1,9 @@
 ghost use Rattle.std.specs.Prelude.{◌≡◌};
-ghost use Rattle.descriptor_table.specs.Changes.{is_refused};
+ghost use Rattle.decisions.specs.Meant.{natural_of, request_asked, request_kind};
+ghost use Rattle.descriptor_table.specs.Plans.{errand_of, is_refused, op_of, plan_of};
 
-use directories::Node;
-use file_descriptions::StatusFlags;
-use posix_terms::{Access, End, OutKind, Reply, ShutdownHow, Side};
-
-/// An open file description, as it is when the call is planned.
-#[derive(Clone, Copy, Debug, PartialEq, Eq)]
-pub struct Opened {
-    pub key: usize,
-    pub end: End,
-    pub flags: StatusFlags,
-}
+use decisions::{Act, Decision, Deed};
+use posix_terms::{Call, Errno, OutKind, Reply};
 
 /// What a call asks of the outside.
 #[derive(Clone, Copy, Debug, PartialEq, Eq)]
@@ -27,34 +19,17 @@ pub struct Errand {
     pub door: Option<usize>,
 }
 
-/// What a call does to the object that it locks. It has the description where it reads or moves its
-/// offset; an act at a given position, a cut and `fstat` need none.
+/// What a call does to the object that it locks.
 #[derive(Clone, Copy, Debug, PartialEq, Eq)]
 pub enum Op {
-    /// A file is opened. Where it is new or cut it has no bytes.
-    Open { cut: bool },
-    /// What referred to the object does so no more.
-    Release,
-    Read { from: Opened, count: usize },
-    Write { to: Opened },
-    Pread { count: usize, position: u64 },
-    Pwrite { position: u64 },
-    Lseek { at: Opened },
-    Ftruncate { size: usize },
-    /// The file has this many names when the call is planned.
-    Fstat { links: usize },
-    /// A pipe is made, with nothing in it.
-    Pipe,
-    /// A pair of sockets is made, where nothing waits and nothing is shut.
-    Socketpair,
-    Shutdown { side: Side, how: ShutdownHow },
+    Act(Act),
     /// The call goes outside: to the object, which is a door, or for the door that the object becomes.
     Ask(Errand),
 }
 
-/// The numbers of the descriptors that a call opened, where its plan has not told them: those of `open`,
-/// `pipe`, `socketpair` and the calls that open a door, which only the change tells. Every other number
-/// of a reply is in the plan, or comes from outside.
+/// The numbers of the descriptors that a call opened, where its plan has not told them: those of a
+/// call that opens a door, which are given only where that succeeds, and those of an act that opens
+/// descriptors.
 #[derive(Clone, Copy, Debug, PartialEq, Eq)]
 pub enum NewNumbers {
     None,
@@ -84,74 +59,78 @@ impl Plan {
     }
 }
 
-/// A descriptor that a change makes: its number, and the number of the object that its description is of.
-#[derive(Clone, Copy, Debug, PartialEq, Eq)]
-pub struct NewDescriptor {
-    pub number: usize,
-    pub node: usize,
-    pub access: Access,
-    pub flags: StatusFlags,
+// What is left of a decision without its change.
+pub(crate) fn plan_of(call: &Call, decided: Result<Decision, Errno>) -> Plan
+    ensures { result ≡ plan_of call.now decided }
+{
+    match decided {
+        Ok(Decision::Replies { reply, .. }) => Plan::Reply(reply),
+        Ok(Decision::Locks { object, deed }) => Plan::Node {
+            node: object,
+            op: op_of(call, object, deed),
+            keep_table: matches!(deed, Deed::Opens { .. }),
+        },
+        Err(error) => Plan::Reply(Reply::Fail(error)),
+    }
 }
 
-/// The two descriptors that a change makes for the ends of a new object, and the object's number.
-#[derive(Clone, Copy, Debug, PartialEq, Eq)]
-pub struct NewPair {
-    pub first: usize,
-    pub second: usize,
-    pub node: usize,
+fn op_of(call: &Call, object: usize, deed: Deed) -> Op
+    ensures { result ≡ op_of call.now object deed }
+{
+    match deed {
+        Deed::Acts { act, .. } => Op::Act(act),
+        Deed::Asks { blocks } => Op::Ask(errand_of(call, blocks, Some(object))),
+        Deed::Closes { .. } => Op::Ask(errand_of(call, false, Some(object))),
+        Deed::Opens {
+            blocks,
+            listener,
+            ..
+        } => Op::Ask(errand_of(call, blocks, listener)),
+    }
 }
 
-/// What a call changes in the table, where all that this needs has been looked up. The path and the kind
-/// of a new door are taken from the call, the port of a listener from the outcome.
-#[derive(Clone, Copy, Debug, PartialEq, Eq)]
-pub enum Change {
-    Nothing,
-    /// The descriptor `number` refers to the description `key` too.
-    Share {
-        number: usize,
-        key: usize,
-    },
-    /// The descriptor `number`, which refers to the description `key`, is closed.
-    Close {
-        number: usize,
-        key: usize,
-    },
-    /// The descriptor `number`, which refers to the description `target`, is closed, and refers to `key` then.
-    Replace {
-        number: usize,
-        target: usize,
-        key: usize,
-    },
-    /// The description `key` gets these flags.
-    SetFlags {
-        key: usize,
-        flags: StatusFlags,
-    },
-    /// The path of the call names this.
-    AddName(Node),
-    /// The path of the call names the file with this number no more.
-    RemoveFile(usize),
-    /// The path of the call names its directory no more.
-    RemoveDirectory,
-    /// The new path of the call names the file `node` in the place of the old one, and the file
-    /// `replaced`, if there is one, no more.
-    Rename {
-        node: usize,
-        replaced: Option<usize>,
-    },
-    /// A file that is there is opened.
-    OpenFile(NewDescriptor),
-    /// A file is made, which the path of the call names, and opened.
-    MakeFile(NewDescriptor),
-    MakePipe(NewPair),
-    MakeSockets(NewPair),
-    /// A door is opened, where the call opened one outside.
-    OpenDoor(NewDescriptor),
+/// What a call asks of the outside, which takes along the door of this object. A call that asks
+/// nothing has the kind `Close` here.
+pub fn errand_of(call: &Call, waits: bool, door: Option<usize>) -> Errand
+    ensures { result ≡ errand_of call.now waits door }
+{
+    Errand {
+        kind: request_kind(call),
+        asked: request_asked(call),
+        waits,
+        door,
+    }
 }
 
-/// What the table makes of a call, and what the call changes in it.
-#[derive(Debug, PartialEq, Eq, Drop)]
-pub struct Decided {
-    pub plan: Plan,
-    pub change: Change,
+fn request_kind(call: &Call) -> OutKind
+    ensures { result ≡ request_kind call.now }
+{
+    match call {
+        Call::Read { .. } => OutKind::Read,
+        Call::Write { .. } => OutKind::Write,
+        Call::Lseek { .. } => OutKind::Seek,
+        Call::Shutdown { .. } => OutKind::Shutdown,
+        Call::HostOpen { .. } => OutKind::Open,
+        Call::TcpListen { .. } => OutKind::Listen,
+        Call::TcpConnect { .. } => OutKind::Connect,
+        Call::TcpAccept { .. } => OutKind::Accept,
+        _ => OutKind::Close,
+    }
+}
+
+fn request_asked(call: &Call) -> u64
+    ensures { result ≡ request_asked call.now }
+{
+    match call {
+        Call::Read { count, .. } => natural_of(*count),
+        Call::Write { bytes, .. } => bytes.as_slice().len() as u64,
+        Call::TcpListen { port } | Call::TcpConnect { port } => natural_of(*port),
+        _ => 0,
+    }
+}
+
+fn natural_of(number: i64) -> u64
+    ensures { result ≡ natural_of number }
+{
+    u64::try_from(number).unwrap_or(0)
 }

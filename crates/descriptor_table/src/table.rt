@@ -4,6 +4,7 @@ ghost use Rattle.directories.specs.Entries.{node_of};
 ghost use Rattle.directories.specs.Lookup.{moved_name};
 ghost use Rattle.sequential_object.specs.Paths.{components_of};
 ghost use Rattle.file_descriptions.specs.Descriptions.{AreSound, ContainsKey, description_at, is_last_held, with_flags, with_offset, ends_of};
+ghost use Rattle.decisions.specs.Meant.{moved_to};
 ghost use Rattle.descriptor_table.specs.Shows.{Shows, birth_of};
 ghost use Rattle.sequential_object.specs.Object.{State, FileNode, empty_state};
 ghost use Rattle.descriptor_table.specs.Changes.{CanMove, IsFreeNumber, IsFreePath, IsNextObject, NamesUsed, Refers, let_go, opened, shared, with_file, with_object, with_paths, without_gone};
@@ -88,11 +89,14 @@ impl Table {
         self.descriptions.birth(key)
     }
 
-    /// Sets the offset of a description. What the table shows is no matter of offsets (`shows`).
+    /// Sets the offset of a description. What the table shows goes along (`shows`).
     #[tactic(auto, using(crate::proofs::SoundLemmas::sound))]
     pub fn set_offset(&mut self, key: usize, offset: u64)
         requires { ContainsKey self.old.descriptions key }
-        ensures shows { (s : State) → Shows self.old s → Shows self.new s }
+        ensures shows { (s : State) → Shows self.old s
+            → let birth = birth_of self.old key in
+            Shows self.new
+            (moved_to s (Some offset) (Some birth) (fin.get s.descriptions birth)) }
         ensures set { self.new ≡ record self.old { descriptions = with_offset self.old.descriptions key offset } }
     {
         self.known();

@@ -20,14 +20,11 @@ use Rattle.lock_model.specs.State as lock
 use Rattle.lock_model.specs.State.{Job, Row, State, nobody, thread_of}
 use Rattle.lock_model.specs.State.Phase.{Outside, Recorded, ToOutside}
 use Rattle.sequential_object.specs.Worlds.{World}
-use Rattle.object_store.specs.Patience.{as_answer}
+use Rattle.object_store.specs.Patience.{as_answer, ended, outside_ending}
 use Rattle.object_store.specs.Store.{Stands, Stored}
 use Rattle.sequential_object.specs.declared.turn_end.TurnEnd.{TurnEnd}
 use Rattle.sequential_object.specs.declared.turn_end.TurnEnd.TheVariants as end
-use Rattle.descriptor_table.specs.Acts as acts
 use Rattle.descriptor_table.specs.Agreement.{query_of}
-use Rattle.descriptor_table.specs.declared.plan.NewNumbers.TheVariants as numbers
-use Rattle.descriptor_table.specs.declared.plan.Op.TheVariants as op
 use Rattle.posix_terms.specs.Outcomes.{dated, fits, is_at, is_kind, suits, undated}
 use Rattle.sequential_object.specs.Locked as posix_locked
 use Rattle.sequential_object.specs.Object as posix_state
@@ -125,7 +122,7 @@ begin_moves terms i rows moved t v u o is h begins =
 
 errand_fits : (terms : Conditions) (s : State) (i : ℕ) (o : Outing) (job : Job) (g : Given) → IsOut terms i s.rows o job → answers_errand o.errand job.turn g ≡ fits_job (real_calls terms.settings) job g
 errand_fits terms s i o job g out =
-    let little : Little (query_of job.call (op.Ask o.errand)) = subst Little out.asks_is (asked_little job.found.object job.call job.carried) in
+    let little : Little (query_of job.call o.errand) = subst Little out.asks_is (asked_little job.found.object job.call job.carried) in
     ap (λ (b : Bool). suits o.errand.kind o.errand.asked g && (is_at job.turn g.clock && b)) (le-leb o.errand.asked 65535 (within_a_record o.errand.kind o.errand.asked little))
     ∙ last_true (suits o.errand.kind o.errand.asked g) (is_at job.turn g.clock)
     ∙ ap (λ (r : Option Query). answers_query r (undated g) && is_at job.turn g.clock) (sym out.asks_is)
@@ -363,9 +360,9 @@ module _ (terms : Conditions) (w : Whole) (s : State) (i : ℕ) (o : Outing) (jo
 
   ended_by : (keeps : Bool) (x : TurnEnd) (table : Stored) → o.keeps_table ≡ keeps → EndsTurn keeps terms.settings.patience o job.call g.outcome x w.table table → Ended x table
   ended_by false x table keeps (ends, same) =
-      let patience_is : (settings : Settings) (z : posix_state.State) → settings.patience ≡ terms.settings.patience → as_answer (acts.ended settings z o.carried (acts.outside_ending o.errand numbers.None (Some g.outcome))) ≡ x = ends c.good in
-      let at : as_answer (acts.ended terms.settings job.found.object job.carried (acts.outside_ending o.errand numbers.None (Some g.outcome))) ≡ x =
-      subst (λ (k : Carried). as_answer (acts.ended terms.settings job.found.object k (acts.outside_ending o.errand numbers.None (Some g.outcome))) ≡ x) (sym c.out.carried) (patience_is terms.settings job.found.object refl) in
+      let patience_is : (settings : Settings) (z : posix_state.State) → settings.patience ≡ terms.settings.patience → as_answer (ended settings z o.carried (outside_ending o.errand (Some g.outcome))) ≡ x = ends c.good in
+      let at : as_answer (ended terms.settings job.found.object job.carried (outside_ending o.errand (Some g.outcome))) ≡ x =
+      subst (λ (k : Carried). as_answer (ended terms.settings job.found.object k (outside_ending o.errand (Some g.outcome))) ≡ x) (sym c.out.carried) (patience_is terms.settings job.found.object refl) in
       let none : late_change (real_calls terms.settings) job job.outcome o.keeps_table ≡ None = ap (late_change (real_calls terms.settings) job job.outcome) keeps ∙ late_none (real_calls terms.settings) job job.outcome in
       record {
         answer_is = ap as_answer (c.out.ends keeps g.outcome) ∙ at;
@@ -376,7 +373,7 @@ module _ (terms : Conditions) (w : Whole) (s : State) (i : ℕ) (o : Outing) (jo
       let found = c.found keeps in
       let stands : Stands w.table job.found = subst (Stands w.table) (sym found) c.shows.world in
       let keeps_call : posix_locked.keeps_table job.call ≡ true = sym c.out.keeps ∙ keeps in
-      let asked : asks job.found.object job.call o.carried ≡ Some (record { kind = o.errand.kind; asked = o.errand.asked; call = job.call }) = subst (λ (k : Carried). asks job.found.object job.call k ≡ query_of job.call (op.Ask o.errand)) c.out.carried c.out.asks_is in
+      let asked : asks job.found.object job.call o.carried ≡ Some (record { kind = o.errand.kind; asked = o.errand.asked; call = job.call }) = subst (λ (k : Carried). asks job.found.object job.call k ≡ query_of job.call o.errand) c.out.carried c.out.asks_is in
       let made = opens terms.settings job.found (record { kind = o.errand.kind; asked = o.errand.asked; call = job.call }) refl stands keeps_call asked c.good in
       let after : late_change (real_calls terms.settings) job job.outcome o.keeps_table ≡ Some (world_with job.found stepped.after) = ap₂ (late_change (real_calls terms.settings) job) c.came keeps in
       let P : Carried → Type 0 = λ k. let y = step terms.settings job.found.object job.call (Some g.outcome) k in (answer_in y ≡ x) × Stands table (world_with job.found y.after) in

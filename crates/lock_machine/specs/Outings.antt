@@ -2,7 +2,6 @@
 -- What the events of a call make of it that goes outside.
 use Rattle.std.specs.Prelude.{◌≡◌, ℕ, ◌+◌, ◌^◌, List, Option, Some, None, Bool, true, false, not, ◌&&◌, ◌||◌, nat_le, nat_lt, slice_get, slice_set}
 use Rattle.descriptor_table.specs.declared.plan.Errand.{Errand}
-use Rattle.descriptor_table.specs.declared.plan.NewNumbers.TheVariants as numbers
 use Rattle.det_mutex.specs.Attempt.{freed}
 use Rattle.det_mutex.specs.declared.lock.DetLock.{DetLock}
 use Rattle.lock_model.specs.Machine.{is_number}
@@ -102,7 +101,7 @@ outside_parts thread object lock table rows = record { thread = thread; object =
 -- the turn ended so. Where it kept the table its change is made now
 abbrev pub EndsTurn : Bool → ℕ → Outing → Call → Outcome → TurnEnd → Stored → Stored → Type 0
 EndsTurn true patience o c x e old new = Opens patience o.carried old c x e new
-EndsTurn false patience o c x e old new = (fits o.errand.kind o.errand.asked x ≡ true → EndsOutside patience o.carried o.errand numbers.None x e) × (new ≡ old)
+EndsTurn false patience o c x e old new = (fits o.errand.kind o.errand.asked x ≡ true → EndsOutside patience o.carried o.errand x e) × (new ≡ old)
 
 abbrev pub table_freed : Bool → ℕ → DetLock → DetLock
 table_freed true clock lock = freed clock

@@ -1,10 +1,8 @@
 -- Believed: a contract of the headline stands on it.
 -- How the data of a run stand for a state of the lock machine.
 use Rattle.std.specs.Prelude.{◌≡◌, ℕ, ◌<◌, ◌≤◌, ◌^◌, List, [], ◌∷◌, ◌++◌, length, map, slice_get, is_some, Option, Some, None, IfSome, Bool, true, false, ◌==◌, if◌then◌else◌}
-use Rattle.descriptor_table.specs.Acts as acts
 use Rattle.descriptor_table.specs.Agreement.{query_of}
-use Rattle.descriptor_table.specs.declared.plan.NewNumbers.TheVariants as numbers
-use Rattle.descriptor_table.specs.declared.plan.Op.TheVariants as op
+use Rattle.object_store.specs.Patience.{ended, outside_ending}
 use Rattle.sequential_object.specs.Locked.{keeps_table}
 use Rattle.sequential_object.specs.Step.{asks, step}
 use Rattle.posix_terms.specs.Calls.{Call}
@@ -61,13 +59,13 @@ pub record IsOut (terms : Conditions) (i : ℕ) (rows : List Row) (o : Outing) (
   pub plan : job.plan ≡ Object object (way_of true o.keeps_table)
   pub thread : job.turn.thread ≡ i
   pub carried : job.carried ≡ o.carried
-  pub asks_is : asks job.found.object job.call job.carried ≡ query_of job.call (op.Ask o.errand)
+  pub asks_is : asks job.found.object job.call job.carried ≡ query_of job.call o.errand
   pub door : o.errand.door ≡ numbered job.found (door_taken job.found.object job.call job.carried)
   pub waits : o.errand.waits ≡ waits_outside job.found.object job.call job.carried
   pub keeps : o.keeps_table ≡ keeps_table job.call
   -- whatever comes, unless it keeps the table
   pub ends : o.keeps_table ≡ false → (x : Outcome) → let stepped = step terms.settings job.found.object job.call (Some x) job.carried in
-      (stepped.answer, stepped.carried) ≡ acts.ended terms.settings job.found.object job.carried (acts.outside_ending o.errand numbers.None (Some x))
+      (stepped.answer, stepped.carried) ≡ ended terms.settings job.found.object job.carried (outside_ending o.errand (Some x))
   pub row : slice_get rows o.row ≡ Some (row_of job)
 
 abbrev pub PhaseShows : Conditions → ℕ → List Row → Thread → lock.Thread → Phase → Type 0

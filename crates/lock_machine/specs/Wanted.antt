@@ -6,8 +6,7 @@ use Rattle.posix_terms.specs.Calls.{Call}
 use Rattle.posix_terms.specs.declared.transcript.HistoryRow.{HistoryRow}
 use Rattle.det_mutex.specs.declared.lock.DetLock.{DetLock}
 use Rattle.posix_terms.specs.declared.carried.Moved.{Moved}
-use Rattle.descriptor_table.specs.Plans.{decided_with}
-use Rattle.object_store.specs.Store.{Stored, locking_of}
+use Rattle.object_store.specs.Store.{Stored, locking_at}
 use Rattle.object_store.specs.declared.patience.Locking.{Locking}
 use Rattle.lock_machine.specs.declared.thread.Phase.{Phase}
 use Rattle.lock_machine.specs.declared.thread.Phase.TheVariants as phase
@@ -46,7 +45,7 @@ KeepsCalls rows later = (n : ℕ) → call_at later n ≡ call_at rows n
 -- this is there, and is what the table decides of the call
 abbrev pub IsWanted : Stored → Call × Moved → Option Locking → Type 0
 IsWanted h (call, so_far) wanted =
-    option_map (λ x. Some x) wanted ≡ Some (locking_of (decided_with h.table call so_far))
+    option_map (λ x. Some x) wanted ≡ Some (locking_at h call so_far)
 
 -- of the call that a thread holds the table for
 abbrev pub HasDecided : Phase → List HistoryRow → Stored → Option Locking → Type 0

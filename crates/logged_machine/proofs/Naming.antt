@@ -132,7 +132,7 @@ numbered_by h w st =
         let key = z.0 in
         let d = z.1 in
         let shows = st.shows.descriptions key d z.2 in
-        let own : shown.shown t d shows.0 ≡ e = same_Some (shown.shown t d shows.0) e (sym shows.1 ∙ ap (fin.get w.object.descriptions) z.3 ∙ at) in
+        let own : shown.shown t d ≡ e = same_Some (shown.shown t d) e (sym shows ∙ ap (fin.get w.object.descriptions) z.3 ∙ at) in
         let used = used_at (slice_index_or t.objects d.node None) (st.sound.described_objects key d z.2) in
         let birth : birth_at t d.node ≡ used.0 = ap (λ (o : Option ℕ). unwrap_or o t.made_objects) used.1 in
         ap (λ (x : Description). is_some (fin.get w.object.objects x.object)) (sym own) ∙ ap (λ (k : ℕ). is_some (fin.get w.object.objects k)) birth ∙ st.shows.objects d.node used.0 used.1

@@ -5,7 +5,6 @@ use Rattle.descriptor_table.specs.declared.plan.Errand.{Errand}
 use Rattle.lock_machine.specs.declared.thread.Outing.{Outing}
 use Rattle.lock_machine.specs.declared.thread.Phase.{Phase}
 use Rattle.lock_machine.specs.declared.thread.Phase.TheVariants as phase
-use Rattle.object_store.specs.Store.{opens_door}
 use Rattle.posix_terms.specs.Outcomes.{fits}
 use Rattle.posix_terms.specs.declared.outcome.OutKind.{OutKind}
 use Rattle.posix_terms.specs.declared.outcome.OutKind.TheVariants as out
@@ -51,6 +50,14 @@ brings_back k = false
 abbrev pub takes_along : OutKind → Bool
 takes_along out.Close = true
 takes_along k = brings_back k
+
+-- those by which one is opened
+abbrev pub opens_door : OutKind → Bool
+opens_door out.Open = true
+opens_door out.Listen = true
+opens_door out.Connect = true
+opens_door out.Accept = true
+opens_door k = false
 
 abbrev pub just_where : Bool → Bool → Bool
 just_where true b = b

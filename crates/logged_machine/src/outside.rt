@@ -1,7 +1,7 @@
 ghost use Rattle.std.specs.Prelude.{◌≡◌, ◌<◌, IfOk, length};
 ghost use Rattle.lock_machine.specs.Refusals.{phase_at};
-ghost use Rattle.logged_machine.specs.Doors.{brings_back, is_answer, is_answer_to, is_ok, just_where};
-ghost use Rattle.object_store.specs.Store.{opens_door};
+ghost use Rattle.logged_machine.specs.Doors.{brings_back, is_answer, is_answer_to, is_ok};
+ghost use Rattle.logged_machine.specs.Doors.{just_where, opens_door};
 ghost use Rattle.logged_machine.specs.Requests.{IsOutsideTurn, IsRequest, awaited, out_of};
 
 use crate::machine::Machine;

@@ -1,31 +1,36 @@
 -- The table with the bodies, and the world that they stand for.
-use Rattle.std.proofs.Common.{◌≡◌, ℕ, zero, suc, List, Option, Some, None, true, get_or, replicate, refl, sym, ap, ◌∙◌, arith, ⊎_elim}
+use Rattle.std.proofs.Common.{◌≡◌, ℕ, zero, suc, List, Option, Some, None, Result, Ok, Err, IfOk, true, get_or, replicate, refl, sym, ap, ◌∙◌, arith, ⊎_elim}
 use Rattle.std.proofs.lemmas.Bool.{cond-true, cond-false}
 use Rattle.std.proofs.lemmas.Option.{none-some}
 use Rattle.std.specs.FinMap as fin
+use Rattle.std.specs.Option.{option_map}
 use Rattle.std.specs.Ordering.{nat_cmp}
 use Rattle.std.specs.Prelude.{unwrap_or}
+use Rattle.sequential_object.specs.Effects as effect
+use Rattle.sequential_object.specs.Effects.{locks_of}
 use Rattle.sequential_object.specs.Locked.{locked_object}
-use Rattle.sequential_object.specs.Step.{Carried, asks, step}
+use Rattle.sequential_object.specs.Step.{Carried}
 use Rattle.posix_terms.specs.Calls.{Call}
+use Rattle.posix_terms.specs.declared.errno.Errno.{Errno}
 use Rattle.posix_terms.specs.declared.limits.TheConstants.Limits as limit
-use Rattle.posix_terms.specs.declared.reply.Answer.{Answer}
-use Rattle.posix_terms.specs.Queries.{Query}
-use Rattle.posix_terms.specs.declared.transcript.Settings.{Settings}
 use Rattle.file_descriptions.specs.declared.description.Description.{Description}
-use Rattle.descriptor_table.specs.Agreement.{AgreesOn, object_of}
-use Rattle.descriptor_table.specs.Laws.{FollowsStep, TableFollows}
-use Rattle.descriptor_table.specs.Plans.{IsKnownNumber, LocksKnown, planned, read_count}
+use Rattle.decisions.specs.Decided.{decided}
+use Rattle.decisions.specs.Meant.{all_meant}
+use Rattle.decisions.specs.Renaming.{decision_by, ok_by}
+use Rattle.decisions.specs.So.{IsSo}
+use Rattle.decisions.specs.declared.decision.Decision.{Decision}
+use Rattle.decisions.specs.declared.decision.Decision.TheVariants as decision
+use Rattle.descriptor_table.specs.Laws.{Follows, IsKnownNumber, TableFollows}
 use Rattle.descriptor_table.specs.Shows.{birth_at}
 use Rattle.descriptor_table.specs.Table.{free_object, is_used}
-use Rattle.descriptor_table.specs.declared.plan.Plan.{Plan}
-use Rattle.descriptor_table.specs.declared.plan.Plan.TheVariants as plan
+use Rattle.descriptor_table.specs.View.{names_of, view}
 use Rattle.sequential_object.specs.Numbers.{first_free, first_world, number_in, number_of}
 use Rattle.sequential_object.specs.Answers.{numbered}
 use Rattle.sequential_object.specs.Worlds.{World}
 use Rattle.object_store.proofs.Found.{birth_is}
 use Rattle.object_store.proofs.Numbering.{first_free_is, lowest_is_free, next_is_new, number_in_is}
-use Rattle.object_store.specs.Store.{Stands, Stored, first_stored, number_locked}
+use Rattle.object_store.specs.Store.{Stands, Stored, first_stored, locking_of, number_locked}
+use Rattle.object_store.specs.declared.patience.Locking.{Locking}
 
 -- ## The number of an object
 
@@ -48,17 +53,23 @@ free_number h w node stands free =
 stands_number : (h : Stored) (w : World) (node : ℕ) → Stands h w → IsKnownNumber h.table node → number_of w (birth_at h.table node) ≡ node
 stands_number h w node stands known = ⊎_elim (λ used. used_number h w node stands used) (λ free. free_number h w node stands free) known.1
 
-planned_number : (h : Stored) (w : World) (c : Call) (p : Plan) (most : ℕ) (o : Option ℕ) (r : Option Query) (a : Answer) → Stands h w → LocksKnown h.table most p → AgreesOn h.table c p o r a → numbered w o ≡ object_of p
-planned_number h w c (plan.Reply r) most o q a stands known agrees = ap (numbered w) agrees.0
-planned_number h w c (plan.Node node act keep_table) most o q a stands known agrees = ap (numbered w) agrees.0 ∙ ap (λ n. Some n) (stands_number h w node stands known.0)
+module _ (law : TableFollows) (h : Stored) (w : World) (stands : Stands h w) (c : Call) (carried : Carried) where
+  follows : Follows h.table c carried.moved
+  follows = law.calls h.table c carried.moved stands.sound stands.described
 
--- the number of the object that a call locks is that of the lock machine
-pub number_known : (law : TableFollows) (h : Stored) (w : World) (call : Call) (carried : Carried) → Stands h w → numbered w (locked_object w.object call carried) ≡ number_locked h call carried
-number_known law h w call carried stands =
-    let settings : Settings = record { patience = 1; door_cost = 1; version = 1 } in
-    let follows : FollowsStep h.table call carried.moved = law.calls h.table call carried.moved stands.sound stands.described in
-    planned_number h w call (planned h.table call carried.moved) (read_count call) (locked_object w.object call carried) (asks w.object call carried) (step settings w.object call None carried).answer stands follows.known
-    (follows.plans settings w.object None carried refl stands.shows)
+  by_decided : (d : Result Decision Errno) → IfOk d (IsSo (view h.table) c)
+      → numbered w (locks_of (all_meant w.object c (ok_by (decision_by (names_of h.table)) d))) ≡ option_map (λ (x : Locking). x.object) (locking_of d)
+  by_decided (Err e) so = refl
+  by_decided (Ok (decision.Replies r x)) so = refl
+  by_decided (Ok (decision.Locks object d)) so =
+      ap (λ (n : ℕ). Some n) (stands_number h w object stands (law.known h.table c object d stands.sound so))
+
+  -- the number of the object that a call locks is that of the lock machine
+  pub number_known : numbered w (locked_object w.object c carried) ≡ number_locked h c carried
+  unfolding locked_object
+  number_known =
+      ap (λ (d : Result effect.Decision Errno). numbered w (locks_of d)) (follows.step w.object carried refl stands.shows)
+      ∙ by_decided (decided (view h.table) c carried.moved) follows.so
 
 -- ## At the start
 
@@ -86,7 +97,6 @@ stands_first law =
             distinct = λ key other d e is its same. nothing _ d (fin.get-empty nat_cmp key) is;
           };
       shows = law.first.1;
-      offsets = λ key d is. nothing _ d (fin.get-empty nat_cmp key) is;
       contents = λ node birth is content got. nothing _ birth (slot_none limit.OBJECTS node) is;
       numbers = refl;
     }

@@ -1,76 +1,74 @@
 -- Internal: no contract of the headline or of a command stands on it.
--- What the acts of calls make of the table and the bodies.
-use Rattle.std.specs.Prelude.{◌≡◌, ℕ, ◌+◌, ◌==◌, List, [], take, length, slice_set, pos}
-use Rattle.std.specs.Prelude.{Bool, true, false, Result, Ok, Err, if◌then◌else◌}
+-- What the acts and the changes of calls make of the table and the bodies.
+use Rattle.std.specs.Prelude.{◌≡◌, ◌<◌, ◌≤◌, ◌+◌, ◌==◌, nat_le, if◌then◌else◌, ℕ, List, [], take, slice_index_or, slice_set, Bool, true, false}
+use Rattle.std.specs.Prelude.{Option, Some, None}
 use Rattle.posix_terms.specs.Calls.{Call}
-use Rattle.sequential_object.specs.declared.turn_end.ActEnd.{ActEnd}
-use Rattle.sequential_object.specs.declared.turn_end.ActEnd.TheVariants as act_end
-use Rattle.posix_terms.specs.declared.call.Call.TheVariants as call
-use Rattle.posix_terms.specs.declared.errno.Errno.{Errno}
-use Rattle.posix_terms.specs.declared.reply.Reply.{Reply}
-use Rattle.posix_terms.specs.declared.reply.Reply.TheVariants as reply
-use Rattle.file_descriptions.specs.Descriptions.{description_at, with_offset}
-use Rattle.file_descriptions.specs.declared.description.Description.{Description}
-use Rattle.descriptor_table.specs.declared.plan.Op.{Op}
-use Rattle.descriptor_table.specs.declared.plan.Op.TheVariants as op
-use Rattle.descriptor_table.specs.declared.plan.Opened.{Opened}
-use Rattle.sequential_object.specs.Object.{Content, DoorTo, File, Pair, Pipe}
-use Rattle.sequential_object.specs.Files.{bytes_at, written}
+use Rattle.posix_terms.specs.declared.limits.TheConstants.Limits as limit
 use Rattle.posix_terms.specs.declared.object.End.{End}
 use Rattle.posix_terms.specs.declared.object.End.TheVariants as part
+use Rattle.sequential_object.specs.Object.{State, Content, DoorTo, File, Pair, Pipe}
+use Rattle.sequential_object.specs.Streams.{new_pair}
+use Rattle.sequential_object.specs.Numbers.{world_with}
+use Rattle.sequential_object.specs.Worlds.{World}
+use Rattle.sequential_object.specs.declared.turn_end.ActEnd.{ActEnd}
+use Rattle.file_descriptions.specs.Descriptions.{ContainsKey, description_at, with_offset}
+use Rattle.file_descriptions.specs.declared.description.Description.{Description}
+use Rattle.decisions.specs.Acts.{Acted, acted, blocked_after}
+use Rattle.decisions.specs.declared.decision.Seen.{Seen}
+use Rattle.decisions.specs.Changes as posix
+use Rattle.decisions.specs.Meant.{key_of}
+use Rattle.decisions.specs.Renaming.{change_by}
+use Rattle.decisions.specs.declared.decision.Act.{Act}
+use Rattle.decisions.specs.declared.decision.Act.TheVariants as act
+use Rattle.decisions.specs.declared.decision.Change.{Change}
+use Rattle.decisions.specs.declared.decision.Change.TheVariants as change
+use Rattle.descriptor_table.specs.Table.{TableState, is_open}
+use Rattle.descriptor_table.specs.View.{names_of}
+use Rattle.object_store.specs.Bodies.{Kept, first_kept, keeping}
+use Rattle.object_store.specs.Patience.{end_of, stopped_ending}
 use Rattle.pipes.specs.declared.body.PipeAnswer.{PipeAnswer}
 use Rattle.pipes.specs.declared.body.PipeAnswer.TheVariants as pipe
 use Rattle.posix_terms.specs.declared.errno.Errno.TheVariants.{EPIPE}
-use Rattle.descriptor_table.specs.Acts.{Acted, read_acted, write_acted}
-use Rattle.object_store.specs.Bodies.{Kept, keeping}
-use Rattle.object_store.specs.Patience.{stopped_ending}
-use Rattle.object_store.specs.Store.{Stored, body_at, kept_at}
+use Rattle.posix_terms.specs.declared.reply.Reply.TheVariants as reply
+use Rattle.sequential_object.specs.declared.turn_end.ActEnd.TheVariants as act_end
+use Rattle.object_store.specs.Store.{Stands, Stored, kept_at}
 
--- an act that does not go outside
-abbrev pub acts_inside : Op → Bool
-acts_inside (op.Ask errand) = false
-acts_inside act = true
+-- ## Acts
 
--- a description has this offset
+-- a description has this offset from now on
 abbrev pub moved : Stored → ℕ → ℕ → Stored
-moved h key n = record h { table = record h.table { descriptions = with_offset h.table.descriptions key n } }
+moved h key n =
+    record h { table = record h.table { descriptions = with_offset h.table.descriptions key n } }
 
--- an object holds this
+-- an object holds this from now on
 abbrev pub holding : Stored → ℕ → Content → Stored
-holding h node content = record h { bodies = slice_set h.bodies node (keeping content (kept_at h node)) }
+holding h node content =
+    record h { bodies = slice_set h.bodies node (keeping content (kept_at h node)) }
 
--- a file has these bytes
-abbrev pub rewritten : Stored → ℕ → List ℕ → Stored
-rewritten h node bytes = holding h node (File bytes)
+abbrev pub moved_if : Stored → Option ℕ → Option ℕ → Stored
+moved_if h (Some key) (Some n) = moved h key n
+moved_if h key n = h
 
--- the bodies, of which this one may be cut to nothing
-abbrev pub cut_bodies : Stored → ℕ → Bool → List Kept
-cut_bodies h node true = slice_set h.bodies node (keeping (File []) (kept_at h node))
-cut_bodies h node false = h.bodies
+abbrev pub holding_if : Stored → ℕ → Option Content → Stored
+holding_if h node (Some content) = holding h node content
+holding_if h node None = h
+
+-- what an act leaves, of its object and of the description under this key
+abbrev pub left_by : Stored → ℕ → Option ℕ → Acted → Stored
+left_by h node key done = holding_if (moved_if h key done.offset) node done.content
+
+-- it ended so, and left this
+abbrev pub Leaves : Acted → Stored → ℕ → Option ℕ → ActEnd → Stored → Type 0
+Leaves done old node key e new =
+    (e ≡ end_of done.ending) × (new ≡ left_by old node key done)
 
 abbrev pub offset_of_key : Stored → ℕ → ℕ
-offset_of_key h key = let d : Description = description_at h.table.descriptions key in d.offset
+offset_of_key h key =
+    let d : Description = description_at h.table.descriptions key in d.offset
 
--- where a write starts: with O_APPEND at the end
-abbrev pub start_at : Stored → Opened → ℕ → ℕ
-start_at h to node = if to.flags.append then length (body_at h node) else offset_of_key h to.key
-
--- what a write leaves and answers, which moves the offset or not
-abbrev pub Writes : Result (List ℕ × ℕ) Errno → Stored → (ℕ → Stored) → ℕ → Reply → Stored → Type 0
-Writes (Ok (bytes, count)) old moves node r new = (r ≡ reply.Count count) × (new ≡ rewritten (moves count) node bytes)
-Writes (Err e) old moves node r new = (r ≡ reply.Fail e) × (new ≡ old)
-
--- the new offset, or why there is none
-abbrev pub Seeks : Result ℕ Errno → Stored → ℕ → Reply → Stored → Type 0
-Seeks (Ok to) old key r new = (r ≡ reply.Number (pos to)) × (new ≡ moved old key to)
-Seeks (Err e) old key r new = (r ≡ reply.Fail e) × (new ≡ old)
-
--- the reply of a call that releases an object
-abbrev pub release_reply : Call → Reply
-release_reply (call.Dup2 descriptor target) = reply.Number target
-release_reply c = reply.Done
-
--- ## Reads and writes, by the end that they go through
+abbrev pub stands_at : Stored → Option ℕ → ℕ
+stands_at h (Some key) = offset_of_key h key
+stands_at h None = 0
 
 -- what the object holds that has this end
 abbrev pub held_by : End → Kept → Content
@@ -80,41 +78,42 @@ held_by part.Write k = Pipe k.pipe
 held_by (part.Socket side) k = Pair k.pair
 held_by (part.Door door) k = DoorTo door
 
--- an act on a stream ended so, and left this in its object
-abbrev pub ActsOn : Acted → Stored → ℕ → ActEnd → Stored → Type 0
-ActsOn done old node e new = (e ≡ done.ending) × (new ≡ holding old node done.content)
+-- what the object of an act holds
+abbrev pub held_for : Act → Kept → Content
+held_for (act.Read from count) k = held_by from.«end» k
+held_for (act.Write to before) k = held_by to.«end» k
+held_for (act.Shutdown side how) k = Pair k.pair
+held_for a k = File k.file
 
-abbrev pub HasRead : End → Stored → ℕ → Opened → ℕ → ActEnd → Stored → Type 0
-HasRead part.Only old node from count e new =
-    let bytes = bytes_at (body_at old node) (offset_of_key old from.key) count in
-    (e ≡ act_end.Reply (reply.Data bytes))
-    × (new ≡ moved old from.key (offset_of_key old from.key + length bytes))
--- a door is read outside, and none here
-HasRead (part.Door door) old node from count e new = (e ≡ act_end.Reply reply.Done) × (new ≡ old)
-HasRead which old node from count e new = ActsOn (read_acted old.table node from count (held_by which (kept_at old node)) (offset_of_key old from.key)) old node e new
+-- how an act on an object ends here
+abbrev pub acts_at : Stored → ℕ → Act → Call → Acted
+acts_at h node a c =
+    acted (is_open h.table node) a c (held_for a (kept_at h node)) (stands_at h (key_of a))
 
--- to a file; of no bytes it does nothing
-abbrev pub WritesFile : Bool → Stored → ℕ → Opened → List ℕ → Reply → Stored → Type 0
-WritesFile true old node to bytes r new = (r ≡ reply.Count 0) × (new ≡ old)
-WritesFile false old node to bytes r new = Writes (written (body_at old node) (start_at old to node) bytes) old (λ count. moved old to.key (start_at old to node + count)) node r new
+-- an act that reads or writes its object: the description whose offset it reads or moves is there,
+-- and it reads no more bytes than this
+abbrev pub IsReady : TableState → ℕ → Act → Type 0
+IsReady t most (act.Read from count) = ContainsKey t.descriptions from.key × (count ≤ most)
+IsReady t most (act.Write to before) = ContainsKey t.descriptions to.key
+IsReady t most (act.Pread count position) = count ≤ most
+IsReady t most (act.Pwrite position) = Unit {0}
+IsReady t most (act.Lseek at) = ContainsKey t.descriptions at.key
+IsReady t most (act.Ftruncate size) = size ≤ limit.FILE_BYTES
+IsReady t most (act.Fstat links) = Unit {0}
+IsReady t most (act.Shutdown side how) = Unit {0}
+IsReady t most a = ⊥
 
--- so many of the bytes went before
-abbrev pub HasWritten : End → Stored → ℕ → Opened → List ℕ → ℕ → ActEnd → Stored → Type 0
-HasWritten part.Only old node to bytes before e new =
-    (r : Reply) × (e ≡ act_end.Reply r) × WritesFile (length bytes == 0) old node to bytes r new
--- nor written here
-HasWritten (part.Door door) old node to bytes before e new =
-    (e ≡ act_end.Reply reply.Done) × (new ≡ old)
-HasWritten which old node to bytes before e new =
-    let content = held_by which (kept_at old node) in
-    let offset = offset_of_key old to.key in
-    ActsOn (write_acted old.table node to bytes before content offset) old node e new
+-- a file that may be cut to nothing
+abbrev pub cut_to : Stored → ℕ → Bool → Stored
+cut_to h node true = holding h node (File [])
+cut_to h node false = h
 
 -- ## Streams, by what their bodies answer
 
 -- of a read, which put these bytes into its place
 abbrev pub ending_of_read : PipeAnswer → List ℕ → Bool → ActEnd
-ending_of_read (pipe.Data count) bytes nonblock = act_end.Reply (reply.Data (take count bytes))
+ending_of_read (pipe.Data count) bytes nonblock =
+    act_end.Reply (reply.Data (take count bytes))
 ending_of_read pipe.End bytes nonblock = act_end.Reply (reply.Data [])
 ending_of_read _ bytes nonblock = stopped_ending nonblock
 
@@ -122,3 +121,47 @@ abbrev pub ending_of_write : PipeAnswer → Bool → ActEnd
 ending_of_write (pipe.Count count) nonblock = act_end.Reply (reply.Count count)
 ending_of_write pipe.Broken nonblock = act_end.Reply (reply.Fail EPIPE)
 ending_of_write _ nonblock = stopped_ending nonblock
+
+-- how many bytes a body took
+abbrev pub taken_by : PipeAnswer → ℕ
+taken_by (pipe.Count count) = count
+taken_by answer = 0
+
+-- of a write of a pipe, of so many bytes in all, of which so many went before
+abbrev pub ending_of_pipe : Seen → (all before : ℕ) → PipeAnswer → ActEnd
+ending_of_pipe to all before (pipe.Count now) =
+    let total = before + now in
+    if nat_le all total then act_end.Reply (reply.Count total) else end_of (blocked_after to total)
+ending_of_pipe to all before pipe.Broken =
+    act_end.Reply (if before == 0 then reply.Fail EPIPE else reply.Count before)
+ending_of_pipe to all before _ =
+    if before == 0 then stopped_ending to.nonblock else end_of (blocked_after to before)
+
+-- ## Changes
+
+-- a new object has nothing in it, whatever was under its number before
+abbrev pub emptied : List Kept → ℕ → Content → List Kept
+emptied bodies node content =
+    slice_set bodies node (keeping content (slice_index_or bodies node first_kept))
+
+abbrev pub cleared : List Kept → Change → List Kept
+cleared bodies (change.MakeFile new) = emptied bodies new.object (File [])
+cleared bodies (change.MakePipe new) = emptied bodies new.object (Pipe [])
+cleared bodies (change.MakeSockets new) = emptied bodies new.object (Pair new_pair)
+cleared bodies x = bodies
+
+-- the number of an object that a change makes is one
+abbrev pub IsInside : Change → Type 0
+IsInside (change.MakeFile new) = new.object < limit.OBJECTS
+IsInside (change.MakePipe new) = new.object < limit.OBJECTS
+IsInside (change.MakeSockets new) = new.object < limit.OBJECTS
+IsInside x = Unit {0}
+
+-- in whatever world they stood for, now they stand for one whose object this makes of it
+abbrev pub StandsBy : (State → State) → Stored → Stored → Type 0
+StandsBy f old new = (w : World) → Stands old w → Stands new (world_with w (f w.object))
+
+-- a change of a call was made, under the names that the state has
+abbrev pub StandsChanged : Stored → Call → Change → Stored → Type 0
+StandsChanged old c x new =
+    StandsBy (λ s. posix.changed s c (change_by (names_of old.table) x)) old new

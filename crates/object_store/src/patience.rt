@@ -2,12 +2,12 @@ ghost use Rattle.std.specs.Prelude.{◌≡◌, ◌≤◌, length, nat_le, pos, t
 ghost use Rattle.posix_terms.specs.declared.reply.Reply.TheVariants.{Number};
 ghost use Rattle.posix_terms.specs.Outcomes.{fits};
 ghost use Rattle.posix_terms.specs.declared.outcome.Outcome.TheVariants.{Fail as failure};
-ghost use Rattle.descriptor_table.specs.Plans.{bytes_asked, reply_bytes};
-ghost use Rattle.descriptor_table.specs.declared.plan.NewNumbers.{NewNumbers};
-ghost use Rattle.descriptor_table.specs.declared.plan.NewNumbers.TheVariants as numbers;
+ghost use Rattle.decisions.specs.Bytes.{reply_bytes};
+ghost use Rattle.descriptor_table.specs.Plans.{bytes_asked};
 ghost use Rattle.object_store.specs.Patience.{EndsOutside, Waits, act_bytes, stopped_ending, turn_bytes};
 
-use descriptor_table::{Change, Errand, Op};
+use decisions::Deed;
+use descriptor_table::Errand;
 use posix_terms::{Bytes, Carried, Errno, Moved, OutKind, Outcome, Reply};
 use sequential_object::{ActEnd, TurnEnd};
 use std::mem::replace;
@@ -21,13 +21,12 @@ pub enum AtTable {
     Locks(Locking),
 }
 
-/// What was decided of a call that takes the lock of an object: the object's number, what the call
-/// does there, and what it changes in the table. It holds as long as the table stays as it is.
+/// What was decided of a call that takes the lock of an object: the object's number, and what the
+/// call does. It holds as long as the table stays as it is.
 #[derive(Clone, Copy)]
 pub struct Locking {
     pub object: usize,
-    pub op: Op,
-    pub change: Change,
+    pub deed: Deed,
 }
 
 /// How far a turn of a call came at its grant.
@@ -81,7 +80,7 @@ pub fn end_outside(
     carried: Carried,
     room: &mut Vec<u8>,
 ) -> TurnEnd
-    ensures ends { fits errand.kind errand.asked outcome.now ≡ true → bytes_asked errand ≤ length room.old.items → EndsOutside patience carried errand numbers.None outcome.now result }
+    ensures ends { fits errand.kind errand.asked outcome.now ≡ true → bytes_asked errand ≤ length room.old.items → EndsOutside patience carried errand outcome.now result }
     ensures few { turn_bytes result ≤ length room.old.items }
 {
     let (value, bytes) = match outcome {
@@ -145,7 +144,7 @@ fn seek_reply(offset: u64) -> Reply
 
 // The end of a turn of a call that failed outside.
 pub(crate) fn fail_outside(errand: Errand, error: Errno, patience: u32, carried: Carried) -> TurnEnd
-    ensures ends { (given : NewNumbers) → EndsOutside patience carried errand given (failure error) result }
+    ensures ends { EndsOutside patience carried errand (failure error) result }
     ensures few { turn_bytes result ≡ 0 }
 {
     if errand.waits && error == Errno::EAGAIN {

@@ -1,7 +1,7 @@
 ghost use Rattle.std.specs.Prelude.{◌≡◌, ◌+◌, ◌≤◌, ◌<◌, ◌^◌, Ok, None, IfOk, IfSome};
 ghost use Rattle.std.specs.Prelude.{false, not, true};
-ghost use Rattle.descriptor_table.specs.Plans.{bytes_asked, read_count, reply_bytes};
-ghost use Rattle.descriptor_table.specs.declared.plan.NewNumbers.TheVariants as numbers;
+ghost use Rattle.decisions.specs.Bytes.{read_count, reply_bytes};
+ghost use Rattle.descriptor_table.specs.Plans.{bytes_asked};
 ghost use Rattle.posix_terms.specs.Outcomes.{fits};
 ghost use Rattle.object_store.specs.Patience.{EndsOutside, turn_bytes};
 ghost use Rattle.object_store.specs.Space.{HasSpaceFor, LeavesSpace, changed, no_space};
@@ -122,7 +122,7 @@ impl Room {
     ) -> TurnEnd
         requires asked { bytes_asked errand ≤ self.old.told }
         requires copy { self.old.told ≤ self.old.row }
-        ensures ends { fits errand.kind errand.asked outcome.now ≡ true → EndsOutside patience carried errand numbers.None outcome.now result }
+        ensures ends { fits errand.kind errand.asked outcome.now ≡ true → EndsOutside patience carried errand outcome.now result }
         ensures copy { turn_bytes result ≤ self.new.row }
     {
         end_outside(errand, outcome, patience, carried, &mut self.told)

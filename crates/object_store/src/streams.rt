@@ -1,27 +1,28 @@
-ghost use Rattle.std.specs.Prelude.{◌≡◌, ◌+◌, ◌^◌, ◌<◌, ◌≤◌, [], length};
+ghost use Rattle.std.specs.Prelude.{◌≡◌, ◌<◌, ◌≤◌, ◌+◌, ◌^◌, drop, length, Some, None};
 ghost use Rattle.sequential_object.specs.Object.{Pair, Pipe};
-ghost use Rattle.sequential_object.specs.Streams.{half_at, new_pair, pair_read, pair_write, shut, with_waiting};
+ghost use Rattle.sequential_object.specs.Streams.{bytes_put, half_at, pair_read, pair_write};
+ghost use Rattle.sequential_object.specs.Streams.{pipe_write, stream_read, with_waiting};
+ghost use Rattle.sequential_object.specs.Transfers.{moved_by};
 ghost use Rattle.posix_terms.specs.Ends.{peer_of};
-ghost use Rattle.posix_terms.specs.declared.object.End.TheVariants as part;
-ghost use Rattle.posix_terms.specs.declared.reply.Reply.TheVariants.{Done};
-ghost use Rattle.file_descriptions.specs.Descriptions.{ContainsKey};
 ghost use Rattle.posix_terms.specs.declared.limits.TheConstants.Limits as limit;
+ghost use Rattle.posix_terms.specs.declared.object.End.TheVariants as part;
+ghost use Rattle.file_descriptions.specs.Descriptions.{ContainsKey};
+ghost use Rattle.pipes.specs.Pipe as pipes;
 ghost use Rattle.pipes.specs.Pipe.{read_answer, write_answer};
 ghost use Rattle.stream_sockets.specs.Pair.{left_by_read, left_by_write, read_into};
-ghost use Rattle.descriptor_table.specs.Acts.{has_read, has_written, is_open, paused, pipe_acted};
-ghost use Rattle.descriptor_table.specs.Acts.{read_acted};
-ghost use Rattle.descriptor_table.specs.Plans.{reply_bytes};
-ghost use Rattle.descriptor_table.specs.Shows.{birth_of};
-ghost use Rattle.sequential_object.specs.Transfers.{moved_by};
-ghost use Rattle.descriptor_table.specs.declared.plan.Op.TheVariants as op;
-ghost use Rattle.object_store.specs.Acting.{ActsOn, HasRead, HasWritten, ending_of_read, ending_of_write, holding, offset_of_key};
-ghost use Rattle.object_store.specs.Patience.{act_bytes};
-ghost use Rattle.object_store.specs.Store.{IsChange, IsPlanned, RepliesAlways, kept_at};
+ghost use Rattle.decisions.specs.Acts.{blocked_after, has_read, has_written, write_acted};
+ghost use Rattle.decisions.specs.Acts.{write_pipe};
+ghost use Rattle.decisions.specs.declared.decision.Act.TheVariants as act;
+ghost use Rattle.descriptor_table.specs.Table.{is_open};
+ghost use Rattle.object_store.specs.Acting.{Leaves, acts_at, ending_of_pipe, ending_of_read};
+ghost use Rattle.object_store.specs.Acting.{ending_of_write, held_by, holding, offset_of_key};
+ghost use Rattle.object_store.specs.Acting.{taken_by};
+ghost use Rattle.object_store.specs.Patience.{act_bytes, end_of};
+ghost use Rattle.object_store.specs.Store.{kept_at};
 
-use crate::acts::numbers_reply;
 use crate::patience::stopped;
 use crate::store::Store;
-use descriptor_table::{Change, Opened};
+use decisions::Seen;
 use pipes::PipeAnswer;
 use posix_terms::{Bytes, Call, End, Errno, Limits, Moved, Reply, ShutdownHow, Side};
 use sequential_object::ActEnd;
@@ -29,14 +30,15 @@ use sequential_object::ActEnd;
 // A read and a write, and what calls do with a pipe or a pair of sockets, whose lock they took.
 impl Store {
     // POSIX.1-2017, `read`, of as many bytes as there is room for.
-    pub(crate) fn read(&mut self, node: usize, from: Opened, into: Vec<u8>) -> ActEnd
+    pub(crate) fn read(&mut self, call: &Call, node: usize, from: Seen, into: Vec<u8>) -> ActEnd
         requires inside { node < limit.OBJECTS }
         requires known { ContainsKey self.old.table.descriptions from.key }
-        ensures read { HasRead from.«end» self.old node from (length into.items) result self.new }
+        ensures acts { Leaves (acts_at self.old node (act.Read from (length into.items)) call.now)
+            self.old node (Some from.key) result self.new }
         ensures few { act_bytes result ≤ length into.items }
     {
         match from.end {
-            End::Only => ActEnd::Reply(self.read_file(node, from, into)),
+            End::Only => self.read_file(node, from, into),
             End::Read | End::Write => self.read_pipe(node, from, into),
             End::Socket(side) => self.read_pair(node, from, side, into),
             // A door is read outside.
@@ -44,40 +46,49 @@ impl Store {
         }
     }
 
-    fn read_pipe(&mut self, node: usize, from: Opened, into: Vec<u8>) -> ActEnd
+    fn read_pipe(&mut self, node: usize, from: Seen, into: Vec<u8>) -> ActEnd
         requires inside { node < limit.OBJECTS }
-        ensures acts { ActsOn (read_acted self.old.table node from (length into.items) (Pipe (kept_at self.old node).pipe) (offset_of_key self.old from.key)) self.old node result self.new }
+        ensures acts { Leaves (has_read from (λ left. Pipe left)
+            (stream_read (kept_at self.old node).pipe (length into.items)
+            (is_open self.old.table node part.Write)))
+            self.old node (Some from.key) result self.new }
         ensures few { act_bytes result ≤ length into.items }
     {
         let mut bytes = into;
         let writers = self.is_open(node, End::Write);
         let answer = self.bodies[node].pipe.take(bytes.as_mut_slice(), writers);
-        read_ending(answer, bytes, from.flags.nonblock)
+        read_ending(answer, bytes, from.nonblock)
     }
 
-    fn read_pair(&mut self, node: usize, from: Opened, side: Side, into: Vec<u8>) -> ActEnd
+    fn read_pair(&mut self, node: usize, from: Seen, side: Side, into: Vec<u8>) -> ActEnd
         requires inside { node < limit.OBJECTS }
-        ensures acts { ActsOn (has_read from (λ left. Pair (with_waiting (kept_at self.old node).pair side left)) (Pair (kept_at self.old node).pair) (offset_of_key self.old from.key) (pair_read (kept_at self.old node).pair side (length into.items) (is_open self.old.table node (part.Socket (peer_of side))))) self.old node result self.new }
+        ensures acts { let pair = (kept_at self.old node).pair in
+            Leaves (has_read from (λ left. Pair (with_waiting pair side left))
+            (pair_read pair side (length into.items)
+            (is_open self.old.table node (part.Socket (peer_of side)))))
+            self.old node (Some from.key) result self.new }
         ensures few { act_bytes result ≤ length into.items }
     {
+        // What holds of every store holds of this one: each number has its body.
+        let _ = &self.bodies;
         let mut bytes = into;
         let peer_open = self.is_open(node, End::Socket(side.peer()));
         let answer = self.take_pair(node, side, bytes.as_mut_slice(), peer_open);
-        read_ending(answer, bytes, from.flags.nonblock)
+        read_ending(answer, bytes, from.nonblock)
     }
 
-    // POSIX.1-2017, `write`; to a file, of no bytes it does nothing.
-    pub(crate) fn write(&mut self, node: usize, to: Opened, bytes: &[u8], moved: Moved) -> ActEnd
+    // POSIX.1-2017, `write`, of which so many bytes went before.
+    pub(crate) fn write(&mut self, node: usize, to: Seen, bytes: &[u8], before: u64) -> ActEnd
         requires inside { node < limit.OBJECTS }
         requires known { ContainsKey self.old.table.descriptions to.key }
-        ensures written { HasWritten to.«end» self.old node to bytes.now moved.bytes result
-            self.new }
+        ensures acts { Leaves (write_acted (is_open self.old.table node) to bytes.now before
+            (held_by to.«end» (kept_at self.old node)) (offset_of_key self.old to.key))
+            self.old node (Some to.key) result self.new }
         ensures few { act_bytes result ≡ 0 }
     {
         match to.end {
-            End::Only if bytes.is_empty() => ActEnd::Reply(Reply::Count(0)),
-            End::Only => ActEnd::Reply(self.write_file(node, to, bytes)),
-            End::Read | End::Write => self.write_pipe(node, to, bytes, moved.bytes),
+            End::Only => self.write_file(node, to, bytes),
+            End::Read | End::Write => self.write_pipe(node, to, bytes, before),
             End::Socket(side) => self.write_pair(node, to, side, bytes),
             // A door is written outside.
             End::Door(_) => ActEnd::Reply(Reply::Done),
@@ -86,54 +97,49 @@ impl Store {
 
     // A turn of a write of a pipe, of which so many bytes went before. Of at most `PIPE_BUF` bytes
     // it is whole.
-    fn write_pipe(&mut self, node: usize, to: Opened, bytes: &[u8], before: u64) -> ActEnd
+    fn write_pipe(&mut self, node: usize, to: Seen, bytes: &[u8], before: u64) -> ActEnd
         requires inside { node < limit.OBJECTS }
-        requires known { ContainsKey self.old.table.descriptions to.key }
-        ensures acts { ActsOn
-            (pipe_acted self.old.table node to bytes.now before (kept_at self.old node).pipe
-            (offset_of_key self.old to.key)) self.old node result self.new }
+        ensures acts { Leaves (write_pipe to bytes.now before (kept_at self.old node).pipe
+            (is_open self.old.table node part.Read))
+            self.old node (Some to.key) result self.new }
         ensures few { act_bytes result ≡ 0 }
     {
+        // What holds of every store holds of this one: each number has its body.
+        let _ = &self.bodies;
         let readers = self.is_open(node, End::Read);
-        let rest = &bytes[bytes.len().min(before as usize)..];
+        let rest = rest_of(bytes, before);
         let whole = bytes.len() <= Limits::PIPE_BUF;
-        let answer = self.bodies[node].pipe.put(rest, readers, whole);
-        match answer {
-            PipeAnswer::Count(now) => {
-                let total = before + now as u64;
-                if bytes.len() as u64 <= total {
-                    return ActEnd::Reply(Reply::Count(total));
-                }
-                self.pauses(to, total)
-            }
-            PipeAnswer::Broken if before == 0 => ActEnd::Reply(Reply::Fail(Errno::EPIPE)),
-            PipeAnswer::Broken => ActEnd::Reply(Reply::Count(before)),
-            _ if before == 0 => stopped(to.flags.nonblock),
-            _ => self.pauses(to, before),
-        }
+        let answer = self.put_pipe(node, rest, readers, whole);
+        pipe_ending(to, bytes.len() as u64, before, answer)
     }
 
-    // A write of a pipe that cannot go on after so many bytes waits, or ends where its description
-    // is not to block.
-    fn pauses(&self, to: Opened, total: u64) -> ActEnd
-        requires known { ContainsKey self.now.table.descriptions to.key }
-        ensures ends { result ≡ paused to (birth_of self.now.table to.key) total }
-        ensures few { act_bytes result ≡ 0 }
-    {
-        if to.flags.nonblock {
-            return ActEnd::Reply(Reply::Count(total));
-        }
-        ActEnd::Waits(moved_by(self.table.birth(to.key), total))
-    }
-
-    fn write_pair(&mut self, node: usize, to: Opened, side: Side, bytes: &[u8]) -> ActEnd
+    fn put_pipe(&mut self, node: usize, bytes: &[u8], readers: bool, whole: bool) -> PipeAnswer
         requires inside { node < limit.OBJECTS }
-        ensures acts { ActsOn (has_written to (λ left. Pair (with_waiting (kept_at self.old node).pair (peer_of side) left)) (Pair (kept_at self.old node).pair) (offset_of_key self.old to.key) (length bytes.now) (pair_write (kept_at self.old node).pair side bytes.now (is_open self.old.table node (part.Socket (peer_of side))))) self.old node result self.new }
+        ensures answer { result ≡ write_answer
+            (length (bytes_put limit.PIPE_BYTES (kept_at self.old node).pipe bytes.now whole))
+            (pipe_write (kept_at self.old node).pipe bytes.now whole readers) }
+        ensures left { self.new ≡ holding self.old node (Pipe (pipes.left_by_write
+            (kept_at self.old node).pipe
+            (pipe_write (kept_at self.old node).pipe bytes.now whole readers))) }
+    {
+        self.bodies[node].pipe.put(bytes, readers, whole)
+    }
+
+    fn write_pair(&mut self, node: usize, to: Seen, side: Side, bytes: &[u8]) -> ActEnd
+        requires inside { node < limit.OBJECTS }
+        ensures acts { let pair = (kept_at self.old node).pair in
+            Leaves (has_written to (λ left. Pair (with_waiting pair (peer_of side) left))
+            (length bytes.now)
+            (pair_write pair side bytes.now
+            (is_open self.old.table node (part.Socket (peer_of side)))))
+            self.old node (Some to.key) result self.new }
         ensures few { act_bytes result ≡ 0 }
     {
+        // What holds of every store holds of this one: each number has its body.
+        let _ = &self.bodies;
         let peer_open = self.is_open(node, End::Socket(side.peer()));
         let answer = self.put_pair(node, side, bytes, peer_open);
-        write_ending(answer, to.flags.nonblock)
+        write_ending(answer, to.nonblock)
     }
 
     fn take_pair(&mut self, node: usize, side: Side, into: &mut [u8], peer_open: bool) -> PipeAnswer
@@ -165,66 +171,21 @@ impl Store {
         }
     }
 
-    // POSIX.1-2017, `pipe`: the new pipe has nothing in it, whatever was under its number before.
-    pub(crate) fn open_pipe(&mut self, call: &Call, node: usize, change: Change) -> Reply
-        requires descriptions { self.old.table.descriptions.made < 2 ^ 127 }
-        requires objects { self.old.table.made_objects < 2 ^ 127 }
-        requires inside { node < limit.OBJECTS }
-        requires planned { IsPlanned self.old call.now node op.Pipe }
-        requires change { IsChange self.old call.now change }
-        ensures reply { RepliesAlways self.old call.now result self.new }
-        ensures few { reply_bytes result ≡ 0 }
-        ensures births { (self.new.table.descriptions.made ≤ self.old.table.descriptions.made + 2) × (self.new.table.made_objects ≤ self.old.table.made_objects + 1) }
-    {
-        // What holds of every store holds of this one: each number has its body.
-        let _ = &self.bodies;
-        let given = self.change(call, change, None);
-        self.clear_pipe(node);
-        numbers_reply(given)
-    }
-
-    // Leaves nothing in a pipe.
-    fn clear_pipe(&mut self, node: usize)
-        requires inside { node < limit.OBJECTS }
-        ensures { self.new ≡ holding self.old node (Pipe []) }
-    {
-        self.bodies[node].pipe.clear();
-    }
-
-    // POSIX.1-2017, `socketpair`: nothing waits in the new pair, and nothing is shut.
-    pub(crate) fn open_pair(&mut self, call: &Call, node: usize, change: Change) -> Reply
-        requires descriptions { self.old.table.descriptions.made < 2 ^ 127 }
-        requires objects { self.old.table.made_objects < 2 ^ 127 }
-        requires inside { node < limit.OBJECTS }
-        requires planned { IsPlanned self.old call.now node op.Socketpair }
-        requires change { IsChange self.old call.now change }
-        ensures reply { RepliesAlways self.old call.now result self.new }
-        ensures few { reply_bytes result ≡ 0 }
-        ensures births { (self.new.table.descriptions.made ≤ self.old.table.descriptions.made + 2) × (self.new.table.made_objects ≤ self.old.table.made_objects + 1) }
-    {
-        // What holds of every store holds of this one: each number has its body.
-        let _ = &self.bodies;
-        let given = self.change(call, change, None);
-        self.clear_pair(node);
-        numbers_reply(given)
-    }
-
-    // Leaves a pair as a new one.
-    fn clear_pair(&mut self, node: usize)
-        requires inside { node < limit.OBJECTS }
-        ensures { self.new ≡ holding self.old node (Pair new_pair) }
-    {
-        self.bodies[node].pair.clear();
-    }
-
     // POSIX.1-2017, `shutdown`.
-    pub(crate) fn shutdown(&mut self, node: usize, side: Side, how: ShutdownHow) -> Reply
+    pub(crate) fn shutdown(
+        &mut self,
+        call: &Call,
+        node: usize,
+        side: Side,
+        how: ShutdownHow,
+    ) -> ActEnd
         requires inside { node < limit.OBJECTS }
-        ensures reply { result ≡ Done }
-        ensures shut { self.new ≡ holding self.old node (Pair (shut (kept_at self.old node).pair side how)) }
+        ensures acts { Leaves (acts_at self.old node (act.Shutdown side how) call.now)
+            self.old node None result self.new }
+        ensures few { act_bytes result ≡ 0 }
     {
         self.bodies[node].pair.shutdown(side, how);
-        Reply::Done
+        ActEnd::Reply(Reply::Done)
     }
 }
 
@@ -257,6 +218,46 @@ fn write_ending(answer: PipeAnswer, nonblock: bool) -> ActEnd
         PipeAnswer::Broken => ActEnd::Reply(Reply::Fail(Errno::EPIPE)),
         PipeAnswer::Data(_) | PipeAnswer::End | PipeAnswer::Block => stopped(nonblock),
     }
+}
+
+// What is left of bytes of which so many went before.
+fn rest_of(bytes: &[u8], before: u64) -> &[u8]
+    ensures { result.now ≡ drop before bytes.now }
+{
+    &bytes[bytes.len().min(before as usize)..]
+}
+
+// The end of a write of a pipe, of so many bytes in all, that was answered so.
+fn pipe_ending(to: Seen, all: u64, before: u64, answer: PipeAnswer) -> ActEnd
+    requires { before + taken_by answer < 2 ^ 64 }
+    ensures shown { result ≡ ending_of_pipe to all before answer }
+    ensures few { act_bytes result ≡ 0 }
+{
+    match answer {
+        PipeAnswer::Count(now) => {
+            let total = before + now as u64;
+            if all <= total {
+                return ActEnd::Reply(Reply::Count(total));
+            }
+            blocked_after(to, total)
+        }
+        PipeAnswer::Broken if before == 0 => ActEnd::Reply(Reply::Fail(Errno::EPIPE)),
+        PipeAnswer::Broken => ActEnd::Reply(Reply::Count(before)),
+        _ if before == 0 => stopped(to.nonblock),
+        _ => blocked_after(to, before),
+    }
+}
+
+// A write of a pipe that cannot go on after so many bytes waits, or ends where its description is
+// not to block.
+fn blocked_after(to: Seen, total: u64) -> ActEnd
+    ensures ends { result ≡ end_of (blocked_after to total) }
+    ensures few { act_bytes result ≡ 0 }
+{
+    if to.nonblock {
+        return ActEnd::Reply(Reply::Count(total));
+    }
+    ActEnd::Waits(moved_by(to.birth, total))
 }
 
 // So many bytes moved so far, the first of them by the description of this birth.

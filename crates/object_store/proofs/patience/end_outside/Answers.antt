@@ -7,10 +7,9 @@ use Rattle.posix_terms.specs.declared.outcome.Outcome.{Outcome}
 use Rattle.posix_terms.specs.declared.outcome.Outcome.TheVariants as outcome
 use Rattle.posix_terms.specs.declared.reply.Reply.{Reply}
 use Rattle.posix_terms.specs.declared.reply.Reply.TheVariants as reply
-use Rattle.descriptor_table.specs.Acts.{told_outside}
-use Rattle.descriptor_table.specs.Plans.{bytes_of_kind, reply_bytes}
-use Rattle.descriptor_table.specs.declared.plan.NewNumbers.TheVariants as numbers
-use Rattle.object_store.proofs.Outside.{offset_fits, read_fits, same_outcome, succeeds, told_done}
+use Rattle.decisions.specs.Bytes.{bytes_of_kind, reply_bytes}
+use Rattle.object_store.specs.Patience.{told_outside}
+use Rattle.object_store.proofs.Outside.{offset_fits, read_fits, succeeds, told_done}
 use Rattle.object_store.proofs.patience.end_outside.Goals as goal
 use Rattle.object_store.proofs.patience.end_outside.Goals.{in-Read, in-Write, in-Seek, in_default}
 
@@ -22,14 +21,11 @@ shorter room bytes =
     let least : length (take room bytes) ≡ min room (length bytes) = length-take room bytes in
     omega arith
 
-pub returns-in-Fail-clause-ends : goal.returns-in-Fail-clause-ends
-returns-in-Fail-clause-ends c fit enough = same_outcome c.args.patience c.args.carried c.args.errand numbers.None c.args.outcome.now (outcome.Fail c.in-Fail.error) c.fail_outside.result c.in-Fail.is (c.fail_outside.ensures.ends numbers.None)
-
 pub returns-clause-ends : goal.returns-clause-ends
-returns-clause-ends c fit enough = succeeds c.args.patience c.args.carried c.args.errand numbers.None c.args.outcome.now c.in-Ok.value c.in-Ok.bytes c.match-errand.result c.in-Ok.is told
+returns-clause-ends c fit enough = succeeds c.args.patience c.args.carried c.args.errand c.args.outcome.now c.in-Ok.value c.in-Ok.bytes c.match-errand.result c.in-Ok.is told
   where
-    of_kind : (k : OutKind) → c.args.errand.kind ≡ k → told_outside k numbers.None c.in-Ok.value c.in-Ok.bytes ≡ told_outside c.args.errand.kind numbers.None c.in-Ok.value c.in-Ok.bytes
-    of_kind k is = ap (λ (x : OutKind). told_outside x numbers.None c.in-Ok.value c.in-Ok.bytes) (sym is)
+    of_kind : (k : OutKind) → c.args.errand.kind ≡ k → told_outside k c.in-Ok.value c.in-Ok.bytes ≡ told_outside c.args.errand.kind c.in-Ok.value c.in-Ok.bytes
+    of_kind k is = ap (λ (x : OutKind). told_outside x c.in-Ok.value c.in-Ok.bytes) (sym is)
 
     of_fit : (k : OutKind) → c.args.errand.kind ≡ k → fits k c.args.errand.asked (outcome.Ok c.in-Ok.value c.in-Ok.bytes) ≡ true
     of_fit k is =
@@ -45,7 +41,7 @@ returns-clause-ends c fit enough = succeeds c.args.patience c.args.carried c.arg
         let asked : c.args.errand.asked ≤ length c.args.room.now.items = subst (λ (k : OutKind). bytes_of_kind k c.args.errand.asked ≤ length c.args.room.now.items) is enough in
         within c.in-Ok.bytes c.args.errand.asked (length c.args.room.now.items) (read_fits c.args.errand.asked c.in-Ok.value c.in-Ok.bytes (of_fit out.Read is)) asked
 
-    told : c.match-errand.result ≡ told_outside c.args.errand.kind numbers.None c.in-Ok.value c.in-Ok.bytes
+    told : c.match-errand.result ≡ told_outside c.args.errand.kind c.in-Ok.value c.in-Ok.bytes
     told =
         elim c.match-errand.branch [
           | in-Read w ↦ w.result-is ∙ ap (λ (l : List ℕ). reply.Data l) (w.filled.ensures ∙ ap (take (length c.args.room.now.items)) w.as_slice.ensures ∙ whole w.in-Read.is) ∙ of_kind out.Read w.in-Read.is

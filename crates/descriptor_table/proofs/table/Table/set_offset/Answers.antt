@@ -20,4 +20,4 @@ returns-clause-shows c = λ (s : State) (shows : Shows c.args.self.now s).
     let known : ContainsKey before.descriptions c.args.key = rw (← c.self.view_is) at c.requires in
     let all : AreSound before.descriptions = rw (← c.self.view_is) at c.known.ensures.descriptions in
     let shown : Shows before s = rw (← c.self.view_is) at shows in
-    rw c.set_offset.ensures (shows-set_offset before s c.args.key c.args.offset all known shown)
+    rw (← c.self.view_is, c.set_offset.ensures) (shows-set_offset before s c.args.key c.args.offset all known shown)

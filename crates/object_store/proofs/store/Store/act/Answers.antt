@@ -1,72 +1,105 @@
-use Rattle.std.proofs.Common.{◌≡◌, ℕ, ◌<◌, ◌≤◌, length, ap, ◌∙◌, subst, arith, rules}
-use Rattle.sequential_object.specs.Files.{bytes_at}
-use Rattle.posix_terms.specs.declared.reply.Reply.TheVariants.{Data}
-use Rattle.object_store.specs.Acting.{HasRead}
-use Rattle.object_store.specs.Store.{IsPlanned, body_at}
-use Rattle.descriptor_table.specs.Plans.{MovesKnown, read_count}
-use Rattle.descriptor_table.specs.declared.plan.Op.TheVariants as op
-use Rattle.object_store.proofs.Doing.{replies_turn}
-use Rattle.object_store.proofs.Making.{fstat_makes, ftruncate_makes, has_body, pread_ends, read_ends, shutdown_makes}
+use Rattle.std.proofs.Common.{◌≡◌, ◌⊎◌, inl, inr, arith, length, refl, sym, subst, rules}
+use Rattle.std.specs.Prelude.{pos}
+use Rattle.posix_terms.specs.declared.limits.TheConstants.Limits as limit
+use Rattle.posix_terms.specs.declared.reply.Reply.TheVariants as reply
+use Rattle.sequential_object.specs.declared.turn_end.ActEnd.TheVariants as act_end
+use Rattle.decisions.specs.So.{CanDo}
+use Rattle.decisions.specs.declared.decision.Act.{Act}
+use Rattle.decisions.specs.declared.decision.Act.TheVariants as act
+use Rattle.decisions.specs.declared.decision.Deed.TheVariants as deed
+use Rattle.descriptor_table.specs.View.{view}
+use Rattle.descriptor_table.specs.Table.{IsSound}
+use Rattle.decisions.specs.Acts.{released_reply}
+use Rattle.decisions.specs.Bytes.{read_count}
+use Rattle.decisions.specs.Acts.{Replies}
+use Rattle.decisions.specs.Meant.{acts, ended, key_of}
+use Rattle.decisions.specs.Renaming.{act_by}
+use Rattle.descriptor_table.specs.Shows.{birth_at}
+use Rattle.descriptor_table.specs.View.{names_of}
+use Rattle.sequential_object.specs.Object.{State}
+use Rattle.object_store.specs.Acting.{IsReady, Leaves, StandsChanged, acts_at, cut_to}
+use Rattle.object_store.specs.Store.{EndsTurn, IsDecided, Stored}
+use Rattle.object_store.proofs.Acting.{ReadsOrWrites}
+use Rattle.object_store.proofs.Ending.{MakesNothing, ends_acting, ends_opening, ends_replying, left_made, reads_or_writes, ready_for, released_ends, released_succeeds}
 use Rattle.object_store.proofs.store.Store.act.Goals as goal
 
-pub taken-requires : goal.taken-requires
-taken-requires c =
-    let known : MovesKnown c.args.self.now.table (read_count c.args.call.now) (op.Read c.in-Read.from c.in-Read.count) = search rules in
-    let few : c.in-Read.count ≤ read_count c.args.call.now = known.1 in
-    let room : read_count c.args.call.now ≤ length c.args.room.now.items = c.requires.room in
-    omega arith
+pub returns-in-Open-clause-ends : goal.returns-in-Open-clause-ends
+returns-in-Open-clause-ends c =
+    let h : Stored = c.args.self.now in
+    let does : Act = act.Open c.in-Open.number c.in-Open.cut in
+    let is : c.args.act ≡ does = search rules in
+    let can : CanDo (view h.table) c.args.call.now c.args.object (deed.Acts does c.args.change) =
+    subst (λ (a : Act). CanDo (view h.table) c.args.call.now c.args.object (deed.Acts a c.args.change)) is c.requires.can in
+    let decided : IsDecided h c.args.call.now c.args.carried.moved (record { object = c.args.object; deed = deed.Acts does c.args.change }) =
+    subst (λ (a : Act). IsDecided h c.args.call.now c.args.carried.moved (record { object = c.args.object; deed = deed.Acts a c.args.change })) is c.requires.decided in
+    let long : length h.bodies ≡ limit.OBJECTS = search rules in
+    let stands : StandsChanged (cut_to h c.args.object c.in-Open.cut) c.args.call.now c.args.change c.change.new.self = search rules in
+    rw c.number_reply.ensures
+    (ends_opening c.table_follows_step.ensures.follows h c.args.call.now c.args.object c.in-Open.number c.in-Open.cut c.args.change can long c.args.carried decided c.change.new.self stands)
 
-pub taken-requires-in-Pread : goal.taken-requires-in-Pread
-taken-requires-in-Pread c =
-    let known : MovesKnown c.args.self.now.table (read_count c.args.call.now) (op.Pread c.in-Pread.count c.in-Pread.position) = search rules in
-    let room : read_count c.args.call.now ≤ length c.args.room.now.items = c.requires.room in
-    omega arith
+pub returns-in-Create-clause-ends : goal.returns-in-Create-clause-ends
+returns-in-Create-clause-ends c =
+    let h : Stored = c.args.self.now in
+    let does : Act = act.Create c.in-Create.number in
+    let is : c.args.act ≡ does = search rules in
+    let can : CanDo (view h.table) c.args.call.now c.args.object (deed.Acts does c.args.change) =
+    subst (λ (a : Act). CanDo (view h.table) c.args.call.now c.args.object (deed.Acts a c.args.change)) is c.requires.can in
+    let decided : IsDecided h c.args.call.now c.args.carried.moved (record { object = c.args.object; deed = deed.Acts does c.args.change }) =
+    subst (λ (a : Act). IsDecided h c.args.call.now c.args.carried.moved (record { object = c.args.object; deed = deed.Acts a c.args.change })) is c.requires.decided in
+    let long : length h.bodies ≡ limit.OBJECTS = search rules in
+    rw c.number_reply-in-Create.ensures
+    (ends_replying c.table_follows_step.ensures.follows h c.args.call.now c.args.object does c.args.change can long c.args.carried decided (reply.Number (pos c.in-Create.number)) c.change-in-Create.new.self
+    (λ e same. cc) (λ s. refl) c.change-in-Create.ensures.stands)
 
-pub read-requires-clause-known : goal.read-requires-clause-known
-read-requires-clause-known c =
-    let known : MovesKnown c.args.self.now.table (read_count c.args.call.now) (op.Read c.in-Read.from c.in-Read.count) = search rules in
-    known.0
+pub returns-in-Release-clause-ends : goal.returns-in-Release-clause-ends
+returns-in-Release-clause-ends c =
+    let h : Stored = c.args.self.now in
+    let does : Act = act.Release in
+    let is : c.args.act ≡ does = search rules in
+    let can : CanDo (view h.table) c.args.call.now c.args.object (deed.Acts does c.args.change) =
+    subst (λ (a : Act). CanDo (view h.table) c.args.call.now c.args.object (deed.Acts a c.args.change)) is c.requires.can in
+    let decided : IsDecided h c.args.call.now c.args.carried.moved (record { object = c.args.object; deed = deed.Acts does c.args.change }) =
+    subst (λ (a : Act). IsDecided h c.args.call.now c.args.carried.moved (record { object = c.args.object; deed = deed.Acts a c.args.change })) is c.requires.decided in
+    let long : length h.bodies ≡ limit.OBJECTS = search rules in
+    rw c.released_reply.ensures
+    (ends_replying c.table_follows_step.ensures.follows h c.args.call.now c.args.object does c.args.change can long c.args.carried decided (released_reply c.args.call.now) c.change-in-Release.new.self
+    (released_succeeds c.args.call.now) (λ s. released_ends s c.args.call.now) c.change-in-Release.ensures.stands)
 
-pub ftruncate-requires-clause-fits : goal.ftruncate-requires-clause-fits
-ftruncate-requires-clause-fits c =
-    let fits : MovesKnown c.args.self.now.table (read_count c.args.call.now) (op.Ftruncate c.in-Ftruncate.size) = search rules in
-    fits
+pub returns-in_default : goal.returns-in_default
+returns-in_default c =
+    let h : Stored = c.args.self.now in
+    let law = c.table_follows_step.ensures.follows in
+    let long : length h.bodies ≡ limit.OBJECTS = search rules in
+    let sound : IsSound h.table = search rules in
+    let ready : IsReady h.table (length c.args.room.now.items) c.args.act = search rules in
+    let its : ReadsOrWrites c.args.act = reads_or_writes h.table (length c.args.room.now.items) c.args.act ready in
+    let few : IsReady h.table (read_count c.args.call.now) c.args.act = ready_for law h.table c.args.call.now c.args.object c.args.act sound c.requires.can.1 its in
+    let leaves : Leaves (acts_at h c.args.object c.args.act c.args.call.now) h c.args.object (key_of c.args.act) c.act_on.result c.act_on.new.self = search rules in
+    let made : MakesNothing h c.act_on.new.self = subst (MakesNothing h) (sym leaves.1) (left_made h c.args.object (key_of c.args.act) (acts_at h c.args.object c.args.act c.args.call.now)) in
+    record {
+      ends = ends_acting law h c.args.call.now c.args.object c.args.act c.args.change c.requires.can long c.args.carried c.requires.decided its c.act_on.result c.act_on.new.self leaves;
+      few = c.act_on.ensures.few few;
+      births = (omega (arith, made.0), omega (arith, made.1));
+    }
 
-pub returns-in-Read-clause-ends : goal.returns-in-Read-clause-ends
-returns-in-Read-clause-ends c =
-    let h = c.args.self.now in
-    let planned : IsPlanned h c.args.call.now c.args.node (op.Read c.in-Read.from c.in-Read.count) = (c.args.carried.moved, search rules) in
-    let inside : c.args.node < length h.bodies = has_body h c.args.node (search rules) c.requires.inside in
-    let has : HasRead c.in-Read.from.«end» h c.args.node c.in-Read.from c.in-Read.count c.read.result c.read.new.self =
-    subst (λ (n : ℕ). HasRead c.in-Read.from.«end» h c.args.node c.in-Read.from n c.read.result c.read.new.self) c.taken.ensures c.read.ensures.read in
-    read_ends c.table_follows_step.ensures.follows h c.read.new.self c.args.call.now c.args.node c.in-Read.count c.in-Read.from c.read.result planned inside has c.args.carried
+pub returns-in-Pipe-clause-ends : goal.returns-in-Pipe-clause-ends
+returns-in-Pipe-clause-ends c = rw c.pair_reply.ensures (by_act c.in-Pipe.is)
+  where
+    long : length c.args.self.now.bodies ≡ limit.OBJECTS
+    long = search rules
 
-pub returns-in-Pread-clause-ends : goal.returns-in-Pread-clause-ends
-returns-in-Pread-clause-ends c =
-    let h = c.args.self.now in
-    let planned : IsPlanned h c.args.call.now c.args.node (op.Pread c.in-Pread.count c.in-Pread.position) = (c.args.carried.moved, search rules) in
-    let answers : c.pread.result ≡ Data (bytes_at (body_at h c.args.node) c.in-Pread.position c.in-Pread.count) =
-    c.pread.ensures ∙ ap (λ (n : ℕ). Data (bytes_at (body_at h c.args.node) c.in-Pread.position n)) c.taken-in-Pread.ensures in
-    pread_ends c.table_follows_step.ensures.follows h c.args.call.now c.args.node c.in-Pread.count c.in-Pread.position c.pread.result planned answers c.args.carried
+    ends : (a : Act) → c.args.act ≡ a
+        → ((s : State) → acts s (birth_at c.args.self.now.table c.args.object) (act_by (names_of c.args.self.now.table) a) c.args.call.now ≡ ended s (Replies (reply.Pair (pos c.in-Pipe.first) (pos c.in-Pipe.second))))
+        → EndsTurn c.args.carried c.args.self.now c.args.call.now (act_end.Reply (reply.Pair (pos c.in-Pipe.first) (pos c.in-Pipe.second))) c.change-in-Pipe.new.self
+    ends a is replies =
+        let can : CanDo (view c.args.self.now.table) c.args.call.now c.args.object (deed.Acts a c.args.change) =
+        subst (λ (a : Act). CanDo (view c.args.self.now.table) c.args.call.now c.args.object (deed.Acts a c.args.change)) is c.requires.can in
+        let decided : IsDecided c.args.self.now c.args.call.now c.args.carried.moved (record { object = c.args.object; deed = deed.Acts a c.args.change }) =
+        subst (λ (a : Act). IsDecided c.args.self.now c.args.call.now c.args.carried.moved (record { object = c.args.object; deed = deed.Acts a c.args.change })) is c.requires.decided in
+        ends_replying c.table_follows_step.ensures.follows c.args.self.now c.args.call.now c.args.object a c.args.change can long c.args.carried decided
+        (reply.Pair (pos c.in-Pipe.first) (pos c.in-Pipe.second)) c.change-in-Pipe.new.self (λ e same. cc) replies c.change-in-Pipe.ensures.stands
 
-pub returns-in-Ftruncate-clause-ends : goal.returns-in-Ftruncate-clause-ends
-returns-in-Ftruncate-clause-ends c =
-    let h = c.args.self.now in
-    let planned : IsPlanned h c.args.call.now c.args.node (op.Ftruncate c.in-Ftruncate.size) = (c.args.carried.moved, search rules) in
-    let inside : c.args.node < length h.bodies = has_body h c.args.node (search rules) c.requires.inside in
-    replies_turn c.args.carried h c.args.call.now c.ftruncate.result c.ftruncate.new.self
-    (ftruncate_makes c.table_follows_step.ensures.follows h c.ftruncate.new.self c.args.call.now c.args.node c.in-Ftruncate.size c.ftruncate.result planned inside c.ftruncate.ensures.reply c.ftruncate.ensures.rewritten)
-
-pub returns-in-Fstat-clause-ends : goal.returns-in-Fstat-clause-ends
-returns-in-Fstat-clause-ends c =
-    let h = c.args.self.now in
-    let planned : IsPlanned h c.args.call.now c.args.node (op.Fstat c.in-Fstat.links) = (c.args.carried.moved, search rules) in
-    replies_turn c.args.carried h c.args.call.now c.fstat.result h (fstat_makes c.table_follows_step.ensures.follows h c.args.call.now c.args.node c.in-Fstat.links c.fstat.result planned c.fstat.ensures)
-
-pub returns-in-Shutdown-clause-ends : goal.returns-in-Shutdown-clause-ends
-returns-in-Shutdown-clause-ends c =
-    let h = c.args.self.now in
-    let planned : IsPlanned h c.args.call.now c.args.node (op.Shutdown c.in-Shutdown.side c.in-Shutdown.how) = (c.args.carried.moved, search rules) in
-    let inside : c.args.node < length h.bodies = has_body h c.args.node (search rules) c.requires.inside in
-    replies_turn c.args.carried h c.args.call.now c.shutdown.result c.shutdown.new.self
-    (shutdown_makes c.table_follows_step.ensures.follows h c.shutdown.new.self c.args.call.now c.args.node c.in-Shutdown.side c.in-Shutdown.how c.shutdown.result planned inside c.shutdown.ensures.reply c.shutdown.ensures.shut)
+    by_act : (c.args.act ≡ act.Pipe c.in-Pipe.first c.in-Pipe.second) ⊎ (c.args.act ≡ act.Socketpair c.in-Pipe.first c.in-Pipe.second)
+        → EndsTurn c.args.carried c.args.self.now c.args.call.now (act_end.Reply (reply.Pair (pos c.in-Pipe.first) (pos c.in-Pipe.second))) c.change-in-Pipe.new.self
+    by_act (inl is) = ends (act.Pipe c.in-Pipe.first c.in-Pipe.second) is (λ s. refl)
+    by_act (inr is) = ends (act.Socketpair c.in-Pipe.first c.in-Pipe.second) is (λ s. refl)

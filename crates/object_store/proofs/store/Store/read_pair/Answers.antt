@@ -1,15 +1,15 @@
-use Rattle.std.proofs.Common.{◌≡◌, ◌&&◌, not, List, ℕ, length, take, drop, ◌++◌, ap, ap₂, refl, sym, ◌∙◌, rules}
+use Rattle.std.proofs.Common.{◌≡◌, ◌<◌, ◌&&◌, not, List, ℕ, length, take, drop, ◌++◌, ap, ap₂, sym, ◌∙◌, rules}
 use Rattle.std.proofs.Math.Seq.{take-append_seam}
 use Rattle.sequential_object.specs.Object.{Pair}
-use Rattle.sequential_object.specs.Streams.{half_at, pair_read, with_waiting}
+use Rattle.sequential_object.specs.Streams.{half_at, pair_read}
 use Rattle.posix_terms.specs.Ends.{peer_of}
 use Rattle.posix_terms.specs.declared.object.End.TheVariants as part
-use Rattle.descriptor_table.specs.Acts.{is_open}
+use Rattle.descriptor_table.specs.Table.{is_open}
 use Rattle.pipes.specs.Pipe.{read_answer}
 use Rattle.stream_sockets.specs.Pair.{left_by_read, read_into}
-use Rattle.object_store.specs.Acting.{ending_of_read, holding, offset_of_key}
+use Rattle.object_store.specs.Acting.{ending_of_read, holding}
 use Rattle.object_store.specs.Store.{kept_at}
-use Rattle.object_store.proofs.Streaming.{read_content, read_ending}
+use Rattle.object_store.proofs.Streaming.{read_of_pair}
 use Rattle.object_store.proofs.store.Store.read_pair.Goals as goal
 
 pub returns-clause-acts : goal.returns-clause-acts
@@ -25,10 +25,10 @@ returns-clause-acts c =
     let kept : take c.args.into.len (c.take_pair-answer.new.into ++ drop (length c.take_pair-answer.new.into) place) ≡ c.take_pair-answer.new.into =
     ap (λ (k : ℕ). take k (c.take_pair-answer.new.into ++ drop (length c.take_pair-answer.new.into) place)) (sym whole)
     ∙ take-append_seam c.take_pair-answer.new.into (drop (length c.take_pair-answer.new.into) place) in
-    let as_answered : c.read_ending.result ≡ ending_of_read c.take_pair-answer.result c.take_pair-answer.new.into c.args.from.flags.nonblock =
-    c.read_ending.ensures.shown ∙ ap (λ (l : List ℕ). ending_of_read c.take_pair-answer.result l c.args.from.flags.nonblock) kept in
-    let told = as_answered ∙ ap₂ (λ a b. ending_of_read a b c.args.from.flags.nonblock) answered filled in
-    let left : c.take_pair-answer.new.self ≡ holding h c.args.node (Pair (left_by_read p c.args.side r)) = search rules in (
-      told ∙ read_ending c.args.from (λ (l : List ℕ). Pair (with_waiting p c.args.side l)) (Pair p) (offset_of_key h c.args.from.key) (length place) (half_at p c.args.side) place (peer_open && not (half_at p (peer_of c.args.side)).writing_shut) refl,
-      left ∙ ap (holding h c.args.node) (sym (read_content c.args.from p c.args.side (offset_of_key h c.args.from.key) r)),
-    )
+    let as_answered : c.read_ending.result ≡ ending_of_read c.take_pair-answer.result c.take_pair-answer.new.into c.args.from.nonblock =
+    c.read_ending.ensures.shown ∙ ap (λ (l : List ℕ). ending_of_read c.take_pair-answer.result l c.args.from.nonblock) kept in
+    let told = as_answered ∙ ap₂ (λ a b. ending_of_read a b c.args.from.nonblock) answered filled in
+    let left : c.take_pair-answer.new.self ≡ holding h c.args.node (Pair (left_by_read p c.args.side r)) = search rules in
+    let inside : c.args.node < length h.bodies = search rules in
+    read_of_pair h c.args.node inside c.args.from c.args.side place (peer_open && not (half_at p (peer_of c.args.side)).writing_shut)
+    c.read_ending.result c.take_pair-answer.new.self told left

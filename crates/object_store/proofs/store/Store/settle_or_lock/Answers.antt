@@ -1,17 +1,13 @@
-use Rattle.std.proofs.Common.{◌≡◌, ◌≤◌, None, ap, rules}
-use Rattle.descriptor_table.specs.Agreement.{object_of}
-use Rattle.descriptor_table.specs.Plans.{planned, read_count, reply_bytes}
-use Rattle.descriptor_table.specs.declared.plan.Plan.TheVariants as plan
-use Rattle.object_store.specs.Store.{Replies, number_locked}
-use Rattle.object_store.proofs.Making.{reply_alone, turn_replied}
+use Rattle.std.proofs.Common.{◌≡◌, Err, ◌∙◌, sym, arith}
+use Rattle.decisions.specs.Decided.{decided}
+use Rattle.descriptor_table.specs.View.{view}
+use Rattle.object_store.specs.Store.{Stored}
+use Rattle.object_store.proofs.Making.{refuses}
 use Rattle.object_store.proofs.store.Store.settle_or_lock.Goals as goal
 
-pub returns-in-Reply-clause-comes : goal.returns-in-Reply-clause-comes
-returns-in-Reply-clause-comes c =
-    let h = c.args.self.now in
-    let call = c.args.call.now in
-    let planned_is : planned h.table call c.args.carried.moved ≡ plan.Reply c.in-Reply.reply = search rules in
-    let none : number_locked h call c.args.carried ≡ None = ap object_of planned_is in
-    let replies : Replies c.args.carried h call c.settle.result c.settle.new.self = search rules in
-    let few : reply_bytes c.settle.result ≤ read_count call = search rules in
-    (none, (λ patience. turn_replied h c.settle.new.self call c.settle.result patience c.args.carried (reply_alone c.table_follows_step.ensures.follows h call c.args.carried c.in-Reply.reply planned_is) replies), few)
+pub returns-in-Err-clause-comes : goal.returns-in-Err-clause-comes
+returns-in-Err-clause-comes c =
+    let h : Stored = record { table = c.self.inside.table; bodies = c.self.inside.bodies.items } in
+    let is : decided (view h.table) c.args.call.now c.args.carried.moved ≡ Err c.in-Err.error = sym c.decide.ensures.decided ∙ c.in-Err.is in
+    let refused = refuses c.table_follows_step.ensures.follows h c.args.call.now c.args.carried c.in-Err.error is in
+    rw (← c.self.view_is) (refused.0, refused.1, omega arith)
