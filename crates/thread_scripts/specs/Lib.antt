@@ -7,6 +7,7 @@ pub mod Labels
 pub mod Lines
 pub mod Faults
 pub mod Grammar
+pub mod Readings
 pub mod Meaning
 pub mod Saving
 pub mod Rules

@@ -8,8 +8,9 @@
 //! By the contract each step is the one that the script's meaning gives, and each but the end
 //! leaves fewer lines to be executed. Without memory for a step the actor is as it was.
 //!
-//! [`text_lines`], [`line_words`], [`kind_named`], [`natural`] and [`number`] read the parts of a
-//! text as [`parse`] does.
+//! [`text_readings`] gives what each line of a text says, the bad ones among them as well. [`text_lines`],
+//! [`line_words`], [`kind_named`], [`natural`], [`number`], [`register`] and [`byte_register`] read
+//! the parts of a text as [`parse`] does.
 //!
 //! ```rust
 //! use posix_terms::{Call, Reply};
@@ -42,6 +43,7 @@ mod laws;
 mod line;
 mod lines;
 mod numbers;
+mod readings;
 mod rules;
 mod script;
 mod state;
@@ -58,7 +60,8 @@ pub use laws::{
     read_scripts_keep_rules, runs_end, script_stays, too_long_is_counted,
 };
 pub use line::{ByteRegister, CallLine, Data, Line, Number, NumberRegister, Register};
-pub use numbers::{natural, number};
+pub use numbers::{byte_register, natural, number, register};
 pub use posix_terms::Step;
+pub use readings::{Reading, text_readings};
 pub use script::Script;
 pub use words::{line_words, text_lines};

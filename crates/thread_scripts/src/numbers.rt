@@ -57,7 +57,7 @@ fn register_named(letter: u8, greatest: u64, word: &[u8]) -> Option<u64>
 
 /// The register that a word names.
 #[tactic(auto, unfolding(crate::specs::Numbers::register_of))]
-pub(crate) fn register(word: &[u8]) -> Option<NumberRegister>
+pub fn register(word: &[u8]) -> Option<NumberRegister>
     ensures { result ≡ register_of word.now }
 {
     let index = register_named(b'r', 15, word)?;
@@ -66,7 +66,7 @@ pub(crate) fn register(word: &[u8]) -> Option<NumberRegister>
 
 /// The byte register that a word names.
 #[tactic(auto, unfolding(crate::specs::Numbers::byte_register_of))]
-pub(crate) fn byte_register(word: &[u8]) -> Option<ByteRegister>
+pub fn byte_register(word: &[u8]) -> Option<ByteRegister>
     ensures { result ≡ byte_register_of word.now }
 {
     let index = register_named(b'b', 3, word)?;
