@@ -1,0 +1,6 @@
+pub mod Columns
+pub mod Reaching
+pub mod Marks
+pub mod Concerns
+pub mod Checks
+pub mod Sharing
