@@ -10,8 +10,9 @@ _detio() {
   fi
   ((COMP_CWORD < 2)) || command=${COMP_WORDS[1]}
   case $command in
-    '') options='plain explore faults minimise record replay compare show make upgrade help -h --help -V --version' ;;
-    help) options='plain explore faults minimise record replay compare show make upgrade help' ;;
+    '') options='check plain explore faults minimise record replay compare show make upgrade help -h --help -V --version' ;;
+    help) options='check plain explore faults minimise record replay compare show make upgrade help' ;;
+    check) options='-h --help' paths=yes ;;
     plain) options='--patience --door-cost --turns --expect -h --help' paths=yes ;;
     explore) options='--seeds --delays --most --only --reach --jobs --write --patience --door-cost --log -h --help' paths=yes ;;
     faults) options='--log --errors --short --then --only --out --jobs -h --help' paths=yes ;;

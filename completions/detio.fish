@@ -2,6 +2,7 @@
 complete -c detio -f
 complete -c detio -n __fish_use_subcommand -s h -l help -d 'Print help'
 complete -c detio -n __fish_use_subcommand -s V -l version -d 'Print version'
+complete -c detio -n __fish_use_subcommand -a check -d 'Says which lines of scripts are bad, and why, without running them'
 complete -c detio -n __fish_use_subcommand -a plain -d 'Runs 1 to 16 scripts together and prints their transcripts'
 complete -c detio -n __fish_use_subcommand -a explore -d 'Runs scripts with many delays, to find a schedule that breaks them'
 complete -c detio -n __fish_use_subcommand -a faults -d 'Runs scripts by a log with one outcome replaced at a time'
@@ -13,6 +14,8 @@ complete -c detio -n __fish_use_subcommand -a show -d 'Prints a log'
 complete -c detio -n __fish_use_subcommand -a make -d 'Makes a log of the text that detio show prints of it'
 complete -c detio -n __fish_use_subcommand -a upgrade -d 'Writes a log of version 1 in version 2, with the clocks that its scripts give it'
 complete -c detio -n __fish_use_subcommand -a help -d 'Print this message or the help of the given subcommand(s)'
+complete -c detio -n '__fish_seen_subcommand_from check' -s h -l help -d 'Print help (see a summary with \'-h\')'
+complete -c detio -n '__fish_seen_subcommand_from check' -F
 complete -c detio -n '__fish_seen_subcommand_from plain' -l patience -x -d 'For how many turns a call may be blocked'
 complete -c detio -n '__fish_seen_subcommand_from plain' -l door-cost -x -d 'What a call that goes outside adds to the clock of its thread'
 complete -c detio -n '__fish_seen_subcommand_from plain' -l turns -d 'Prints the clock of each turn'
@@ -78,4 +81,4 @@ complete -c detio -n '__fish_seen_subcommand_from upgrade' -l out -r -F -d 'The 
 complete -c detio -n '__fish_seen_subcommand_from upgrade' -l force -d 'Replaces a file at the new log\'s path that is not a log'
 complete -c detio -n '__fish_seen_subcommand_from upgrade' -s h -l help -d 'Print help (see a summary with \'-h\')'
 complete -c detio -n '__fish_seen_subcommand_from upgrade' -F
-complete -c detio -n '__fish_seen_subcommand_from help' -a 'plain explore faults minimise record replay compare show make upgrade help'
+complete -c detio -n '__fish_seen_subcommand_from help' -a 'check plain explore faults minimise record replay compare show make upgrade help'

@@ -22,14 +22,49 @@ prints
   end
 
 Exit statuses:
-  0  the run came to its end, the logs gave the same, the log was printed, made or upgraded, or all
-     explored runs are as expected; or what was asked for was written
+  0  the run came to its end, the logs gave the same, the log was printed, made or upgraded, all are
+     scripts, or all explored runs are as expected; or what was asked for was written
   1  a difference, a divergence, the end of a log, or a reply that is not as expected
   2  wrong usage
   3  a bad script, expectation, log or text of a log; or it does not have what is asked for
   4  a file that cannot be read or written, no memory, a full clock, threads that strayed
 
 It runs scripts, not programs. Each command's --help has its limits, its statuses and an example.";
+
+const CHECK_ABOUT: &str = "Says which lines of scripts are bad, and why, without running them";
+
+const CHECK_LONG_ABOUT: &str = "Says which lines of scripts are bad, and why, without running them.
+
+The language is that of detio plain, whose --help has it. A line is printed for each bad line, up to
+20 of a script: where it is, by the line and the column, each from 1, then what is expected there,
+and what stands there. Columns count bytes.
+  PATH:LINE:COLUMN: EXPECTED is expected, FOUND stands there
+Where the line ends too early, it says so, and the column is the one after the line. A byte that
+cannot be seen, such as a tab or a carriage return, has its number. A text of more than 1000 lines is
+not looked at further.
+
+Of a script without a bad line there may be warnings, and nothing else is printed:
+  PATH:LINE:COLUMN: warning: no line jumps to the label NAME
+  PATH:LINE:COLUMN: warning: this line is never reached
+  PATH:LINE:COLUMN: warning: descriptor N is named by more than one script: PATH, PATH
+A line is reached by the jumps alone, whatever registers hold. Descriptors are those that calls name
+by a number: all scripts of a run share one table, so the same number in two scripts means the same
+descriptor. That may be what is meant; else the script keeps the number that a call returned, in r0,
+and names it by a register.
+
+Exit statuses:
+  0  all are scripts; there may be warnings
+  2  wrong usage
+  3  a script has a bad line, or too many lines
+  4  a script that cannot be read, output that cannot be written, no memory";
+
+const CHECK_AFTER_HELP: &str = "Example:
+  printf 'open /a create rw\\nread 0\\n' > bad.script
+  detio check bad.script
+
+prints, with status 3
+  bad.script:1:9: r, w or rw is expected, \"create\" stands there
+  bad.script:2:7: a number or a register r0 to r15 is expected, the line ends here";
 
 const PLAIN_ABOUT: &str = "Runs 1 to 16 scripts together and prints their transcripts";
 
@@ -605,6 +640,7 @@ pub(crate) fn command<'a>(alloc: Global) -> Result<Command<'a>, AllocError> {
 
 fn subcommands<'a>(alloc: Global) -> Result<Vec<Command<'a>>, AllocError> {
     let mut subcommands = Vec::new(alloc);
+    subcommands.push(check(alloc)?)?;
     subcommands.push(plain(alloc)?)?;
     subcommands.push(explore(alloc)?)?;
     subcommands.push(faults(alloc)?)?;
@@ -645,6 +681,18 @@ fn described<'a>(
         .about(about)
         .long_about(long_about)
         .after_help(after_help)
+}
+
+fn check<'a>(alloc: Global) -> Result<Command<'a>, AllocError> {
+    let scripts = scripts(alloc).help("The scripts to check, 1 to 16");
+    described(
+        alloc,
+        "check",
+        CHECK_ABOUT,
+        CHECK_LONG_ABOUT,
+        CHECK_AFTER_HELP,
+    )
+    .arg(scripts)
 }
 
 fn plain<'a>(alloc: Global) -> Result<Command<'a>, AllocError> {

@@ -11,6 +11,7 @@ mod progress;
 mod record;
 mod writing;
 
+use check_commands::check_over;
 use clap::ArgMatches;
 use clap::error::ErrorKind;
 use command::command;
@@ -90,6 +91,7 @@ fn run_matches<O: Outside + Send + Drop, N: NewOutsides<O> + Drop, T: Threads + 
         return Ok(read_twice(rt));
     }
     match command {
+        "check" => run_check(rt, matches),
         "plain" => run_plain(rt, matches),
         "explore" => run_explore(rt, handles, matches),
         "faults" => run_faults(rt, handles, matches),
@@ -135,6 +137,14 @@ pub(crate) fn run_options(matches: &ArgMatches<'_>) -> RunOptions {
         turns: matches.get_flag("turns"),
         expect: matches.get_flag("expect"),
     }
+}
+
+// `detio check`, as the command line has it.
+fn run_check(rt: &HostRuntime, matches: &ArgMatches<'_>) -> Result<u8, AllocError> {
+    let sources = open_scripts(rt, matches.get_strs("script").unwrap_or(&[]))?;
+    let (mut output, mut errors) = (Output::new(rt), rt.stderr());
+    let status = check_over(rt.alloc(), sources, &mut output, &mut errors);
+    Ok(status.unwrap_or(4))
 }
 
 // `detio plain`, as the command line has it.

@@ -1,0 +1,92 @@
+-- Believed: a contract of a command stands on it.
+-- The printed lines of what is found of a script.
+use Rattle.std.specs.Prelude.{ℕ, Bool, true, false, List, [], ◌∷◌, ◌++◌, slice_get, codes, Option}
+use Rattle.std.specs.Prelude.{Some, None, ◌==◌, if◌then◌else◌}
+use Rattle.std.specs.Fmt.{decimal}
+use Rattle.command_texts.specs.Transcripts.{◌+++◌}
+use Rattle.thread_scripts.specs.declared.line.Line.{Line}
+use Rattle.script_checks.specs.declared.checking.ActingLine.{ActingLine}
+use Rattle.script_checks.specs.declared.checking.BadLine.{BadLine}
+use Rattle.script_checks.specs.declared.checking.Checked.{Checked}
+use Rattle.script_checks.specs.declared.checking.Checked.TheVariants as checked
+use Rattle.script_checks.specs.declared.concerns.Concern.{Concern}
+use Rattle.script_checks.specs.declared.concerns.Concern.TheVariants as concern
+use Rattle.script_checks.specs.declared.concerns.Warning.{Warning}
+use Rattle.script_checks.specs.declared.words.PlacedWord.{PlacedWord}
+use Rattle.check_commands.specs.Mistakes.{mistake_text}
+
+-- where something stands: the path of the script, the line and the column
+abbrev pub position_text : List ℕ → ℕ → ℕ → List ℕ
+position_text path line column =
+    path +++ codes ":" +++ decimal line +++ codes ":" +++ decimal column +++ codes ": "
+
+unfoldable pub bad_line_text : List ℕ → BadLine → List ℕ
+bad_line_text path bad =
+    position_text path bad.number bad.mistake.column +++ mistake_text bad.mistake
+
+abbrev pub bad_lines_text : List ℕ → List BadLine → List ℕ
+bad_lines_text path [] = []
+bad_lines_text path (bad ∷ others) = bad_line_text path bad ++ bad_lines_text path others
+
+abbrev pub more_words : ℕ → List ℕ
+more_words count = if count == 1 then codes " more bad line\n" else codes " more bad lines\n"
+
+-- how many bad lines are not shown, if any are
+abbrev pub left_out_text : List ℕ → ℕ → List ℕ
+left_out_text path count =
+    if count == 0 then [] else path +++ codes ": " +++ decimal count +++ more_words count
+
+abbrev pub column_of : Option PlacedWord → ℕ
+column_of None = 1
+column_of (Some word) = word.column
+
+abbrev pub text_of : Option PlacedWord → List ℕ
+text_of None = []
+text_of (Some word) = word.text.now
+
+-- a warning at this word of a line, from 0
+abbrev pub warning_head : List ℕ → ActingLine → ℕ → List ℕ
+warning_head path l word =
+    position_text path l.number (column_of (slice_get l.words.items word)) +++ codes "warning: "
+
+unfoldable pub unused_words : List ℕ
+unused_words = codes "no line jumps to the label "
+
+abbrev pub label_words : List ℕ → List ℕ
+label_words name = unused_words +++ name +++ codes "\n"
+
+abbrev pub warning_text : List ℕ → Concern → ActingLine → List ℕ
+warning_text path concern.UnusedLabel l =
+    warning_head path l 1 +++ label_words (text_of (slice_get l.words.items 1))
+warning_text path concern.NeverReached l =
+    warning_head path l 0 +++ codes "this line is never reached\n"
+
+abbrev pub if_there : (ActingLine → List ℕ) → Option ActingLine → List ℕ
+if_there text None = []
+if_there text (Some l) = text l
+
+abbrev pub warnings_text : List ℕ → List ActingLine → List Warning → List ℕ
+warnings_text path lines [] = []
+warnings_text path lines (w ∷ others) =
+    if_there (warning_text path w.concern) (slice_get lines w.place)
+    ++ warnings_text path lines others
+
+-- what is printed of a text
+abbrev pub checked_text : List ℕ → Checked → List ℕ
+checked_text path checked.TooLong = path +++ codes ": more than 1,000 lines\n"
+checked_text path (checked.Bad shown left_out) =
+    bad_lines_text path shown.items ++ left_out_text path left_out
+checked_text path (checked.Good script lines warnings) =
+    warnings_text path lines.items warnings.items
+
+-- a text is a script
+abbrev pub is_good : Checked → Bool
+is_good checked.TooLong = false
+is_good (checked.Bad shown left_out) = false
+is_good (checked.Good script lines warnings) = true
+
+-- the script that was found, if one was
+abbrev pub script_in : Checked → List (List Line)
+script_in checked.TooLong = []
+script_in (checked.Bad shown left_out) = []
+script_in (checked.Good script lines warnings) = script ∷ []

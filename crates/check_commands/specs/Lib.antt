@@ -1,0 +1,4 @@
+pub mod Mistakes
+pub mod Findings
+pub mod Shares
+pub mod Checking

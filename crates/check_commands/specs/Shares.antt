@@ -1,0 +1,75 @@
+-- Believed: a contract of a command stands on it.
+-- The printed warnings of descriptors that more than one script names.
+use Rattle.std.specs.Prelude.{ℕ, ℤ, List, [], ◌∷◌, ◌++◌, slice_get, codes, Option, Some, None}
+use Rattle.std.specs.Fmt.{signed_decimal}
+use Rattle.command_texts.specs.Transcripts.{◌+++◌}
+use Rattle.thread_scripts.specs.declared.line.Line.{Line}
+use Rattle.script_checks.specs.Sharing.{first_use_from}
+use Rattle.script_checks.specs.declared.checking.ActingLine.{ActingLine}
+use Rattle.script_checks.specs.declared.descriptors.SharedDescriptor.{SharedDescriptor}
+use Rattle.check_commands.specs.Findings.{warning_head}
+use Rattle.check_commands.specs.declared.scripts.ScriptPlace.{ScriptPlace}
+use Rattle.check_commands.specs.declared.scripts.Scripts.{Scripts}
+
+abbrev pub path_of : Option ScriptPlace → List ℕ
+path_of None = []
+path_of (Some place) = place.path.now
+
+abbrev pub more_paths : List ScriptPlace → List ℕ → List ℕ
+more_paths places [] = []
+more_paths places (i ∷ others) =
+    (codes ", " +++ path_of (slice_get places i)) ++ more_paths places others
+
+-- the paths of these scripts
+abbrev pub paths_text : List ScriptPlace → List ℕ → List ℕ
+paths_text places [] = []
+paths_text places (i ∷ others) = path_of (slice_get places i) ++ more_paths places others
+
+unfoldable pub descriptor_word : List ℕ
+descriptor_word = codes "descriptor "
+
+abbrev pub descriptor_text : ℤ → List ℕ
+descriptor_text n = descriptor_word +++ signed_decimal n
+
+unfoldable pub shared_words : List ℕ
+shared_words = codes " is named by more than one script: "
+
+-- that these scripts name it
+abbrev pub sharing_text : List ScriptPlace → List ℕ → List ℕ
+sharing_text places scripts = shared_words +++ paths_text places scripts +++ codes "\n"
+
+-- the line of one, which this line of this script names first, by this word
+abbrev pub shared_line :
+    List ScriptPlace → SharedDescriptor → ScriptPlace → ActingLine → ℕ → List ℕ
+shared_line places s at l word =
+    warning_head at.path.now l word ++ descriptor_text s.number
+    ++ sharing_text places s.scripts.items
+
+abbrev pub if_line : List ScriptPlace → SharedDescriptor → ScriptPlace → ℕ → Option ActingLine
+    → List ℕ
+if_line places s at word None = []
+if_line places s at word (Some l) = shared_line places s at l word
+
+abbrev pub if_used : List ScriptPlace → SharedDescriptor → ScriptPlace → Option (ℕ × ℕ) → List ℕ
+if_used places s at None = []
+if_used places s at (Some found) = if_line places s at found.1 (slice_get at.lines.items found.0)
+
+abbrev pub if_there : List ScriptPlace → SharedDescriptor → Option (List Line) → Option ScriptPlace
+    → List ℕ
+if_there places s None at = []
+if_there places s (Some script) None = []
+if_there places s (Some script) (Some at) = if_used places s at (first_use_from 0 s.number script)
+
+abbrev pub if_named : Scripts → SharedDescriptor → Option ℕ → List ℕ
+if_named scripts s None = []
+if_named scripts s (Some i) =
+    if_there scripts.places.items s (slice_get scripts.scripts.items i)
+    (slice_get scripts.places.items i)
+
+-- the line of a descriptor, where the first script that names it does so first
+abbrev pub shared_text : Scripts → SharedDescriptor → List ℕ
+shared_text scripts s = if_named scripts s (slice_get s.scripts.items 0)
+
+abbrev pub shared_texts : Scripts → List SharedDescriptor → List ℕ
+shared_texts scripts [] = []
+shared_texts scripts (s ∷ others) = shared_text scripts s ++ shared_texts scripts others
