@@ -10,6 +10,9 @@ abbrev pub if_diverging : Setup → State → Option ℕ → Option ℕ
 if_diverging setup s (Some i) = if is_diverging setup s i then Some i else None
 if_diverging setup s None = None
 
--- the least thread that could make an event without the turn is one whose outcome does not answer: there the run diverges
+-- the least thread that could make an event without the turn is one whose outcome does not answer:
+-- there the run diverges
 unfoldable pub diverging : Setup → State → Option ℕ
-diverging setup s = if_diverging setup s (first_below (length s.threads) (λ i. can_advance setup s i || is_diverging setup s i))
+diverging setup s =
+    if_diverging setup s
+    (first_below (length s.threads) (λ i. can_advance setup s i || is_diverging setup s i))

@@ -72,12 +72,14 @@ plain_of input count last =
 
 -- 1 to 16 scripts, with as many lists of outcomes
 abbrev pub counts_fit : ℕ → ℕ → Bool
-counts_fit scripts outcomes = nat_le 1 scripts && nat_le scripts limit.THREADS && (outcomes == scripts)
+counts_fit scripts outcomes =
+    nat_le 1 scripts && nat_le scripts limit.THREADS && (outcomes == scripts)
 
 abbrev pub are_threads : Inputs → Bool
 are_threads input = counts_fit (length input.scripts) (length input.outcomes)
 
--- so many events of the plain schedule lead to this state, none of which is behind a state where the run diverges
+-- so many events of the plain schedule lead to this state, none of which is behind a state where
+-- the run diverges
 pub record GoesTo (setup : Setup) (first : State) (count : ℕ) (last : State) : Type 0 where
   pub reached : plain_run setup count first ≡ last
   pub straight : (k : ℕ) → k < count → diverging setup (plain_run setup k first) ≡ None
@@ -92,13 +94,17 @@ pub record IsPlainRun (input : Inputs) (plain : Plain) : Type 0 where
   pub ends : diverging (setup_of input) last ≡ None → IsOver (setup_of input) last
   pub shows : plain ≡ plain_of input count last
 
--- a run was made, or there is none: for the number of scripts or of lists, then for the settings, and only then since memory ran out
+-- a run was made, or there is none: for the number of scripts or of lists, then for the settings,
+-- and only then since memory ran out
 abbrev pub Runs : Result Plain PlainFault → Inputs → Type 0
 Runs (Ok plain) input = IsPlainRun input plain
 Runs (Err plain_fault.Threads) input = are_threads input ≡ false
-Runs (Err plain_fault.Settings) input = (are_threads input ≡ true) × (are_settings input.settings ≡ false)
-Runs (Err plain_fault.Memory) input = (are_threads input ≡ true) × (are_settings input.settings ≡ true)
+Runs (Err plain_fault.Settings) input =
+    (are_threads input ≡ true) × (are_settings input.settings ≡ false)
+Runs (Err plain_fault.Memory) input =
+    (are_threads input ≡ true) × (are_settings input.settings ≡ true)
 
 -- a plain run shows one thing alone
 abbrev pub OnePlainRun : Type 0
-OnePlainRun = (input : Inputs) (plain other : Plain) → IsPlainRun input plain → IsPlainRun input other → plain ≡ other
+OnePlainRun = (input : Inputs) (plain other : Plain) → IsPlainRun input plain
+    → IsPlainRun input other → plain ≡ other

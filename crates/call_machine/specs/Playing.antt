@@ -30,7 +30,12 @@ pub record Played : Type 0 where
   pub log : Written
 
 abbrev pub played_of : Driver → Played
-played_of d = record { whole = d.machine; players = d.players.items; outcomes = d.outcomes.items; log = d.log }
+played_of d = record {
+  whole = d.machine;
+  players = d.players.items;
+  outcomes = d.outcomes.items;
+  log = d.log;
+}
 
 -- past the last thread
 abbrev pub no_player : Player
@@ -44,12 +49,19 @@ player_at p k = get_or p.players k no_player
 -- out of a call, it has come to where the actor stands, with the last reply
 pub record IsBetween (input : Inputs) (i : ℕ) (p : Player) (u : lock.Thread) : Type 0 where
   pub even : length u.replies ≡ calls_in u.asked
-  pub reached : reached_after (at_start (script_of input i)) u.asked u.replies ≡ record { last = p.last; state = p.actor }
+  pub reached : reached_after (at_start (script_of input i)) u.asked u.replies ≡ record {
+    last = p.last;
+    state = p.actor;
+  }
 
 -- in a call, it comes there with the reply to it
 pub record IsInCall (input : Inputs) (i : ℕ) (p : Player) (u : lock.Thread) : Type 0 where
   pub even : suc (length u.replies) ≡ calls_in u.asked
-  pub reached : (r : Reply) → reached_after (at_start (script_of input i)) u.asked (u.replies ++ r ∷ []) ≡ record { last = Some r; state = p.actor }
+  pub reached : (r : Reply)
+      → reached_after (at_start (script_of input i)) u.asked (u.replies ++ r ∷ []) ≡ record {
+        last = Some r;
+        state = p.actor;
+      }
   pub free : p.stuck ≡ false
 
 -- between calls, or its next step has no room on the thread's clock
@@ -89,23 +101,29 @@ hears told i p = record p { players = set p.players i (heard told (player_at p i
 
 -- ## Events
 
--- thread i makes its event that needs no turn, just where it can, and diverges just where what is there for it does not answer
-pub record Made (made : Progress) (i : ℕ) (old new : Played) (input : Inputs) (s : State) : Type 0 where
+-- thread i makes its event that needs no turn, just where it can, and diverges just where what is
+-- there for it does not answer
+pub record Made (made : Progress) (i : ℕ) (old new : Played) (input : Inputs) (s : State)
+    : Type 0 where
   pub can : can_advance (setup_of input) s i ≡ has_moved made
   pub diverges : is_diverging (setup_of input) s i ≡ has_diverged made
   pub plays : IsPlayed input new (advance (setup_of input) i s)
-  pub log : LogsMore (came_between input.settings.version i s (advance (setup_of input) i s)) old.log new.log
+  pub log : LogsMore
+      (came_between input.settings.version i s (advance (setup_of input) i s)) old.log new.log
   pub falls : Falls (has_moved made) old.whole.threads old.players new.whole.threads new.players
 
 abbrev pub Makes : Progress → ℕ → Played → Played → Type 0
-Makes made i old new = (input : Inputs) (s : State) → ComesAt old input s → Made made i old new input s
+Makes made i old new = (input : Inputs) (s : State) → ComesAt old input s
+    → Made made i old new input s
 
 -- thread i makes its attempt, just where it can
-pub record Tried (made : Bool) (i : ℕ) (old new : Played) (input : Inputs) (s : State) : Type 0 where
+pub record Tried (made : Bool) (i : ℕ) (old new : Played) (input : Inputs) (s : State)
+    : Type 0 where
   pub can : can_attempt (setup_of input) s i ≡ made
   pub plays : IsPlayed input new (attempt (setup_of input) i s)
   pub log : new.log ≡ old.log
   pub falls : Falls made old.whole.threads old.players new.whole.threads new.players
 
 abbrev pub Attempted : Bool → ℕ → Played → Played → Type 0
-Attempted made i old new = (input : Inputs) (s : State) → ComesAt old input s → Tried made i old new input s
+Attempted made i old new = (input : Inputs) (s : State) → ComesAt old input s
+    → Tried made i old new input s

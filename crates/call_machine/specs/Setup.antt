@@ -23,7 +23,11 @@ outcomes_of input i = slice_index_or input.outcomes i []
 
 -- a thread for each script, which asks what its script says
 abbrev pub conditions_of : Inputs → Conditions
-conditions_of input = record { threads = length input.scripts; settings = input.settings; supply = record { next = λ i. scripted (script_of input i); outcomes = outcomes_of input } }
+conditions_of input = record {
+  threads = length input.scripts;
+  settings = input.settings;
+  supply = record { next = λ i. scripted (script_of input i); outcomes = outcomes_of input };
+}
 
 abbrev pub setup_of : Inputs → Setup
 setup_of input = setup_under (conditions_of input)

@@ -42,12 +42,14 @@ stuck_for (phase.Outside outing) i = stop.EndOfLog i
 stuck_for p i = stop.ClockFull
 
 abbrev pub stop_for : List Thread → Option ℕ → Option Stop
-stop_for threads (Some i) = let t : Thread = get_or threads i no_thread in Some (stuck_for t.phase i)
+stop_for threads (Some i) = let t : Thread = get_or threads i no_thread in
+    Some (stuck_for t.phase i)
 stop_for threads None = None
 
 -- why a run stopped that diverged at this thread, or not
 abbrev pub stop_told : List Thread → Option ℕ → Option Stop
-stop_told threads (Some i) = let t : Thread = get_or threads i no_thread in Some (stop.Diverged i t.came)
+stop_told threads (Some i) = let t : Thread = get_or threads i no_thread in
+    Some (stop.Diverged i t.came)
 stop_told threads None = stop_for threads (turn_holder (clocks_of threads))
 
 -- what a run tells that has come to its end, or diverged at this thread

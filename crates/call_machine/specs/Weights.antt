@@ -1,5 +1,6 @@
 -- Internal: no contract of the headline or of a command stands on it.
--- How much a script can still do with its thread: a number that falls with each of the thread's events.
+-- How much a script can still do with its thread: a number that falls with each of the thread's
+-- events.
 use Rattle.std.specs.Prelude.{ℕ, ◌+◌, ◌-◌, ◌*◌, ◌^◌, ◌<◌, ◌≤◌, List, [], ◌∷◌, Bool, true, false, if◌then◌else◌}
 use Rattle.thread_scripts.specs.Meaning.{lines_left}
 use Rattle.call_machine.specs.declared.players.Player.{Player}

@@ -9,9 +9,9 @@ use Rattle.sequential_object.specs.Refusals.{◌>>=◌}
 use Rattle.directories.specs.Lookup.{looked_up}
 use Rattle.file_descriptions.specs.Descriptions.{AreSound}
 use Rattle.posix_terms.specs.declared.errno.Errno.{Errno}
-use Rattle.decisions.specs.Meant.{next_of, seen, seen_of}
-use Rattle.decisions.specs.Renaming.{Alike, node_by, ok_by, seen_by}
-use Rattle.decisions.specs.So.{IsNamed, IsNumbered, IsReferred}
+use Rattle.sequential_object.specs.Meant.{next_of, seen, seen_of}
+use Rattle.sequential_object.specs.Renaming.{Alike, node_by, ok_by, seen_by}
+use Rattle.sequential_object.specs.So.{IsNamed, IsNumbered, IsReferred}
 use Rattle.descriptor_table.proofs.ChangeLemmas.{birth_got}
 use Rattle.descriptor_table.proofs.LinkLemmas.{links_shown}
 use Rattle.descriptor_table.proofs.NextLemmas.{born_next, full_shown}

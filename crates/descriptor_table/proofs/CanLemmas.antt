@@ -10,17 +10,17 @@ use Rattle.posix_terms.specs.Calls.{Call}
 use Rattle.posix_terms.specs.declared.limits.TheConstants.Limits as limit
 use Rattle.directories.specs.Lookup.{NamesFile, looked_up}
 use Rattle.file_descriptions.specs.Descriptions.{ContainsKey}
-use Rattle.decisions.specs.Changes.{old_path_of, path_of}
-use Rattle.decisions.specs.So as so
-use Rattle.decisions.specs.So.{Can, CanAct, CanAdd, CanDo, CanEnds, IsDoor, IsFree, IsKey, IsOtherKey, IsSeen, IsShut}
-use Rattle.decisions.specs.declared.decision.Act.{Act}
-use Rattle.decisions.specs.declared.decision.Act.TheVariants as act
-use Rattle.decisions.specs.declared.decision.Deed.{Deed}
-use Rattle.decisions.specs.declared.decision.Deed.TheVariants as deed
-use Rattle.decisions.specs.declared.decision.Seen.{Seen}
-use Rattle.decisions.specs.declared.decision.Change.{Change}
-use Rattle.decisions.specs.declared.decision.Change.TheVariants as change
-use Rattle.decisions.specs.declared.decision.NewEnds.{NewEnds}
+use Rattle.sequential_object.specs.Changes.{old_path_of, path_of}
+use Rattle.sequential_object.specs.So as so
+use Rattle.sequential_object.specs.So.{Can, CanAct, CanAdd, CanDo, CanEnds, IsFree, IsKey, IsOtherKey, IsSeen, IsShut}
+use Rattle.sequential_object.specs.declared.decision.Act.{Act}
+use Rattle.sequential_object.specs.declared.decision.Act.TheVariants as act
+use Rattle.sequential_object.specs.declared.decision.Deed.{Deed}
+use Rattle.sequential_object.specs.declared.decision.Deed.TheVariants as deed
+use Rattle.sequential_object.specs.declared.decision.Seen.{Seen}
+use Rattle.sequential_object.specs.declared.decision.Change.{Change}
+use Rattle.sequential_object.specs.declared.decision.Change.TheVariants as change
+use Rattle.sequential_object.specs.declared.decision.NewEnds.{NewEnds}
 use Rattle.descriptor_table.proofs.FreeLemmas.{free_number, free_path, lowest_above, next_object, resolved_leads}
 use Rattle.descriptor_table.proofs.SoundLemmas.{bind_ok, closed_other, key_inside, ok_same, some_inside, sound-closed}
 use Rattle.descriptor_table.proofs.UseLemmas.{key_there, named_used, seen_key, seen_used}
@@ -151,11 +151,9 @@ acts_known t c object (act.Pipe first second) sound can = next_known t object ca
 acts_known t c object (act.Socketpair first second) sound can = next_known t object can.next
 acts_known t c object (act.Shutdown side how) sound can = seen_known t object can.at sound can.found can.object_is
 
-door_known : (t : TableState) (object : ℕ) → IsSound t → IsDoor (view t) object → IsKnownNumber t object
-door_known t object sound door = seen_known t object door.at sound door.found door.object_is
-
 pub object_known : (t : TableState) (c : Call) (object : ℕ) (d : Deed) → IsSound t → CanDo (view t) c object d → IsKnownNumber t object
 object_known t c object (deed.Acts a x) sound can = acts_known t c object a sound can.1
-object_known t c object (deed.Asks blocks) sound can = door_known t object sound can.0
-object_known t c object (deed.Closes n key) sound can = door_known t object sound can.0
+object_known t c object (deed.Asks blocks) sound can = seen_known t object can.0.at sound can.0.found can.0.object_is
+object_known t c object (deed.Closes n key) sound can =
+    seen_known t object can.0.at sound (record { descriptor = pos n; found = can.0.found }) can.0.object_is
 object_known t c object (deed.Opens blocks listener new) sound can = subst (IsKnownNumber t) (sym can.1) (next_known t new.object can.0.next)

@@ -26,7 +26,7 @@ use Rattle.descriptor_table.proofs.MapLemmas.{each_put, get-insert_other, get-in
 use Rattle.descriptor_table.specs.Laws.{HasEndsOf}
 use Rattle.descriptor_table.proofs.ObjectLemmas.{IsNew, IsOld, Taken, freed_slot, taken_slot}
 use Rattle.descriptor_table.proofs.PathLemmas.{birth_below, birth_is, closed_shown, first_of_any, linked_shown, one_object}
-use Rattle.decisions.specs.Meant.{moved_to}
+use Rattle.sequential_object.specs.Meant.{moved_to}
 use Rattle.descriptor_table.proofs.ShownLemmas.{key_known, last_shown}
 use Rattle.descriptor_table.proofs.SoundLemmas.{not_described, not_named, known_at, sound-let_go, description_got, key_inside, same_file, with_other, with_same, without_other}
 use Rattle.descriptor_table.specs.Changes.{closed, opened, shared, with_file, with_object, without_gone}

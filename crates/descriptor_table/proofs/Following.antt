@@ -7,13 +7,11 @@ use Rattle.file_descriptions.specs.Descriptions.{AreSound, ContainsKey, descript
 use Rattle.file_descriptions.specs.Laws.{ChangesKeepSound}
 use Rattle.file_descriptions.specs.declared.description.Description.{Description}
 use Rattle.descriptor_table.proofs.ChangeLemmas.{shows-content, shows-set_offset}
-use Rattle.decisions.specs.Decided.{decided}
-use Rattle.decisions.specs.Laws.{DecidesSame}
-use Rattle.decisions.specs.Renaming.{DecidesAlike}
+use Rattle.sequential_object.specs.Renaming.{DecidesAlike}
 use Rattle.sequential_object.specs.Object.{State, content_of}
 use Rattle.posix_terms.specs.declared.object.End.TheVariants as part
-use Rattle.decisions.specs.So.{DecidedSo, IsNamed, IsSeen}
-use Rattle.decisions.specs.declared.decision.Seen.{Seen}
+use Rattle.sequential_object.specs.So.{DecidedSo, IsNamed, IsSeen}
+use Rattle.sequential_object.specs.declared.decision.Seen.{Seen}
 use Rattle.descriptor_table.proofs.AlikeLemmas.{alike_shown, numbered}
 use Rattle.descriptor_table.proofs.CanLemmas.{found_at, number_free, numbers_so, object_known}
 use Rattle.descriptor_table.proofs.DecideLemmas.{decides_as}
@@ -47,11 +45,11 @@ named_file : (t : TableState) (object : ℕ) → IsNamed (view t) object → (s 
 named_file t object named s shows =
     file_at_name t s (components_of named.path) object shows (found_at t.paths named.path (Some (FileNode object)) named.found).0
 
-follows : DecidesSame → DecidesAlike → DecidedSo → (t : TableState) (c : Call) (moved : Moved) → IsSound t → AreSound t.descriptions
+follows : DecidesAlike → DecidedSo → (t : TableState) (c : Call) (moved : Moved) → IsSound t → AreSound t.descriptions
     → Follows t c moved
-follows same names so t c moved sound all = record {
+follows names so t c moved sound all = record {
   so = so.so (view t) c moved (numbered t);
-  step = λ s carried its shows. decides_as same names t s sound all shows c carried moved (decided (view t) c moved) its refl;
+  step = λ s shows. decides_as names t s sound all shows c moved;
 }
 
 offset_moves : ChangesKeepSound → (t : TableState) (key offset : ℕ) → IsSound t → AreSound t.descriptions → ContainsKey t.descriptions key
@@ -65,10 +63,10 @@ offset_moves keep t key offset sound all known =
       shows = λ s shows. shows-set_offset t s key offset all known shows;
     }
 
-pub table_follows : ChangesKeepSound → DecidesSame → DecidesAlike → DecidedSo → TableFollows
-table_follows keep same names so = record {
+pub table_follows : ChangesKeepSound → DecidesAlike → DecidedSo → TableFollows
+table_follows keep names so = record {
   first = (sound-empty, shows-empty);
-  calls = follows same names so;
+  calls = follows names so;
   alike = alike_shown;
   seen = is_there;
   named = λ t object sound named. (named_used t object sound named, named_file t object named);

@@ -15,12 +15,12 @@ use Rattle.file_descriptions.specs.Descriptions.{DescriptionMap}
 use Rattle.descriptor_table.proofs.Closing.{over_closed, over_gone, over_holder}
 use Rattle.descriptor_table.proofs.ObjectLemmas.{IsNew, IsOld, Taken, freed_slot, taken_slot}
 use Rattle.descriptor_table.specs.Agreement.{IsBorn, NumbersStay}
-use Rattle.decisions.specs.Changes.{door_of}
+use Rattle.sequential_object.specs.Changes.{door_of}
 use Rattle.descriptor_table.specs.Changes.{AreOpened, CanChange, Changed, IsDoorOpened, IsNextObject, IsOpened, closed, let_go, named, renamed, shared, unnamed, with_file, with_object, with_paths, without_gone, without_lost}
-use Rattle.decisions.specs.declared.decision.Change.{Change}
-use Rattle.decisions.specs.declared.decision.Change.TheVariants as change
-use Rattle.decisions.specs.declared.decision.NewDescriptor.{NewDescriptor}
-use Rattle.decisions.specs.declared.decision.NewEnds.{NewEnds}
+use Rattle.sequential_object.specs.declared.decision.Change.{Change}
+use Rattle.sequential_object.specs.declared.decision.Change.TheVariants as change
+use Rattle.sequential_object.specs.declared.decision.NewDescriptor.{NewDescriptor}
+use Rattle.sequential_object.specs.declared.decision.NewEnds.{NewEnds}
 use Rattle.descriptor_table.specs.Table.{TableState, IsSound, free_object}
 
 numbers_same : (t u : TableState) → u.objects ≡ t.objects → u.made_objects ≡ t.made_objects → u.descriptions.made ≡ t.descriptions.made → NumbersStay t u

@@ -23,14 +23,14 @@ use Rattle.posix_terms.specs.declared.object.Side.TheVariants.{Side0, Side1}
 use Rattle.file_descriptions.specs.Descriptions.{AreSound, ContainsKey, description_at}
 use Rattle.file_descriptions.specs.Laws.{ChangesKeepSound}
 use Rattle.file_descriptions.specs.declared.description.Description.{Description}
-use Rattle.decisions.specs.Changes as state
-use Rattle.decisions.specs.Changes.{changed, door_of, door_opened, old_path_of, opened_at, path_of}
-use Rattle.decisions.specs.Renaming.{change_by, new_by}
-use Rattle.decisions.specs.So.{Can}
-use Rattle.decisions.specs.declared.decision.Change.{Change}
-use Rattle.decisions.specs.declared.decision.Change.TheVariants as change
-use Rattle.decisions.specs.declared.decision.NewDescriptor.{NewDescriptor}
-use Rattle.decisions.specs.declared.decision.NewEnds.{NewEnds}
+use Rattle.sequential_object.specs.Changes as state
+use Rattle.sequential_object.specs.Changes.{changed, door_of, door_opened, old_path_of, opened_at, path_of}
+use Rattle.sequential_object.specs.Renaming.{change_by, new_by}
+use Rattle.sequential_object.specs.So.{Can}
+use Rattle.sequential_object.specs.declared.decision.Change.{Change}
+use Rattle.sequential_object.specs.declared.decision.Change.TheVariants as change
+use Rattle.sequential_object.specs.declared.decision.NewDescriptor.{NewDescriptor}
+use Rattle.sequential_object.specs.declared.decision.NewEnds.{NewEnds}
 use Rattle.descriptor_table.proofs.CanLemmas.{can_so, found_at}
 use Rattle.descriptor_table.proofs.ChangeLemmas.{birth_of_new, content_of_new, shows-closed, shows-flags, shows-moved, shows-name, shows-opened, shows-shared, shows-with_file, shows-with_object, shows-without_gone, shows-without_name}
 use Rattle.descriptor_table.proofs.Closing.{over_closed, over_holder, over_released}

@@ -12,7 +12,8 @@ use Rattle.std.specs.Ordering.{nat_cmp}
 use Rattle.directories.specs.Lookup.{looked_up}
 use Rattle.std.specs.Prelude.{ℤ, pos, negsuc, slice_index_or, slice_set}
 use Rattle.sequential_object.specs.Descriptors.{is_file, is_key}
-use Rattle.sequential_object.specs.Names.{PathMap, file_named, file_node, links_of, moved}
+use Rattle.sequential_object.specs.Names.{PathMap, links_of, moved}
+use Rattle.directories.specs.Naming.{file_node}
 use Rattle.sequential_object.specs.Object.{Node, FileNode, Directory, path_cmp}
 use Rattle.sequential_object.specs.Paths.{node_at, resolved}
 use Rattle.sequential_object.specs.Refusals.{◌>>=◌}
@@ -365,15 +366,6 @@ sound-moved t old new node its sound =
 pub named_at : (t : TableState) (components : List (List ℕ)) (node : ℕ) → IsSound t → node_at t.paths components ≡ Some (FileNode node) → is_used t node ≡ true
 named_at t [] node sound is = cc
 named_at t (name ∷ names) node sound is = sound.named_objects (name ∷ names) node is
-
-pub named_as : (paths : PathMap) (path : List ℕ) (node : ℕ) → file_named paths path ≡ Ok node → (components : List (List ℕ)) × (node_at paths components ≡ Some (FileNode node))
-unfolding file_named
-named_as paths path node is =
-    let found = bind_ok (resolved paths path) (λ components. file_node (node_at paths components)) node is in
-    (found.0, file_of_node (node_at paths found.0) node found.1.1)
-
-pub used-named : (t : TableState) (path : List ℕ) (node : ℕ) → file_named t.paths path ≡ Ok node → IsSound t → is_used t node ≡ true
-used-named t path node is sound = let found = named_as t.paths path node is in named_at t found.0 node sound found.1
 
 pub used-found : (t : TableState) (path : List ℕ) (node : ℕ) → looked_up t.paths path ≡ Ok (Some (FileNode node)) → IsSound t → is_used t node ≡ true
 unfolding looked_up

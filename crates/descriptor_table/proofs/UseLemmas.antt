@@ -5,8 +5,8 @@ use Rattle.std.specs.Prelude.{ℤ, pos, negsuc}
 use Rattle.sequential_object.specs.Object.{State, content_of}
 use Rattle.file_descriptions.specs.Descriptions.{ContainsKey, description_at}
 use Rattle.file_descriptions.specs.declared.description.Description.{Description}
-use Rattle.decisions.specs.So.{IsNamed, IsReferred, IsSeen}
-use Rattle.decisions.specs.declared.decision.Seen.{Seen}
+use Rattle.sequential_object.specs.So.{IsNamed, IsReferred, IsSeen}
+use Rattle.sequential_object.specs.declared.decision.Seen.{Seen}
 use Rattle.descriptor_table.proofs.ShownLemmas.{key_known}
 use Rattle.descriptor_table.proofs.SoundLemmas.{known_of, used-found}
 use Rattle.descriptor_table.specs.Shows.{Shows, birth_at, is_of}

@@ -7,14 +7,14 @@ use Rattle.posix_terms.specs.declared.errno.Errno.{Errno}
 use Rattle.posix_terms.specs.declared.limits.TheConstants.Limits as limit
 use Rattle.posix_terms.specs.declared.outcome.Outcome.{Outcome}
 use Rattle.posix_terms.specs.declared.outcome.Outcome.TheVariants as outcome
-use Rattle.decisions.specs.Changes.{changed, door_opened}
-use Rattle.decisions.specs.declared.decision.Act.{Act}
-use Rattle.decisions.specs.declared.decision.Act.TheVariants as act
-use Rattle.decisions.specs.declared.decision.Change.TheVariants as change
-use Rattle.decisions.specs.declared.decision.Decision.{Decision}
-use Rattle.decisions.specs.declared.decision.Decision.TheVariants as decision
-use Rattle.decisions.specs.declared.decision.Deed.TheVariants as deed
-use Rattle.decisions.specs.declared.decision.NewDescriptor.{NewDescriptor}
+use Rattle.sequential_object.specs.Changes.{changed, door_opened}
+use Rattle.sequential_object.specs.declared.decision.Act.{Act}
+use Rattle.sequential_object.specs.declared.decision.Act.TheVariants as act
+use Rattle.sequential_object.specs.declared.decision.Change.TheVariants as change
+use Rattle.sequential_object.specs.declared.decision.Decision.{Decision}
+use Rattle.sequential_object.specs.declared.decision.Decision.TheVariants as decision
+use Rattle.sequential_object.specs.declared.decision.Deed.TheVariants as deed
+use Rattle.sequential_object.specs.declared.decision.NewDescriptor.{NewDescriptor}
 use Rattle.descriptor_table.specs.Changes.{IsPortOf}
 use Rattle.descriptor_table.specs.declared.plan.NewNumbers.{NewNumbers}
 use Rattle.descriptor_table.specs.declared.plan.NewNumbers.TheVariants as numbers
@@ -30,7 +30,8 @@ abbrev pub with_door : State → Call → NewDescriptor → Option ℕ → State
 with_door s c new (Some value) = door_opened s c new value
 with_door s c new None = s
 
--- the state that a call leaves but for the contents and offsets that its act changes, by the outcome of what it asks outside
+-- the state that a call leaves but for the contents and offsets that its act changes, by the
+-- outcome of what it asks outside
 abbrev pub left_of : State → Call → Option Outcome → Result Decision Errno → State
 left_of s c o (Ok (decision.Replies r x)) = changed s c x
 left_of s c o (Ok (decision.Locks object (deed.Acts a x))) = changed s c x

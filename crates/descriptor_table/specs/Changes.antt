@@ -1,5 +1,6 @@
 -- Internal: no contract of the headline or of a command stands on it.
--- What each change does to the table: to its descriptors, descriptions and names, and to the numbers of its objects.
+-- What each change does to the table: to its descriptors, descriptions and names, and to the
+-- numbers of its objects.
 use Rattle.std.specs.Prelude.{◌≡◌, ℕ, ◌+◌, ◌<◌, ◌≤◌, ◌^◌, pos, List, length, slice_index_or, slice_set, true, false, Option, Some, None, if◌then◌else◌}
 use Rattle.std.specs.FinMap as map
 use Rattle.sequential_object.specs.Names.{PathMap}
@@ -16,30 +17,41 @@ use Rattle.posix_terms.specs.declared.object.Side.TheVariants.{Side0, Side1}
 use Rattle.directories.specs.Lookup.{NamesFile, moved_name}
 use Rattle.file_descriptions.specs.Descriptions.{ContainsKey, description_at, is_last_held, new_description, with_flags, with_holder, with_new, without_holder}
 use Rattle.file_descriptions.specs.declared.description.StatusFlags.{StatusFlags}
-use Rattle.decisions.specs.Changes.{door_of, old_path_of, path_of}
-use Rattle.decisions.specs.declared.decision.Change.{Change}
-use Rattle.decisions.specs.declared.decision.Change.TheVariants as change
-use Rattle.decisions.specs.declared.decision.NewDescriptor.{NewDescriptor}
-use Rattle.decisions.specs.declared.decision.NewEnds.{NewEnds}
+use Rattle.sequential_object.specs.Changes.{door_of, old_path_of, path_of}
+use Rattle.sequential_object.specs.declared.decision.Change.{Change}
+use Rattle.sequential_object.specs.declared.decision.Change.TheVariants as change
+use Rattle.sequential_object.specs.declared.decision.NewDescriptor.{NewDescriptor}
+use Rattle.sequential_object.specs.declared.decision.NewEnds.{NewEnds}
 use Rattle.descriptor_table.specs.Table.{TableState, free_object, is_gone, is_used, key_at}
 
 -- ## Descriptors
 
 -- number n refers to the description of this key too
 abbrev pub shared : TableState → ℕ → ℕ → TableState
-shared t n key = record t { descriptors = slice_set t.descriptors n (Some key); descriptions = with_holder t.descriptions key }
+shared t n key = record t {
+  descriptors = slice_set t.descriptors n (Some key);
+  descriptions = with_holder t.descriptions key;
+}
 
 -- number n refers to its description no longer
 abbrev pub let_go : TableState → ℕ → ℕ → TableState
-let_go t n key = record t { descriptors = slice_set t.descriptors n None; descriptions = without_holder t.descriptions key }
+let_go t n key = record t {
+  descriptors = slice_set t.descriptors n None;
+  descriptions = without_holder t.descriptions key;
+}
 
 -- the number of an object that nothing refers to is free
 abbrev pub without_gone : TableState → ℕ → TableState
-without_gone t node = if is_gone t node then record t { objects = slice_set t.objects node None } else t
+without_gone t node =
+    if is_gone t node then record t { objects = slice_set t.objects node None }
+    else t
 
 -- number n is closed
 abbrev pub closed : TableState → ℕ → ℕ → TableState
-closed t n key = if is_last_held t.descriptions key then without_gone (let_go t n key) (description_at t.descriptions key).node else let_go t n key
+closed t n key =
+    if is_last_held t.descriptions key
+    then without_gone (let_go t n key) (description_at t.descriptions key).node
+    else let_go t n key
 
 -- ## Names
 
@@ -64,18 +76,26 @@ without_lost t (Some node) = without_gone t node
 
 -- a new object that no path names
 abbrev pub with_object : TableState → ℕ → TableState
-with_object t node = record t { objects = slice_set t.objects node (Some t.made_objects); made_objects = t.made_objects + 1 }
+with_object t node = record t {
+  objects = slice_set t.objects node (Some t.made_objects);
+  made_objects = t.made_objects + 1;
+}
 
 -- a new file, which has this number and one name
 abbrev pub with_file : TableState → PathMap → ℕ → TableState
-with_file t paths node = record t { paths = paths; objects = slice_set t.objects node (Some t.made_objects); made_objects = t.made_objects + 1 }
+with_file t paths node = record t {
+  paths = paths;
+  objects = slice_set t.objects node (Some t.made_objects);
+  made_objects = t.made_objects + 1;
+}
 
 -- number n refers to a new description of an end of an object, under this key
 abbrev pub opened : TableState → ℕ → ℕ → ℕ → End → Access → StatusFlags → TableState
 opened t n key node which access flags =
     record t {
       descriptors = slice_set t.descriptors n (Some key);
-      descriptions = with_new t.descriptions key (new_description node which access flags t.descriptions.made);
+      descriptions =
+          with_new t.descriptions key (new_description node which access flags t.descriptions.made);
     }
 
 abbrev pub flags_of : NewDescriptor → StatusFlags
@@ -95,7 +115,8 @@ no_flags = record { append = false; nonblock = false }
 abbrev pub AreOpened : TableState → End × Access → End × Access → NewEnds → TableState → Type 0
 AreOpened t one other new after =
     (key : ℕ) × (map.get t.descriptions.by_key key ≡ None)
-    × (let between = opened (with_object t new.object) new.first key new.object one.0 one.1 no_flags in
+    × (let between = opened
+    (with_object t new.object) new.first key new.object one.0 one.1 no_flags in
     (next : ℕ) × (map.get between.descriptions.by_key next ≡ None)
     × (after ≡ opened between new.second next new.object other.0 other.1 no_flags))
 
@@ -146,11 +167,15 @@ Refers t n key = (n < limit.DESCRIPTORS) × (key_at t (pos n) ≡ Some key)
 
 -- the next number of an object, which is free
 abbrev pub IsNextObject : TableState → ℕ → Type 0
-IsNextObject t node = (node < limit.OBJECTS) × (slice_index_or t.objects node None ≡ None) × (free_object t ≡ Some node)
+IsNextObject t node =
+    (node < limit.OBJECTS) × (slice_index_or t.objects node None ≡ None)
+    × (free_object t ≡ Some node)
 
 -- a path names nothing, and there is room for one more name
 abbrev pub IsFreePath : PathMap → List ℕ → Type 0
-IsFreePath paths path = (map.len paths < limit.NAMES) × (length path ≤ limit.PATH_BYTES) × (map.get paths (components_of path) ≡ None)
+IsFreePath paths path =
+    (map.len paths < limit.NAMES) × (length path ≤ limit.PATH_BYTES)
+    × (map.get paths (components_of path) ≡ None)
 
 -- the old path names this file, and the new one is not too long
 abbrev pub CanMove : PathMap → List ℕ → List ℕ → ℕ → Type 0

@@ -11,13 +11,13 @@ use Rattle.posix_terms.specs.declared.object.Door.{Door}
 use Rattle.posix_terms.specs.declared.object.End.{End}
 use Rattle.posix_terms.specs.declared.object.End.TheVariants as part
 use Rattle.file_descriptions.specs.Descriptions.{AreSound, ContainsKey, with_offset}
-use Rattle.decisions.specs.Meant.{moved_to, seen}
-use Rattle.decisions.specs.Renaming.{Alike}
-use Rattle.decisions.specs.Decided.{decided}
-use Rattle.decisions.specs.So.{CanAct, CanDo, IsFree, IsNamed, IsSeen, IsSo}
-use Rattle.decisions.specs.declared.decision.Act.{Act}
-use Rattle.decisions.specs.declared.decision.Deed.{Deed}
-use Rattle.decisions.specs.declared.decision.Seen.{Seen}
+use Rattle.sequential_object.specs.Meant.{moved_to, seen}
+use Rattle.sequential_object.specs.Renaming.{Alike}
+use Rattle.sequential_object.specs.Decided.{decided}
+use Rattle.sequential_object.specs.So.{CanAct, CanDo, IsFree, IsNamed, IsSeen, IsSo}
+use Rattle.sequential_object.specs.declared.decision.Act.{Act}
+use Rattle.sequential_object.specs.declared.decision.Deed.{Deed}
+use Rattle.sequential_object.specs.declared.decision.Seen.{Seen}
 use Rattle.descriptor_table.specs.Agreement.{DecidesAsStep}
 use Rattle.descriptor_table.specs.Applied.{AreNumbers}
 use Rattle.descriptor_table.specs.Changes.{IsFreeNumber, IsNextObject}
@@ -34,7 +34,8 @@ with_offset_at t key offset =
 abbrev pub HasEndsOf : Content → Content → Type 0
 HasEndsOf content other = (which : End) → is_of which other ≡ true → is_of which content ≡ true
 
--- what was seen by a descriptor is there: the description, under its birth, and its object, which has the end that it is of
+-- what was seen by a descriptor is there: the description, under its birth, and its object, which
+-- has the end that it is of
 pub record IsThere (t : TableState) (at : Seen) : Type 0 where
   pub key : ContainsKey t.descriptions at.key
   pub used : is_used t at.object ≡ true
@@ -81,7 +82,8 @@ pub record TableFollows : Type 0 where
   pub known : (t : TableState) (c : Call) (object : ℕ) (d : Deed) → IsSound t
       → CanDo (view t) c object d → IsKnownNumber t object
   -- an end that an object has is open in the table exactly when it is in the state
-  pub ends : (t : TableState) (s : State) (node : ℕ) (which : End) → IsSound t → AreSound t.descriptions
+  pub ends : (t : TableState) (s : State) (node : ℕ) (which : End) → IsSound t
+      → AreSound t.descriptions
       → Shows t s → is_used t node ≡ true → is_of which (content_of s (birth_at t node)) ≡ true
       → posix.has_end s (birth_at t node) which ≡ is_open t node which
   pub offsets : (t : TableState) (key offset : ℕ) → IsSound t → AreSound t.descriptions

@@ -5,12 +5,12 @@ use Rattle.posix_terms.specs.Calls.{Call}
 use Rattle.posix_terms.specs.declared.errno.Errno.{Errno}
 use Rattle.posix_terms.specs.declared.reply.Reply.{Reply}
 use Rattle.posix_terms.specs.declared.reply.Reply.TheVariants as reply
-use Rattle.decisions.specs.Bytes.{bytes_of_kind}
-use Rattle.decisions.specs.Meant.{request_asked, request_kind}
-use Rattle.decisions.specs.declared.decision.Decision.{Decision}
-use Rattle.decisions.specs.declared.decision.Decision.TheVariants as decision
-use Rattle.decisions.specs.declared.decision.Deed.{Deed}
-use Rattle.decisions.specs.declared.decision.Deed.TheVariants as deed
+use Rattle.sequential_object.specs.Bytes.{bytes_of_kind}
+use Rattle.sequential_object.specs.Meant.{request_asked, request_kind}
+use Rattle.sequential_object.specs.declared.decision.Decision.{Decision}
+use Rattle.sequential_object.specs.declared.decision.Decision.TheVariants as decision
+use Rattle.sequential_object.specs.declared.decision.Deed.{Deed}
+use Rattle.sequential_object.specs.declared.decision.Deed.TheVariants as deed
 use Rattle.descriptor_table.specs.declared.plan.Errand.{Errand}
 use Rattle.descriptor_table.specs.declared.plan.Op.{Op}
 use Rattle.descriptor_table.specs.declared.plan.Op.TheVariants as op

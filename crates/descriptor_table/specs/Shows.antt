@@ -1,6 +1,6 @@
 -- Believed: a contract of the headline stands on it.
--- What a table shows of the sequential object: all but what the objects hold. The keys of the sequential object are the
--- births of descriptions and of objects.
+-- What a table shows of the sequential object: all but what the objects hold. The keys of the
+-- sequential object are the births of descriptions and of objects.
 use Rattle.std.specs.Prelude.{◌≡◌, ℕ, ◌==◌, ℤ, List, Bool, true, false, Some, None, Ok, Err, is_some, unwrap_or, slice_index_or}
 use Rattle.std.specs.Option.{option_map}
 use Rattle.std.specs.FinMap as map
@@ -56,21 +56,31 @@ is_of (part.Door one) (DoorTo other) = same_door one other
 is_of which content = false
 
 pub record Shows (t : TableState) (s : State) : Type 0 where
-  pub descriptors : (n : ℕ) → map.get s.descriptors n ≡ option_map (birth_of t) (slice_index_or t.descriptors n None)
+  pub descriptors : (n : ℕ)
+      → map.get s.descriptors n ≡ option_map (birth_of t) (slice_index_or t.descriptors n None)
   -- each description is there under its birth, and no other one
-  pub descriptions : (key : ℕ) (d : Description) → map.get t.descriptions.by_key key ≡ Some d → map.get s.descriptions d.birth ≡ Some (shown t d)
-  pub described : (birth : ℕ) → is_some (map.get s.descriptions birth) ≡ true → (key : ℕ) × (d : Description) × (map.get t.descriptions.by_key key ≡ Some d) × (d.birth ≡ birth)
-  pub paths : (path : List (List ℕ)) → map.get s.paths path ≡ option_map (shown_node t) (map.get t.paths path)
+  pub descriptions : (key : ℕ) (d : Description) → map.get t.descriptions.by_key key ≡ Some d
+      → map.get s.descriptions d.birth ≡ Some (shown t d)
+  pub described : (birth : ℕ) → is_some (map.get s.descriptions birth) ≡ true
+      → (key : ℕ) × (d : Description) × (map.get t.descriptions.by_key key ≡ Some d)
+      × (d.birth ≡ birth)
+  pub paths : (path : List (List ℕ))
+      → map.get s.paths path ≡ option_map (shown_node t) (map.get t.paths path)
   -- each object is there under its birth, and no other one
-  pub objects : (node birth : ℕ) → slice_index_or t.objects node None ≡ Some birth → is_some (map.get s.objects birth) ≡ true
-  pub numbered : (birth : ℕ) → is_some (map.get s.objects birth) ≡ true → (node : ℕ) × (slice_index_or t.objects node None ≡ Some birth)
+  pub objects : (node birth : ℕ) → slice_index_or t.objects node None ≡ Some birth
+      → is_some (map.get s.objects birth) ≡ true
+  pub numbered : (birth : ℕ) → is_some (map.get s.objects birth) ≡ true
+      → (node : ℕ) × (slice_index_or t.objects node None ≡ Some birth)
   -- each has the ends that its descriptions are of, and what a path names is a file
-  pub ends : (key : ℕ) (d : Description) → map.get t.descriptions.by_key key ≡ Some d → is_of d.«end» (content_of s (birth_at t d.node)) ≡ true
-  pub files : (path : List (List ℕ)) (node : ℕ) → map.get t.paths path ≡ Some (FileNode node) → is_of part.Only (content_of s (birth_at t node)) ≡ true
+  pub ends : (key : ℕ) (d : Description) → map.get t.descriptions.by_key key ≡ Some d
+      → is_of d.«end» (content_of s (birth_at t d.node)) ≡ true
+  pub files : (path : List (List ℕ)) (node : ℕ) → map.get t.paths path ≡ Some (FileNode node)
+      → is_of part.Only (content_of s (birth_at t node)) ≡ true
   pub next_description : s.next_description ≡ t.descriptions.made
   pub next_object : s.next_object ≡ t.made_objects
 
--- a descriptor refers to the same in the table and in the state: to nothing, or to a description that each has
+-- a descriptor refers to the same in the table and in the state: to nothing, or to a description
+-- that each has
 pub data RefersAlike (t : TableState) (s : State) (descriptor : ℤ) : Type 0 where
   Shut : (table : described t descriptor ≡ Err EBADF)
       → (state : descriptors.described s descriptor ≡ Err EBADF) → RefersAlike t s descriptor

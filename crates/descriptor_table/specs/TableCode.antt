@@ -15,7 +15,14 @@ abbrev pub table_code : Coded TableState
 table_code =
     code_by
     ((List (Option ℕ) × DescriptionMap) × (PathMap × (List (Option ℕ) × ℕ)))
-    (coded× (coded× numbers_code description_map_code) (coded× path_map_code (coded× numbers_code coded_ℕ)))
+    (coded× (coded× numbers_code description_map_code)
+    (coded× path_map_code (coded× numbers_code coded_ℕ)))
     (λ t. ((t.descriptors, t.descriptions), (t.paths, (t.objects, t.made_objects))))
-    (λ p. record { descriptors = p.0.0; descriptions = p.0.1; paths = p.1.0; objects = p.1.1.0; made_objects = p.1.1.1 })
+    (λ p. record {
+      descriptors = p.0.0;
+      descriptions = p.0.1;
+      paths = p.1.0;
+      objects = p.1.1.0;
+      made_objects = p.1.1.1;
+    })
     (λ _. refl)

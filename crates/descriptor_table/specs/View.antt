@@ -9,10 +9,10 @@ use Rattle.sequential_object.specs.Refusals.{◌>>=◌}
 use Rattle.posix_terms.specs.declared.errno.Errno.{Errno}
 use Rattle.posix_terms.specs.declared.limits.TheConstants.Limits as limit
 use Rattle.file_descriptions.specs.declared.description.Description.{Description}
-use Rattle.decisions.specs.Meant.{natural_of}
-use Rattle.decisions.specs.Renaming.{Names}
-use Rattle.decisions.specs.View.{View}
-use Rattle.decisions.specs.declared.decision.Seen.{Seen}
+use Rattle.sequential_object.specs.Meant.{natural_of}
+use Rattle.sequential_object.specs.Renaming.{Names}
+use Rattle.sequential_object.specs.View.{View}
+use Rattle.sequential_object.specs.declared.decision.Seen.{Seen}
 use Rattle.descriptor_table.specs.Shows.{birth_at, birth_of}
 use Rattle.descriptor_table.specs.Table.{TableState, described, free_object, is_closed, lowest_free}
 

@@ -1,11 +1,11 @@
 ghost use Rattle.std.specs.Prelude.{◌≡◌, ◌<◌, ◌≤◌, ◌+◌, ◌^◌, pos, true, false, IsTrue, option_copied, Some, Ok};
 ghost use Rattle.sequential_object.specs.Object.{State};
 ghost use Rattle.posix_terms.specs.declared.object.End.TheVariants as part;
-ghost use Rattle.decisions.specs.Changes.{changed, door_of, door_opened, old_path_of, path_of};
-ghost use Rattle.decisions.specs.Decided.{decided};
-ghost use Rattle.decisions.specs.Renaming.{change_by, decision_by, new_by, ok_by};
-ghost use Rattle.decisions.specs.So.{Can, CanDo, IsFree, IsSo};
-ghost use Rattle.decisions.specs.declared.decision.Decision.TheVariants as decision;
+ghost use Rattle.sequential_object.specs.Changes.{changed, door_of, door_opened, old_path_of, path_of};
+ghost use Rattle.sequential_object.specs.Decided.{decided};
+ghost use Rattle.sequential_object.specs.Renaming.{change_by, decision_by, new_by, ok_by};
+ghost use Rattle.sequential_object.specs.So.{Can, CanDo, IsFree, IsSo};
+ghost use Rattle.sequential_object.specs.declared.decision.Decision.TheVariants as decision;
 ghost use Rattle.descriptor_table.specs.Agreement.{NumbersStay};
 ghost use Rattle.descriptor_table.specs.Applied.{AreNumbers, IsAtPort, door_given, given, left_of};
 ghost use Rattle.descriptor_table.specs.Applied.{numbers_of, value_of, with_door};
@@ -22,10 +22,10 @@ ghost use Rattle.descriptor_table.specs.declared.plan.NewNumbers.TheVariants as 
 use crate::laws::table_follows_step;
 use crate::plan::{NewNumbers, Plan};
 use crate::table::Table;
-use decisions::{Act, Change, Decision, Deed, NewDescriptor, NewEnds};
 use directories::Node;
 use file_descriptions::{StatusFlags, changes_keep_sound};
 use posix_terms::{Access, Call, Door, End, Moved, Outcome, Side};
+use sequential_object::{Act, Change, Decision, Deed, NewDescriptor, NewEnds};
 
 impl Table {
     /// Makes the change of a call that was planned, of descriptors, descriptions, names and objects,

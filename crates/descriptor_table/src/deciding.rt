@@ -1,27 +1,27 @@
 ghost use Rattle.std.specs.Prelude.{◌≡◌, ◌<◌, not, Ok, pos, IfOk};
-ghost use Rattle.decisions.specs.declared.decision.Change.TheVariants as change;
-ghost use Rattle.decisions.specs.declared.decision.Decision.TheVariants as decision;
-ghost use Rattle.decisions.specs.declared.decision.Deed.TheVariants as deed;
+ghost use Rattle.sequential_object.specs.declared.decision.Change.TheVariants as change;
+ghost use Rattle.sequential_object.specs.declared.decision.Decision.TheVariants as decision;
+ghost use Rattle.sequential_object.specs.declared.decision.Deed.TheVariants as deed;
 ghost use Rattle.posix_terms.specs.declared.reply.Reply.TheVariants as reply;
-ghost use Rattle.decisions.specs.Decided.{decided};
-ghost use Rattle.decisions.specs.Deciding.{acts_or_asks, is_file, leads_outside, locks};
-ghost use Rattle.decisions.specs.Deciding.{must_be_file, tells};
-ghost use Rattle.decisions.specs.Descriptors.{close_decided, closes, new_descriptor, open_decided};
-ghost use Rattle.decisions.specs.Descriptors.{open_new, open_there, opened_with};
-ghost use Rattle.decisions.specs.Doors.{host_open_decided, must_be_listener, opens, port_decided};
-ghost use Rattle.decisions.specs.Doors.{tcp_accept_decided};
-ghost use Rattle.decisions.specs.Duplicates.{dup2_decided, dup_decided, dup_from_decided, replaces};
-ghost use Rattle.decisions.specs.Names.{addable, ends_by_name, file_named, link_decided};
-ghost use Rattle.decisions.specs.Names.{loses_name, mkdir_decided, rename_decided, renames};
-ghost use Rattle.decisions.specs.Names.{rmdir_decided, unlink_decided};
-ghost use Rattle.decisions.specs.Sockets.{new_ends, pipe_decided, shutdown_decided, shuts};
-ghost use Rattle.decisions.specs.Sockets.{socketpair_decided};
-ghost use Rattle.decisions.specs.Status.{fstat_decided, getfl_decided, setfl_decided, stat_by};
-ghost use Rattle.decisions.specs.Status.{status_number};
-ghost use Rattle.decisions.specs.Transfers.{first_write, ftruncate_decided, goes_on, is_pipe};
-ghost use Rattle.decisions.specs.Transfers.{lseek_decided, moves, not_listener, pread_decided};
-ghost use Rattle.decisions.specs.Transfers.{pwrite_decided, read_decided, seekable, write_decided};
-ghost use Rattle.decisions.specs.So.{IsSo};
+ghost use Rattle.sequential_object.specs.Decided.{decided};
+ghost use Rattle.sequential_object.specs.Deciding.{acts_or_asks, is_file, leads_outside, locks};
+ghost use Rattle.sequential_object.specs.Deciding.{must_be_file, tells};
+ghost use Rattle.sequential_object.specs.Opening.{close_decided, closes, new_descriptor, open_decided};
+ghost use Rattle.sequential_object.specs.Opening.{open_new, open_there, opened_with};
+ghost use Rattle.sequential_object.specs.Doors.{host_open_decided, must_be_listener, opens, port_decided};
+ghost use Rattle.sequential_object.specs.Doors.{tcp_accept_decided};
+ghost use Rattle.sequential_object.specs.Duplicates.{dup2_decided, dup_decided, dup_from_decided, replaces};
+ghost use Rattle.sequential_object.specs.Names.{addable, ends_by_name, file_named, link_decided};
+ghost use Rattle.sequential_object.specs.Names.{loses_name, mkdir_decided, rename_decided, renames};
+ghost use Rattle.sequential_object.specs.Names.{rmdir_decided, unlink_decided};
+ghost use Rattle.sequential_object.specs.Sockets.{new_ends, pipe_decided, shutdown_decided, shuts};
+ghost use Rattle.sequential_object.specs.Sockets.{socketpair_decided};
+ghost use Rattle.sequential_object.specs.Status.{fstat_decided, getfl_decided, setfl_decided, stat_by};
+ghost use Rattle.sequential_object.specs.Status.{status_number};
+ghost use Rattle.sequential_object.specs.Transfers.{first_write, ftruncate_decided, goes_on, is_pipe};
+ghost use Rattle.sequential_object.specs.Transfers.{lseek_decided, moves, not_listener, pread_decided};
+ghost use Rattle.sequential_object.specs.Transfers.{pwrite_decided, read_decided, seekable, write_decided};
+ghost use Rattle.sequential_object.specs.So.{IsSo};
 ghost use Rattle.descriptor_table.specs.Agreement.{DecidesAsStep};
 ghost use Rattle.descriptor_table.specs.Plans.{plan_of};
 ghost use Rattle.descriptor_table.specs.View.{seen_at, view};
@@ -32,12 +32,12 @@ use crate::laws::table_follows_step;
 use crate::numbers::{check_host_path, count_of, descriptor_number, port_of, position_of, size_of};
 use crate::plan::{Plan, plan_of};
 use crate::table::Table;
-use decisions::{Act, Change, Decision, Deed, NewDescriptor, NewEnds, Seen};
 use directories::Node;
 use posix_terms::{
     Access, Call, Door, End, Errno, Limits, Moved, ObjectKind, OpenFlags, Reply, ShutdownHow,
     Whence,
 };
+use sequential_object::{Act, Change, Decision, Deed, NewDescriptor, NewEnds, Seen};
 
 impl Table {
     /// What the table makes of a call that moved so much before, as `decide` has it, and what it asks
@@ -143,7 +143,7 @@ impl Table {
         })
     }
 
-    #[tactic(auto, unfolding(decisions::specs::Descriptors::open_decided))]
+    #[tactic(auto, unfolding(sequential_object::specs::Opening::open_decided))]
     fn opening(&self, path: &[u8], access: Access, flags: OpenFlags) -> Result<Decision, Errno>
         ensures { result ≡ open_decided (view self.now) path.now access flags }
     {
@@ -187,14 +187,14 @@ impl Table {
         Ok(acts(object, Act::Create { number }, change))
     }
 
-    #[tactic(auto, unfolding(decisions::specs::Descriptors::close_decided))]
+    #[tactic(auto, unfolding(sequential_object::specs::Opening::close_decided))]
     fn closing(&self, descriptor: i64) -> Result<Decision, Errno>
         ensures { result ≡ close_decided (view self.now) descriptor }
     {
         Ok(closes(self.seen(descriptor)?))
     }
 
-    #[tactic(auto, unfolding(decisions::specs::Duplicates::dup_decided))]
+    #[tactic(auto, unfolding(sequential_object::specs::Duplicates::dup_decided))]
     fn dup(&self, descriptor: i64) -> Result<Decision, Errno>
         ensures { result ≡ dup_decided (view self.now) descriptor }
     {
@@ -203,7 +203,7 @@ impl Table {
         Ok(shares(number, at.key))
     }
 
-    #[tactic(auto, unfolding(decisions::specs::Duplicates::dup_from_decided))]
+    #[tactic(auto, unfolding(sequential_object::specs::Duplicates::dup_from_decided))]
     fn dup_from(&self, descriptor: i64, least: i64) -> Result<Decision, Errno>
         ensures { result ≡ dup_from_decided (view self.now) descriptor least }
     {
@@ -213,7 +213,7 @@ impl Table {
         Ok(shares(number, at.key))
     }
 
-    #[tactic(auto, unfolding(decisions::specs::Duplicates::dup2_decided))]
+    #[tactic(auto, unfolding(sequential_object::specs::Duplicates::dup2_decided))]
     fn dup2(&self, descriptor: i64, target: i64) -> Result<Decision, Errno>
         ensures { result ≡ dup2_decided (view self.now) descriptor target }
     {
@@ -231,7 +231,7 @@ impl Table {
         Ok(replaces(number, at.key, to))
     }
 
-    #[tactic(auto, unfolding(decisions::specs::Transfers::read_decided))]
+    #[tactic(auto, unfolding(sequential_object::specs::Transfers::read_decided))]
     fn reading(&self, descriptor: i64, count: i64) -> Result<Decision, Errno>
         ensures { result ≡ read_decided (view self.now) descriptor count }
     {
@@ -245,7 +245,7 @@ impl Table {
         Ok(moves(from, count, none, Act::Read { from, count }))
     }
 
-    #[tactic(auto, unfolding(decisions::specs::Transfers::write_decided))]
+    #[tactic(auto, unfolding(sequential_object::specs::Transfers::write_decided))]
     fn writing(&self, descriptor: i64, count: usize, moved: Moved) -> Result<Decision, Errno>
         ensures { result ≡ write_decided (view self.now) descriptor count moved }
     {
@@ -281,7 +281,7 @@ impl Table {
         }
     }
 
-    #[tactic(auto, unfolding(decisions::specs::Transfers::pread_decided))]
+    #[tactic(auto, unfolding(sequential_object::specs::Transfers::pread_decided))]
     fn reading_at(&self, descriptor: i64, count: i64, position: i64) -> Result<Decision, Errno>
         ensures { result ≡ pread_decided (view self.now) descriptor count position }
     {
@@ -295,7 +295,7 @@ impl Table {
         Ok(locks(from, Act::Pread { count, position }))
     }
 
-    #[tactic(auto, unfolding(decisions::specs::Transfers::pwrite_decided))]
+    #[tactic(auto, unfolding(sequential_object::specs::Transfers::pwrite_decided))]
     fn writing_at(&self, descriptor: i64, count: usize, position: i64) -> Result<Decision, Errno>
         ensures { result ≡ pwrite_decided (view self.now) descriptor count position }
     {
@@ -311,7 +311,7 @@ impl Table {
         Ok(locks(to, Act::Pwrite { position }))
     }
 
-    #[tactic(auto, unfolding(decisions::specs::Transfers::lseek_decided))]
+    #[tactic(auto, unfolding(sequential_object::specs::Transfers::lseek_decided))]
     fn seeking(&self, descriptor: i64, offset: i64, whence: Whence) -> Result<Decision, Errno>
         ensures { result ≡ lseek_decided (view self.now) descriptor offset whence }
     {
@@ -320,7 +320,7 @@ impl Table {
         Ok(acts_or_asks(at, false, Act::Lseek { at }))
     }
 
-    #[tactic(auto, unfolding(decisions::specs::Transfers::ftruncate_decided))]
+    #[tactic(auto, unfolding(sequential_object::specs::Transfers::ftruncate_decided))]
     fn cutting(&self, descriptor: i64, size: i64) -> Result<Decision, Errno>
         ensures { result ≡ ftruncate_decided (view self.now) descriptor size }
     {
@@ -333,7 +333,7 @@ impl Table {
         Ok(locks(at, Act::Ftruncate { size }))
     }
 
-    #[tactic(auto, unfolding(decisions::specs::Status::fstat_decided))]
+    #[tactic(auto, unfolding(sequential_object::specs::Status::fstat_decided))]
     fn stat(&self, descriptor: i64) -> Result<Decision, Errno>
         ensures { result ≡ fstat_decided (view self.now) descriptor }
     {
@@ -349,7 +349,7 @@ impl Table {
         }))
     }
 
-    #[tactic(auto, unfolding(decisions::specs::Status::getfl_decided))]
+    #[tactic(auto, unfolding(sequential_object::specs::Status::getfl_decided))]
     fn flags(&self, descriptor: i64) -> Result<Decision, Errno>
         ensures { result ≡ getfl_decided (view self.now) descriptor }
     {
@@ -357,7 +357,7 @@ impl Table {
         Ok(tells(Reply::Number(status_number(at))))
     }
 
-    #[tactic(auto, unfolding(decisions::specs::Status::setfl_decided))]
+    #[tactic(auto, unfolding(sequential_object::specs::Status::setfl_decided))]
     fn setting_flags(
         &self,
         descriptor: i64,
@@ -377,7 +377,7 @@ impl Table {
         })
     }
 
-    #[tactic(auto, unfolding(decisions::specs::Names::link_decided))]
+    #[tactic(auto, unfolding(sequential_object::specs::Names::link_decided))]
     fn linking(&self, old_path: &[u8], new_path: &[u8]) -> Result<Decision, Errno>
         ensures { result ≡ link_decided (view self.now) old_path.now new_path.now }
     {
@@ -389,7 +389,7 @@ impl Table {
         })
     }
 
-    #[tactic(auto, unfolding(decisions::specs::Names::unlink_decided))]
+    #[tactic(auto, unfolding(sequential_object::specs::Names::unlink_decided))]
     fn unlinking(&self, path: &[u8]) -> Result<Decision, Errno>
         ensures { result ≡ unlink_decided (view self.now) path.now }
     {
@@ -397,7 +397,7 @@ impl Table {
         Ok(self.lost_name(object, Change::RemoveFile { object }))
     }
 
-    #[tactic(auto, unfolding(decisions::specs::Names::rename_decided, directories::specs::Lookup::looked_up))]
+    #[tactic(auto, unfolding(sequential_object::specs::Names::rename_decided, directories::specs::Lookup::looked_up))]
     fn renaming(&self, old_path: &[u8], new_path: &[u8]) -> Result<Decision, Errno>
         ensures { result ≡ rename_decided (view self.now) old_path.now new_path.now }
     {
@@ -424,7 +424,7 @@ impl Table {
     }
 
     // A file loses a name, and is locked where it ends with that.
-    #[tactic(auto, unfolding(decisions::specs::Names::ends_by_name))]
+    #[tactic(auto, unfolding(sequential_object::specs::Names::ends_by_name))]
     fn lost_name(&self, object: usize, change: Change) -> Decision
         ensures { result ≡ loses_name (view self.now) object change }
     {
@@ -437,7 +437,7 @@ impl Table {
         }
     }
 
-    #[tactic(auto, unfolding(decisions::specs::Names::mkdir_decided))]
+    #[tactic(auto, unfolding(sequential_object::specs::Names::mkdir_decided))]
     fn making_directory(&self, path: &[u8]) -> Result<Decision, Errno>
         ensures { result ≡ mkdir_decided (view self.now) path.now }
     {
@@ -448,7 +448,7 @@ impl Table {
         })
     }
 
-    #[tactic(auto, unfolding(decisions::specs::Names::rmdir_decided))]
+    #[tactic(auto, unfolding(sequential_object::specs::Names::rmdir_decided))]
     fn removing_directory(&self, path: &[u8]) -> Result<Decision, Errno>
         ensures { result ≡ rmdir_decided (view self.now) path.now }
     {
@@ -461,7 +461,7 @@ impl Table {
         }
     }
 
-    #[tactic(auto, unfolding(decisions::specs::Sockets::pipe_decided))]
+    #[tactic(auto, unfolding(sequential_object::specs::Sockets::pipe_decided))]
     fn pipe(&self) -> Result<Decision, Errno>
         ensures { result ≡ pipe_decided (view self.now) }
     {
@@ -473,7 +473,7 @@ impl Table {
         Ok(acts(new.object, act, Change::MakePipe(new)))
     }
 
-    #[tactic(auto, unfolding(decisions::specs::Sockets::socketpair_decided))]
+    #[tactic(auto, unfolding(sequential_object::specs::Sockets::socketpair_decided))]
     fn socketpair(&self) -> Result<Decision, Errno>
         ensures { result ≡ socketpair_decided (view self.now) }
     {
@@ -497,14 +497,14 @@ impl Table {
         })
     }
 
-    #[tactic(auto, unfolding(decisions::specs::Sockets::shutdown_decided))]
+    #[tactic(auto, unfolding(sequential_object::specs::Sockets::shutdown_decided))]
     fn shutting(&self, descriptor: i64, how: ShutdownHow) -> Result<Decision, Errno>
         ensures { result ≡ shutdown_decided (view self.now) descriptor how }
     {
         shuts(self.seen(descriptor)?, how)
     }
 
-    #[tactic(auto, unfolding(decisions::specs::Doors::host_open_decided))]
+    #[tactic(auto, unfolding(sequential_object::specs::Doors::host_open_decided))]
     fn host_opening(&self, path: &[u8], access: Access, flags: OpenFlags) -> Result<Decision, Errno>
         ensures { result ≡ host_open_decided (view self.now) path.now access flags }
     {
@@ -515,7 +515,7 @@ impl Table {
         self.opens(false, None, access, flags.append)
     }
 
-    #[tactic(auto, unfolding(decisions::specs::Doors::port_decided))]
+    #[tactic(auto, unfolding(sequential_object::specs::Doors::port_decided))]
     fn at_port(&self, least: u64, port: i64) -> Result<Decision, Errno>
         ensures { result ≡ port_decided (view self.now) least port }
     {
@@ -523,7 +523,7 @@ impl Table {
         self.opens(false, None, Access::ReadWrite, false)
     }
 
-    #[tactic(auto, unfolding(decisions::specs::Doors::tcp_accept_decided))]
+    #[tactic(auto, unfolding(sequential_object::specs::Doors::tcp_accept_decided))]
     fn accepting(&self, descriptor: i64) -> Result<Decision, Errno>
         ensures { result ≡ tcp_accept_decided (view self.now) descriptor }
     {
@@ -561,7 +561,7 @@ impl Table {
     }
 
     // The file of a name; a directory is refused with this error.
-    #[tactic(auto, unfolding(decisions::specs::Names::file_named, directories::specs::Lookup::looked_up))]
+    #[tactic(auto, unfolding(sequential_object::specs::Names::file_named, directories::specs::Lookup::looked_up))]
     fn file_at(&self, path: &[u8], error: Errno) -> Result<usize, Errno>
         ensures { result ≡ file_named (view self.now) path.now error }
     {
@@ -572,7 +572,7 @@ impl Table {
         }
     }
 
-    #[tactic(auto, unfolding(decisions::specs::Names::addable, directories::specs::Lookup::looked_up))]
+    #[tactic(auto, unfolding(sequential_object::specs::Names::addable, directories::specs::Lookup::looked_up))]
     fn check_addable(&self, path: &[u8]) -> Result<(), Errno>
         ensures { result ≡ addable (view self.now) path.now }
     {

@@ -1,7 +1,7 @@
 ghost use Rattle.descriptor_table.specs.Laws.{TableFollows};
 
-use decisions::{decided_so, decides_same, names_do_not_matter};
 use file_descriptions::changes_keep_sound;
+use sequential_object::{decided_so, names_do_not_matter};
 
 /// Laws of the table. The first table shows the first state. What each table decides of a call was
 /// looked up, and is what the sequential object decides in each state that the table shows; and what
@@ -10,7 +10,6 @@ pub fn table_follows_step()
     ensures follows { TableFollows }
 {
     changes_keep_sound();
-    decides_same();
     names_do_not_matter();
     decided_so();
 }

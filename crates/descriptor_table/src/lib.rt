@@ -2,8 +2,8 @@
 //! call changes it.
 //!
 //! `Table::decide` looks a call up once and changes nothing. What is decided is a refusal, or a
-//! `Decision` of the crate `decisions`: the reply, where the table alone answers, or the object that
-//! the call has to lock and what it does there; with the change that the call makes in the table.
+//! `Decision` of `sequential_object`: the reply, where the table alone answers, or the object that the
+//! call has to lock and what it does there; with the change that the call makes in the table.
 //! `Table::carry_out` makes that change and looks nothing up again, and `Table::open_door` makes the
 //! descriptor of a door that was opened outside. By the contracts what is decided is what the
 //! sequential object decides, and the table shows all of that object but what its objects hold, and
@@ -14,7 +14,7 @@
 //! plan of a call changes the table by `Table::apply`, which decides once more.
 //!
 //! ```rust
-//! use decisions::Act;
+//! use sequential_object::Act;
 //! use descriptor_table::{NewNumbers, Op, Plan, Table};
 //! use posix_terms::{Call, Moved};
 //!

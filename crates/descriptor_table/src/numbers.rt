@@ -4,7 +4,7 @@ ghost use Rattle.sequential_object.specs.Doors.{host_path, port_of};
 ghost use Rattle.sequential_object.specs.Duplicates.{descriptor_number};
 ghost use Rattle.sequential_object.specs.Refusals.{count_of, position_of};
 ghost use Rattle.sequential_object.specs.Transfers.{size_of};
-ghost use Rattle.decisions.specs.Bytes.{or_none, read_count};
+ghost use Rattle.sequential_object.specs.Bytes.{or_none, read_count};
 
 use posix_terms::{Call, Errno, Limits};
 

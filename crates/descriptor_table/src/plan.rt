@@ -1,9 +1,9 @@
 ghost use Rattle.std.specs.Prelude.{◌≡◌};
-ghost use Rattle.decisions.specs.Meant.{natural_of, request_asked, request_kind};
+ghost use Rattle.sequential_object.specs.Meant.{natural_of, request_asked, request_kind};
 ghost use Rattle.descriptor_table.specs.Plans.{errand_of, is_refused, op_of, plan_of};
 
-use decisions::{Act, Decision, Deed};
 use posix_terms::{Call, Errno, OutKind, Reply};
+use sequential_object::{Act, Decision, Deed};
 
 /// What a call asks of the outside.
 #[derive(Clone, Copy, Debug, PartialEq, Eq)]

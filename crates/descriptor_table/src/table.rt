@@ -4,7 +4,7 @@ ghost use Rattle.directories.specs.Entries.{node_of};
 ghost use Rattle.directories.specs.Lookup.{moved_name};
 ghost use Rattle.sequential_object.specs.Paths.{components_of};
 ghost use Rattle.file_descriptions.specs.Descriptions.{AreSound, ContainsKey, description_at, is_last_held, with_flags, with_offset, ends_of};
-ghost use Rattle.decisions.specs.Meant.{moved_to};
+ghost use Rattle.sequential_object.specs.Meant.{moved_to};
 ghost use Rattle.descriptor_table.specs.Shows.{Shows, birth_of};
 ghost use Rattle.sequential_object.specs.Object.{State, FileNode, empty_state};
 ghost use Rattle.descriptor_table.specs.Changes.{CanMove, IsFreeNumber, IsFreePath, IsNextObject, NamesUsed, Refers, let_go, opened, shared, with_file, with_object, with_paths, without_gone};

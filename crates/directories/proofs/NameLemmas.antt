@@ -17,7 +17,8 @@ use Rattle.posix_terms.specs.declared.errno.Errno.{Errno}
 use Rattle.posix_terms.specs.declared.errno.Errno.TheVariants.{ENOENT, ENOTDIR}
 use Rattle.posix_terms.specs.declared.limits.TheConstants.Limits as limit
 use Rattle.directories.specs.Entries.{AreDistinct, IsAt, entry_of, entry_at, names_of, node_of, no_entry}
-use Rattle.sequential_object.specs.Names.{PathMap, has_entries, is_inside, links_of, moved, renamed, replacing}
+use Rattle.sequential_object.specs.Names.{PathMap, has_entries, is_inside, links_of, moved}
+use Rattle.directories.specs.Naming.{renamed, replacing}
 use Rattle.directories.specs.Lookup.{renaming}
 use Rattle.directories.specs.declared.entry.Entry.{Entry}
 use Rattle.directories.proofs.EntryLemmas.{AreDistinct-push, AreDistinct-remove, from_entries-remove, len-from_entries, remove_none, tied, count_by-entries, list_any-entries}

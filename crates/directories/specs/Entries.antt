@@ -44,4 +44,5 @@ AreDistinct R (entry ∷ entries) = (fin.find R entry.0 entries ≡ None) × Are
 pub record IsAt (entries : List Entry) (i : ℕ) (path : List (List ℕ)) : Type 0 where
   pub inside : i < length entries
   pub same_path : components_of (entry_at entries i).path.items ≡ path
-  pub finds : fin.find path_cmp path (map entry_of entries) ≡ Some (node_of (entry_at entries i).node)
+  pub finds : fin.find path_cmp path (map entry_of entries)
+      ≡ Some (node_of (entry_at entries i).node)

@@ -1,3 +1,4 @@
+pub mod Naming
 pub mod Lookup
 pub mod Hashes
 pub mod Entries

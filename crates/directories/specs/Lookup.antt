@@ -3,7 +3,8 @@
 -- POSIX.1-2017, Base Definitions, 4.13 (pathname resolution).
 use Rattle.std.specs.Prelude.{◌≡◌, ℕ, List, Result, Ok, Option, Some}
 use Rattle.std.specs.FinMap as fin
-use Rattle.sequential_object.specs.Names.{PathMap, moved, renamed_node, replaced_node}
+use Rattle.sequential_object.specs.Names.{PathMap, moved}
+use Rattle.directories.specs.Naming.{renamed_node, replaced_node}
 use Rattle.sequential_object.specs.Object.{Node, FileNode}
 use Rattle.sequential_object.specs.Paths.{components_of, node_at, resolved}
 use Rattle.sequential_object.specs.Refusals.{◌>>=◌}

@@ -2,8 +2,9 @@ ghost use Rattle.std.specs.Prelude.{◌≡◌, ◌<◌, ◌≤◌, [], length, m
 ghost use Rattle.std.specs.FinMap as fin;
 ghost use Rattle.sequential_object.specs.Object.{path_cmp, FileNode, Directory as a_directory};
 ghost use Rattle.sequential_object.specs.Paths.{components_of, node_at, resolved, walked};
-ghost use Rattle.sequential_object.specs.Names.{added, has_entries, links_of, removed, renamed};
-ghost use Rattle.sequential_object.specs.Names.{removed_dir, removed_dir_at};
+ghost use Rattle.sequential_object.specs.Names.{has_entries, links_of};
+ghost use Rattle.directories.specs.Naming.{added, removed, renamed};
+ghost use Rattle.directories.specs.Naming.{removed_dir, removed_dir_at};
 ghost use Rattle.directories.specs.Lookup.{NamesFile, looked_up, moved_name, renaming};
 ghost use Rattle.directories.specs.Entries.{node_of, entry_of, IsAt};
 
@@ -78,7 +79,7 @@ impl Names {
 
     /// Takes the name of a file away, and tells which file that was. Refused as in `resolve`, where the
     /// path names nothing, and where it names a directory; then nothing changes.
-    #[tactic(auto, unfolding(sequential_object::specs::Names::removed))]
+    #[tactic(auto, unfolding(crate::specs::Naming::removed))]
     pub fn remove(&mut self, path: &[u8]) -> Result<usize, Errno>
         ensures ok { IfOk result (λ node. removed self.old path.now ≡ Ok (self.new, node)) }
         ensures err { IfErr result (λ error. (removed self.old path.now ≡ Err error) × (self.new ≡ self.old)) }
@@ -149,7 +150,7 @@ impl Names {
 
     /// Whether a directory may be taken away. Refused as in `resolve`, where the path names nothing, where
     /// it names a file, at the root, and where there are names inside.
-    #[tactic(auto, unfolding(sequential_object::specs::Names::removed_dir))]
+    #[tactic(auto, unfolding(crate::specs::Naming::removed_dir))]
     pub fn check_remove_dir(&self, path: &[u8]) -> Result<(), Errno>
         ensures ok { OnOk result (removed_dir self.now path.now ≡ Ok (fin.remove self.now (components_of path.now))) }
         ensures err { IfErr result (λ error. removed_dir self.now path.now ≡ Err error) }
@@ -269,7 +270,7 @@ impl Names {
         self.node(path, count)
     }
 
-    #[tactic(auto, using(crate::proofs::NameLemmas::nodes), unfolding(sequential_object::specs::Names::added))]
+    #[tactic(auto, using(crate::proofs::NameLemmas::nodes), unfolding(crate::specs::Naming::added))]
     fn add_node(&mut self, path: &[u8], node: Node) -> Result<(), Errno>
         ensures ok { OnOk result (added self.old path.now (node_of node) ≡ Ok self.new) }
         ensures err { IfErr result (λ error. (added self.old path.now (node_of node) ≡ Err error) × (self.new ≡ self.old)) }

@@ -4,7 +4,7 @@ use Rattle.std.proofs.lemmas.Bool.{and_from, and_left, and_right, cases_Bool, co
 use Rattle.std.proofs.lemmas.List.{get_or-set_same, get_or_append_left, get_or_push, length-append, length-map, length-set, map-append, set-get_or}
 use Rattle.std.proofs.lemmas.Option.{get_or_from_slice_get, none-some, slice_get-get_or, slice_get_within}
 use Rattle.std.specs.Prelude.{IfSome, is_some, nat_le}
-use Rattle.sequential_object.specs.Locked.{OutsideLocks, keeps_table, locked_object, locks_door}
+use Rattle.sequential_object.specs.Locked.{LocksDoor, OutsideLocks, keeps_table, locked_object}
 use Rattle.sequential_object.specs.Step.{Carried, asks, step}
 use Rattle.posix_terms.specs.Calls.{Call}
 use Rattle.posix_terms.specs.declared.limits.TheConstants.Limits as limit
@@ -302,9 +302,9 @@ attempt_fails terms w s i call carried a room shut =
 asks_none : OutsideLocks → LocksAsStep → (h : Stored) (w : World) (call : Call) (carried : Carried) → Stands h w → number_locked h call carried ≡ None → asks w.object call carried ≡ None
 asks_none outside numbers h w call carried stands none = none_asked (locked_object w.object call carried) (asks w.object call carried) (sym (numbers h w call carried stands) ∙ none) (outside w.object call carried)
   where
-    none_asked : (o : Option ℕ) (r : Option Query) → numbered w o ≡ None → (is_some r ≡ true → locks_door w.object (keeps_table call) o ≡ true) → r ≡ None
+    none_asked : (o : Option ℕ) (r : Option Query) → numbered w o ≡ None → (is_some r ≡ true → LocksDoor w.object (keeps_table call) o) → r ≡ None
     none_asked o None e locks = refl
-    none_asked None (Some r) e locks = absurd (false≢true (locks refl))
+    none_asked None (Some r) e locks = absurd (locks refl)
     none_asked (Some n) (Some r) e locks = absurd (none-some _ (sym e))
 
 -- the call is granted at once

@@ -22,6 +22,7 @@ use Rattle.sequential_object.specs.Step.{Carried}
 use Rattle.lock_model.specs.State.{thread_of}
 use Rattle.posix_terms.specs.declared.step.Step.{Step}
 use Rattle.posix_terms.specs.declared.step.Step.TheVariants as step
+use Rattle.lock_machine.specs.Requests.{AskLittle}
 use Rattle.lock_machine.specs.Asking.{Asks, GoesAgain, after_want}
 use Rattle.lock_machine.specs.Events.{Answers, parts}
 use Rattle.lock_machine.specs.Lives.{Agree, is_live}
@@ -61,9 +62,9 @@ begin_event w i o moved v inside is begins terms s (arises, h) =
     let R : ℕ → Type 0 = λ cost. Begins cost o moved (thread_at w i) v in
     let a = whole_quiet terms w s i moved v inside h (begin_moves terms i s.rows moved (thread_at w i) v (thread_of s i) o is (h.threads i) (subst R (sym (ap (λ (x : Settings). x.door_cost) h.settings)) begins)) in record { can = a.0; shows = a.1 }
 
-pub record_event : RowsOfArisen → PlansOfArisen → (w : Whole) (i : ℕ) (o : Outing) (g : Given) (made : Progress) (new : RecordedParts) → i < length w.threads → (thread_at w i).phase ≡ phase.Outside o → Records made o g (recorded_at w i) new → RecordsGiven made i g w (recorded_whole w i new)
-record_event own plans w i o g made new inside is records terms s (arises, h) next =
-    record_whole terms w s i o g made new inside h
+pub record_event : AskLittle → RowsOfArisen → PlansOfArisen → (w : Whole) (i : ℕ) (o : Outing) (g : Given) (made : Progress) (new : RecordedParts) → i < length w.threads → (thread_at w i).phase ≡ phase.Outside o → Records made o g (recorded_at w i) new → RecordsGiven made i g w (recorded_whole w i new)
+record_event law own plans w i o g made new inside is records terms s (arises, h) next =
+    record_whole law terms w s i o g made new inside h
     (own (setup_under terms) terms.threads limit.OBJECTS first_world s arises)
     (plans (setup_under terms) terms.threads limit.OBJECTS first_world s arises) is next records
 
@@ -217,16 +218,16 @@ begin_done w ts cs ds i o x v moved h is begins =
 pub item_recorded : (ts : List declared.Thread) (cs : List ThreadClock) (i : ℕ) (o : Outing) (x v : declared.Thread) → Agree ts cs → i < length ts → x ≡ get_or ts i x → x.phase ≡ phase.Outside o → (is_live x.phase ≡ true → is_live v.phase ≡ true) → Item ts cs i x v cs
 item_recorded ts cs i o x v agree inside at is live = let lives : is_live x.phase ≡ true = ap is_live is in item_still ts cs i x v agree inside at (lives ∙ sym (live lives))
 
-pub record_done : RowsOfArisen → PlansOfArisen → (w : Whole) (ts : List declared.Thread) (cs : List ThreadClock) (i : ℕ) (o : Outing) (g : Given) (x v : declared.Thread) (rows : List HistoryRow) (made : Progress) → Item ts cs i x v cs → x.phase ≡ phase.Outside o
+pub record_done : AskLittle → RowsOfArisen → PlansOfArisen → (w : Whole) (ts : List declared.Thread) (cs : List ThreadClock) (i : ℕ) (o : Outing) (g : Given) (x v : declared.Thread) (rows : List HistoryRow) (made : Progress) → Item ts cs i x v cs → x.phase ≡ phase.Outside o
     → ((clock : ℕ) → Records made o g (recorded_parts (timed x clock) w.rows) (recorded_parts (timed v clock) rows))
     → RecordsGiven made i g (run_at w ts cs) (record w { threads = joined (set ts i v) cs; rows = rows })
-record_done own plans w ts cs i o g x v rows made h is records =
+record_done law own plans w ts cs i o g x v rows made h is records =
     let z = run_at w ts cs in
     let clock = clock_at cs i in
     let R : Thread → Type 0 = λ t. Records made o g (recorded_parts t w.rows) (recorded_parts (timed v clock) rows) in
     let T : List Thread → Type 0 = λ us. RecordsGiven made i g z (record w { threads = us; rows = rows }) in
     subst T (sym (joined-kept ts cs cs i x v h.clocked h.kept))
-    (record_event own plans z i o g made (recorded_parts (timed v clock) rows) (joined_inside ts cs i h.inside) (item_phase ts cs i x (phase.Outside o) h.inside h.item is) (subst R (sym (item_thread ts cs i x h.inside h.item)) (records clock)))
+    (record_event law own plans z i o g made (recorded_parts (timed v clock) rows) (joined_inside ts cs i h.inside) (item_phase ts cs i x (phase.Outside o) h.inside h.item is) (subst R (sym (item_thread ts cs i x h.inside h.item)) (records clock)))
 
 pub conclude_done : LocksOfArisen → RowsOfArisen → PlansOfArisen → (w : Whole) (ts : List declared.Thread) (cs ds : List ThreadClock) (i n : ℕ) (o : Outing) (x v : declared.Thread) (before own l : DetLock) (later : Stored) (rows : List HistoryRow) (told : Option posix.Answer)
     → Item ts cs i x v ds → x.phase ≡ phase.Recorded o → o.object ≡ Some n → before ≡ get_or w.objects n new_lock

@@ -51,8 +51,8 @@ use Rattle.lock_machine.specs.declared.thread.Phase.{Phase}
 use Rattle.lock_machine.specs.declared.thread.Phase.TheVariants as phase
 use Rattle.lock_machine.proofs.AnswerShows.{answer_by, answered_clock, fill_one, late_none, locks_freed, open_row, replies_answered, replies_moved, replies_still, rows_answered}
 use Rattle.lock_machine.proofs.AskShows.{within_no, within_yes}
-use Rattle.lock_machine.proofs.Requests.{asked_little, within_a_record}
-use Rattle.lock_machine.specs.Requests.{Little}
+use Rattle.lock_machine.proofs.Requests.{within_a_record}
+use Rattle.lock_machine.specs.Requests.{AskLittle, Little}
 use Rattle.lock_machine.proofs.ShownThreads.{Moving, advance_by, lock_left, lock_quiet, locks_quiet, whole_changed, whole_moved, whole_still, world_by, world_keeps}
 
 -- ## `begin_outside`
@@ -120,9 +120,9 @@ begin_moves terms i rows moved t v u o is h begins =
 
 -- ## `record`
 
-errand_fits : (terms : Conditions) (s : State) (i : ℕ) (o : Outing) (job : Job) (g : Given) → IsOut terms i s.rows o job → answers_errand o.errand job.turn g ≡ fits_job (real_calls terms.settings) job g
-errand_fits terms s i o job g out =
-    let little : Little (query_of job.call o.errand) = subst Little out.asks_is (asked_little job.found.object job.call job.carried) in
+errand_fits : AskLittle → (terms : Conditions) (s : State) (i : ℕ) (o : Outing) (job : Job) (g : Given) → IsOut terms i s.rows o job → answers_errand o.errand job.turn g ≡ fits_job (real_calls terms.settings) job g
+errand_fits law terms s i o job g out =
+    let little : Little (query_of job.call o.errand) = subst Little out.asks_is (law job.found.object job.call job.carried) in
     ap (λ (b : Bool). suits o.errand.kind o.errand.asked g && (is_at job.turn g.clock && b)) (le-leb o.errand.asked 65535 (within_a_record o.errand.kind o.errand.asked little))
     ∙ last_true (suits o.errand.kind o.errand.asked g) (is_at job.turn g.clock)
     ∙ ap (λ (r : Option Query). answers_query r (undated g) && is_at job.turn g.clock) (sym out.asks_is)
@@ -241,20 +241,20 @@ recorded_yes terms w s i o job g a given_is good =
 room_for : (n : ℕ) → n < limit.OUTCOMES → nat_lt (n + 1) (2 ^ 32) ≡ true
 room_for n few = grind (arith, nat_tests)
 
-recorded_by : (terms : Conditions) (w : Whole) (s : State) (i : ℕ) (o : Outing) (job : Job) (made : Progress) (new : RecordedParts) (g : Given) → Waiting terms w s i o job → slice_get (terms.supply.outcomes i) (length (thread_of s i).came) ≡ Some g
+recorded_by : AskLittle → (terms : Conditions) (w : Whole) (s : State) (i : ℕ) (o : Outing) (job : Job) (made : Progress) (new : RecordedParts) (g : Given) → Waiting terms w s i o job → slice_get (terms.supply.outcomes i) (length (thread_of s i).came) ≡ Some g
     → (b room : Bool) → answers_errand o.errand job.turn g ≡ b → room ≡ true → RecordsIf b room made o g (shown (row_of job)) (recorded_at w i) new → Recording terms w s i made (dated job.turn g) new
-recorded_by terms w s i o job made new g a at false room e few (made_is, new_is) =
+recorded_by law terms w s i o job made new g a at false room e few (made_is, new_is) =
     let P : Progress → Type 0 = λ p. Recording terms w s i p (dated job.turn g) new in
-    subst P (sym made_is) (recorded_no terms w s i o job g new a at (sym (errand_fits terms s i o job g a.out) ∙ e) new_is)
-recorded_by terms w s i o job made new g a at true false e few h = absurd (false≢true few)
-recorded_by terms w s i o job made new g a at true true e few (made_is, new_is) =
+    subst P (sym made_is) (recorded_no terms w s i o job g new a at (sym (errand_fits law terms s i o job g a.out) ∙ e) new_is)
+recorded_by law terms w s i o job made new g a at true false e few h = absurd (false≢true few)
+recorded_by law terms w s i o job made new g a at true true e few (made_is, new_is) =
     let P : Progress → Type 0 = λ p. Recording terms w s i p (dated job.turn g) new in
     let Q : RecordedParts → Type 0 = λ p. Recording terms w s i progress.Moves (dated job.turn g) p in
-    subst P (sym made_is) (subst Q (sym new_is) (recorded_yes terms w s i o job g a at (sym (errand_fits terms s i o job g a.out) ∙ e)))
+    subst P (sym made_is) (subst Q (sym new_is) (recorded_yes terms w s i o job g a at (sym (errand_fits law terms s i o job g a.out) ∙ e)))
 
-pub record_whole : (terms : Conditions) (w : Whole) (s : State) (i : ℕ) (o : Outing) (g : Given) (made : Progress) (new : RecordedParts) → i < length w.threads → Shows terms w s → HaveRows s → HavePlans (real_calls terms.settings) s → (thread_at w i).phase ≡ phase.Outside o
+pub record_whole : AskLittle → (terms : Conditions) (w : Whole) (s : State) (i : ℕ) (o : Outing) (g : Given) (made : Progress) (new : RecordedParts) → i < length w.threads → Shows terms w s → HaveRows s → HavePlans (real_calls terms.settings) s → (thread_at w i).phase ≡ phase.Outside o
     → slice_get (terms.supply.outcomes i) (length (thread_of s i).came) ≡ Some g → Records made o g (recorded_at w i) new → Recording terms w s i made (as_it_comes w i g) new
-record_whole terms w s i o given made new inside h own plans is at records =
+record_whole law terms w s i o given made new inside h own plans is at records =
     let P : Phase → Type 0 = λ p. PhaseShows terms i s.rows (thread_at w i) (thread_of s i) p in
     let g = subst P is (h.threads i).phase in
     let job : Job = g.0 in
@@ -263,7 +263,7 @@ record_whole terms w s i o given made new inside h own plans is at records =
     let R : Option HistoryRow → Type 0 = λ q. RecordsRow q made o given (recorded_at w i) new in
     let comes : as_it_comes w i given ≡ dated job.turn given = ap (λ (p : Phase). dated_by (row_outside p w.rows) given) is ∙ ap (λ (q : Option HistoryRow). dated_by q given) there in
     subst (λ (x : Given). Recording terms w s i made x new) (sym comes)
-    (recorded_by terms w s i o job made new given a at (answers_errand o.errand job.turn given) (can_count (thread_at w i)) refl (room_for (thread_at w i).came a.few) (subst R there records))
+    (recorded_by law terms w s i o job made new given a at (answers_errand o.errand job.turn given) (can_count (thread_at w i)) refl (room_for (thread_at w i).came a.few) (subst R there records))
 
 -- ## `answer`
 

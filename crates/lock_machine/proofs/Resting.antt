@@ -21,6 +21,7 @@ use Rattle.posix_terms.specs.declared.transcript.Turn.{Turn}
 use Rattle.posix_terms.specs.declared.step.Step.{Step}
 use Rattle.posix_terms.specs.declared.step.Step.TheVariants as step
 use Rattle.lock_model.specs.Held.{has_end, last_call}
+use Rattle.lock_machine.specs.Requests.{AskLittle}
 use Rattle.lock_machine.specs.Asking.{Asks, EndsIf, GoesAgain, GoesAgainIn, GoesAgainWith}
 use Rattle.lock_machine.specs.Events.{Answers, AnswersIn, AnswersWith, ObjectInTime, Parts, Reaches, ReachesIn, Tries, TriesIn, TriesInTime, parts}
 use Rattle.lock_machine.specs.Outings.{AnswersOutside, Begins, BeginsIf, ConcludesHeld, ConcludesIf, ConcludesRow, ConcludesWith, OutsideParts, RecordedParts, Records, RecordsIf, RecordsRow, answers_errand, can_count, outside_parts, progress_at, progress_by, recorded_parts}
@@ -164,12 +165,12 @@ stays_recorded (Some q) o g p stays = by_tests (answers_errand o.errand q.turn g
     by_tests true false stays = (refl, refl)
     by_tests false room stays = (refl, refl)
 
-pub outlook_event : RowsOfArisen → PlansOfArisen → (w : Whole) (i : ℕ) (o : Outing) (g : Given) → i < length w.threads → (thread_at w i).phase ≡ phase.Outside o → has_moved (outlook w i g) ≡ false → RecordsGiven (outlook w i g) i g w w
-outlook_event own plans w i o g inside is stays =
+pub outlook_event : AskLittle → RowsOfArisen → PlansOfArisen → (w : Whole) (i : ℕ) (o : Outing) (g : Given) → i < length w.threads → (thread_at w i).phase ≡ phase.Outside o → has_moved (outlook w i g) ≡ false → RecordsGiven (outlook w i g) i g w w
+outlook_event law own plans w i o g inside is stays =
     let seen = outlook_at w i o g is in
     let made = progress_at (slice_get w.rows o.row) o g (can_count (thread_at w i)) in
     let records : Records made o g (recorded_at w i) (recorded_at w i) = stays_recorded (slice_get w.rows o.row) o g (recorded_at w i) (ap has_moved (sym seen) ∙ stays) in
-    let event = record_event own plans w i o g made (recorded_at w i) inside is records in
+    let event = record_event law own plans w i o g made (recorded_at w i) inside is records in
     let T : List Thread → Type 0 = λ l. RecordsGiven made i g w (record w { threads = l }) in
     let P : Progress → Type 0 = λ p. RecordsGiven p i g w w in
     subst P (sym seen) (subst T (set-get_or w.threads i no_thread) event)

@@ -18,7 +18,10 @@ Works true n old new = (old.clock + n ≤ 2 ^ 62) × (new ≡ worked n old)
 Works false n old new = (2 ^ 62 < old.clock + n) × (new ≡ old)
 
 abbrev pub after_want : Call → Thread → Thread
-after_want call t = record t { phase = phase.WantsTable call nothing_carried; asked = t.asked ++ step.Call call ∷ [] }
+after_want call t = record t {
+  phase = phase.WantsTable call nothing_carried;
+  asked = t.asked ++ step.Call call ∷ [];
+}
 
 abbrev pub after_end : Thread → Thread
 after_end t = record t { phase = phase.Ended; asked = t.asked ++ step.End ∷ [] }
@@ -45,11 +48,13 @@ HasTime step.End t = Unit {0}
 
 -- a blocked call, which is the one that was asked last, wants the table again
 abbrev pub GoesAgainWith : Option Call → Carried → Bool → Thread → Thread → Type 0
-GoesAgainWith (Some call) carried moved old new = (moved ≡ true) × (new ≡ record old { phase = phase.WantsTable call carried })
+GoesAgainWith (Some call) carried moved old new =
+    (moved ≡ true) × (new ≡ record old { phase = phase.WantsTable call carried })
 GoesAgainWith None carried moved old new = (moved ≡ false) × (new ≡ old)
 
 abbrev pub GoesAgainIn : Phase → Bool → Thread → Thread → Type 0
-GoesAgainIn (phase.Blocked carried) moved old new = GoesAgainWith (last_call old.asked) carried moved old new
+GoesAgainIn (phase.Blocked carried) moved old new =
+    GoesAgainWith (last_call old.asked) carried moved old new
 GoesAgainIn p moved old new = (moved ≡ false) × (new ≡ old)
 
 abbrev pub GoesAgain : Bool → Thread → Thread → Type 0

@@ -16,5 +16,6 @@ pub record BornWithin (most : ℕ) (table : Stored) : Type 0 where
 
 -- from one time of a clock to another, two were made at most for each 1 that it moved
 pub record BearsInTime (before : ℕ) (old : Stored) (after : ℕ) (new : Stored) : Type 0 where
-  pub descriptions : new.table.descriptions.made + 2 * before ≤ old.table.descriptions.made + 2 * after
+  pub descriptions : new.table.descriptions.made + 2 * before
+      ≤ old.table.descriptions.made + 2 * after
   pub objects : new.table.made_objects + 2 * before ≤ old.table.made_objects + 2 * after

@@ -7,7 +7,8 @@ use Rattle.lock_model.specs.Programs.{Supply}
 use Rattle.lock_model.specs.RealLaws.{real_setup, real_start}
 use Rattle.lock_model.specs.State.{State}
 
--- so many threads, with the steps that they ask and the outcomes that come for them from outside, whoever supplies these
+-- so many threads, with the steps that they ask and the outcomes that come for them from outside,
+-- whoever supplies these
 pub record Conditions : Type 0 where
   pub threads : ℕ
   pub settings : Settings

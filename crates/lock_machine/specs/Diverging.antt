@@ -13,4 +13,5 @@ diverging_in setup phase given = false
 
 -- thread i is outside, and the next of its outcomes does not answer
 abbrev pub is_diverging : Setup → State → ℕ → Bool
-is_diverging setup s i = let t : Thread = thread_of s i in diverging_in setup t.phase (slice_get (setup.supply.outcomes i) (length t.came))
+is_diverging setup s i = let t : Thread = thread_of s i in
+    diverging_in setup t.phase (slice_get (setup.supply.outcomes i) (length t.came))

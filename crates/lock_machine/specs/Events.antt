@@ -48,18 +48,22 @@ row_answered p row e q =
       rows = slice_set p.rows row (record q { answer = Some (told_as e) });
     }
 
-abbrev pub AnswersWith : Option posix.Answer → ℕ → Option TurnEnd → Option HistoryRow → Parts → Parts → Type 0
-AnswersWith told row (Some e) (Some q) old new = (told ≡ Some (told_as e)) × (new ≡ row_answered old row e q)
+abbrev pub AnswersWith : Option posix.Answer → ℕ → Option TurnEnd → Option HistoryRow → Parts
+    → Parts → Type 0
+AnswersWith told row (Some e) (Some q) old new =
+    (told ≡ Some (told_as e)) × (new ≡ row_answered old row e q)
 AnswersWith told row (Some e) None old new = (told ≡ None) × (new ≡ old)
 AnswersWith told row None q old new = (told ≡ None) × (new ≡ old)
 
 abbrev pub AnswersIn : Bool → Option posix.Answer → ℕ → Parts → Parts → Type 0
-AnswersIn true told row old new = AnswersWith told row (end_held old.thread.phase) (slice_get old.rows row) old new
+AnswersIn true told row old new =
+    AnswersWith told row (end_held old.thread.phase) (slice_get old.rows row) old new
 AnswersIn false told row old new = (told ≡ None) × (new ≡ old)
 
 -- the answer is told, where there is one
 abbrev pub Answers : Option posix.Answer → ℕ → ℕ → Parts → Parts → Type 0
-Answers told i row old new = AnswersIn (is_number old.lock.holder i && in_time old 1) told row old new
+Answers told i row old new =
+    AnswersIn (is_number old.lock.holder i && in_time old 1) told row old new
 
 -- ## The grant
 
@@ -67,7 +71,8 @@ abbrev pub granted_row : Turn → Call → HistoryRow
 granted_row turn call = record { call = call; turn = turn; outcome = None; answer = None }
 
 -- a turn of a call that carries this is made: how it ended waits for the answer, or it goes outside
-pub record Grants (patience : ℕ) (turn : Turn) (call : Call) (carried : Carried) (object : Option ℕ) (old new : Parts) : Type 0 where
+pub record Grants (patience : ℕ) (turn : Turn) (call : Call) (carried : Carried) (object : Option ℕ)
+    (old new : Parts) : Type 0 where
   pub start : TurnStart
   pub makes : Makes patience carried old.table call start new.table
   pub thread : new.thread ≡ turn_started (length old.rows) object call carried start old.thread
@@ -80,18 +85,24 @@ pub record Grants (patience : ℕ) (turn : Turn) (call : Call) (carried : Carrie
 abbrev pub PlansTo : ℕ → Option ℕ → Turn → Call → Carried → Parts → Parts → Type 0
 PlansTo patience None turn call carried old new = Grants patience turn call carried None old new
 PlansTo patience (Some object) turn call carried old new =
-    (object < limit.OBJECTS) × (new ≡ record old { thread = record old.thread { phase = phase.WantsObject call carried turn.clock object } })
+    let phase = phase.WantsObject call carried turn.clock object in
+    (object < limit.OBJECTS) × (new ≡ record old { thread = record old.thread { phase = phase } })
 
 abbrev pub TriesLock : ℕ → Bool → ℕ → Call → Carried → Parts → Parts → Type 0
-TriesLock patience true i call carried old new = PlansTo patience (number_locked old.table call carried) (record { clock = old.thread.clock; thread = i }) call carried (record (later old 1) { lock = held i old.lock }) new
+TriesLock patience true i call carried old new =
+    PlansTo patience (number_locked old.table call carried)
+    (record { clock = old.thread.clock; thread = i }) call carried
+    (record (later old 1) { lock = held i old.lock }) new
 TriesLock patience false i call carried old new = new ≡ later old 1
 
 abbrev pub TriesInTime : ℕ → Bool → Bool → ℕ → Call → Carried → Parts → Parts → Type 0
-TriesInTime patience true made i call carried old new = (made ≡ true) × TriesLock patience (takes old.lock old.thread.clock) i call carried old new
+TriesInTime patience true made i call carried old new =
+    (made ≡ true) × TriesLock patience (takes old.lock old.thread.clock) i call carried old new
 TriesInTime patience false made i call carried old new = (made ≡ false) × (new ≡ old)
 
 abbrev pub TriesIn : ℕ → Phase → Bool → ℕ → Parts → Parts → Type 0
-TriesIn patience (phase.WantsTable call carried) made i old new = TriesInTime patience (in_time old 1) made i call carried old new
+TriesIn patience (phase.WantsTable call carried) made i old new =
+    TriesInTime patience (in_time old 1) made i call carried old new
 TriesIn patience p made i old new = (made ≡ false) × (new ≡ old)
 
 abbrev pub Tries : ℕ → Bool → ℕ → Parts → Parts → Type 0
@@ -126,21 +137,32 @@ object_reached false old = record (later old 2) { lock = freed (old.thread.clock
 
 -- a call that wants an object is granted with it
 abbrev pub GrantsObject : ℕ → Phase → ℕ → Parts → Parts → Type 0
-GrantsObject patience (phase.WantsObject call carried clock object) i old new = Grants patience (record { clock = clock; thread = i }) call carried (Some object) old new
+GrantsObject patience (phase.WantsObject call carried clock object) i old new =
+    Grants patience (record { clock = clock; thread = i }) call carried (Some object) old new
 GrantsObject patience p i old new = new ≡ old
 
-abbrev pub TriesObject : ℕ → Bool → ℕ → Turn → Call → Carried → ℕ → DetLock → DetLock → Parts → Parts → Type 0
-TriesObject patience true i turn call carried object lock now old new = (now ≡ held i lock) × Grants patience turn call carried (Some object) (object_reached (keeps_table call) old) new
-TriesObject patience false i turn call carried object lock now old new = (now ≡ lock) × (new ≡ later old 1)
+abbrev pub TriesObject : ℕ → Bool → ℕ → Turn → Call → Carried → ℕ → DetLock → DetLock → Parts
+    → Parts → Type 0
+TriesObject patience true i turn call carried object lock now old new =
+    (now ≡ held i lock)
+    × Grants patience turn call carried (Some object) (object_reached (keeps_table call) old) new
+TriesObject patience false i turn call carried object lock now old new =
+    (now ≡ lock) × (new ≡ later old 1)
 
-abbrev pub ObjectInTime : ℕ → Bool → Bool → Bool → ℕ → Turn → Call → Carried → ℕ → DetLock → DetLock → Parts → Parts → Type 0
-ObjectInTime patience true takes made i turn call carried object lock now old new = (made ≡ true) × TriesObject patience takes i turn call carried object lock now old new
-ObjectInTime patience false takes made i turn call carried object lock now old new = (made ≡ false) × (now ≡ lock) × (new ≡ old)
+abbrev pub ObjectInTime : ℕ → Bool → Bool → Bool → ℕ → Turn → Call → Carried → ℕ → DetLock → DetLock
+    → Parts → Parts → Type 0
+ObjectInTime patience true takes made i turn call carried object lock now old new =
+    (made ≡ true) × TriesObject patience takes i turn call carried object lock now old new
+ObjectInTime patience false takes made i turn call carried object lock now old new =
+    (made ≡ false) × (now ≡ lock) × (new ≡ old)
 
 abbrev pub ReachesIn : ℕ → Phase → Bool → ℕ → DetLock → DetLock → Parts → Parts → Type 0
 ReachesIn patience (phase.WantsObject call carried clock object) made i lock now old new =
-    let taken = takes_object i lock old in ObjectInTime patience (in_time old (object_cost taken (keeps_table call))) taken made i (record { clock = clock; thread = i }) call carried object lock now old new
+    let taken = takes_object i lock old in
+    ObjectInTime patience (in_time old (object_cost taken (keeps_table call))) taken made i
+    (record { clock = clock; thread = i }) call carried object lock now old new
 ReachesIn patience p made i lock now old new = (made ≡ false) × (now ≡ lock) × (new ≡ old)
 
 abbrev pub Reaches : ℕ → Bool → ℕ → DetLock → DetLock → Parts → Parts → Type 0
-Reaches patience made i lock now old new = ReachesIn patience old.thread.phase made i lock now old new
+Reaches patience made i lock now old new =
+    ReachesIn patience old.thread.phase made i lock now old new

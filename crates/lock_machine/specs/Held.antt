@@ -19,13 +19,23 @@ abbrev pub told_as : TurnEnd → posix.Answer
 told_as (end.Reply reply) = answer.Reply reply
 told_as (end.Blocked carried) = answer.Again
 
--- the phase of a thread whose call was granted, with the row of this place, and whose turn started so, which carries this
+-- the phase of a thread whose call was granted, with the row of this place, and whose turn started
+-- so, which carries this
 abbrev pub phase_started : ℕ → Option ℕ → Call → Carried → TurnStart → Phase
 phase_started row object c carried (start.Ended e) = phase.Granted row object e
-phase_started row object c carried (start.GoesOut errand) = phase.ToOutside (record { row = row; object = object; carried = carried; errand = errand; keeps_table = keeps_table c })
+phase_started row object c carried (start.GoesOut errand) =
+    phase.ToOutside
+    (record {
+      row = row;
+      object = object;
+      carried = carried;
+      errand = errand;
+      keeps_table = keeps_table c;
+    })
 
 abbrev pub turn_started : ℕ → Option ℕ → Call → Carried → TurnStart → Thread → Thread
-turn_started row object c carried start t = record t { phase = phase_started row object c carried start }
+turn_started row object c carried start t =
+    record t { phase = phase_started row object c carried start }
 
 -- how the turn ended that a thread is in
 abbrev pub end_held : Phase → Option TurnEnd

@@ -26,11 +26,14 @@ use Rattle.lock_machine.specs.declared.thread.Phase.TheVariants as phase
 -- ## `begin_outside`
 
 abbrev pub BeginsIf : Bool → ℕ → Outing → Bool → Thread → Thread → Type 0
-BeginsIf true cost o moved old new = (moved ≡ true) × (new ≡ record old { phase = phase.Outside o; clock = old.clock + cost })
+BeginsIf true cost o moved old new =
+    (moved ≡ true) × (new ≡ record old { phase = phase.Outside o; clock = old.clock + cost })
 BeginsIf false cost o moved old new = (moved ≡ false) × (new ≡ old)
 
 abbrev pub Begins : ℕ → Outing → Bool → Thread → Thread → Type 0
-Begins cost o moved old new = BeginsIf (nat_lt old.came limit.OUTCOMES && nat_le (old.clock + cost) (2 ^ 62)) cost o moved old new
+Begins cost o moved old new =
+    BeginsIf (nat_lt old.came limit.OUTCOMES
+    && nat_le (old.clock + cost) (2 ^ 62)) cost o moved old new
 
 -- ## `record`
 
@@ -96,12 +99,20 @@ pub record OutsideParts : Type 0 where
   pub rows : List HistoryRow
 
 abbrev pub outside_parts : Thread → DetLock → DetLock → Stored → List HistoryRow → OutsideParts
-outside_parts thread object lock table rows = record { thread = thread; object = object; lock = lock; table = table; rows = rows }
+outside_parts thread object lock table rows = record {
+  thread = thread;
+  object = object;
+  lock = lock;
+  table = table;
+  rows = rows;
+}
 
 -- the turn ended so. Where it kept the table its change is made now
 abbrev pub EndsTurn : Bool → ℕ → Outing → Call → Outcome → TurnEnd → Stored → Stored → Type 0
 EndsTurn true patience o c x e old new = Opens patience o.carried old c x e new
-EndsTurn false patience o c x e old new = (fits o.errand.kind o.errand.asked x ≡ true → EndsOutside patience o.carried o.errand x e) × (new ≡ old)
+EndsTurn false patience o c x e old new =
+    (fits o.errand.kind o.errand.asked x ≡ true → EndsOutside patience o.carried o.errand x e)
+    × (new ≡ old)
 
 abbrev pub table_freed : Bool → ℕ → DetLock → DetLock
 table_freed true clock lock = freed clock
@@ -128,23 +139,37 @@ row_concluded o q e table p =
 abbrev pub StaysSo : Option posix.Answer → OutsideParts → OutsideParts → Type 0
 StaysSo told old new = (told ≡ None) × (new ≡ old)
 
-abbrev pub ConcludesIf : Bool → ℕ → Option posix.Answer → Outing → HistoryRow → Outcome → OutsideParts → OutsideParts → Type 0
+abbrev pub ConcludesIf : Bool → ℕ → Option posix.Answer → Outing → HistoryRow → Outcome
+    → OutsideParts → OutsideParts → Type 0
 ConcludesIf true patience told o q x old new =
-    (e : TurnEnd) × ((told ≡ Some (told_as e)) × EndsTurn o.keeps_table patience o q.call x e old.table new.table × (new ≡ row_concluded o q e new.table old))
+    (e : TurnEnd)
+    × ((told ≡ Some (told_as e))
+    × EndsTurn o.keeps_table patience o q.call x e old.table new.table
+    × (new ≡ row_concluded o q e new.table old))
 ConcludesIf false patience told o q x old new = StaysSo told old new
 
-abbrev pub ConcludesWith : Option Outcome → HistoryRow → ℕ → Option posix.Answer → Outing → OutsideParts → OutsideParts → Type 0
-ConcludesWith (Some x) q patience told o old new = ConcludesIf (nat_le (old.thread.clock + answer_cost o.keeps_table) (2 ^ 62)) patience told o q x old new
+abbrev pub ConcludesWith : Option Outcome → HistoryRow → ℕ → Option posix.Answer → Outing
+    → OutsideParts → OutsideParts → Type 0
+ConcludesWith (Some x) q patience told o old new =
+    ConcludesIf
+    (nat_le (old.thread.clock + answer_cost o.keeps_table) (2 ^ 62)) patience told o q x old new
 ConcludesWith None q patience told o old new = StaysSo told old new
 
-abbrev pub ConcludesRow : Option HistoryRow → ℕ → Option posix.Answer → Outing → OutsideParts → OutsideParts → Type 0
+abbrev pub ConcludesRow : Option HistoryRow → ℕ → Option posix.Answer → Outing → OutsideParts
+    → OutsideParts → Type 0
 ConcludesRow (Some q) patience told o old new = ConcludesWith q.outcome q patience told o old new
 ConcludesRow None patience told o old new = StaysSo told old new
 
-abbrev pub ConcludesHeld : Bool → ℕ → Option posix.Answer → Outing → OutsideParts → OutsideParts → Type 0
-ConcludesHeld true patience told o old new = ConcludesRow (slice_get old.rows o.row) patience told o old new
+abbrev pub ConcludesHeld : Bool → ℕ → Option posix.Answer → Outing → OutsideParts → OutsideParts
+    → Type 0
+ConcludesHeld true patience told o old new =
+    ConcludesRow (slice_get old.rows o.row) patience told o old new
 ConcludesHeld false patience told o old new = StaysSo told old new
 
 -- the answer is told, where there is one
-abbrev pub AnswersOutside : ℕ → Option posix.Answer → ℕ → Outing → OutsideParts → OutsideParts → Type 0
-AnswersOutside patience told i o old new = ConcludesHeld (is_number old.object.holder i && (not o.keeps_table || is_number old.lock.holder i)) patience told o old new
+abbrev pub AnswersOutside : ℕ → Option posix.Answer → ℕ → Outing → OutsideParts → OutsideParts
+    → Type 0
+AnswersOutside patience told i o old new =
+    ConcludesHeld
+    (is_number old.object.holder i
+    && (not o.keeps_table || is_number old.lock.holder i)) patience told o old new

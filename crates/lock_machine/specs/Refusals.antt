@@ -74,9 +74,10 @@ abbrev pub Rests : Bool → Whole → Whole → Type 0
 Rests true old new = Unit {0}
 Rests false old new = new ≡ old
 
--- an event comes where it has its phase: it is made, with what comes of it, or a number forbids it, or there is no memory. Where it is
--- refused it changes nothing
-abbrev pub Comes : {A : Type 0} → Bool → Result A Refused → Whole → Whole → (Option A → Type 0) → Type 0
+-- an event comes where it has its phase: it is made, with what comes of it, or a number forbids it,
+-- or there is no memory. Where it is refused it changes nothing
+abbrev pub Comes : {A : Type 0} → Bool → Result A Refused → Whole → Whole → (Option A → Type 0)
+    → Type 0
 Comes right (Ok a) old new made = (right ≡ true) × made (Some a)
 Comes right (Err refused.WrongPhase) old new made = (right ≡ false) × (new ≡ old)
 Comes right (Err refused.ClockFull) old new made = (right ≡ true) × (new ≡ old) × made None

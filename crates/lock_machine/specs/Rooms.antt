@@ -1,7 +1,7 @@
 -- Internal: no contract of the headline or of a command stands on it.
 -- How much memory a thread has for the bytes of its reply, and how much it needs.
 use Rattle.std.specs.Prelude.{◌≡◌, ◌≤◌, ℕ, Bool, true, false, not, ◌||◌}
-use Rattle.decisions.specs.Bytes.{read_count}
+use Rattle.sequential_object.specs.Bytes.{read_count}
 use Rattle.descriptor_table.specs.Plans.{bytes_asked}
 use Rattle.object_store.specs.Patience.{turn_bytes}
 use Rattle.object_store.specs.Space.{Space}

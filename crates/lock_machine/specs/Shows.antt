@@ -44,15 +44,19 @@ use Rattle.lock_machine.specs.Whole.{Whole, thread_at}
 -- ## Threads
 
 -- the call that a thread was granted, with the row of its place, and how its turn ended
-pub record IsGranted (terms : Conditions) (i : ℕ) (rows : List Row) (place : ℕ) (object : Option ℕ) (ends : TurnEnd) (job : Job) : Type 0 where
+pub record IsGranted (terms : Conditions) (i : ℕ) (rows : List Row) (place : ℕ) (object : Option ℕ)
+    (ends : TurnEnd) (job : Job) : Type 0 where
   pub plan : job.plan ≡ plan_of Inside object
   pub in_range : IfSome object (λ n. n < limit.OBJECTS)
   pub thread : job.turn.thread ≡ i
-  pub answers : answer_in (step terms.settings job.found.object job.call (outcome_in job.outcome) job.carried) ≡ ends
+  pub answers : answer_in
+      (step terms.settings job.found.object job.call (outcome_in job.outcome) job.carried) ≡ ends
   pub row : slice_get rows place ≡ Some (row_of job)
 
--- the call that a thread was granted and goes outside with: what it asks, at whose door, and whether EAGAIN makes it wait
-pub record IsOut (terms : Conditions) (i : ℕ) (rows : List Row) (o : Outing) (job : Job) : Type 0 where
+-- the call that a thread was granted and goes outside with: what it asks, at whose door, and
+-- whether EAGAIN makes it wait
+pub record IsOut (terms : Conditions) (i : ℕ) (rows : List Row) (o : Outing) (job : Job)
+    : Type 0 where
   pub object : ℕ
   pub object_is : o.object ≡ Some object
   pub in_range : object < limit.OBJECTS
@@ -64,22 +68,31 @@ pub record IsOut (terms : Conditions) (i : ℕ) (rows : List Row) (o : Outing) (
   pub waits : o.errand.waits ≡ waits_outside job.found.object job.call job.carried
   pub keeps : o.keeps_table ≡ keeps_table job.call
   -- whatever comes, unless it keeps the table
-  pub ends : o.keeps_table ≡ false → (x : Outcome) → let stepped = step terms.settings job.found.object job.call (Some x) job.carried in
-      (stepped.answer, stepped.carried) ≡ ended terms.settings job.found.object job.carried (outside_ending o.errand (Some x))
+  pub ends : o.keeps_table ≡ false → (x : Outcome)
+      → let stepped = step terms.settings job.found.object job.call (Some x) job.carried in
+      (stepped.answer, stepped.carried)
+      ≡ ended terms.settings job.found.object job.carried (outside_ending o.errand (Some x))
   pub row : slice_get rows o.row ≡ Some (row_of job)
 
 abbrev pub PhaseShows : Conditions → ℕ → List Row → Thread → lock.Thread → Phase → Type 0
 PhaseShows terms i rows t u phase.Working = u.phase ≡ Working
 PhaseShows terms i rows t u (phase.WantsTable call carried) = u.phase ≡ WantsTable call carried
-PhaseShows terms i rows t u (phase.WantsObject call carried clock object) = (way : Way) × ((u.phase ≡ WantsObject call carried clock object way) × (object < limit.OBJECTS))
-PhaseShows terms i rows t u (phase.Granted place object ends) = (job : Job) × ((u.phase ≡ Granted job) × IsGranted terms i rows place object ends job)
-PhaseShows terms i rows t u (phase.ToOutside o) = (job : Job) × ((u.phase ≡ ToOutside job) × IsOut terms i rows o job)
-PhaseShows terms i rows t u (phase.Outside o) = (job : Job) × ((u.phase ≡ Outside job) × IsOut terms i rows o job × (t.came < limit.OUTCOMES))
-PhaseShows terms i rows t u (phase.Recorded o) = (job : Job) × ((u.phase ≡ Recorded job) × IsOut terms i rows o job)
-PhaseShows terms i rows t u (phase.Blocked carried) = (call : Call) × (u.phase ≡ Blocked call carried)
+PhaseShows terms i rows t u (phase.WantsObject call carried clock object) =
+    (way : Way) × ((u.phase ≡ WantsObject call carried clock object way) × (object < limit.OBJECTS))
+PhaseShows terms i rows t u (phase.Granted place object ends) =
+    (job : Job) × ((u.phase ≡ Granted job) × IsGranted terms i rows place object ends job)
+PhaseShows terms i rows t u (phase.ToOutside o) =
+    (job : Job) × ((u.phase ≡ ToOutside job) × IsOut terms i rows o job)
+PhaseShows terms i rows t u (phase.Outside o) =
+    (job : Job) × ((u.phase ≡ Outside job) × IsOut terms i rows o job × (t.came < limit.OUTCOMES))
+PhaseShows terms i rows t u (phase.Recorded o) =
+    (job : Job) × ((u.phase ≡ Recorded job) × IsOut terms i rows o job)
+PhaseShows terms i rows t u (phase.Blocked carried) =
+    (call : Call) × (u.phase ≡ Blocked call carried)
 PhaseShows terms i rows t u phase.Ended = u.phase ≡ Ended
 
-pub record ThreadShows (terms : Conditions) (i : ℕ) (rows : List Row) (t : Thread) (u : lock.Thread) : Type 0 where
+pub record ThreadShows (terms : Conditions) (i : ℕ) (rows : List Row) (t : Thread) (u : lock.Thread)
+    : Type 0 where
   pub clock : u.clock ≡ t.clock
   pub in_time : t.clock ≤ 2 ^ 62
   pub asked : u.asked ≡ t.asked
@@ -100,7 +113,8 @@ pub record Shows (terms : Conditions) (w : Whole) (s : State) : Type 0 where
 
 -- by both the clocks of the live threads are the same
 abbrev pub ClocksShown : Type 0
-ClocksShown = (terms : Conditions) (w : Whole) (s : State) → Shows terms w s → live_clocks s ≡ clocks_of w.threads
+ClocksShown = (terms : Conditions) (w : Whole) (s : State) → Shows terms w s
+    → live_clocks s ≡ clocks_of w.threads
 
 -- ## Phases
 
@@ -168,17 +182,22 @@ clock_in_row None = None
 
 abbrev pub logged_clock : Whole → ℕ → Option ℕ
 logged_clock w i =
-    if w.settings.version == 2 then clock_in_row (row_outside (thread_at w i).phase w.rows) else None
+    if w.settings.version == 2 then clock_in_row (row_outside (thread_at w i).phase w.rows)
+    else None
 
--- this outcome comes for thread i, just where it can, and it diverges just where the outcome does not answer
-pub record Advanced (made : Progress) (i : ℕ) (g : Given) (new : Whole) (terms : Conditions) (s : State) : Type 0 where
+-- this outcome comes for thread i, just where it can, and it diverges just where the outcome does
+-- not answer
+pub record Advanced (made : Progress) (i : ℕ) (g : Given) (new : Whole) (terms : Conditions)
+    (s : State) : Type 0 where
   pub can : can_advance (setup_under terms) s i ≡ has_moved made
   pub diverges : is_diverging (setup_under terms) s i ≡ has_diverged made
   pub shows : Shows terms new (advance (setup_under terms) i s)
-  pub came : (thread_of (advance (setup_under terms) i s) i).came ≡ came_with made g (thread_of s i).came
+  pub came : (thread_of (advance (setup_under terms) i s) i).came
+      ≡ came_with made g (thread_of s i).came
 
 -- it makes an event in which no outcome comes, just where it can
-pub record Quietly (moved : Bool) (i : ℕ) (new : Whole) (terms : Conditions) (s : State) : Type 0 where
+pub record Quietly (moved : Bool) (i : ℕ) (new : Whole) (terms : Conditions) (s : State)
+    : Type 0 where
   pub can : can_advance (setup_under terms) s i ≡ moved
   pub shows : Shows terms new (advance (setup_under terms) i s)
 
@@ -188,21 +207,27 @@ StandsAt w terms s = Arises (setup_under terms) (start_under terms) s × Shows t
 
 -- it goes outside, or makes a blocked call again
 abbrev pub AdvancesQuietly : Bool → ℕ → Whole → Whole → Type 0
-AdvancesQuietly moved i old new = (terms : Conditions) (s : State) → StandsAt old terms s → Quietly moved i new terms s
+AdvancesQuietly moved i old new = (terms : Conditions) (s : State) → StandsAt old terms s
+    → Quietly moved i new terms s
 
 -- it asks this step
 abbrev pub AsksFor : Bool → ℕ → Step → Whole → Whole → Type 0
 AsksFor moved i x old new =
-    (terms : Conditions) (s : State) → StandsAt old terms s → (let u : lock.Thread = thread_of s i in terms.supply.next i u.asked u.replies ≡ Some x) → Quietly moved i new terms s
+    (terms : Conditions) (s : State) → StandsAt old terms s
+    → (let u : lock.Thread = thread_of s i in terms.supply.next i u.asked u.replies ≡ Some x)
+    → Quietly moved i new terms s
 
 -- no number forbids that thread i asks this step
 abbrev pub MayAsk : ℕ → Step → Whole → Type 0
 MayAsk i x w =
-    (terms : Conditions) (s : State) → StandsAt w terms s → (let u : lock.Thread = thread_of s i in terms.supply.next i u.asked u.replies ≡ Some x) → can_advance (setup_under terms) s i ≡ true
+    (terms : Conditions) (s : State) → StandsAt w terms s
+    → (let u : lock.Thread = thread_of s i in terms.supply.next i u.asked u.replies ≡ Some x)
+    → can_advance (setup_under terms) s i ≡ true
 
 -- nor that it makes an event in which nothing comes
 abbrev pub MayAdvance : ℕ → Whole → Type 0
-MayAdvance i w = (terms : Conditions) (s : State) → StandsAt w terms s → can_advance (setup_under terms) s i ≡ true
+MayAdvance i w = (terms : Conditions) (s : State) → StandsAt w terms s
+    → can_advance (setup_under terms) s i ≡ true
 
 -- the replies of a thread behind its answer, if it has one
 abbrev pub replied : Option posix.Answer → List Reply → List Reply
@@ -214,7 +239,9 @@ replied None rs = rs
 abbrev pub Tells : Option posix.Answer → ℕ → Whole → Whole → Type 0
 Tells told i old new =
     (terms : Conditions) (s : State) → StandsAt old terms s
-    → Quietly (is_some told) i new terms s × ((thread_of (advance (setup_under terms) i s) i).replies ≡ replied told (thread_of s i).replies)
+    → Quietly (is_some told) i new terms s
+    × ((thread_of (advance (setup_under terms) i s) i).replies
+    ≡ replied told (thread_of s i).replies)
 
 -- this outcome comes, with the clock of its call's turn
 abbrev pub RecordsGiven : Progress → ℕ → Given → Whole → Whole → Type 0
@@ -227,4 +254,5 @@ RecordsGiven made i g old new =
 abbrev pub Attempts : Bool → ℕ → Whole → Whole → Type 0
 Attempts made i old new =
     (terms : Conditions) (s : State) → StandsAt old terms s
-    → (can_attempt (setup_under terms) s i ≡ made) × Shows terms new (attempt (setup_under terms) i s)
+    → (can_attempt (setup_under terms) s i ≡ made)
+    × Shows terms new (attempt (setup_under terms) i s)

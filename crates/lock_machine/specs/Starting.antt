@@ -40,4 +40,5 @@ first_whole settings threads =
 
 -- whatever comes, it shows the lock machine's start
 abbrev pub ShowsAtStart : Type 0
-ShowsAtStart = (terms : Conditions) → Shows terms (first_whole terms.settings terms.threads) (start_under terms)
+ShowsAtStart = (terms : Conditions)
+    → Shows terms (first_whole terms.settings terms.threads) (start_under terms)

@@ -35,8 +35,11 @@ all_true (b ∷ bs) = b && all_true bs
 abbrev pub have_ended : List Thread → Bool
 have_ended threads = all_true (map (λ (t : Thread). is_ended t.phase) threads)
 
--- no clock but that of thread i has changed, and this never goes back; thread i is live as its phase says, if it was so before
-pub record KeepsOthers (i : ℕ) (old : declared.Thread) (clocks : List ThreadClock) (new : declared.Thread) (later : List ThreadClock) : Type 0 where
+-- no clock but that of thread i has changed, and this never goes back; thread i is live as its
+-- phase says, if it was so before
+pub record KeepsOthers (i : ℕ) (old : declared.Thread) (clocks : List ThreadClock)
+    (new : declared.Thread) (later : List ThreadClock) : Type 0 where
   pub others : later ≡ slice_set clocks i (thread_at later i)
   pub forward : clock_at clocks i ≤ clock_at later i
-  pub live : (let c : ThreadClock = thread_at clocks i in c.live) ≡ is_live old.phase → (let c : ThreadClock = thread_at later i in c.live) ≡ is_live new.phase
+  pub live : (let c : ThreadClock = thread_at clocks i in c.live) ≡ is_live old.phase
+      → (let c : ThreadClock = thread_at later i in c.live) ≡ is_live new.phase

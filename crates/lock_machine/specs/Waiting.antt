@@ -29,6 +29,8 @@ is_call x = false
 abbrev pub HasRoom : ℕ → Vec HistoryRow → Type 0
 HasRoom due rows = due + vec_len rows ≤ vec_capacity rows
 
--- where so many rows were due and now so many are, the room for all others that are due is still there
+-- where so many rows were due and now so many are, the room for all others that are due is still
+-- there
 abbrev pub KeepsRoom : ℕ → Vec HistoryRow → ℕ → Vec HistoryRow → Type 0
-KeepsRoom due rows left later = left + vec_len later + vec_capacity rows ≤ due + vec_len rows + vec_capacity later
+KeepsRoom due rows left later =
+    left + vec_len later + vec_capacity rows ≤ due + vec_len rows + vec_capacity later

@@ -1,5 +1,6 @@
 -- Internal: no contract of the headline or of a command stands on it.
--- What was decided of the call whose thread holds the table: nobody else changes the table until that is free.
+-- What was decided of the call whose thread holds the table: nobody else changes the table until
+-- that is free.
 use Rattle.std.specs.Prelude.{◌≡◌, ◌≢◌, ℕ, ◌<◌, Bool, true, false, List, length, slice_get, slice_index_or, Option, Some, None}
 use Rattle.std.specs.Option.{option_map}
 use Rattle.posix_terms.specs.Calls.{Call}
@@ -56,16 +57,19 @@ HasDecided p rows h wanted =
 abbrev pub HasDecidedAt : ℕ → Phase → DetLock → List HistoryRow → Stored → Option Locking → Type 0
 HasDecidedAt k p lock rows h wanted = lock.holder ≡ Some k → HasDecided p rows h wanted
 
-abbrev pub AllHaveDecided : List Thread → DetLock → List HistoryRow → Stored → Option Locking → Type 0
+abbrev pub AllHaveDecided : List Thread → DetLock → List HistoryRow → Stored → Option Locking
+    → Type 0
 AllHaveDecided threads lock rows h wanted = (k : ℕ) (d : Thread) → k < length threads →
     (let t : Thread = slice_index_or threads k d in HasDecidedAt k t.phase lock rows h wanted)
 
 -- ## What the events of other threads leave
 
--- thread k, which holds the table, held it before, and finds the calls of the rows, what was decided and the store as they were
+-- thread k, which holds the table, held it before, and finds the calls of the rows, what was
+-- decided and the store as they were
 abbrev pub LeavesWanted : ℕ → DetLock → List HistoryRow → Stored → Option Locking
     → List HistoryRow → Stored → Option Locking → Type 0
-LeavesWanted k lock rows h wanted later new now = (lock.holder ≡ Some k) × KeepsCalls rows later × (new ≡ h) × (now ≡ wanted)
+LeavesWanted k lock rows h wanted later new now =
+    (lock.holder ≡ Some k) × KeepsCalls rows later × (new ≡ h) × (now ≡ wanted)
 
 -- each other thread than i
 abbrev pub KeepsWanted : ℕ → DetLock → List HistoryRow → Stored → Option Locking

@@ -9,6 +9,7 @@ ghost use Rattle.posix_terms.specs.declared.step.Step.TheVariants as step;
 
 use crate::ask::reserve_rows;
 use crate::events::{answer, try_object, try_table};
+use crate::laws::requests_asked;
 use crate::machine::LockMachine;
 use crate::outside::{Progress, answer_outside, begin_outside, record};
 use crate::thread::Outing;
@@ -95,6 +96,7 @@ impl LockMachine {
         ensures settings { settings_in self.new ≡ settings_in self.old }
     {
         arising_states();
+        requests_asked();
         record(outing, given, &mut self.threads[i], &mut self.shared.rows)
     }
 

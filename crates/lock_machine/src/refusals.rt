@@ -9,6 +9,7 @@ ghost use Rattle.lock_machine.specs.declared.outside.Progress.TheVariants as pro
 ghost use Rattle.lock_machine.specs.declared.refused.Refused.TheVariants as refused;
 ghost use Rattle.posix_terms.specs.declared.step.Step.TheVariants as step;
 
+use crate::laws::requests_asked;
 use crate::machine::LockMachine;
 use crate::outside::{Progress, outlook};
 use crate::refused::{Attempt, Refused};
@@ -126,6 +127,7 @@ impl LockMachine {
         ensures event { is_outside (phase_at self.now i) ≡ true → has_moved result ≡ false → RecordsGiven result i given.now self.now self.now }
     {
         arising_states();
+        requests_asked();
         let Phase::Outside(outing) = *self.phase(i) else {
             return Progress::Stays;
         };

@@ -4,7 +4,7 @@ use Rattle.std.proofs.lemmas.Bool.{false≢true}
 use Rattle.std.specs.Prelude.{is_none, is_some}
 use Rattle.sequential_object.specs.Legal.{Answers, IsLegalFrom, MayBe, carried_after, carried_on}
 use Rattle.sequential_object.specs.Locked as locked
-use Rattle.sequential_object.specs.Locked.{LeavesAlike, OutsideLocks, locked_object, locks_door}
+use Rattle.sequential_object.specs.Locked.{LeavesAlike, LocksDoor, OutsideLocks, locked_object}
 use Rattle.sequential_object.specs.Object as posix_object
 use Rattle.sequential_object.specs.Step.{Carried, Stepped, asks, step}
 use Rattle.posix_terms.specs.Calls.{Call}
@@ -64,8 +64,8 @@ some_numbered w None = refl
 some_numbered w (Some object) = refl
 
 -- a door that is locked is the lock of some object
-some_locked : (s : posix_object.State) (keeps : Bool) (o : Option ℕ) → locks_door s keeps o ≡ true → is_some o ≡ true
-some_locked s keeps None h = absurd (false≢true h)
+some_locked : (s : posix_object.State) (keeps : Bool) (o : Option ℕ) → LocksDoor s keeps o → is_some o ≡ true
+some_locked s keeps None h = absurd h
 some_locked s keeps (Some object) h = refl
 
 locks_number : OutsideLocks → (w : World) (c : Call) (b : Carried) → goes w c b ≡ true → is_some (numbered w (locked_object w.object c b)) ≡ true

@@ -1,5 +1,5 @@
--- What calls on doors find and leave: a door that is closed is gone, only an accept is on a listener, and an opened door is the next object.
-use Rattle.std.proofs.Common.{◌≡◌, ◌⊎◌, ℕ, zero, suc, ◌+◌, ◌==◌, ℤ, pos, negsuc, List, [], ◌∷◌, length, Option, Some, None, Result, Ok, Err, Bool, true, false, cond, not, T, ◌&&◌, ◌||◌, nat_lt, nat_le, unwrap_or, if◌then◌else◌, inl, inr, sym, refl, ap, ◌∙◌, arith}
+-- What calls that go outside find and leave: a door that is closed is gone, only an accept is on a listener, and an opened door is the next object.
+use Rattle.std.proofs.Common.{◌≡◌, ◌⊎◌, ℕ, zero, suc, ◌+◌, ◌==◌, ℤ, pos, negsuc, List, [], ◌∷◌, Option, Some, None, Result, Ok, Err, Bool, true, false, cond, not, T, ◌&&◌, ◌||◌, nat_lt, unwrap_or, if◌then◌else◌, inl, inr, is_some, refl, sym, ap, ◌∙◌, subst, arith}
 use Rattle.std.proofs.lemmas.Bool.{false≢true, true≢false}
 use Rattle.std.proofs.lemmas.Bool.Decides.{nat_tests}
 use Rattle.std.proofs.lemmas.Option.{none-some, same_Some}
@@ -10,43 +10,46 @@ use Rattle.std.specs.FinMap.{FinMap, entries, entries_sorted, get-entries}
 use Rattle.std.specs.FinMap.Entries.{below_all, find_tied, is_sorted}
 use Rattle.std.specs.List.{list_any}
 use Rattle.std.specs.Ordering.{eq_by_cmp, is_eq, is_lt, nat_cmp}
-use Rattle.std.specs.Prelude.{is_ok}
+use Rattle.std.specs.Prelude.{IfOk, is_ok}
 use Rattle.std.specs.declared.cmp.Ordering.{Ordering}
 use Rattle.std.specs.declared.cmp.Ordering.TheVariants.{Equal, Greater, Less}
-use Rattle.object_store.specs.Errands.{door_taken, object_found}
-use Rattle.sequential_object.specs.Descriptors.{close_result, described, ended_object, ends_door, freed, has_description, has_descriptor, has_path, is_file, is_of, lowest_free, opened, released}
-use Rattle.sequential_object.specs.Doors.{NewDoor, host_open_result, host_path, listener_in, opens, port_of, tcp_accept_result, tcp_connect_result, tcp_listen_result}
-use Rattle.sequential_object.specs.Effects.{Decision, Asking, Asks, Completes, Effect, asks_of, alone, does_of, locking, locks_of}
-use Rattle.sequential_object.specs.Locked.{keeps_table, locked_object}
-use Rattle.sequential_object.specs.Object.{Content, Description, Directory, DoorTo, File, FileNode, Node, Pair, Pipe, State, any_below, content_of, is_door, path_cmp, with_object}
-use Rattle.posix_terms.specs.Calls.{can_write}
-use Rattle.sequential_object.specs.Refusals.{◌>>=◌, count_of, refuse_if, some_or}
-use Rattle.sequential_object.specs.Sockets.{shuttable, shutdown_result}
-use Rattle.posix_terms.specs.declared.carried.Moved.{Moved}
-use Rattle.sequential_object.specs.Transfers.{first_write, is_from, write_goes_on, write_resumed, lseek_result, moving, not_listener, read_content, read_result, readable, seekable, writable, write_content, write_result}
-use Rattle.sequential_object.specs.Step.{Carried, Stepped, asks, concluded, held_up, is_again, nothing_carried, nothing_moved, query_of, step}
-use Rattle.posix_terms.specs.declared.call.Access.TheVariants.{ReadWrite}
-use Rattle.posix_terms.specs.declared.call.ShutdownHow.{ShutdownHow}
-use Rattle.posix_terms.specs.declared.call.Whence.{Whence}
+use Rattle.descriptor_table.specs.Shows.{is_of as is_end_of, same_door}
+use Rattle.sequential_object.specs.Acts.{Acted, Ending, Replies}
+use Rattle.sequential_object.specs.Acts as ending
+use Rattle.sequential_object.specs.Changes.{changed, closed, door_of}
+use Rattle.sequential_object.specs.Decided.{decided}
+use Rattle.sequential_object.specs.Deciding.{leads_outside}
+use Rattle.sequential_object.specs.Descriptors.{described, freed, has_description, has_descriptor, has_path, is_file, is_of, released}
+use Rattle.sequential_object.specs.Doors.{must_be_listener}
+use Rattle.sequential_object.specs.Locked.{keeps_table}
+use Rattle.sequential_object.specs.Meant.{acted_at, ended, meant, put, request_kind, seen, transfers}
+use Rattle.sequential_object.specs.Object.{Content, Description, Directory, DoorTo, File, FileNode, Node, Pair, Pipe, State, any_below, content_of, path_cmp}
+use Rattle.sequential_object.specs.So.{DecidedSo, IsClose, IsDoor, IsLastDoor, IsOpening, IsSo, Refers, Shows}
+use Rattle.sequential_object.specs.Step.{Carried, Stepped, concluded, effect_of, failed, is_again, nothing_moved, query_of, step, waited, held_up}
+use Rattle.sequential_object.specs.Transfers.{not_listener}
+use Rattle.sequential_object.specs.View.{View}
+use Rattle.sequential_object.specs.declared.decision.Change.TheVariants as change
+use Rattle.sequential_object.specs.declared.decision.Decision.{Decision}
+use Rattle.sequential_object.specs.declared.decision.Decision.TheVariants as decision
+use Rattle.sequential_object.specs.declared.decision.Deed.TheVariants as deed
+use Rattle.sequential_object.specs.declared.decision.NewDescriptor.{NewDescriptor}
+use Rattle.sequential_object.specs.declared.decision.Seen.{Seen}
 use Rattle.posix_terms.specs.Calls.{Call}
+use Rattle.posix_terms.specs.Queries.{Query}
 use Rattle.posix_terms.specs.declared.call.Call.TheVariants as call
 use Rattle.posix_terms.specs.declared.errno.Errno.{Errno}
-use Rattle.posix_terms.specs.declared.errno.Errno.TheVariants.{EINVAL, EMFILE, ENFILE}
-use Rattle.posix_terms.specs.declared.limits.TheConstants.Limits as limit
 use Rattle.posix_terms.specs.declared.object.Door.{Door}
 use Rattle.posix_terms.specs.declared.object.Door.TheVariants as door
+use Rattle.posix_terms.specs.declared.object.End.{End}
 use Rattle.posix_terms.specs.declared.object.End.TheVariants as part
-use Rattle.posix_terms.specs.declared.outcome.OutKind.TheVariants as kind
+use Rattle.posix_terms.specs.declared.outcome.OutKind.{OutKind}
 use Rattle.posix_terms.specs.declared.outcome.Outcome.{Outcome}
 use Rattle.posix_terms.specs.declared.outcome.Outcome.TheVariants as outcome
-use Rattle.posix_terms.specs.declared.reply.Answer.TheVariants as answer
 use Rattle.posix_terms.specs.declared.reply.Reply.TheVariants as reply
-use Rattle.posix_terms.specs.declared.reply.Reply.{Reply}
-use Rattle.posix_terms.specs.Queries.{Query}
 use Rattle.posix_terms.specs.declared.transcript.Settings.{Settings}
 use Rattle.logged_machine.specs.Doors as doors
-use Rattle.logged_machine.specs.DoorsThere.{HaveOne}
-use Rattle.logged_machine.proofs.NoNewDoors.{IsPlain, gave, is_described, readable_described, remove_same, removed_there, same_ok, writable_described}
+use Rattle.logged_machine.specs.DoorsThere.{HaveOne, is_listener}
+use Rattle.logged_machine.proofs.NoNewDoors.{IsPlain, remove_same, removed_there}
 
 -- ## The entries of a map
 
@@ -152,177 +155,167 @@ closed_gone : (s : State) (descriptor : ℤ) (key : ℕ) (e : Description) (d : 
 closed_gone s (pos n) key e d plain one there at last = gone_with s (fin.remove s.descriptors n) key e d plain one there at last
 closed_gone s (negsuc n) key e d plain one there at last = gone_with s s.descriptors key e d plain one there at last
 
-pub close_leaves : (settings : Settings) (s : State) (descriptor : ℤ) (carried : Carried) (r : Query) (k : ℕ) (d : Door) → IsPlain s → HaveOne s → asks s (call.Close descriptor) carried ≡ Some r → door_taken s (call.Close descriptor) carried ≡ Some k → fin.get s.objects k ≡ Some (DoorTo d)
-    → (let stepped : Stepped = step settings s (call.Close descriptor) None carried in fin.get stepped.after.objects k ≡ None)
-unfolding close_result locked_object
-close_leaves settings s descriptor carried r k d plain one asked taken at = by_found (described s descriptor) refl
-  where
-    after : ℕ × Description → State
-    after found = released (freed s descriptor) found.0 found.1
-
-    by_last : ℕ × Description → Bool → Result Effect Errno
-    by_last found b = Ok (if b then asks_of (after found) kind.Close 0 false (λ value bytes. reply.Done) else Completes (after found) reply.Done)
-
-    decision : ℕ × Description → Result Decision Errno
-    decision found = Ok (record { locks = ended_object s descriptor found; does = by_last found (ends_door s descriptor found) })
-
-    left : Result Effect Errno → State
-    left x = let stepped : Stepped = concluded settings s None carried x in stepped.after
-
-    by_found : (x : Result (ℕ × Description) Errno) → described s descriptor ≡ x → (let a : State = left (does_of (close_result s descriptor)) in fin.get a.objects k ≡ None)
-    by_found (Err e) is = absurd (none-some r (sym (ap (λ (y : Result (ℕ × Description) Errno). query_of (call.Close descriptor) (does_of (y >>= decision))) is) ∙ asked))
-    by_found (Ok found) is = by_test (ends_door s descriptor found) refl
-      where
-        e : Description
-        e = found.1
-
-        is_effect : does_of (close_result s descriptor) ≡ by_last found (ends_door s descriptor found)
-        is_effect = ap (λ (y : Result (ℕ × Description) Errno). does_of (y >>= decision)) is
-
-        locked_is : ended_object s descriptor found ≡ Some k
-        locked_is = sym (ap (λ (y : Result (ℕ × Description) Errno). locks_of (y >>= decision)) is) ∙ taken
-
-        by_descriptor : (b : Bool) → has_descriptor (freed s descriptor) found.0 ≡ b → (has_descriptor (freed s descriptor) found.0 ≡ false) × (e.object ≡ k)
-        by_descriptor true t = absurd (none-some k (sym (ap (λ (b : Bool). if b then None else Some e.object) t) ∙ locked_is))
-        by_descriptor false t = (t, same_Some e.object k (sym (ap (λ (b : Bool). if b then None else Some e.object) t) ∙ locked_is))
-
-        by_test : (b : Bool) → ends_door s descriptor found ≡ b → (let a : State = left (does_of (close_result s descriptor)) in fin.get a.objects k ≡ None)
-        by_test false t = absurd (none-some r (sym (ap (query_of (call.Close descriptor)) (is_effect ∙ ap (by_last found) t)) ∙ asked))
-        by_test true t =
-            let last = by_descriptor (has_descriptor (freed s descriptor) found.0) refl in
-            let there = is_described s descriptor found is in
-            let own : fin.get s.objects e.object ≡ Some (DoorTo d) = ap (fin.get s.objects) last.1 ∙ at in
-            ap (λ (x : Result Effect Errno). let a : State = left x in fin.get a.objects k) (is_effect ∙ ap (by_last found) t) ∙ ap (λ (n : ℕ). let a : State = after found in fin.get a.objects n) (sym last.1) ∙ closed_gone s descriptor found.0 e d plain one there own last.0
-
--- ## Listeners
+-- ## The door of a description
 
 pub content_at : (s : State) (k : ℕ) (c : Content) → fin.get s.objects k ≡ Some c → content_of s k ≡ c
 content_at s k c at = ap (λ (o : Option Content). unwrap_or o (File [])) at
 
--- a call that takes a lock was not refused
-locks_as : (r : Result Decision Errno) (k : ℕ) → locks_of r ≡ Some k → (d : Decision) × ((r ≡ Ok d) × (d.locks ≡ Some k))
-locks_as (Ok d) k h = (d, (refl, h))
-locks_as (Err e) k h = absurd (none-some k h)
+abbrev pub listens : End → Bool
+listens (part.Door d) = is_listener d
+listens which = false
 
--- and its object is the one that is locked
-locks_own : (d e : Decision) (object k : ℕ) → d.locks ≡ Some object → ◌≡◌ {A = Result Decision Errno} (Ok d) (Ok e) → e.locks ≡ Some k → object ≡ k
-locks_own d e object k own same h = same_Some object k (sym own ∙ ap (λ (x : Decision). x.locks) (same_ok d e same) ∙ h)
+-- where a description leads outside its object is a door, and a listener exactly when the description is one
+pub record IsDoorAt (s : State) (which : End) (k : ℕ) : Type 0 where
+  pub door : Door
+  pub there : fin.get s.objects k ≡ Some (DoorTo door)
+  pub alike : listens which ≡ is_listener door
 
-moved_is : (s : State) (d : Description) (n : ℕ) (none : Reply) (does : Result Effect Errno) (k : ℕ) → (let m = moving s d n none does in m.locks ≡ Some k) → d.object ≡ k
-moved_is s d n none does k h = by_test (n == 0) h
+same_listens : (one other : Door) → same_door one other ≡ true → is_listener one ≡ is_listener other
+same_listens door.HostFile door.HostFile is = refl
+same_listens door.HostFile (door.Listener port) is = absurd (false≢true is)
+same_listens door.HostFile door.Stream is = refl
+same_listens (door.Listener port) (door.Listener other) is = refl
+same_listens (door.Listener port) door.HostFile is = absurd (false≢true is)
+same_listens (door.Listener port) door.Stream is = absurd (false≢true is)
+same_listens door.Stream door.HostFile is = refl
+same_listens door.Stream (door.Listener port) is = absurd (false≢true is)
+same_listens door.Stream door.Stream is = refl
+
+pub door_at : (s : State) (which : End) (k : ℕ) → is_some (fin.get s.objects k) ≡ true → is_end_of which (content_of s k) ≡ true → leads_outside which ≡ true → IsDoorAt s which k
+door_at s which k there matches outside = by_end which (fin.get s.objects k) refl there matches outside
   where
-    by_test : (b : Bool) → (let m : Decision = if b then alone s none else locking d.object does in m.locks ≡ Some k) → d.object ≡ k
-    by_test false h = same_Some d.object k h
-    by_test true h = absurd (none-some k h)
+    by_end : (which : End) (o : Option Content) → fin.get s.objects k ≡ o → is_some o ≡ true → is_end_of which (unwrap_or o (File [])) ≡ true → leads_outside which ≡ true → IsDoorAt s which k
+    by_end (part.Door one) (Some (DoorTo other)) is there matches outside = record { door = other; there = is; alike = same_listens one other matches }
+    by_end (part.Door one) (Some (File bytes)) is there matches outside = absurd (false≢true matches)
+    by_end (part.Door one) (Some (Pipe bytes)) is there matches outside = absurd (false≢true matches)
+    by_end (part.Door one) (Some (Pair p)) is there matches outside = absurd (false≢true matches)
+    by_end (part.Door one) None is there matches outside = absurd (false≢true there)
+    by_end part.Only o is there matches outside = absurd (false≢true outside)
+    by_end part.Read o is there matches outside = absurd (false≢true outside)
+    by_end part.Write o is there matches outside = absurd (false≢true outside)
+    by_end (part.Socket side) o is there matches outside = absurd (false≢true outside)
 
-read_is : (s : State) (key : ℕ) (d : Description) (n k : ℕ) (c : Content) → (let r = read_content s key d n c in r.locks ≡ Some k) → d.object ≡ k
-read_is s key d n k (File bytes) h = same_Some d.object k h
-read_is s key d n k (Pipe bytes) h = moved_is s d n _ _ k h
-read_is s key d n k (Pair p) h = moved_is s d n _ _ k h
-read_is s key d n k (DoorTo x) h = moved_is s d n _ _ k h
+pub no_listener : (which : End) → not_listener which ≡ Ok tt → listens which ≡ false
+no_listener (part.Door (door.Listener port)) is = absurd (false≢true (ap is_ok is))
+no_listener (part.Door door.HostFile) is = refl
+no_listener (part.Door door.Stream) is = refl
+no_listener part.Only is = refl
+no_listener part.Read is = refl
+no_listener part.Write is = refl
+no_listener (part.Socket side) is = refl
 
-written_is : (s : State) (key : ℕ) (d : Description) (bytes : List ℕ) (k : ℕ) (c : Content) → (let w = write_content s key d bytes c in w.locks ≡ Some k) → d.object ≡ k
-written_is s key d bytes k (File file) h = same_Some d.object k h
-written_is s key d bytes k (Pipe waiting) h = moved_is s d (length bytes) _ _ k h
-written_is s key d bytes k (Pair p) h = moved_is s d (length bytes) _ _ k h
-written_is s key d bytes k (DoorTo x) h = moved_is s d (length bytes) _ _ k h
+pub a_listener : (which : End) → must_be_listener which ≡ Ok tt → listens which ≡ true
+a_listener (part.Door (door.Listener port)) is = refl
+a_listener (part.Door door.HostFile) is = absurd (false≢true (ap is_ok is))
+a_listener (part.Door door.Stream) is = absurd (false≢true (ap is_ok is))
+a_listener part.Only is = absurd (false≢true (ap is_ok is))
+a_listener part.Read is = absurd (false≢true (ap is_ok is))
+a_listener part.Write is = absurd (false≢true (ap is_ok is))
+a_listener (part.Socket side) is = absurd (false≢true (ap is_ok is))
 
-refused_at : {A : Type 0} (s : State) (object k port : ℕ) (test : Content → Result (Unit {0}) Errno) → is_ok (test (DoorTo (door.Listener port))) ≡ false → test (content_of s object) ≡ Ok tt → object ≡ k → fin.get s.objects k ≡ Some (DoorTo (door.Listener port)) → A
-refused_at s object k port test refuses fine same at = absurd (true≢false (sym (ap is_ok fine) ∙ ap (λ (n : ℕ). is_ok (test (content_of s n))) same ∙ ap (λ (c : Content). is_ok (test c)) (content_at s k (DoorTo (door.Listener port)) at) ∙ refuses))
+-- ## What was decided of a call that goes outside
 
-pub read_no_listener : {A : Type 0} (s : State) (descriptor count : ℤ) (carried : Carried) (k port : ℕ) → locked_object s (call.Read descriptor count) carried ≡ Some k → fin.get s.objects k ≡ Some (DoorTo (door.Listener port)) → A
-unfolding locked_object read_result
-read_no_listener s descriptor count carried k port taken at =
-    let it = locks_as (read_result s descriptor count) k taken in
-    let one = gave (readable s descriptor) _ it.0 it.1.0 in
-    let d = one.0.1 in
-    let two = gave (count_of count) _ it.0 one.1.1 in
-    let decided = read_content s one.0.0 d two.0 (content_of s d.object) in
-    let own : d.object ≡ k = read_is s one.0.0 d two.0 k (content_of s d.object) (ap (λ (x : Decision). x.locks) (same_ok decided it.0 two.1.1) ∙ it.1.1) in
-    refused_at s d.object k port not_listener refl (readable_described s descriptor one.0 one.1.0).1 own at
+-- it asks by a door that stays open
+pub record Asking (v : View) (c : Call) (d : Result Decision Errno) : Type 0 where
+  pub object : ℕ
+  pub blocks : Bool
+  pub is : d ≡ Ok (decision.Locks object (deed.Asks blocks))
+  pub door : IsDoor v object
+  pub stays : transfers c ≡ true
 
-first_no_listener : {A : Type 0} (s : State) (descriptor : ℤ) (bytes : List ℕ) (k port : ℕ) → locks_of (first_write s descriptor bytes) ≡ Some k → fin.get s.objects k ≡ Some (DoorTo (door.Listener port)) → A
-unfolding first_write
-first_no_listener s descriptor bytes k port taken at =
-    let it = locks_as (first_write s descriptor bytes) k taken in
-    let one = gave (writable s descriptor bytes) _ it.0 it.1.0 in
-    let d = one.0.1 in
-    let decided = write_content s one.0.0 d bytes (content_of s d.object) in
-    let own : d.object ≡ k = written_is s one.0.0 d bytes k (content_of s d.object) (ap (λ (x : Decision). x.locks) (same_ok decided it.0 one.1.1) ∙ it.1.1) in
-    refused_at s d.object k port not_listener refl (writable_described s descriptor bytes one.0 one.1.0).1 own at
+-- it closes a door
+pub record Closing (v : View) (c : Call) (d : Result Decision Errno) : Type 0 where
+  pub object : ℕ
+  pub number : ℕ
+  pub key : ℕ
+  pub is : d ≡ Ok (decision.Locks object (deed.Closes number key))
+  pub last : IsLastDoor v object number
+  pub refers : Refers v number key
+  pub closes : IsClose c
 
--- a write that goes on has a pipe
-resumed_no_listener : {A : Type 0} (s : State) (bytes : List ℕ) (moved : Moved) (r : Result (ℕ × Description) Errno) (k port : ℕ) → locks_of (Ok (write_resumed s bytes moved r)) ≡ Some k → fin.get s.objects k ≡ Some (DoorTo (door.Listener port)) → A
-resumed_no_listener s bytes moved (Err e) k port taken at = absurd (none-some k taken)
-resumed_no_listener {A} s bytes moved (Ok (key, d)) k port taken at = by_key (is_from moved key) taken
-  where
-    by_content : (c : Content) → content_of s d.object ≡ c → (let x = write_goes_on s key d bytes moved c in x.locks) ≡ Some k → A
-    by_content (Pipe waiting) is taken =
-        absurd (false≢true (ap (λ (c : Content). is_door c) (sym is ∙ ap (content_of s) (same_Some d.object k taken) ∙ content_at s k (DoorTo (door.Listener port)) at)))
-    by_content (File file) is taken = absurd (none-some k taken)
-    by_content (Pair p) is taken = absurd (none-some k taken)
-    by_content (DoorTo x) is taken = absurd (none-some k taken)
+-- it opens one
+pub record Opening (v : View) (c : Call) (d : Result Decision Errno) : Type 0 where
+  pub blocks : Bool
+  pub listener : Option ℕ
+  pub new : NewDescriptor
+  pub opens : IsOpening v c listener new
 
-    by_key : (b : Bool) → locks_of (Ok (if b then write_goes_on s key d bytes moved (content_of s d.object) else alone s (reply.Count moved.bytes))) ≡ Some k → A
-    by_key true taken = by_content (content_of s d.object) refl taken
-    by_key false taken = absurd (none-some k taken)
+abbrev pub GoesOut : View → Call → Result Decision Errno → Type 0
+GoesOut v c d = Asking v c d ⊎ (Closing v c d ⊎ Opening v c d)
 
-pub write_no_listener : {A : Type 0} (s : State) (descriptor : ℤ) (bytes : List ℕ) (carried : Carried) (k port : ℕ) → locked_object s (call.Write descriptor bytes) carried ≡ Some k → fin.get s.objects k ≡ Some (DoorTo (door.Listener port)) → A
-unfolding locked_object write_result
-write_no_listener {A} s descriptor bytes carried k port taken at = by_moved (carried.moved.bytes == 0) taken
-  where
-    by_moved : (b : Bool) → locks_of (if b then first_write s descriptor bytes else Ok (write_resumed s bytes carried.moved (described s descriptor))) ≡ Some k → A
-    by_moved true taken = first_no_listener s descriptor bytes k port taken at
-    by_moved false taken = resumed_no_listener s bytes carried.moved (described s descriptor) k port taken at
+none_asked : (c : Call) (after : State) (e : Ending) → query_of c (ended after e) ≡ None
+none_asked c after (Replies (reply.Fail e)) = refl
+none_asked c after (Replies r) = refl
+none_asked c after (ending.Blocks moved) = refl
 
-pub lseek_no_listener : {A : Type 0} (s : State) (descriptor offset : ℤ) (from : Whence) (carried : Carried) (k port : ℕ) → locked_object s (call.Lseek descriptor offset from) carried ≡ Some k → fin.get s.objects k ≡ Some (DoorTo (door.Listener port)) → A
-unfolding locked_object lseek_result
-lseek_no_listener s descriptor offset from carried k port taken at =
-    let it = locks_as (lseek_result s descriptor offset from) k taken in
-    let one = gave (described s descriptor) _ it.0 it.1.0 in
-    let d = one.0.1 in
-    let two = gave (seekable (content_of s d.object) offset from) _ it.0 one.1.1 in
-    refused_at s d.object k port (λ c. seekable c offset from) refl two.1.0 (locks_own _ it.0 d.object k refl two.1.1 it.1.1) at
+abbrev kind_in : Option Query → OutKind → OutKind
+kind_in (Some q) other = q.kind
+kind_in None other = other
 
-pub shutdown_no_listener : {A : Type 0} (s : State) (descriptor : ℤ) (how : ShutdownHow) (carried : Carried) (k port : ℕ) → locked_object s (call.Shutdown descriptor how) carried ≡ Some k → fin.get s.objects k ≡ Some (DoorTo (door.Listener port)) → A
-unfolding locked_object shutdown_result
-shutdown_no_listener s descriptor how carried k port taken at =
-    let it = locks_as (shutdown_result s descriptor how) k taken in
-    let one = gave (described s descriptor) _ it.0 it.1.0 in
-    let d = one.0.1 in
-    let two = gave (shuttable (content_of s d.object)) _ it.0 one.1.1 in
-    refused_at s d.object k port shuttable refl two.1.0 (locks_own _ it.0 d.object k refl two.1.1 it.1.1) at
+goes : (s : State) (c : Call) (d : Result Decision Errno) (r : Query) → IfOk d (IsSo (seen s) c) → query_of c (meant s c d) ≡ Some r → (r.kind ≡ request_kind c) × GoesOut (seen s) c d
+goes s c (Err e) r so asked = absurd (none-some r asked)
+goes s c (Ok (decision.Replies x change)) r so asked = absurd (none-some r asked)
+goes s c (Ok (decision.Locks object (deed.Acts a x))) r so asked =
+    let after : State = changed s c x in
+    let done : Acted = acted_at after object a c in
+    absurd (none-some r (sym (none_asked c (put after object a done) done.ending) ∙ asked))
+goes s c (Ok (decision.Locks object (deed.Asks blocks))) r so asked =
+    (sym (ap (λ (q : Option Query). kind_in q r.kind) asked), inl (record { object = object; blocks = blocks; is = refl; door = so.0; stays = so.4 }))
+goes s c (Ok (decision.Locks object (deed.Closes n key))) r so asked =
+    (sym (ap (λ (q : Option Query). kind_in q r.kind) asked), inr (inl (record { object = object; number = n; key = key; is = refl; last = so.0; refers = so.1; closes = so.4 })))
+goes s c (Ok (decision.Locks object (deed.Opens blocks listener new))) r so asked =
+    (sym (ap (λ (q : Option Query). kind_in q r.kind) asked), inr (inr (record { blocks = blocks; listener = listener; new = new; opens = so.0 })))
 
--- an accept is on a listener
-pub accepts_at : (s : State) (descriptor : ℤ) (carried : Carried) (r : Query) (k : ℕ) → asks s (call.TcpAccept descriptor) carried ≡ Some r → object_found (described s descriptor) ≡ Some k → (port : ℕ) × (fin.get s.objects k ≡ Some (DoorTo (door.Listener port)))
-unfolding tcp_accept_result
-accepts_at s descriptor carried r k asked taken = by_found (described s descriptor) refl
-  where
-    tests : ℕ × Description → Result Decision Errno
-    tests found = listener_in (content_of s (let d = found.1 in d.object)) >>= (λ (u : Unit {0}). opens s (record { kind = kind.Accept; asked = 0; door = λ value. door.Stream; access = ReadWrite; append = false; waits = not (let d = found.1 in d.nonblock) }))
+-- a call that goes outside was decided so, and asks what its kind says
+pub goes_out : DecidedSo → (s : State) (c : Call) (carried : Carried) (r : Query) → query_of c (effect_of s c carried) ≡ Some r → (r.kind ≡ request_kind c) × GoesOut (seen s) c (decided (seen s) c carried.moved)
+goes_out law s c carried r asked =
+    let known = law.shows s in goes s c (decided (seen s) c carried.moved) r (law.so (seen s) c carried.moved known.numbered) asked
 
-    by_listener : (object : ℕ) (x : Option Content) → fin.get s.objects object ≡ x → is_ok (listener_in (unwrap_or x (File []))) ≡ true → (port : ℕ) × (fin.get s.objects object ≡ Some (DoorTo (door.Listener port)))
-    by_listener object (Some (DoorTo (door.Listener port))) is fine = (port, is)
-    by_listener object (Some (DoorTo door.Stream)) is fine = absurd (false≢true fine)
-    by_listener object (Some (DoorTo door.HostFile)) is fine = absurd (false≢true fine)
-    by_listener object (Some (File bytes)) is fine = absurd (false≢true fine)
-    by_listener object (Some (Pipe bytes)) is fine = absurd (false≢true fine)
-    by_listener object (Some (Pair p)) is fine = absurd (false≢true fine)
-    by_listener object None is fine = absurd (false≢true fine)
+-- the first two free the table before they go
+pub stays_free : (c : Call) → transfers c ≡ true → keeps_table c ≡ false
+stays_free (call.Read descriptor count) is = refl
+stays_free (call.Write descriptor bytes) is = refl
+stays_free (call.Lseek descriptor offset whence) is = refl
+stays_free (call.Shutdown descriptor how) is = refl
+stays_free c is = absurd (false≢true is)
 
-    fine_by : (found : ℕ × Description) (x : Result (Unit {0}) Errno) → listener_in (content_of s (let d = found.1 in d.object)) ≡ x → described s descriptor ≡ Ok found → is_ok (listener_in (content_of s (let d = found.1 in d.object))) ≡ true
-    fine_by found (Ok u) is at = ap is_ok is
-    fine_by found (Err e) is at =
-        let none : query_of (call.TcpAccept descriptor) (does_of (tests found)) ≡ None = ap (λ (y : Result (Unit {0}) Errno). query_of (call.TcpAccept descriptor) (does_of (y >>= (λ (u : Unit {0}). opens s (record { kind = kind.Accept; asked = 0; door = λ value. door.Stream; access = ReadWrite; append = false; waits = not (let d = found.1 in d.nonblock) }))))) is in
-        absurd (none-some r (sym none ∙ sym (ap (λ (y : Result (ℕ × Description) Errno). query_of (call.TcpAccept descriptor) (does_of (y >>= tests))) at) ∙ asked))
+pub closes_free : (c : Call) → IsClose c → keeps_table c ≡ false
+closes_free (call.Close descriptor) is = refl
+closes_free c is = absurd is
 
-    by_found : (x : Result (ℕ × Description) Errno) → described s descriptor ≡ x → (port : ℕ) × (fin.get s.objects k ≡ Some (DoorTo (door.Listener port)))
-    by_found (Err e) is = absurd (none-some k (sym (ap object_found is) ∙ taken))
-    by_found (Ok found) is =
-        let d = found.1 in
-        let same : d.object ≡ k = same_Some d.object k (sym (ap object_found is) ∙ taken) in
-        let p = by_listener d.object (fin.get s.objects d.object) refl (fine_by found (listener_in (content_of s d.object)) refl is) in
-        (p.0, ap (fin.get s.objects) (sym same) ∙ p.1)
+-- ## A call that closes its door
+
+abbrev out_of_ok : {A : Type 0} → A → Result A Errno → A
+out_of_ok a (Ok x) = x
+out_of_ok a (Err e) = a
+
+same_ok : {A : Type 0} (a b : A) → (let r : Result A Errno = Ok a in r ≡ Ok b) → a ≡ b
+same_ok a b h = ap (out_of_ok a) h
+
+not_true : (b : Bool) → not b ≡ true → b ≡ false
+not_true true h = absurd (false≢true h)
+not_true false h = refl
+
+closed_leaves : (s : State) (n key : ℕ) (k : ℕ) (d : Door) → Shows s → IsPlain s → HaveOne s → IsLastDoor (seen s) k n → Refers (seen s) n key → fin.get s.objects k ≡ Some (DoorTo d)
+    → (let after = closed s n key (fin.get s.descriptions key) in fin.get after.objects k ≡ None)
+closed_leaves s n key k d known plain one its refers at =
+    let z = known.described (pos n) its.at its.found in
+    let e = z.description in
+    let same : its.at ≡ refers.at = same_ok its.at refers.at (sym its.found ∙ refers.found) in
+    let own_key : (let x = its.at in x.key) ≡ key = ap (λ (x : Seen). x.key) same ∙ refers.key_is in
+    let own : e.object ≡ k = z.object_is ∙ its.object_is in
+    let there : fin.get s.descriptions key ≡ Some e = ap (fin.get s.descriptions) (sym own_key) ∙ z.there in
+    let last : has_descriptor (freed s (pos n)) key ≡ false =
+    ap (has_descriptor (freed s (pos n))) (sym own_key) ∙ not_true (has_descriptor (freed s (pos n)) (let x = its.at in x.key)) (sym z.last_is ∙ its.last) in
+    ap (λ (o : Option Description). let after = closed s n key o in fin.get after.objects k) there
+    ∙ ap (λ (m : ℕ). let after = released (freed s (pos n)) key e in fin.get after.objects m) (sym own)
+    ∙ closed_gone s (pos n) key e d plain one there (ap (fin.get s.objects) own ∙ at) last
+
+pub close_leaves : (settings : Settings) (s : State) (c : Call) (carried : Carried) (d : Door) → Shows s → IsPlain s → HaveOne s → (x : Closing (seen s) c (decided (seen s) c carried.moved)) → fin.get s.objects x.object ≡ Some (DoorTo d)
+    → (let stepped : Stepped = step settings s c None carried in fin.get stepped.after.objects x.object ≡ None)
+close_leaves settings s c carried d known plain one x at =
+    ap (λ (r : Result Decision Errno). let stepped : Stepped = concluded settings s None carried (meant s c r) in fin.get stepped.after.objects x.object) x.is
+    ∙ closed_leaves s x.number x.key x.object d known plain one x.last x.refers at
 
 -- ## Opening
 
@@ -338,52 +331,38 @@ pub record OpensNext (s after : State) : Type 0 where
 abbrev pub Opened : State → Outcome → State → Type 0
 Opened s x after = (after ≡ s) ⊎ ((doors.is_ok x ≡ true) × OpensNext s after)
 
-abbrev OpenedBy : Settings → State → Carried → Outcome → Result Decision Errno → Type 0
-OpenedBy settings s carried x r = let stepped : Stepped = concluded settings s (Some x) carried (does_of r) in Opened s x stepped.after
-
-chain_opened : {A : Type 0} (settings : Settings) (s : State) (carried : Carried) (x : Outcome) (r : Result A Errno) (f : A → Result Decision Errno) → ((a : A) → OpenedBy settings s carried x (f a)) → OpenedBy settings s carried x (r >>= f)
-chain_opened settings s carried x (Ok a) f h = h a
-chain_opened settings s carried x (Err e) f h = inl refl
-
-opened_by : (settings : Settings) (s : State) (carried : Carried) (x : Outcome) (o : NewDoor) → OpenedBy settings s carried x (opens s o)
-opened_by settings s carried x o = chain_opened settings s carried x (some_or (lowest_free s) EMFILE) _ (λ n. chain_opened settings s carried x (refuse_if (nat_le limit.OBJECTS (fin.len s.objects)) ENFILE) _ (λ u. by_outcome n x))
+-- a call that waits, or gives up, leaves what its turn left
+by_wait : (settings : Settings) (s : State) (carried : Carried) (b : Bool) (e : Errno) → (let stepped : Stepped = if b then waited settings s nothing_moved carried else failed s e in stepped.after ≡ s)
+by_wait settings s carried true e = by_turns (nat_lt (carried.turns + 1) settings.patience)
   where
-    asking : ℕ → Asking
-    asking n =
-        record {
-          kind = o.kind;
-          asked = o.asked;
-          succeeds = λ value bytes. (opened (with_object s (DoorTo (o.door value))) n s.next_object (part.Door (o.door value)) o.access o.append false, reply.Number (pos n));
-          otherwise = s;
-          waits = o.waits;
-        }
+    by_turns : (b : Bool) → (let stepped : Stepped = held_up b s nothing_moved carried in stepped.after ≡ s)
+    by_turns true = refl
+    by_turns false = refl
+by_wait settings s carried false e = refl
 
-    by_wait : (b c : Bool) (e : Errno) → (let stepped : Stepped = if b then held_up c s nothing_moved carried else record { after = s; answer = answer.Reply (reply.Fail e); carried = nothing_carried } in stepped.after ≡ s)
-    by_wait true true e = refl
-    by_wait true false e = refl
-    by_wait false c e = refl
+opens_by : (settings : Settings) (s : State) (c : Call) (carried : Carried) (x : Outcome) (d : Result Decision Errno) → IfOk d (IsSo (seen s) c) → Shows s → keeps_table c ≡ true
+    → (let stepped : Stepped = concluded settings s (Some x) carried (meant s c d) in Opened s x stepped.after)
+opens_by settings s c carried x (Err e) so known keeps = inl refl
+opens_by settings s c carried x (Ok (decision.Replies r y)) so known keeps = absurd (false≢true (sym so.3 ∙ keeps))
+opens_by settings s c carried x (Ok (decision.Locks object (deed.Acts a y))) so known keeps = absurd (false≢true (sym so.3 ∙ keeps))
+opens_by settings s c carried x (Ok (decision.Locks object (deed.Asks blocks))) so known keeps = absurd (false≢true (sym so.2 ∙ keeps))
+opens_by settings s c carried x (Ok (decision.Locks object (deed.Closes n key))) so known keeps = absurd (false≢true (sym so.3 ∙ keeps))
+opens_by settings s c carried (outcome.Fail e) (Ok (decision.Locks object (deed.Opens blocks listener new))) so known keeps = inl (by_wait settings s carried (blocks && is_again e) e)
+opens_by settings s c carried (outcome.Ok value bytes) (Ok (decision.Locks object (deed.Opens blocks listener new))) so known keeps =
+    let which = part.Door (door_of c value) in
+    inr (
+      refl,
+      record {
+        door = door_of c value;
+        objects = refl;
+        next = refl;
+        description = record { object = new.object; «end» = which; access = new.access; offset = 0; append = new.append; nonblock = new.nonblock };
+        object = known.next new.object so.0.next;
+        descriptions = refl;
+      },
+    )
 
-    by_outcome : (n : ℕ) (y : Outcome) → OpenedBy settings s carried y (Ok (locking s.next_object (Ok (Asks (asking n)))))
-    by_outcome n (outcome.Ok value bytes) =
-        let which = part.Door (o.door value) in
-        inr (
-          refl,
-          record {
-            door = o.door value;
-            objects = refl;
-            next = refl;
-            description = record { object = s.next_object; «end» = which; access = o.access; offset = 0; append = o.append; nonblock = false };
-            object = refl;
-            descriptions = refl;
-          },
-        )
-    by_outcome n (outcome.Fail e) = inl (by_wait (o.waits && is_again e) (nat_lt (carried.turns + 1) settings.patience) e)
-
-pub opens_or_stays : (settings : Settings) (s : State) (c : Call) (carried : Carried) (x : Outcome) → keeps_table c ≡ true → (let stepped : Stepped = step settings s c (Some x) carried in Opened s x stepped.after)
-unfolding host_open_result tcp_listen_result tcp_connect_result tcp_accept_result
-opens_or_stays settings s (call.HostOpen path access flags) carried x keeps = chain_opened settings s carried x (refuse_if (flags.truncate && not (can_write access)) EINVAL) _ (λ u. chain_opened settings s carried x (host_path path) _ (λ v. opened_by settings s carried x _))
-opens_or_stays settings s (call.TcpListen port) carried x keeps = chain_opened settings s carried x (port_of 0 port) _ (λ u. opened_by settings s carried x _)
-opens_or_stays settings s (call.TcpConnect port) carried x keeps = chain_opened settings s carried x (port_of 1 port) _ (λ u. opened_by settings s carried x _)
-opens_or_stays settings s (call.TcpAccept descriptor) carried x keeps =
-    chain_opened settings s carried x (described s descriptor) _ (λ found. chain_opened settings s carried x (listener_in (content_of s (let d = found.1 in d.object))) _ (λ u. opened_by settings s carried x _))
-opens_or_stays settings s c carried x keeps = absurd (false≢true keeps)
+pub opens_or_stays : DecidedSo → (settings : Settings) (s : State) (c : Call) (carried : Carried) (x : Outcome) → keeps_table c ≡ true → (let stepped : Stepped = step settings s c (Some x) carried in Opened s x stepped.after)
+opens_or_stays law settings s c carried x keeps =
+    let known = law.shows s in
+    opens_by settings s c carried x (decided (seen s) c carried.moved) (law.so (seen s) c carried.moved known.numbered) known keeps

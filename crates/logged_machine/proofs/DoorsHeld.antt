@@ -1,11 +1,10 @@
 -- Who holds the lock of a door's number, and what the number is that of.
-use Rattle.std.proofs.Common.{◌≡◌, ℕ, ◌<◌, ◌==◌, ◌||◌, not, [], unwrap_or, length, Option, Some, None, Bool, true, false, is_some, sym, refl, ap, ap₂, ◌∙◌, subst, arith}
+use Rattle.std.proofs.Common.{◌≡◌, ◌⊎◌, ℕ, ◌<◌, ◌==◌, ◌||◌, ℤ, pos, not, length, Option, Some, None, Ok, inl, inr, Bool, true, false, is_some, sym, refl, ap, ap₂, ◌∙◌, subst, arith}
 use Rattle.std.proofs.lemmas.Bool.{false≢true, true≢false}
 use Rattle.std.proofs.lemmas.Bool.Decides.{nat_tests}
 use Rattle.std.proofs.lemmas.Option.{none-some, same_Some}
 use Rattle.std.specs.FinMap as fin
 use Rattle.std.specs.Prelude.{slice_index_or}
-use Rattle.lock_machine.specs.Requests.{AskTheirKind, IsOfKind, kind_asked}
 use Rattle.lock_machine.specs.Shows.{IsOut, PhaseShows}
 use Rattle.lock_machine.specs.Whole.{Whole, settings_in, thread_at}
 use Rattle.lock_machine.specs.declared.thread.Outing.{Outing}
@@ -23,25 +22,35 @@ use Rattle.lock_model.specs.State as lock
 use Rattle.lock_model.specs.State.{Job, object_of, thread_of}
 use Rattle.lock_model.specs.State.Phase.{Blocked, Ended, Granted, Outside, Recorded, ToOutside, WantsObject, WantsTable, Working}
 use Rattle.sequential_object.specs.Worlds.{World}
-use Rattle.object_store.specs.Errands.{TakesLocked, door_taken}
-use Rattle.sequential_object.specs.Locked.{OutsideLocks, keeps_table, locked_object, locks_door}
-use Rattle.sequential_object.specs.Object.{Content, DoorTo, File, Pair, Pipe, State, content_of, is_door}
+use Rattle.descriptor_table.specs.Shows.{is_of}
+use Rattle.object_store.specs.Errands.{TakesLocked, door_taken, object_found}
+use Rattle.sequential_object.specs.Decided.{decided}
+use Rattle.sequential_object.specs.Deciding.{leads_outside}
+use Rattle.sequential_object.specs.Descriptors.{described}
+use Rattle.sequential_object.specs.Locked.{keeps_table, locked_object}
+use Rattle.sequential_object.specs.Meant.{locks_of, request_kind, seen, transfers}
+use Rattle.sequential_object.specs.Object.{DoorTo, State, content_of}
+use Rattle.sequential_object.specs.So.{DecidedSo, IsListener, IsOpening, Shows}
 use Rattle.sequential_object.specs.Step.{Carried, Stepped, asks, step}
 use Rattle.posix_terms.specs.Calls.{Call}
 use Rattle.posix_terms.specs.declared.call.Call.TheVariants as call
 use Rattle.posix_terms.specs.declared.limits.TheConstants.Limits as limit
 use Rattle.posix_terms.specs.declared.object.Door.{Door}
 use Rattle.posix_terms.specs.declared.object.Door.TheVariants as door
-use Rattle.posix_terms.specs.declared.outcome.OutKind.{OutKind}
-use Rattle.posix_terms.specs.declared.outcome.OutKind.TheVariants as kind
+use Rattle.posix_terms.specs.declared.object.End.{End}
+use Rattle.sequential_object.specs.declared.decision.Decision.TheVariants as decision
+use Rattle.sequential_object.specs.declared.decision.Deed.{Deed}
+use Rattle.sequential_object.specs.declared.decision.Deed.TheVariants as deed
+use Rattle.sequential_object.specs.declared.decision.NewDescriptor.{NewDescriptor}
+use Rattle.sequential_object.specs.declared.decision.Seen.{Seen}
 use Rattle.posix_terms.specs.Queries.{Query}
 use Rattle.posix_terms.specs.declared.transcript.Settings.{Settings}
 use Rattle.logged_machine.specs.Doors.{brings_back}
 use Rattle.logged_machine.specs.DoorsThere.{HaveOne, Names, door_of, is_listener, job_out}
 use Rattle.logged_machine.specs.Runs.{IsEnd, terms_with}
-use Rattle.logged_machine.proofs.DoorCalls.{accepts_at, close_leaves, content_at, lseek_no_listener, read_no_listener, shutdown_no_listener, write_no_listener}
+use Rattle.logged_machine.proofs.DoorCalls.{GoesOut, IsDoorAt, a_listener, close_leaves, closes_free, door_at, goes_out, no_listener, stays_free}
 use Rattle.logged_machine.proofs.Naming.{IsNumbered, names_back, names_gone, names_own, number_slot}
-use Rattle.logged_machine.proofs.NoNewDoors.{step_adds_none}
+use Rattle.logged_machine.proofs.NoNewDoors.{AddsNone, step_adds_none}
 
 -- ## A call that goes outside
 
@@ -151,104 +160,131 @@ pub number_taken : (w : World) (o : Option ℕ) (n : ℕ) → numbered w o ≡ S
 number_taken w (Some k) n h = (k, (refl, same_Some (number_of w k) n h))
 number_taken w None n h = absurd (none-some n h)
 
-door_in : (s : State) (k : ℕ) (o : Option Content) → fin.get s.objects k ≡ o → is_door (content_of s k) ≡ true → (d : Door) × (fin.get s.objects k ≡ Some (DoorTo d))
-door_in s k (Some (DoorTo d)) is h = (d, is)
-door_in s k (Some (File bytes)) is h = absurd (false≢true (sym (ap is_door (content_at s k (File bytes) is)) ∙ h))
-door_in s k (Some (Pipe bytes)) is h = absurd (false≢true (sym (ap is_door (content_at s k (Pipe bytes) is)) ∙ h))
-door_in s k (Some (Pair p)) is h = absurd (false≢true (sym (ap is_door (content_at s k (Pair p) is)) ∙ h))
-door_in s k None is h = absurd (false≢true (sym (ap (λ (o : Option Content). is_door (unwrap_or o (File []))) is) ∙ h))
+-- the door of a description
+door_of_seen : (w : World) (descriptor : ℤ) (at : Seen) (k : ℕ) → Shows w.object → IsNumbered w → (let v = seen w.object in v.described descriptor ≡ Ok at) → at.object ≡ k → leads_outside at.«end» ≡ true → IsDoorAt w.object at.«end» k
+door_of_seen w descriptor at k known num found own outside =
+    let z = known.described descriptor at found in
+    let e = z.description in
+    let same : e.object ≡ k = z.object_is ∙ own in
+    door_at w.object at.«end» k
+    (ap (λ (n : ℕ). is_some (fin.get w.object.objects n)) (sym same) ∙ num.described at.key e z.there)
+    (ap₂ (λ (x : End) (n : ℕ). is_of x (content_of w.object n)) (sym z.end_is) (sym same) ∙ num.ends at.key e z.there)
+    outside
+
+-- the object that a call locks which frees the table is that whose door it takes along
+taken_is : (s : State) (c : Call) (carried : Carried) (object k : ℕ) (does : Deed) → TakesLocked → keeps_table c ≡ false → decided (seen s) c carried.moved ≡ Ok (decision.Locks object does) → door_taken s c carried ≡ Some k → object ≡ k
+unfolding locked_object
+taken_is s c carried object k does takes frees is at = same_Some object k (sym (ap locks_of is) ∙ sym (takes s c carried frees) ∙ at)
 
 -- a call that frees the table takes along a door that is there
-pub frees_names : (w : World) (c : Call) (carried : Carried) (r : Query) (n : ℕ) → OutsideLocks → TakesLocked → IsNumbered w → keeps_table c ≡ false → asks w.object c carried ≡ Some r → numbered w (door_taken w.object c carried) ≡ Some n
+pub frees_names : (w : World) (c : Call) (carried : Carried) (r : Query) (n : ℕ) → DecidedSo → TakesLocked → IsNumbered w → keeps_table c ≡ false → asks w.object c carried ≡ Some r → numbered w (door_taken w.object c carried) ≡ Some n
     → (k : ℕ) × (d : Door) × ((door_taken w.object c carried ≡ Some k) × ((number_of w k ≡ n) × (fin.get w.object.objects k ≡ Some (DoorTo d))))
-frees_names w c carried r n locks takes num frees asked at =
-    let z = number_taken w (door_taken w.object c carried) n at in
-    let locked : locked_object w.object c carried ≡ Some z.0 = sym (takes w.object c carried frees) ∙ z.1.0 in
-    let is : is_door (content_of w.object z.0) ≡ true = sym (ap₂ (λ (b : Bool) (o : Option ℕ). locks_door w.object b o) frees locked) ∙ locks w.object c carried (ap is_some asked) in
-    let d = door_in w.object z.0 (fin.get w.object.objects z.0) refl is in
-    (z.0, d.0, (z.1.0, (z.1.1, d.1)))
+frees_names w c carried r n law takes num frees asked at = by_way (goes_out law w.object c carried r asked).1
+  where
+    z : (k : ℕ) × ((door_taken w.object c carried ≡ Some k) × (number_of w k ≡ n))
+    z = number_taken w (door_taken w.object c carried) n at
 
--- one that keeps it takes along a listener, or none
-pub keeps_names : (w : World) (c : Call) (carried : Carried) (r : Query) (n : ℕ) → IsNumbered w → keeps_table c ≡ true → asks w.object c carried ≡ Some r → numbered w (door_taken w.object c carried) ≡ Some n → (port : ℕ) × Names w n (door.Listener port)
-keeps_names w (call.HostOpen path access flags) carried r n num keeps asked at = absurd (none-some n at)
-keeps_names w (call.TcpListen port) carried r n num keeps asked at = absurd (none-some n at)
-keeps_names w (call.TcpConnect port) carried r n num keeps asked at = absurd (none-some n at)
-keeps_names w (call.TcpAccept descriptor) carried r n num keeps asked at =
-    let z = number_taken w (door_taken w.object (call.TcpAccept descriptor) carried) n at in
-    let p = accepts_at w.object descriptor carried r z.0 asked z.1.0 in
-    (p.0, subst (λ (m : ℕ). Names w m (door.Listener p.0)) z.1.1 (names_own w z.0 (door.Listener p.0) num p.1))
-keeps_names w c carried r n num keeps asked at = absurd (false≢true keeps)
+    known : Shows w.object
+    known = law.shows w.object
+
+    by_door : (which : End) (object : ℕ) → object ≡ z.0 → IsDoorAt w.object which object → (k : ℕ) × (d : Door) × ((door_taken w.object c carried ≡ Some k) × ((number_of w k ≡ n) × (fin.get w.object.objects k ≡ Some (DoorTo d))))
+    by_door which object same door = (z.0, door.door, (z.1.0, (z.1.1, ap (fin.get w.object.objects) (sym same) ∙ door.there)))
+
+    by_way : GoesOut (seen w.object) c (decided (seen w.object) c carried.moved) → (k : ℕ) × (d : Door) × ((door_taken w.object c carried ≡ Some k) × ((number_of w k ≡ n) × (fin.get w.object.objects k ≡ Some (DoorTo d))))
+    by_way (inl a) =
+        let its = a.door in
+        by_door its.at.«end» a.object (taken_is w.object c carried a.object z.0 (deed.Asks a.blocks) takes frees a.is z.1.0)
+        (door_of_seen w its.found.descriptor its.at a.object known num its.found.found its.object_is its.outside)
+    by_way (inr (inl a)) =
+        let its = a.last in
+        by_door its.at.«end» a.object (taken_is w.object c carried a.object z.0 (deed.Closes a.number a.key) takes frees a.is z.1.0)
+        (door_of_seen w (pos a.number) its.at a.object known num its.found its.object_is its.outside)
+    by_way (inr (inr a)) = let opens = a.opens in absurd (true≢false (sym opens.keeps ∙ frees))
+
+listener_of : (d : Door) → is_listener d ≡ true → (port : ℕ) × (d ≡ door.Listener port)
+listener_of (door.Listener port) is = (port, refl)
+listener_of door.HostFile is = absurd (false≢true is)
+listener_of door.Stream is = absurd (false≢true is)
+
+-- one that accepts takes along a listener
+accepts_at : (w : World) (descriptor : ℤ) (listener : Option ℕ) (k : ℕ) → Shows w.object → IsNumbered w → IsListener (seen w.object) descriptor listener → object_found (described w.object descriptor) ≡ Some k → (port : ℕ) × (fin.get w.object.objects k ≡ Some (DoorTo (door.Listener port)))
+accepts_at w descriptor listener k known num its taken =
+    let z = known.described descriptor its.at its.found in
+    let same : (let e = z.description in e.object) ≡ k = same_Some (let e = z.description in e.object) k (sym (ap object_found z.found) ∙ taken) in
+    let door = door_of_seen w descriptor its.at k known num its.found (sym z.object_is ∙ same) its.outside in
+    let l = listener_of door.door (sym door.alike ∙ a_listener its.at.«end» its.listens) in
+    (l.0, door.there ∙ ap (λ (d : Door). Some (DoorTo d)) l.1)
+
+-- one that keeps the table takes along a listener, or none
+pub keeps_names : (w : World) (c : Call) (carried : Carried) (r : Query) (n : ℕ) → DecidedSo → IsNumbered w → keeps_table c ≡ true → asks w.object c carried ≡ Some r → numbered w (door_taken w.object c carried) ≡ Some n → (port : ℕ) × Names w n (door.Listener port)
+keeps_names w c carried r n law num keeps asked at = by_way (goes_out law w.object c carried r asked).1
+  where
+    by_call : (c : Call) (listener : Option ℕ) (new : NewDescriptor) → IsOpening (seen w.object) c listener new → numbered w (door_taken w.object c carried) ≡ Some n → (port : ℕ) × Names w n (door.Listener port)
+    by_call (call.HostOpen path access flags) listener new opens at = absurd (none-some n at)
+    by_call (call.TcpListen port) listener new opens at = absurd (none-some n at)
+    by_call (call.TcpConnect port) listener new opens at = absurd (none-some n at)
+    by_call (call.TcpAccept descriptor) listener new opens at =
+        let z = number_taken w (door_taken w.object (call.TcpAccept descriptor) carried) n at in
+        let p = accepts_at w descriptor listener z.0 (law.shows w.object) num opens.takes z.1.0 in
+        (p.0, subst (λ (m : ℕ). Names w m (door.Listener p.0)) z.1.1 (names_own w z.0 (door.Listener p.0) num p.1))
+    by_call c listener new opens at = absurd (false≢true opens.keeps)
+
+    by_way : GoesOut (seen w.object) c (decided (seen w.object) c carried.moved) → (port : ℕ) × Names w n (door.Listener port)
+    by_way (inl a) = absurd (true≢false (sym keeps ∙ stays_free c a.stays))
+    by_way (inr (inl a)) = absurd (true≢false (sym keeps ∙ closes_free c a.closes))
+    by_way (inr (inr a)) = by_call c a.listener a.new a.opens at
 
 -- ## A call that was granted
 
-of_kind : (s : State) (c : Call) (carried : Carried) (r : Query) (k : OutKind) → AskTheirKind → asks s c carried ≡ Some r → kind_asked c ≡ Some k → brings_back k ≡ true → brings_back r.kind ≡ true
-of_kind s c carried r k kinds is named h =
-    let of : Some r.kind ≡ kind_asked c = subst (IsOfKind (kind_asked c)) is (kinds s c carried) in
-    ap brings_back (same_Some r.kind k (of ∙ named)) ∙ h
+comes_back : (c : Call) → transfers c ≡ true → brings_back (request_kind c) ≡ true
+comes_back (call.Read descriptor count) is = refl
+comes_back (call.Write descriptor bytes) is = refl
+comes_back (call.Lseek descriptor offset whence) is = refl
+comes_back (call.Shutdown descriptor how) is = refl
+comes_back c is = absurd (false≢true is)
 
-asks_none : {A : Type 0} (s : State) (c : Call) (carried : Carried) (r : Query) → AskTheirKind → asks s c carried ≡ Some r → kind_asked c ≡ None → A
-asks_none s c carried r kinds is named =
-    let of : Some r.kind ≡ kind_asked c = subst (IsOfKind (kind_asked c)) is (kinds s c carried) in
-    absurd (none-some r.kind (sym (of ∙ named)))
+same_door_to : (a b : Door) → Some (DoorTo a) ≡ Some (DoorTo b) → a ≡ b
+same_door_to a b h = cc
 
-no_listener : (d : Door) → ((port : ℕ) → d ≡ door.Listener port → ⊥) → is_listener d ≡ false
-no_listener (door.Listener port) h = absurd (h port refl)
-no_listener door.HostFile h = refl
-no_listener door.Stream h = refl
-
--- its door's number is that of no listener behind it, nor of any door where it closes
-pub granted_apart : (settings : Settings) (w : World) (c : Call) (carried : Carried) (r : Query) (n k : ℕ) (e d : Door) → AskTheirKind → IsNumbered w → HaveOne w.object → asks w.object c carried ≡ Some r → door_taken w.object c carried ≡ Some k → number_of w k ≡ n
+-- its door's number is that of no listener after it, nor of any door where it closes
+pub granted_apart : (settings : Settings) (w : World) (c : Call) (carried : Carried) (r : Query) (n k : ℕ) (e d : Door) → DecidedSo → TakesLocked → IsNumbered w → HaveOne w.object → asks w.object c carried ≡ Some r → door_taken w.object c carried ≡ Some k → number_of w k ≡ n
     → keeps_table c ≡ false → fin.get w.object.objects k ≡ Some (DoorTo e) → (let stepped : Stepped = step settings w.object c None carried in Names (world_with w stepped.after) n d) → (is_listener d ≡ false) × (brings_back r.kind ≡ true)
-granted_apart settings w c carried r n k e d kinds num one asked taken number frees at named = by_call c asked taken frees named
+granted_apart settings w c carried r n k e d law takes num one asked taken number frees at named = by_way went.1
   where
+    went : (r.kind ≡ request_kind c) × GoesOut (seen w.object) c (decided (seen w.object) c carried.moved)
+    went = goes_out law w.object c carried r asked
+
+    known : Shows w.object
+    known = law.shows w.object
+
+    after : State
+    after = let stepped : Stepped = step settings w.object c None carried in stepped.after
+
+    adds : AddsNone w.object after
+    adds = step_adds_none law settings w.object c carried num.plain
+
     slot : slice_index_or w.numbers n None ≡ Some k
     slot = subst (λ (m : ℕ). slice_index_or w.numbers m None ≡ Some k) number (number_slot w k e num at)
 
     -- the door there is the one that was there
-    own_door : (x : Call) → (let stepped : Stepped = step settings w.object x None carried in Names (world_with w stepped.after) n d) → fin.get w.object.objects k ≡ Some (DoorTo d)
-    own_door x m =
-        let stepped : Stepped = step settings w.object x None carried in
-        let back = names_back w stepped.after n d num (step_adds_none settings w.object x carried num.plain) m in
+    own_door : fin.get w.object.objects k ≡ Some (DoorTo d)
+    own_door =
+        let back = names_back w after n d num adds named in
         ap (fin.get w.object.objects) (same_Some k back.0 (sym slot ∙ back.1.0)) ∙ back.1.1
 
-    by_call : (x : Call) → asks w.object x carried ≡ Some r → door_taken w.object x carried ≡ Some k → keeps_table x ≡ false → (let stepped : Stepped = step settings w.object x None carried in Names (world_with w stepped.after) n d) → (is_listener d ≡ false) × (brings_back r.kind ≡ true)
-    by_call (call.Read descriptor count) a t f m =
-        let x = call.Read descriptor count in
-        let own = own_door x m in
-        (no_listener d (λ port is. read_no_listener w.object descriptor count carried k port t (own ∙ ap (λ (y : Door). Some (DoorTo y)) is)), of_kind w.object x carried r kind.Read kinds a refl refl)
-    by_call (call.Write descriptor bytes) a t f m =
-        let x = call.Write descriptor bytes in
-        let own = own_door x m in
-        (no_listener d (λ port is. write_no_listener w.object descriptor bytes carried k port t (own ∙ ap (λ (y : Door). Some (DoorTo y)) is)), of_kind w.object x carried r kind.Write kinds a refl refl)
-    by_call (call.Lseek descriptor offset from) a t f m =
-        let x = call.Lseek descriptor offset from in
-        let own = own_door x m in
-        (no_listener d (λ port is. lseek_no_listener w.object descriptor offset from carried k port t (own ∙ ap (λ (y : Door). Some (DoorTo y)) is)), of_kind w.object x carried r kind.Seek kinds a refl refl)
-    by_call (call.Shutdown descriptor how) a t f m =
-        let x = call.Shutdown descriptor how in
-        let own = own_door x m in
-        (no_listener d (λ port is. shutdown_no_listener w.object descriptor how carried k port t (own ∙ ap (λ (y : Door). Some (DoorTo y)) is)), of_kind w.object x carried r kind.Shutdown kinds a refl refl)
-    by_call (call.Close descriptor) a t f m =
-        let stepped : Stepped = step settings w.object (call.Close descriptor) None carried in
-        absurd (names_gone w stepped.after n k d num (step_adds_none settings w.object (call.Close descriptor) carried num.plain) slot (close_leaves settings w.object descriptor carried r k e num.plain one a t at) m)
-    by_call (call.HostOpen path access flags) a t f m = absurd (true≢false f)
-    by_call (call.TcpListen port) a t f m = absurd (true≢false f)
-    by_call (call.TcpConnect port) a t f m = absurd (true≢false f)
-    by_call (call.TcpAccept descriptor) a t f m = absurd (true≢false f)
-    by_call (call.Open path access flags) a t f m = asks_none w.object (call.Open path access flags) carried r kinds a refl
-    by_call (call.Pread descriptor count position) a t f m = asks_none w.object (call.Pread descriptor count position) carried r kinds a refl
-    by_call (call.Pwrite descriptor bytes position) a t f m = asks_none w.object (call.Pwrite descriptor bytes position) carried r kinds a refl
-    by_call (call.Ftruncate descriptor size) a t f m = asks_none w.object (call.Ftruncate descriptor size) carried r kinds a refl
-    by_call (call.Fstat descriptor) a t f m = asks_none w.object (call.Fstat descriptor) carried r kinds a refl
-    by_call (call.Dup descriptor) a t f m = asks_none w.object (call.Dup descriptor) carried r kinds a refl
-    by_call (call.DupFrom descriptor least) a t f m = asks_none w.object (call.DupFrom descriptor least) carried r kinds a refl
-    by_call (call.Dup2 descriptor target) a t f m = asks_none w.object (call.Dup2 descriptor target) carried r kinds a refl
-    by_call (call.Getfl descriptor) a t f m = asks_none w.object (call.Getfl descriptor) carried r kinds a refl
-    by_call (call.Setfl descriptor append nonblock) a t f m = asks_none w.object (call.Setfl descriptor append nonblock) carried r kinds a refl
-    by_call (call.Link old_path new_path) a t f m = asks_none w.object (call.Link old_path new_path) carried r kinds a refl
-    by_call (call.Unlink path) a t f m = asks_none w.object (call.Unlink path) carried r kinds a refl
-    by_call (call.Rename old_path new_path) a t f m = asks_none w.object (call.Rename old_path new_path) carried r kinds a refl
-    by_call (call.Mkdir path) a t f m = asks_none w.object (call.Mkdir path) carried r kinds a refl
-    by_call (call.Rmdir path) a t f m = asks_none w.object (call.Rmdir path) carried r kinds a refl
-    by_call call.Pipe a t f m = asks_none w.object call.Pipe carried r kinds a refl
-    by_call call.Socketpair a t f m = asks_none w.object call.Socketpair carried r kinds a refl
+    by_way : GoesOut (seen w.object) c (decided (seen w.object) c carried.moved) → (is_listener d ≡ false) × (brings_back r.kind ≡ true)
+    by_way (inl a) =
+        let its = a.door in
+        let same : a.object ≡ k = taken_is w.object c carried a.object k (deed.Asks a.blocks) takes frees a.is taken in
+        let door = door_of_seen w its.found.descriptor its.at k known num its.found.found (its.object_is ∙ same) its.outside in
+        let own : door.door ≡ d = same_door_to door.door d (sym door.there ∙ own_door) in (
+          ap is_listener (sym own) ∙ sym door.alike ∙ no_listener its.at.«end» its.carries,
+          ap brings_back went.0 ∙ comes_back c a.stays,
+        )
+    by_way (inr (inl a)) =
+        let same : a.object ≡ k = taken_is w.object c carried a.object k (deed.Closes a.number a.key) takes frees a.is taken in
+        let gone : fin.get after.objects k ≡ None =
+        subst (λ (m : ℕ). fin.get after.objects m ≡ None) same
+        (close_leaves settings w.object c carried e known num.plain one a (ap (fin.get w.object.objects) same ∙ at)) in
+        absurd (names_gone w after n k d num adds slot gone named)
+    by_way (inr (inr a)) = let opens = a.opens in absurd (true≢false (sym opens.keeps ∙ frees))

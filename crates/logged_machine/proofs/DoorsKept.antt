@@ -41,7 +41,8 @@ use Rattle.posix_terms.specs.declared.transcript.Settings.{Settings}
 use Rattle.lock_model.specs.RealLaws.{real_start}
 use Rattle.logged_machine.specs.Runs.Coming.{Brings}
 use Rattle.logged_machine.specs.Doors.{brings_back, is_ok, put, without}
-use Rattle.logged_machine.specs.DoorsThere.{DoorLaws, DoorsThere, HaveOne, Names, comes_back, comes_back_of, door_of, is_listener, is_success, is_there, job_out}
+use Rattle.logged_machine.specs.DoorLaws.{DoorLaws}
+use Rattle.logged_machine.specs.DoorsThere.{DoorsThere, HaveOne, Names, comes_back, comes_back_of, door_of, is_listener, is_success, is_there, job_out}
 use Rattle.logged_machine.specs.Runs.{Coming, IsEnd, setup_with, supply_with, terms_with}
 use Rattle.logged_machine.proofs.DoorCalls.{OpensNext, opens_or_stays}
 use Rattle.logged_machine.proofs.DoorEvents.{IsTried, late_none, late_of, left_by, moved_in, outside_behind, recorded_behind, tried_as, world_changed, world_moved, world_same}
@@ -76,10 +77,10 @@ out w s i job laws at is = out_at w s i job laws.takes at.plans at.ends is
 found_kept : (w : Whole) (s : lock.State) (i : ℕ) (job : Job) → At w s → job_out (thread_of s i).phase ≡ Some job → OutAt s i job → keeps_table job.call ≡ true → job.found ≡ s.world
 found_kept w s i job at is o keeps = let plans = at.plans in plans.kept i job (in_of_out (thread_of s i).phase job is) (o.keeps ∙ keeps)
 
-listener_at : (w : Whole) (s : lock.State) (i n : ℕ) (job : Job) → At w s → job_out (thread_of s i).phase ≡ Some job → OutAt s i job → keeps_table job.call ≡ true → door_of job ≡ Some n → (port : ℕ) × Names s.world n (door.Listener port)
-listener_at w s i n job at is o keeps at_door =
+listener_at : (w : Whole) (s : lock.State) (i n : ℕ) (job : Job) → DoorLaws → At w s → job_out (thread_of s i).phase ≡ Some job → OutAt s i job → keeps_table job.call ≡ true → door_of job ≡ Some n → (port : ℕ) × Names s.world n (door.Listener port)
+listener_at w s i n job laws at is o keeps at_door =
     let found = found_kept w s i job at is o keeps in
-    keeps_names s.world job.call job.carried o.request n at.num keeps
+    keeps_names s.world job.call job.carried o.request n laws.so at.num keeps
     (subst (λ (x : World). asks x.object job.call job.carried ≡ Some o.request) found o.asked)
     (subst (λ (x : World). numbered x (door_taken x.object job.call job.carried) ≡ Some n) found at_door)
 
@@ -98,9 +99,9 @@ exclusive D w s doors i k n job other laws at h is_i is_k door_i door_k =
     by_bool (keeps_table job.call)
     (λ keeps. by_bool (keeps_table other.call)
     (λ also. one_table s i k (holds_kept s i job at.held a keeps) (holds_kept s k other at.held b also))
-    (λ frees. let l = listener_at w s i n job at is_i a keeps door_i in absurd (true≢false (h.apart k n other (door.Listener l.0) is_k frees door_k l.1).0)))
+    (λ frees. let l = listener_at w s i n job laws at is_i a keeps door_i in absurd (true≢false (h.apart k n other (door.Listener l.0) is_k frees door_k l.1).0)))
     (λ frees. by_bool (keeps_table other.call)
-    (λ keeps. let l = listener_at w s k n other at is_k b keeps door_k in absurd (true≢false (h.apart i n job (door.Listener l.0) is_i frees door_i l.1).0))
+    (λ keeps. let l = listener_at w s k n other laws at is_k b keeps door_k in absurd (true≢false (h.apart i n job (door.Listener l.0) is_i frees door_i l.1).0))
     (λ also. one_object s i k n (holds_object s i n job at.held at.count a (own_object s i n job a frees door_i)) (holds_object s k n other at.held at.count b (own_object s k n other b also door_k))))
 
 -- ## By thread
@@ -214,10 +215,10 @@ frees_there D old new s z i n job doors laws at later others inside holds there 
 
     by_keeps : (b : Bool) → keeps_table job.call ≡ b → is_there doors n ≡ false → ⊥
     by_keeps true keeps empty =
-        let l = keeps_names s.world job.call job.carried mine.request n at.num keeps asked number in
+        let l = keeps_names s.world job.call job.carried mine.request n laws.so at.num keeps asked number in
         nobody (door.Listener l.0) (λ k x apart is frees at_x named. true≢false (h.apart k n x (door.Listener l.0) is frees at_x named).0) l.1 empty
     by_keeps false frees empty =
-        let f = frees_names s.world job.call job.carried mine.request n laws.outside laws.takes at.num frees asked number in
+        let f = frees_names s.world job.call job.carried mine.request n laws.so laws.takes at.num frees asked number in
         let named : Names s.world n f.1 = subst (λ (m : ℕ). Names s.world m f.1) f.2.1.0 (names_of f.0 f.1 f.2.1.1) in
         nobody f.1 (λ k x apart is frees_x at_x m.
         let held_i = holds_object z i n job later.held later.count mine (own_object z i n job mine frees at_door) in
@@ -409,7 +410,7 @@ plan_next w s i job laws at is o keeps =
 -- its door is born where it stands already
 concluded_doors : (D : Type 0) (w : Whole) (s z : lock.State) (i : ℕ) (job : Job) (x : Given) (doors : List (Option D)) → DoorLaws → At w s → Others s z i → (thread_of s i).phase ≡ Recorded job → job_out (thread_of z i).phase ≡ None → keeps_table job.call ≡ true → job.outcome ≡ Some x
     → (let stepped : Stepped = step (settings_in w) s.world.object job.call (Some x.outcome) job.carried in z.world ≡ world_with s.world stepped.after) → DoorsThere D s doors → DoorsThere D z doors
-concluded_doors D w s z i job x doors laws at others is none keeps came world h = by_opening (opens_or_stays (settings_in w) s.world.object job.call job.carried x.outcome keeps)
+concluded_doors D w s z i job x doors laws at others is none keeps came world h = by_opening (opens_or_stays laws.so (settings_in w) s.world.object job.call job.carried x.outcome keeps)
   where
     after : State
     after = let stepped : Stepped = step (settings_in w) s.world.object job.call (Some x.outcome) job.carried in stepped.after
@@ -559,7 +560,7 @@ attempted_doors D old new c i s doors laws at later can h = by_inside (cases_lt 
     left x b = let stepped : Stepped = step settings s.world.object x None b in stepped.after
 
     adds : (x : Call) (b : Carried) → AddsNone s.world.object (left x b)
-    adds x b = let num = at.num in step_adds_none settings s.world.object x b num.plain
+    adds x b = let num = at.num in step_adds_none laws.so settings s.world.object x b num.plain
 
     back : (x : Call) (b : Carried) → z.world ≡ left_by settings s.world x b → (n : ℕ) (d : Door) → Names z.world n d → Names s.world n d
     back x b world n d named = names_back s.world (left x b) n d at.num (adds x b) (subst (λ (y : World). Names y n d) world named)
@@ -573,8 +574,8 @@ attempted_doors D old new c i s doors laws at later can h = by_inside (cases_lt 
         let mine = out new z i job laws later (ap job_out there) in
         let asked : asks s.world.object job.call job.carried ≡ Some mine.request = subst (λ (x : World). asks x.object job.call job.carried ≡ Some mine.request) found mine.asked in
         let at_door : numbered s.world (door_taken s.world.object job.call job.carried) ≡ Some n = subst (λ (x : World). numbered x (door_taken x.object job.call job.carried) ≡ Some n) found number in
-        let f = frees_names s.world job.call job.carried mine.request n laws.outside laws.takes at.num frees asked at_door in
-        let r = granted_apart settings s.world job.call job.carried mine.request n f.0 f.1 d laws.kinds at.num h.single asked f.2.0 f.2.1.0 frees f.2.1.1 (subst (λ (y : World). Names y n d) world named) in
+        let f = frees_names s.world job.call job.carried mine.request n laws.so laws.takes at.num frees asked at_door in
+        let r = granted_apart settings s.world job.call job.carried mine.request n f.0 f.1 d laws.so laws.takes at.num h.single asked f.2.0 f.2.1.0 frees f.2.1.1 (subst (λ (y : World). Names y n d) world named) in
         (r.0, ap comes_back_of mine.asked ∙ r.1)
 
     by_tried : IsTried settings s z i → DoorsThere D z doors

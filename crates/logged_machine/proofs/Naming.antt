@@ -7,6 +7,7 @@ use Rattle.std.proofs.lemmas.Option.{none-some, same_Some}
 use Rattle.std.specs.Option.{option_map}
 use Rattle.std.specs.FinMap as fin
 use Rattle.std.specs.Prelude.{slice_index_or}
+use Rattle.file_descriptions.specs.declared.description.Description.{Description as Opened}
 use Rattle.descriptor_table.specs.Shows as shown
 use Rattle.descriptor_table.specs.Shows.{birth_at, is_of, shown_node}
 use Rattle.descriptor_table.specs.Table.{TableState}
@@ -107,6 +108,7 @@ pub record IsNumbered (w : World) : Type 0 where
   pub count : length w.numbers ≡ limit.OBJECTS
   pub next : fin.get w.object.objects w.object.next_object ≡ None
   pub described : (q : ℕ) (e : Description) → fin.get w.object.descriptions q ≡ Some e → is_some (fin.get w.object.objects e.object) ≡ true
+  pub ends : (q : ℕ) (e : Description) → fin.get w.object.descriptions q ≡ Some e → is_of e.«end» (content_of w.object e.object) ≡ true
 
 pub numbered_by : (h : Stored) (w : World) → Stands h w → IsNumbered w
 numbered_by h w st =
@@ -117,6 +119,7 @@ numbered_by h w st =
       count = ap length st.numbers ∙ st.sound.object_numbers;
       next = free (fin.get w.object.objects w.object.next_object) refl;
       described = described;
+      ends = ends;
     }
   where
     t : TableState
@@ -126,13 +129,24 @@ numbered_by h w st =
     used_at (Some b) h = (b, refl)
     used_at None h = absurd (false≢true h)
 
+    -- the description in the table that a description is shown by
+    own_in : (q : ℕ) (e : Description) → fin.get w.object.descriptions q ≡ Some e → (key : ℕ) × (d : Opened) × (fin.get t.descriptions.by_key key ≡ Some d) × (shown.shown t d ≡ e)
+    own_in q e at =
+        let z = st.shows.described q (ap is_some at) in
+        let shows = st.shows.descriptions z.0 z.1 z.2 in
+        (z.0, z.1, z.2, same_Some (shown.shown t z.1) e (sym shows ∙ ap (fin.get w.object.descriptions) z.3 ∙ at))
+
+    ends : (q : ℕ) (e : Description) → fin.get w.object.descriptions q ≡ Some e → is_of e.«end» (content_of w.object e.object) ≡ true
+    ends q e at =
+        let z = own_in q e at in
+        ap (λ (x : Description). is_of x.«end» (content_of w.object x.object)) (sym z.3) ∙ st.shows.ends z.0 z.1 z.2
+
     described : (q : ℕ) (e : Description) → fin.get w.object.descriptions q ≡ Some e → is_some (fin.get w.object.objects e.object) ≡ true
     described q e at =
-        let z = st.shows.described q (ap is_some at) in
+        let z = own_in q e at in
         let key = z.0 in
         let d = z.1 in
-        let shows = st.shows.descriptions key d z.2 in
-        let own : shown.shown t d ≡ e = same_Some (shown.shown t d) e (sym shows ∙ ap (fin.get w.object.descriptions) z.3 ∙ at) in
+        let own = z.3 in
         let used = used_at (slice_index_or t.objects d.node None) (st.sound.described_objects key d z.2) in
         let birth : birth_at t d.node ≡ used.0 = ap (λ (o : Option ℕ). unwrap_or o t.made_objects) used.1 in
         ap (λ (x : Description). is_some (fin.get w.object.objects x.object)) (sym own) ∙ ap (λ (k : ℕ). is_some (fin.get w.object.objects k)) birth ∙ st.shows.objects d.node used.0 used.1

@@ -15,7 +15,8 @@ use Rattle.logged_machine.specs.Records.{outcomes_of}
 use Rattle.logged_machine.specs.Runs.{terms_with}
 use Rattle.logged_machine.specs.Shown.{Shown}
 
--- an outcome or an answer that is not there yet agrees with any, and an answered row is the very row
+-- an outcome or an answer that is not there yet agrees with any, and an answered row is the very
+-- row
 pub record RowAgrees (row other : HistoryRow) : Type 0 where
   pub turn : row.turn ≡ other.turn
   pub call : row.call ≡ other.call
@@ -30,7 +31,10 @@ IsBeginning (row ∷ rows) (other ∷ others) = RowAgrees row other × IsBeginni
 
 -- the steps that the threads asked, and by thread the outcomes of the log's records
 abbrev pub steps_and_records : {D : Type 0} → Shown D → Supply
-steps_and_records m = record { next = λ i. let t = thread_at m.whole i in listed t.asked; outcomes = λ i. outcomes_of i m.log.records }
+steps_and_records m = record {
+  next = λ i. let t = thread_at m.whole i in listed t.asked;
+  outcomes = λ i. outcomes_of i m.log.records;
+}
 
 -- every thread has ended
 abbrev pub HaveEnded : Whole → Type 0
@@ -44,16 +48,22 @@ pub record IsAllOf (D : Type 0) (m : Shown D) (last : State) : Type 0 where
   pub answers : (i : ℕ) → answers_in i m.whole.rows ≡ answers_in i (map shown last.rows)
   pub transcripts : (i : ℕ) → transcript_of i m.whole.rows ≡ transcript_of i (map shown last.rows)
 
--- last is where the plain run ends of just those steps, under just those outcomes, and what the machine shows is a beginning of what that has
+-- last is where the plain run ends of just those steps, under just those outcomes, and what the
+-- machine shows is a beginning of what that has
 pub record BeginsPlainRun (D : Type 0) (m : Shown D) : Type 0 where
   pub last : State
-  pub ends : EndsIn (setup_under (terms_with m.whole (steps_and_records m))) (start_under (terms_with m.whole (steps_and_records m))) last
-  -- the rows of all threads together, and those of each; its steps, its outcomes, its answers and its transcript
+  pub ends : EndsIn (setup_under (terms_with m.whole (steps_and_records m)))
+      (start_under (terms_with m.whole (steps_and_records m))) last
+  -- the rows of all threads together, and those of each; its steps, its outcomes, its answers and
+  -- its transcript
   pub together : IsBeginning m.whole.rows (map shown last.rows)
   pub rows : (i : ℕ) → IsBeginning (rows_of i m.whole.rows) (rows_of i (map shown last.rows))
   pub steps : (i : ℕ) → IsPrefixOf (let t = thread_at m.whole i in t.asked) (thread_of last i).asked
-  pub outcomes : (i : ℕ) → IsPrefixOf (outcomes_in i m.whole.rows) (outcomes_in i (map shown last.rows))
-  pub answers : (i : ℕ) → IsPrefixOf (answers_in i m.whole.rows) (answers_in i (map shown last.rows))
-  pub transcripts : (i : ℕ) → IsPrefixOf (transcript_of i m.whole.rows) (transcript_of i (map shown last.rows))
+  pub outcomes : (i : ℕ)
+      → IsPrefixOf (outcomes_in i m.whole.rows) (outcomes_in i (map shown last.rows))
+  pub answers : (i : ℕ)
+      → IsPrefixOf (answers_in i m.whole.rows) (answers_in i (map shown last.rows))
+  pub transcripts : (i : ℕ)
+      → IsPrefixOf (transcript_of i m.whole.rows) (transcript_of i (map shown last.rows))
   -- and where all threads have ended, all of it
   pub whole : HaveEnded m.whole → IsAllOf D m last

@@ -28,7 +28,8 @@ put doors (Some n) None = doors
 put doors None door = doors
 
 -- the door that went out comes back, and one that was opened gets the number that its call locked
-abbrev pub doors_after : {D : Type 0} → List (Option D) → Outing → Option D → Option D → List (Option D)
+abbrev pub doors_after : {D : Type 0} → List (Option D) → Outing → Option D → Option D
+    → List (Option D)
 doors_after doors o old new = put (put doors o.errand.door old) o.object new
 
 -- ## What goes with an outcome
@@ -63,9 +64,12 @@ abbrev pub just_where : Bool → Bool → Bool
 just_where true b = b
 just_where false b = not b
 
--- the outcome fits what was asked; with it comes back the door that went out, unless it was closed, and a new one where one was opened
+-- the outcome fits what was asked; with it comes back the door that went out, unless it was closed,
+-- and a new one where one was opened
 abbrev pub is_answer_to : Errand → Outcome → Bool → Bool → Bool
-is_answer_to e o old new = fits e.kind e.asked o && (just_where old (brings_back e.kind) && just_where new (opens_door e.kind && is_ok o))
+is_answer_to e o old new =
+    fits e.kind e.asked o
+    && (just_where old (brings_back e.kind) && just_where new (opens_door e.kind && is_ok o))
 
 -- of a thread that is outside
 abbrev pub is_answer : Phase → Outcome → Bool → Bool → Bool

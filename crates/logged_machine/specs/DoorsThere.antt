@@ -2,17 +2,14 @@
 -- Which doors a machine has: whenever one goes out, it is there.
 use Rattle.std.specs.Prelude.{◌≡◌, ℕ, Bool, true, false, List, Option, Some, None, get_or, is_some, slice_index_or}
 use Rattle.std.specs.FinMap as fin
-use Rattle.lock_machine.specs.Requests.{AskTheirKind}
-use Rattle.lock_model.specs.Events.{EventLaws}
 use Rattle.lock_model.specs.Held.{object_in}
-use Rattle.lock_model.specs.Laws.{LocksOfArisen, PlansOfArisen}
 use Rattle.sequential_object.specs.Answers.{numbered, outcome_in}
 use Rattle.lock_model.specs.State as lock
 use Rattle.lock_model.specs.State.{Job, thread_of}
 use Rattle.lock_model.specs.State.Phase.{Outside, Recorded, ToOutside}
 use Rattle.sequential_object.specs.Worlds.{World}
-use Rattle.object_store.specs.Errands.{LocksNext, TakesLocked, door_taken}
-use Rattle.sequential_object.specs.Locked.{OutsideLocks, keeps_table}
+use Rattle.object_store.specs.Errands.{door_taken}
+use Rattle.sequential_object.specs.Locked.{keeps_table}
 use Rattle.sequential_object.specs.Object.{Description, DoorTo, State}
 use Rattle.sequential_object.specs.Step.{asks}
 use Rattle.posix_terms.specs.declared.object.Door.{Door}
@@ -27,11 +24,16 @@ door_of job = numbered job.found (door_taken job.found.object job.call job.carri
 
 -- this number is that of a door
 abbrev pub Names : World → ℕ → Door → Type 0
-Names w n d = (object : ℕ) × ((slice_index_or w.numbers n None ≡ Some object) × (fin.get w.object.objects object ≡ Some (DoorTo d)))
+Names w n d =
+    (object : ℕ)
+    × ((slice_index_or w.numbers n None ≡ Some object)
+    × (fin.get w.object.objects object ≡ Some (DoorTo d)))
 
 -- a door has one description
 abbrev pub HaveOne : State → Type 0
-HaveOne s = (q r : ℕ) (e f : Description) (d : Door) → fin.get s.descriptions q ≡ Some e → fin.get s.descriptions r ≡ Some f → e.object ≡ f.object → fin.get s.objects e.object ≡ Some (DoorTo d) → q ≡ r
+HaveOne s = (q r : ℕ) (e f : Description) (d : Door) → fin.get s.descriptions q ≡ Some e
+    → fin.get s.descriptions r ≡ Some f → e.object ≡ f.object
+    → fin.get s.objects e.object ≡ Some (DoorTo d) → q ≡ r
 
 -- a door stands there
 abbrev pub is_there : {D : Type 0} → List (Option D) → ℕ → Bool
@@ -62,21 +64,18 @@ is_success None = false
 
 pub record DoorsThere (D : Type 0) (s : lock.State) (doors : List (Option D)) : Type 0 where
   -- each door has its place, and where none stands there a thread is outside with it
-  pub objects : (n : ℕ) (d : Door) → Names s.world n d → is_there doors n ≡ false → (i : ℕ) × (job : Job) × (((thread_of s i).phase ≡ Outside job) × (door_of job ≡ Some n))
+  pub objects : (n : ℕ) (d : Door) → Names s.world n d → is_there doors n ≡ false
+      → (i : ℕ) × (job : Job) × (((thread_of s i).phase ≡ Outside job) × (door_of job ≡ Some n))
   -- a call that goes outside finds its door
-  pub going : (i n : ℕ) (job : Job) → (thread_of s i).phase ≡ ToOutside job → door_of job ≡ Some n → is_there doors n ≡ true
+  pub going : (i n : ℕ) (job : Job) → (thread_of s i).phase ≡ ToOutside job → door_of job ≡ Some n
+      → is_there doors n ≡ true
   -- a door that was opened is there before its object is born
-  pub opened : (i n : ℕ) (job : Job) → (thread_of s i).phase ≡ Recorded job → keeps_table job.call ≡ true → is_success (outcome_in job.outcome) ≡ true → object_in job.plan ≡ Some n → is_there doors n ≡ true
-  -- a call that freed the table holds the lock of its door's number, which is then that of no listener, nor of any door if it is closed
-  pub apart : (i n : ℕ) (job : Job) (d : Door) → job_out (thread_of s i).phase ≡ Some job → keeps_table job.call ≡ false → door_of job ≡ Some n → Names s.world n d → (is_listener d ≡ false) × (comes_back job ≡ true)
+  pub opened : (i n : ℕ) (job : Job) → (thread_of s i).phase ≡ Recorded job
+      → keeps_table job.call ≡ true → is_success (outcome_in job.outcome) ≡ true
+      → object_in job.plan ≡ Some n → is_there doors n ≡ true
+  -- a call that freed the table holds the lock of its door's number, which is then that of no
+  -- listener, nor of any door if it is closed
+  pub apart : (i n : ℕ) (job : Job) (d : Door) → job_out (thread_of s i).phase ≡ Some job
+      → keeps_table job.call ≡ false → door_of job ≡ Some n → Names s.world n d
+      → (is_listener d ≡ false) × (comes_back job ≡ true)
   pub single : HaveOne s.world.object
-
--- the laws by which each event keeps them so
-pub record DoorLaws : Type 0 where
-  pub locks : LocksOfArisen
-  pub plans : PlansOfArisen
-  pub events : EventLaws
-  pub takes : TakesLocked
-  pub next : LocksNext
-  pub outside : OutsideLocks
-  pub kinds : AskTheirKind

@@ -1,5 +1,6 @@
 -- Believed: a contract of the headline stands on it.
--- What each machine promises at any time, whichever events were made and whatever came from outside.
+-- What each machine promises at any time, whichever events were made and whatever came from
+-- outside.
 use Rattle.lock_machine.specs.Whole.{settings_in}
 use Rattle.sequential_object.specs.Legal.{IsLegal}
 use Rattle.logged_machine.specs.Begins.{BeginsPlainRun}

@@ -26,7 +26,8 @@ abbrev pub is_strayed : Option Stop → Bool
 is_strayed (Some stop.Strayed) = true
 is_strayed o = false
 
--- a sink failed just where this is why its machine was stopped, and then once; and no machine itself finds that threads strayed
+-- a sink failed just where this is why its machine was stopped, and then once; and no machine
+-- itself finds that threads strayed
 pub record StopsFor (failures : ℕ) (stopped : Option Stop) : Type 0 where
   pub sink : failures ≡ (if is_sink stopped then 1 else 0)
   pub strayed : is_strayed stopped ≡ false
@@ -39,7 +40,9 @@ pub record IsKept (D : Type 0) (m : Shown D) : Type 0 where
   pub ends : IsEnd m.whole end
   pub header : m.log.header ≡ header_of m.whole
   pub sound : IsSound m.log
-  pub came : (i : ℕ) → map (as_logged m.whole.settings.version) (thread_of end i).came ≡ outcomes_of i m.log.records
+  pub came : (i : ℕ)
+      → map (as_logged m.whole.settings.version) (thread_of end i).came
+      ≡ outcomes_of i m.log.records
   pub unclosed : m.log.closed ≡ false
   pub failed : m.log.failed ≡ is_sink m.stop
   pub strayed : is_strayed m.stop ≡ false

@@ -3,6 +3,7 @@ pub mod Runs
 pub mod Records
 pub mod RecordLaws
 pub mod DoorsThere
+pub mod DoorLaws
 pub mod Kept
 pub mod Doors
 pub mod Events

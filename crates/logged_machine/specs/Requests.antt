@@ -39,4 +39,5 @@ abbrev pub IsOutsideTurn : Whole → ℕ → Option Turn → Type 0
 IsOutsideTurn w i None = out_of (phase_at w i) ≡ None
 IsOutsideTurn w i (Some turn) =
     (is_some (out_of (phase_at w i)) ≡ true)
-    × ((s : State) (job : Job) → IsEnd w s → job_in (thread_of s i).phase ≡ Some job → job.turn ≡ turn)
+    × ((s : State) (job : Job) → IsEnd w s → job_in (thread_of s i).phase ≡ Some job
+    → job.turn ≡ turn)

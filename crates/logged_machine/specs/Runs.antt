@@ -13,9 +13,14 @@ use Rattle.posix_terms.specs.declared.step.Step.{Step}
 
 -- its threads and settings, and where what comes next is from
 abbrev pub terms_with : Whole → Supply → Conditions
-terms_with w supply = record { threads = length w.threads; settings = settings_in w; supply = supply }
+terms_with w supply = record {
+  threads = length w.threads;
+  settings = settings_in w;
+  supply = supply;
+}
 
--- s is the end of a run in which just those steps were asked and those outcomes came that it has itself, and the machine shows it
+-- s is the end of a run in which just those steps were asked and those outcomes came that it has
+-- itself, and the machine shows it
 abbrev pub IsEnd : Whole → State → Type 0
 IsEnd w s = StandsAt w (terms_with w (own s)) s
 
@@ -34,9 +39,11 @@ supply_with (Brings g) s = record (own s) { outcomes = λ i. (thread_of s i).cam
 abbrev pub setup_with : Whole → Coming → State → Setup
 setup_with w c s = setup_under (terms_with w (supply_with c s))
 
--- whatever run leads to the old machine: at its end this event is allowed, and with it the run leads to the new machine
+-- whatever run leads to the old machine: at its end this event is allowed, and with it the run
+-- leads to the new machine
 abbrev pub Grows : Coming → Event → Whole → Whole → Type 0
-Grows c e old new = (s : State) → IsEnd old s → (is_allowed (setup_with old c s) e s ≡ true) × IsEnd new (happens (setup_with old c s) e s)
+Grows c e old new = (s : State) → IsEnd old s
+    → (is_allowed (setup_with old c s) e s ≡ true) × IsEnd new (happens (setup_with old c s) e s)
 
 -- whatever run leads to the machine: at its end a number forbids this event
 abbrev pub IsForbidden : Coming → Event → Whole → Type 0

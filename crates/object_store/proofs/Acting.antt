@@ -15,19 +15,19 @@ use Rattle.posix_terms.specs.declared.object.End.{End}
 use Rattle.posix_terms.specs.declared.object.End.TheVariants as part
 use Rattle.posix_terms.specs.declared.call.Call.TheVariants as call
 use Rattle.file_descriptions.specs.Descriptions.{description_at}
-use Rattle.decisions.specs.Acts.{Acted, Blocks, Ending, Replies, acted, blocked, blocked_after, concludes, has_read, has_written, holds, pipe_written, read_acted, replies, sought, wrote, write_acted}
+use Rattle.sequential_object.specs.Acts.{Acted, Blocks, Ending, Replies, acted, blocked, blocked_after, concludes, has_read, has_written, holds, pipe_written, read_acted, replies, sought, wrote, write_acted}
 use Rattle.sequential_object.specs.Effects.{nothing_moved}
 use Rattle.sequential_object.specs.Files.{written}
-use Rattle.sequential_object.specs.Transfers.{moved_by}
+use Rattle.sequential_object.specs.Acts.{moved_by}
 use Rattle.posix_terms.specs.declared.errno.Errno.{Errno}
 use Rattle.posix_terms.specs.declared.errno.Errno.TheVariants.{EAGAIN, EPIPE}
 use Rattle.posix_terms.specs.declared.reply.Reply.TheVariants as reply
-use Rattle.decisions.specs.Meant.{description_of, key_of, offset_in}
-use Rattle.decisions.specs.Renaming.{act_by}
-use Rattle.decisions.specs.So.{CanAct, IsFile, IsSeen}
-use Rattle.decisions.specs.declared.decision.Act.{Act}
-use Rattle.decisions.specs.declared.decision.Act.TheVariants as act
-use Rattle.decisions.specs.declared.decision.Seen.{Seen}
+use Rattle.sequential_object.specs.Meant.{description_of, key_of, offset_in}
+use Rattle.sequential_object.specs.Renaming.{act_by}
+use Rattle.sequential_object.specs.So.{CanAct, IsFile, IsSeen}
+use Rattle.sequential_object.specs.declared.decision.Act.{Act}
+use Rattle.sequential_object.specs.declared.decision.Act.TheVariants as act
+use Rattle.sequential_object.specs.declared.decision.Seen.{Seen}
 use Rattle.descriptor_table.specs.Laws.{HasEndsOf, IsThere, TableFollows}
 use Rattle.descriptor_table.specs.Shows.{birth_at, birth_of, is_of, same_door}
 use Rattle.descriptor_table.specs.Table.{is_open, is_used}

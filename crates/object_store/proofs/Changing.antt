@@ -11,12 +11,12 @@ use Rattle.sequential_object.specs.Streams.{new_pair}
 use Rattle.sequential_object.specs.Worlds.{World}
 use Rattle.posix_terms.specs.Calls.{Call}
 use Rattle.posix_terms.specs.declared.limits.TheConstants.Limits as limit
-use Rattle.decisions.specs.Changes.{changed, door_of, door_opened}
-use Rattle.decisions.specs.Renaming.{change_by, new_by}
-use Rattle.decisions.specs.So.{Can}
-use Rattle.decisions.specs.declared.decision.Change.{Change}
-use Rattle.decisions.specs.declared.decision.Change.TheVariants as change
-use Rattle.decisions.specs.declared.decision.NewDescriptor.{NewDescriptor}
+use Rattle.sequential_object.specs.Changes.{changed, door_of, door_opened}
+use Rattle.sequential_object.specs.Renaming.{change_by, new_by}
+use Rattle.sequential_object.specs.So.{Can}
+use Rattle.sequential_object.specs.declared.decision.Change.{Change}
+use Rattle.sequential_object.specs.declared.decision.Change.TheVariants as change
+use Rattle.sequential_object.specs.declared.decision.NewDescriptor.{NewDescriptor}
 use Rattle.descriptor_table.specs.Changes.{IsNextObject}
 use Rattle.descriptor_table.specs.Laws.{TableFollows}
 use Rattle.descriptor_table.specs.Table.{TableState, free_object}

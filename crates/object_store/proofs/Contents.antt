@@ -7,9 +7,9 @@ use Rattle.sequential_object.specs.Descriptors as posix
 use Rattle.sequential_object.specs.Object.{State, Content, Description, File, Pair, Pipe}
 use Rattle.sequential_object.specs.Streams.{new_pair}
 use Rattle.posix_terms.specs.Calls.{Call}
-use Rattle.decisions.specs.Changes.{changed, closed, flagged, renamed, without_lost, without_name}
-use Rattle.decisions.specs.declared.decision.Change.{Change}
-use Rattle.decisions.specs.declared.decision.Change.TheVariants as change
+use Rattle.sequential_object.specs.Changes.{changed, closed, flagged, renamed, without_lost, without_name}
+use Rattle.sequential_object.specs.declared.decision.Change.{Change}
+use Rattle.sequential_object.specs.declared.decision.Change.TheVariants as change
 use Rattle.object_store.proofs.Found.{got_less, put_at}
 
 -- an object that was there holds what it held

@@ -18,23 +18,23 @@ use Rattle.posix_terms.specs.declared.object.End.TheVariants as part
 use Rattle.posix_terms.specs.declared.reply.Reply.{Reply}
 use Rattle.posix_terms.specs.declared.reply.Reply.TheVariants as reply
 use Rattle.posix_terms.specs.declared.transcript.Settings.{Settings}
-use Rattle.decisions.specs.Acts.{Acted, Replies, acted, released_reply}
-use Rattle.decisions.specs.Changes.{changed}
-use Rattle.decisions.specs.Meant as meant
-use Rattle.decisions.specs.Meant.{acts, description_of, does, holding, key_of, moved_to, offset_in, put}
-use Rattle.decisions.specs.Renaming.{act_by, change_by}
-use Rattle.decisions.specs.So.{CanAct, CanDo, ChangesWith}
-use Rattle.decisions.specs.declared.decision.Act.{Act}
-use Rattle.decisions.specs.declared.decision.Act.TheVariants as act
-use Rattle.decisions.specs.declared.decision.Change.{Change}
-use Rattle.decisions.specs.declared.decision.Change.TheVariants as change
-use Rattle.decisions.specs.declared.decision.Deed.TheVariants as deed
+use Rattle.sequential_object.specs.Acts.{Acted, Replies, acted, released_reply}
+use Rattle.sequential_object.specs.Changes.{changed}
+use Rattle.sequential_object.specs.Meant as meant
+use Rattle.sequential_object.specs.Meant.{acts, description_of, does, holding, key_of, moved_to, offset_in, put}
+use Rattle.sequential_object.specs.Renaming.{act_by, change_by}
+use Rattle.sequential_object.specs.So.{CanAct, CanDo, ChangesWith}
+use Rattle.sequential_object.specs.declared.decision.Act.{Act}
+use Rattle.sequential_object.specs.declared.decision.Act.TheVariants as act
+use Rattle.sequential_object.specs.declared.decision.Change.{Change}
+use Rattle.sequential_object.specs.declared.decision.Change.TheVariants as change
+use Rattle.sequential_object.specs.declared.decision.Deed.TheVariants as deed
 use Rattle.descriptor_table.specs.Laws.{HasEndsOf, IsThere, TableFollows}
 use Rattle.descriptor_table.specs.Shows.{birth_at, birth_of, is_of}
 use Rattle.descriptor_table.specs.Table.{IsSound, TableState, is_open}
 use Rattle.descriptor_table.specs.View.{names_of, view}
 use Rattle.object_store.specs.Acting.{IsReady, Leaves, StandsChanged, acts_at, cut_to, held_for, holding_if, left_by, moved_if, stands_at}
-use Rattle.decisions.specs.Bytes.{read_count}
+use Rattle.sequential_object.specs.Bytes.{read_count}
 use Rattle.object_store.specs.Patience.{end_of}
 use Rattle.object_store.specs.Store.{EndsTurn, IsDecided, Stands, Stored, kept_at}
 use Rattle.object_store.specs.declared.patience.Locking.{Locking}

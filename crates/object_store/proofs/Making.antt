@@ -1,7 +1,7 @@
 -- A turn that ended where it was made, and one that the table alone answers or refuses.
 use Rattle.std.proofs.Common.{◌≡◌, ℕ, None, Result, Ok, Err, refl, sym, ap, ◌∙◌, subst}
 use Rattle.std.specs.Option.{option_map}
-use Rattle.sequential_object.specs.Effects.{Effect, does_of}
+use Rattle.sequential_object.specs.Effects.{Effect}
 use Rattle.sequential_object.specs.Object.{State}
 use Rattle.sequential_object.specs.Numbers.{world_with}
 use Rattle.sequential_object.specs.Answers.{answer_in, answered_with}
@@ -17,14 +17,14 @@ use Rattle.posix_terms.specs.declared.errno.Errno.{Errno}
 use Rattle.posix_terms.specs.declared.reply.Answer.{Answer}
 use Rattle.posix_terms.specs.declared.reply.Reply.{Reply}
 use Rattle.posix_terms.specs.declared.reply.Reply.TheVariants as reply
-use Rattle.decisions.specs.Acts.{Blocks, Ending, Replies}
-use Rattle.decisions.specs.Decided.{decided}
-use Rattle.decisions.specs.Meant as meant
-use Rattle.decisions.specs.declared.decision.Act.{Act}
-use Rattle.decisions.specs.declared.decision.Change.{Change}
-use Rattle.decisions.specs.declared.decision.Decision.{Decision}
-use Rattle.decisions.specs.declared.decision.Decision.TheVariants as decision
-use Rattle.decisions.specs.declared.decision.Deed.TheVariants as deed
+use Rattle.sequential_object.specs.Acts.{Blocks, Ending, Replies}
+use Rattle.sequential_object.specs.Decided.{decided}
+use Rattle.sequential_object.specs.Meant as meant
+use Rattle.sequential_object.specs.declared.decision.Act.{Act}
+use Rattle.sequential_object.specs.declared.decision.Change.{Change}
+use Rattle.sequential_object.specs.declared.decision.Decision.{Decision}
+use Rattle.sequential_object.specs.declared.decision.Decision.TheVariants as decision
+use Rattle.sequential_object.specs.declared.decision.Deed.TheVariants as deed
 use Rattle.descriptor_table.specs.Laws.{TableFollows}
 use Rattle.descriptor_table.specs.View.{view}
 use Rattle.object_store.specs.Acting.{StandsChanged}
@@ -32,7 +32,7 @@ use Rattle.object_store.specs.Patience.{Waits}
 use Rattle.object_store.specs.Store.{EndsTurn, IsDecided, Makes, Stands, Stored, locking_of, number_locked}
 use Rattle.object_store.specs.declared.patience.Locking.{Locking}
 use Rattle.object_store.specs.declared.patience.TurnStart.TheVariants as start
-use Rattle.object_store.proofs.Turning.{effect_is, posix_is, stands_same}
+use Rattle.object_store.proofs.Turning.{effect_by, effect_is, stands_same}
 
 -- an act asks nothing outside
 asks_nothing : (c : Call) (after : State) (ending : Ending) → posix.query_of c (meant.ended after ending) ≡ None
@@ -77,7 +77,7 @@ pub refuses : (law : TableFollows) (h : Stored) (c : Call) (carried : Carried) (
 refuses law h c carried e is = (
   ap (λ (d : Result Decision Errno). option_map (λ (x : Locking). x.object) (locking_of d)) is,
   λ patience settings w same st.
-      let effect = ap does_of (posix_is law h w st c carried (Err e) is) in
+      let effect = effect_by law h w st c carried (Err e) is in
       record {
         request = ap (posix.query_of c) effect;
         answer_is = ap (λ (r : Result Effect Errno). answer_in (concluded settings w.object None carried r)) effect;
@@ -91,7 +91,7 @@ pub replies_alone : (law : TableFollows) (h : Stored) (c : Call) (carried : Carr
 replies_alone law h c carried r x new is stands = (
   ap (λ (d : Result Decision Errno). option_map (λ (x : Locking). x.object) (locking_of d)) is,
   λ patience settings w same st.
-      let effect = ap does_of (posix_is law h w st c carried (Ok (decision.Replies r x)) is) in
+      let effect = effect_by law h w st c carried (Ok (decision.Replies r x)) is in
       record {
         request = ap (posix.query_of c) effect;
         answer_is = ap (λ (r : Result Effect Errno). answer_in (concluded settings w.object None carried r)) effect;

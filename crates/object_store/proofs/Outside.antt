@@ -28,18 +28,18 @@ use Rattle.posix_terms.specs.declared.outcome.Outcome.TheVariants as outcome
 use Rattle.posix_terms.specs.declared.reply.Reply.{Reply}
 use Rattle.posix_terms.specs.declared.reply.Reply.TheVariants as reply
 use Rattle.posix_terms.specs.declared.transcript.Settings.{Settings}
-use Rattle.decisions.specs.Changes.{changed, door_opened}
-use Rattle.decisions.specs.Meant.{asks_to_open, reply_outside, request_asked, request_kind, seen, seen_of}
-use Rattle.decisions.specs.Renaming.{Alike, change_by, new_by, ok_by, seen_by}
-use Rattle.decisions.specs.So.{CanDo, TakesAlong}
-use Rattle.decisions.specs.declared.decision.Change.TheVariants as change
-use Rattle.decisions.specs.View.{View}
-use Rattle.decisions.specs.declared.decision.Deed.{Deed}
-use Rattle.decisions.specs.declared.decision.Deed.TheVariants as deed
-use Rattle.decisions.specs.declared.decision.Seen.{Seen}
+use Rattle.sequential_object.specs.Changes.{changed, door_opened}
+use Rattle.sequential_object.specs.Meant.{asks_to_open, reply_outside, request_asked, request_kind, seen, seen_of}
+use Rattle.sequential_object.specs.Renaming.{Alike, change_by, new_by, ok_by, seen_by}
+use Rattle.sequential_object.specs.So.{CanDo, TakesAlong}
+use Rattle.sequential_object.specs.declared.decision.Change.TheVariants as change
+use Rattle.sequential_object.specs.View.{View}
+use Rattle.sequential_object.specs.declared.decision.Deed.{Deed}
+use Rattle.sequential_object.specs.declared.decision.Deed.TheVariants as deed
+use Rattle.sequential_object.specs.declared.decision.Seen.{Seen}
 use Rattle.descriptor_table.specs.Laws.{IsThere, TableFollows}
 use Rattle.descriptor_table.specs.Table.{TableState, free_object, is_used}
-use Rattle.decisions.specs.declared.decision.NewDescriptor.{NewDescriptor}
+use Rattle.sequential_object.specs.declared.decision.NewDescriptor.{NewDescriptor}
 use Rattle.posix_terms.specs.declared.reply.Answer.TheVariants as answer
 use Rattle.sequential_object.specs.declared.turn_end.ActEnd.TheVariants as act_end
 use Rattle.descriptor_table.specs.Plans.{errand_of}

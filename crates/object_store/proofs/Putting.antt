@@ -14,7 +14,7 @@ use Rattle.sequential_object.specs.Numbers.{world_with}
 use Rattle.sequential_object.specs.Worlds.{World}
 use Rattle.posix_terms.specs.declared.limits.TheConstants.Limits as limit
 use Rattle.file_descriptions.specs.Descriptions.{ContainsKey}
-use Rattle.decisions.specs.Meant.{description_of, holding, moved_to}
+use Rattle.sequential_object.specs.Meant.{description_of, holding, moved_to}
 use Rattle.descriptor_table.specs.Agreement.{NumbersStay}
 use Rattle.descriptor_table.specs.Laws.{HasEndsOf, TableFollows}
 use Rattle.descriptor_table.specs.Shows.{birth_at, birth_of}

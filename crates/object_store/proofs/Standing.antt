@@ -6,20 +6,18 @@ use Rattle.std.specs.FinMap as fin
 use Rattle.std.specs.Option.{option_map}
 use Rattle.std.specs.Ordering.{nat_cmp}
 use Rattle.std.specs.Prelude.{unwrap_or}
-use Rattle.sequential_object.specs.Effects as effect
-use Rattle.sequential_object.specs.Effects.{locks_of}
 use Rattle.sequential_object.specs.Locked.{locked_object}
 use Rattle.sequential_object.specs.Step.{Carried}
 use Rattle.posix_terms.specs.Calls.{Call}
 use Rattle.posix_terms.specs.declared.errno.Errno.{Errno}
 use Rattle.posix_terms.specs.declared.limits.TheConstants.Limits as limit
 use Rattle.file_descriptions.specs.declared.description.Description.{Description}
-use Rattle.decisions.specs.Decided.{decided}
-use Rattle.decisions.specs.Meant.{all_meant}
-use Rattle.decisions.specs.Renaming.{decision_by, ok_by}
-use Rattle.decisions.specs.So.{IsSo}
-use Rattle.decisions.specs.declared.decision.Decision.{Decision}
-use Rattle.decisions.specs.declared.decision.Decision.TheVariants as decision
+use Rattle.sequential_object.specs.Decided.{decided}
+use Rattle.sequential_object.specs.Meant.{locks_of}
+use Rattle.sequential_object.specs.Renaming.{decision_by, ok_by}
+use Rattle.sequential_object.specs.So.{IsSo}
+use Rattle.sequential_object.specs.declared.decision.Decision.{Decision}
+use Rattle.sequential_object.specs.declared.decision.Decision.TheVariants as decision
 use Rattle.descriptor_table.specs.Laws.{Follows, IsKnownNumber, TableFollows}
 use Rattle.descriptor_table.specs.Shows.{birth_at}
 use Rattle.descriptor_table.specs.Table.{free_object, is_used}
@@ -58,7 +56,7 @@ module _ (law : TableFollows) (h : Stored) (w : World) (stands : Stands h w) (c 
   follows = law.calls h.table c carried.moved stands.sound stands.described
 
   by_decided : (d : Result Decision Errno) → IfOk d (IsSo (view h.table) c)
-      → numbered w (locks_of (all_meant w.object c (ok_by (decision_by (names_of h.table)) d))) ≡ option_map (λ (x : Locking). x.object) (locking_of d)
+      → numbered w (locks_of (ok_by (decision_by (names_of h.table)) d)) ≡ option_map (λ (x : Locking). x.object) (locking_of d)
   by_decided (Err e) so = refl
   by_decided (Ok (decision.Replies r x)) so = refl
   by_decided (Ok (decision.Locks object d)) so =
@@ -68,7 +66,7 @@ module _ (law : TableFollows) (h : Stored) (w : World) (stands : Stands h w) (c 
   pub number_known : numbered w (locked_object w.object c carried) ≡ number_locked h c carried
   unfolding locked_object
   number_known =
-      ap (λ (d : Result effect.Decision Errno). numbered w (locks_of d)) (follows.step w.object carried refl stands.shows)
+      ap (λ (d : Result Decision Errno). numbered w (locks_of d)) (follows.step w.object stands.shows)
       ∙ by_decided (decided (view h.table) c carried.moved) follows.so
 
 -- ## At the start

@@ -9,10 +9,10 @@ use Rattle.sequential_object.specs.Streams.{Half, PairState, Reading, Writing, h
 use Rattle.posix_terms.specs.Ends.{peer_of}
 use Rattle.posix_terms.specs.declared.object.Side.{Side}
 use Rattle.posix_terms.specs.declared.reply.Reply.TheVariants as reply
-use Rattle.decisions.specs.Acts.{Blocks, Replies, blocked_after, concludes, has_read, has_written, pipe_written, replies}
-use Rattle.sequential_object.specs.Transfers.{moved_by}
+use Rattle.sequential_object.specs.Acts.{Blocks, Replies, blocked_after, concludes, has_read, has_written, pipe_written, replies}
+use Rattle.sequential_object.specs.Acts.{moved_by}
 use Rattle.pipes.specs.Pipe as pipes
-use Rattle.decisions.specs.declared.decision.Seen.{Seen}
+use Rattle.sequential_object.specs.declared.decision.Seen.{Seen}
 use Rattle.sequential_object.specs.Effects.{nothing_moved}
 use Rattle.posix_terms.specs.declared.errno.Errno.TheVariants.{EAGAIN}
 use Rattle.pipes.specs.Pipe.{read_answer, write_answer}

@@ -1,7 +1,6 @@
 -- A turn of a call, by the shape of what was decided of it.
 use Rattle.std.proofs.Common.{◌≡◌, ◌+◌, Some, None, Result, Ok, Err, IfOk, Bool, true, false, refl, sym, ap, ◌∙◌, subst}
 use Rattle.std.specs.Prelude.{nat_lt}
-use Rattle.sequential_object.specs.Effects.{does_of, locking}
 use Rattle.sequential_object.specs.Object.{State}
 use Rattle.sequential_object.specs.Numbers.{world_with}
 use Rattle.sequential_object.specs.Step as posix
@@ -14,15 +13,15 @@ use Rattle.posix_terms.specs.declared.errno.Errno.{Errno}
 use Rattle.posix_terms.specs.declared.reply.Answer.{Answer}
 use Rattle.posix_terms.specs.declared.reply.Reply.TheVariants as reply
 use Rattle.posix_terms.specs.declared.transcript.Settings.{Settings}
-use Rattle.decisions.specs.Acts.{Blocks, Ending, Replies}
-use Rattle.decisions.specs.Decided.{decided}
-use Rattle.decisions.specs.Meant as meant
-use Rattle.decisions.specs.Meant.{all_meant, does, reply_outside, request_asked, request_kind}
-use Rattle.decisions.specs.Renaming.{decision_by, deed_by, ok_by}
-use Rattle.decisions.specs.So.{CanDo, IsSo}
-use Rattle.decisions.specs.declared.decision.Decision.{Decision}
-use Rattle.decisions.specs.declared.decision.Decision.TheVariants as decision
-use Rattle.decisions.specs.declared.decision.Deed.{Deed}
+use Rattle.sequential_object.specs.Acts.{Blocks, Ending, Replies}
+use Rattle.sequential_object.specs.Decided.{decided}
+use Rattle.sequential_object.specs.Meant as meant
+use Rattle.sequential_object.specs.Meant.{does, reply_outside, request_asked, request_kind}
+use Rattle.sequential_object.specs.Renaming.{decision_by, deed_by, ok_by}
+use Rattle.sequential_object.specs.So.{CanDo, IsSo}
+use Rattle.sequential_object.specs.declared.decision.Decision.{Decision}
+use Rattle.sequential_object.specs.declared.decision.Decision.TheVariants as decision
+use Rattle.sequential_object.specs.declared.decision.Deed.{Deed}
 use Rattle.descriptor_table.specs.Laws.{Follows, TableFollows}
 use Rattle.descriptor_table.specs.Shows.{birth_at}
 use Rattle.descriptor_table.specs.Table.{IsSound}
@@ -95,18 +94,15 @@ module _ (law : TableFollows) (h : Stored) (w : World) (st : Stands h w) (c : Ca
   follows : Follows h.table c carried.moved
   follows = law.calls h.table c carried.moved st.sound st.described
 
-  pub posix_is : (d : Result Decision Errno) → decided (view h.table) c carried.moved ≡ d
-      → posix.decided w.object c carried ≡ all_meant w.object c (ok_by (decision_by (names_of h.table)) d)
-  posix_is d is = follows.step w.object carried refl st.shows ∙ ap (λ (x : Result Decision Errno). all_meant w.object c (ok_by (decision_by (names_of h.table)) x)) is
+  pub effect_by : (d : Result Decision Errno) → decided (view h.table) c carried.moved ≡ d
+      → posix.effect_of w.object c carried ≡ meant.meant w.object c (ok_by (decision_by (names_of h.table)) d)
+  effect_by d is =
+      ap (meant.meant w.object c) (follows.step w.object st.shows ∙ ap (ok_by (decision_by (names_of h.table))) is)
 
   -- what a call does that locks this
-  pub locked_is : (x : Locking) → IsDecided h c carried.moved x
-      → posix.decided w.object c carried ≡ Ok (locking (birth_at h.table x.object) (does w.object c (birth_at h.table x.object) (deed_by (names_of h.table) x.deed)))
-  locked_is x is = posix_is (Ok (decision.Locks x.object x.deed)) (decided_is (decided (view h.table) c carried.moved) x is)
-
   pub effect_is : (x : Locking) → IsDecided h c carried.moved x
       → posix.effect_of w.object c carried ≡ does w.object c (birth_at h.table x.object) (deed_by (names_of h.table) x.deed)
-  effect_is x is = ap does_of (locked_is x is)
+  effect_is x is = effect_by (Ok (decision.Locks x.object x.deed)) (decided_is (decided (view h.table) c carried.moved) x is)
 
 -- what it needs is there
 pub can_of : (law : TableFollows) (h : Stored) (c : Call) (moved : Moved) (x : Locking) → IsSound h.table → AreSound h.table.descriptions

@@ -13,15 +13,15 @@ use Rattle.sequential_object.specs.Worlds.{World}
 use Rattle.sequential_object.specs.declared.turn_end.ActEnd.{ActEnd}
 use Rattle.file_descriptions.specs.Descriptions.{ContainsKey, description_at, with_offset}
 use Rattle.file_descriptions.specs.declared.description.Description.{Description}
-use Rattle.decisions.specs.Acts.{Acted, acted, blocked_after}
-use Rattle.decisions.specs.declared.decision.Seen.{Seen}
-use Rattle.decisions.specs.Changes as posix
-use Rattle.decisions.specs.Meant.{key_of}
-use Rattle.decisions.specs.Renaming.{change_by}
-use Rattle.decisions.specs.declared.decision.Act.{Act}
-use Rattle.decisions.specs.declared.decision.Act.TheVariants as act
-use Rattle.decisions.specs.declared.decision.Change.{Change}
-use Rattle.decisions.specs.declared.decision.Change.TheVariants as change
+use Rattle.sequential_object.specs.Acts.{Acted, acted, blocked_after}
+use Rattle.sequential_object.specs.declared.decision.Seen.{Seen}
+use Rattle.sequential_object.specs.Changes as posix
+use Rattle.sequential_object.specs.Meant.{key_of}
+use Rattle.sequential_object.specs.Renaming.{change_by}
+use Rattle.sequential_object.specs.declared.decision.Act.{Act}
+use Rattle.sequential_object.specs.declared.decision.Act.TheVariants as act
+use Rattle.sequential_object.specs.declared.decision.Change.{Change}
+use Rattle.sequential_object.specs.declared.decision.Change.TheVariants as change
 use Rattle.descriptor_table.specs.Table.{TableState, is_open}
 use Rattle.descriptor_table.specs.View.{names_of}
 use Rattle.object_store.specs.Bodies.{Kept, first_kept, keeping}

@@ -1,5 +1,6 @@
 -- Believed: a contract of the headline stands on it.
--- What object numbers have room for: each for a file, a pipe and a pair of sockets, of which its object is one.
+-- What object numbers have room for: each for a file, a pipe and a pair of sockets, of which its
+-- object is one.
 use Rattle.std.specs.Prelude.{ℕ, List, []}
 use Rattle.sequential_object.specs.Object.{Content, File, Pipe, Pair, DoorTo}
 use Rattle.sequential_object.specs.Streams.{PairState, new_pair}

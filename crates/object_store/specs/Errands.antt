@@ -15,8 +15,8 @@ abbrev pub object_found : Result (ℕ × Description) Errno → Option ℕ
 object_found (Ok found) = Some found.1.object
 object_found (Err e) = None
 
--- the object whose door a call takes along: that of the listener which it accepts from, none where a file or a listener is opened or
--- a peer connected to, and else the one whose lock it takes
+-- the object whose door a call takes along: that of the listener which it accepts from, none where
+-- a file or a listener is opened or a peer connected to, and else the one whose lock it takes
 abbrev pub door_taken : State → Call → Carried → Option ℕ
 door_taken s (call.HostOpen path access flags) carried = None
 door_taken s (call.TcpListen port) carried = None
@@ -35,10 +35,12 @@ waits_outside s c carried = waits_by (effect_of s c carried)
 -- a call that frees the table before it goes outside takes along the door that it locks
 abbrev pub TakesLocked : Type 0
 TakesLocked =
-    (s : State) (c : Call) (carried : Carried) → keeps_table c ≡ false → door_taken s c carried ≡ locked_object s c carried
+    (s : State) (c : Call) (carried : Carried)
+    → keeps_table c ≡ false → door_taken s c carried ≡ locked_object s c carried
 
 -- a call that opens a door locks the object that is born next, which the door becomes
 abbrev pub LocksNext : Type 0
 LocksNext =
-    (s : State) (c : Call) (carried : Carried) → keeps_table c ≡ true → is_some (asks s c carried) ≡ true
+    (s : State) (c : Call) (carried : Carried) → keeps_table c ≡ true
+    → is_some (asks s c carried) ≡ true
     → locked_object s c carried ≡ Some s.next_object

@@ -19,9 +19,9 @@ use Rattle.posix_terms.specs.declared.reply.Reply.{Reply}
 use Rattle.posix_terms.specs.declared.reply.Reply.TheVariants as reply
 use Rattle.posix_terms.specs.declared.transcript.Settings.{Settings}
 use Rattle.sequential_object.specs.Answers.{answer_in, answered_with}
-use Rattle.decisions.specs.Acts.{Ending}
-use Rattle.decisions.specs.Acts as ending
-use Rattle.decisions.specs.Bytes.{reply_bytes}
+use Rattle.sequential_object.specs.Acts.{Ending}
+use Rattle.sequential_object.specs.Acts as ending
+use Rattle.sequential_object.specs.Bytes.{reply_bytes}
 use Rattle.descriptor_table.specs.declared.plan.Errand.{Errand}
 use Rattle.sequential_object.specs.declared.turn_end.TurnEnd.{TurnEnd}
 use Rattle.sequential_object.specs.declared.turn_end.TurnEnd.TheVariants as end
@@ -72,7 +72,8 @@ told_outside out.Close value bytes = reply.Done
 -- never met: who opens a door is told the number of its descriptor
 told_outside kind value bytes = reply.Done
 
--- EAGAIN may make a call wait, and every other failure is its reply. While the outcome is missing the ending says nothing
+-- EAGAIN may make a call wait, and every other failure is its reply. While the outcome is missing
+-- the ending says nothing
 abbrev pub outside_ending : Errand → Option Outcome → ActEnd
 outside_ending e (Some (outcome.Ok value bytes)) = act_end.Reply (told_outside e.kind value bytes)
 outside_ending e (Some (outcome.Fail error)) =

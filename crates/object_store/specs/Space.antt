@@ -1,7 +1,7 @@
 -- Believed: a contract of the headline stands on it.
 -- How much memory is set aside for the bytes of a reply.
 use Rattle.std.specs.Prelude.{◌≡◌, ◌≤◌, ℕ, Bool, true, false, ◌||◌, Option, Some, None}
-use Rattle.decisions.specs.Bytes.{read_count}
+use Rattle.sequential_object.specs.Bytes.{read_count}
 use Rattle.descriptor_table.specs.Plans.{bytes_asked}
 use Rattle.posix_terms.specs.Calls.{Call}
 use Rattle.object_store.specs.Patience.{turn_bytes}

@@ -17,10 +17,10 @@ use Rattle.posix_terms.specs.declared.outcome.Outcome.{Outcome}
 use Rattle.posix_terms.specs.Queries.{Query}
 use Rattle.posix_terms.specs.declared.transcript.Settings.{Settings}
 use Rattle.file_descriptions.specs.Descriptions.{AreSound}
-use Rattle.decisions.specs.Bytes.{read_count, reply_bytes}
-use Rattle.decisions.specs.Decided.{decided}
-use Rattle.decisions.specs.declared.decision.Decision.{Decision}
-use Rattle.decisions.specs.declared.decision.Decision.TheVariants as decision
+use Rattle.sequential_object.specs.Bytes.{read_count, reply_bytes}
+use Rattle.sequential_object.specs.Decided.{decided}
+use Rattle.sequential_object.specs.declared.decision.Decision.{Decision}
+use Rattle.sequential_object.specs.declared.decision.Decision.TheVariants as decision
 use Rattle.descriptor_table.specs.Agreement.{query_of}
 use Rattle.descriptor_table.specs.Plans.{bytes_asked}
 use Rattle.descriptor_table.specs.Shows as shown
@@ -59,7 +59,9 @@ pub record Stands (h : Stored) (w : World) : Type 0 where
   pub sound : IsSound h.table
   pub described : AreSound h.table.descriptions
   pub shows : shown.Shows h.table w.object
-  pub contents : (node birth : ℕ) → slice_index_or h.table.objects node None ≡ Some birth → (content : Content) → map.get w.object.objects birth ≡ Some content → content ≡ kept_as content (kept_at h node)
+  pub contents : (node birth : ℕ) → slice_index_or h.table.objects node None ≡ Some birth
+      → (content : Content) → map.get w.object.objects birth ≡ Some content
+      → content ≡ kept_as content (kept_at h node)
   pub numbers : w.numbers ≡ h.table.objects
 
 -- what was decided of a call that takes the lock of an object
@@ -82,18 +84,26 @@ LocksAsStep =
     (h : Stored) (w : World) (c : Call) (carried : Carried) → Stands h w
     → number_locked h c carried ≡ numbered w (locked_object w.object c carried)
 
--- a turn that goes outside with this errand, in this world: it asks what the call asks, at the door that the call takes along, and EAGAIN makes it
--- wait just where it makes the call wait. Unless it keeps the table, its change is made, whatever will come of it, and it will end as the errand has it
-pub record GoesOut (settings : Settings) (w : World) (carried : Carried) (old : Stored) (c : Call) (errand : Errand) (new : Stored) : Type 0 where
+-- a turn that goes outside with this errand, in this world: it asks what the call asks, at the door
+-- that the call takes along, and EAGAIN makes it wait just where it makes the call wait. Unless it
+-- keeps the table, its change is made, whatever will come of it, and it will end as the errand has
+-- it
+pub record GoesOut (settings : Settings) (w : World) (carried : Carried) (old : Stored) (c : Call)
+    (errand : Errand) (new : Stored) : Type 0 where
   pub request : asks w.object c carried ≡ query_of c errand
   pub door : errand.door ≡ numbered w (door_taken w.object c carried)
   pub waits : errand.waits ≡ waits_outside w.object c carried
-  pub change : keeps_table c ≡ false → Stands new (world_with w (step settings w.object c None carried).after)
-  pub ends : keeps_table c ≡ false → (o : Outcome) → let stepped = step settings w.object c (Some o) carried in (stepped.answer, stepped.carried) ≡ ended settings w.object carried (outside_ending errand (Some o))
+  pub change : keeps_table c ≡ false
+      → Stands new (world_with w (step settings w.object c None carried).after)
+  pub ends : keeps_table c ≡ false → (o : Outcome)
+      → let stepped = step settings w.object c (Some o) carried in
+      (stepped.answer, stepped.carried)
+      ≡ ended settings w.object carried (outside_ending errand (Some o))
   pub kept : keeps_table c ≡ true → new ≡ old
 
 -- a turn that asks nothing outside: so it ended, and now they stand for the world behind it
-pub record EndsAt (settings : Settings) (w : World) (carried : Carried) (c : Call) (e : TurnEnd) (new : Stored) : Type 0 where
+pub record EndsAt (settings : Settings) (w : World) (carried : Carried) (c : Call) (e : TurnEnd)
+    (new : Stored) : Type 0 where
   pub request : asks w.object c carried ≡ None
   pub answer_is : answer_in (step settings w.object c None carried) ≡ e
   pub change : Stands new (world_with w (step settings w.object c None carried).after)
@@ -101,25 +111,31 @@ pub record EndsAt (settings : Settings) (w : World) (carried : Carried) (c : Cal
 -- how a turn of a call starts that carries this
 abbrev pub StartsIn : Settings → World → Carried → Stored → Call → TurnStart → Stored → Type 0
 StartsIn settings w carried old c (start.Ended e) new = EndsAt settings w carried c e new
-StartsIn settings w carried old c (start.GoesOut errand) new = GoesOut settings w carried old c errand new
+StartsIn settings w carried old c (start.GoesOut errand) new =
+    GoesOut settings w carried old c errand new
 
 -- with this patience, and in whatever world they stood for
 abbrev pub Makes : ℕ → Carried → Stored → Call → TurnStart → Stored → Type 0
-Makes patience carried old c x new = (settings : Settings) (w : World) → settings.patience ≡ patience → Stands old w → StartsIn settings w carried old c x new
+Makes patience carried old c x new = (settings : Settings) (w : World)
+    → settings.patience ≡ patience → Stands old w → StartsIn settings w carried old c x new
 
 -- this was decided of the call, which moved so much before
 abbrev pub IsDecided : Stored → Call → Moved → Locking → Type 0
 IsDecided h c moved x = locking_at h c moved ≡ Some x
 
--- what a call that carries this comes to with the table alone: its turn, at whatever patience; or it locks an object, with what was decided, and
--- nothing has changed
+-- what a call that carries this comes to with the table alone: its turn, at whatever patience; or
+-- it locks an object, with what was decided, and nothing has changed
 abbrev pub ComesTo : Carried → Stored → Call → AtTable → Stored → Type 0
-ComesTo carried old c (at.Answers r) new = (number_locked old c carried ≡ None) × ((patience : ℕ) → Makes patience carried old c (start.Ended (end.Reply r)) new) × (reply_bytes r ≤ read_count c)
+ComesTo carried old c (at.Answers r) new =
+    (number_locked old c carried ≡ None)
+    × ((patience : ℕ) → Makes patience carried old c (start.Ended (end.Reply r)) new)
+    × (reply_bytes r ≤ read_count c)
 ComesTo carried old c (at.Locks x) new =
     (number_locked old c carried ≡ Some x.object) × (x.object < limit.OBJECTS)
     × IsDecided old c carried.moved x × (new ≡ old)
 
--- a turn that ended brings no more bytes than the call may read. One that goes outside asks no more, and leaves the room for them as it was
+-- a turn that ended brings no more bytes than the call may read. One that goes outside asks no
+-- more, and leaves the room for them as it was
 abbrev pub UsesRoom : ℕ → List ℕ → List ℕ → TurnStart → Type 0
 UsesRoom most old new (start.Ended e) = turn_bytes e ≤ most
 UsesRoom most old new (start.GoesOut errand) = (new ≡ old) × (bytes_asked errand ≤ most)
@@ -129,7 +145,8 @@ abbrev pub KeepsStore : Bool → TurnStart → Stored → Stored → Type 0
 KeepsStore true (start.GoesOut errand) old new = new ≡ old
 KeepsStore keep x old new = Unit {0}
 
--- a turn of a call that kept the table while it was outside ended so, by an outcome that fits what it asked
+-- a turn of a call that kept the table while it was outside ended so, by an outcome that fits what
+-- it asked
 abbrev pub Opens : ℕ → Carried → Stored → Call → Outcome → TurnEnd → Stored → Type 0
 Opens patience carried old c o e new =
     (settings : Settings) (w : World) (r : Query)
@@ -138,12 +155,14 @@ Opens patience carried old c o e new =
     → let stepped = step settings w.object c (Some o) carried in
     (answer_in stepped ≡ e) × Stands new (world_with w stepped.after)
 
--- the act of a turn of a call that carries this was made, in whatever world they stood for: so it ended
+-- the act of a turn of a call that carries this was made, in whatever world they stood for: so it
+-- ended
 abbrev pub EndsTurn : Carried → Stored → Call → ActEnd → Stored → Type 0
 EndsTurn carried old c e new =
     (settings : Settings) (w : World) → Stands old w →
     let stepped = step settings w.object c None carried in
-    ((stepped.answer, stepped.carried) ≡ ended settings w.object carried e) × Stands new (world_with w stepped.after)
+    ((stepped.answer, stepped.carried) ≡ ended settings w.object carried e)
+    × Stands new (world_with w stepped.after)
 
 -- nothing is open, and there is only the root
 abbrev pub first_stored : Stored

@@ -1,22 +1,21 @@
 ghost use Rattle.std.specs.Prelude.{◌≡◌, ◌≤◌, ◌<◌, ◌==◌, ◌+ℤ◌, pos, length, false, IfOk};
 ghost use Rattle.std.specs.Prelude.{◌-◌, Some, None};
 ghost use Rattle.sequential_object.specs.Files.{bytes_at, resized, written};
-ghost use Rattle.sequential_object.specs.Transfers.{base_of, offset_of};
+ghost use Rattle.sequential_object.specs.Acts.{base_of, offset_of};
 ghost use Rattle.posix_terms.specs.declared.limits.TheConstants.Limits as limit;
 ghost use Rattle.posix_terms.specs.declared.reply.ObjectKind.TheVariants.{File};
 ghost use Rattle.posix_terms.specs.declared.reply.Reply.TheVariants.{Data, Done, Stat};
 ghost use Rattle.file_descriptions.specs.Descriptions.{ContainsKey};
-ghost use Rattle.decisions.specs.Acts.{read_file, released_reply, sought, write_at, write_file};
-ghost use Rattle.decisions.specs.declared.decision.Act.TheVariants as act;
+ghost use Rattle.sequential_object.specs.Acts.{read_file, released_reply, sought, write_at, write_file};
+ghost use Rattle.sequential_object.specs.declared.decision.Act.TheVariants as act;
 ghost use Rattle.object_store.specs.Acting.{Leaves, acts_at, cut_to, offset_of_key};
 ghost use Rattle.object_store.specs.Patience.{act_bytes};
 ghost use Rattle.object_store.specs.Store.{body_at};
 
 use crate::store::Store;
-use decisions::Seen;
 use memory_files::FileBody;
 use posix_terms::{Bytes, Call, Errno, ObjectKind, Reply, Whence};
-use sequential_object::ActEnd;
+use sequential_object::{ActEnd, Seen};
 
 // What calls do with the file whose lock they took.
 impl Store {

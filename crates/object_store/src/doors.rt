@@ -6,10 +6,9 @@ ghost use Rattle.object_store.specs.Store.{IsDecided, Opens, at_port};
 
 use crate::patience::{Locking, fail_outside};
 use crate::store::Store;
-use decisions::Deed;
 use descriptor_table::{errand_of, table_follows_step};
 use posix_terms::{Call, Carried, Errno, Outcome, Reply};
-use sequential_object::TurnEnd;
+use sequential_object::{Deed, TurnEnd};
 
 // Calls that go outside.
 impl Store {

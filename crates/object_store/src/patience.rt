@@ -2,14 +2,13 @@ ghost use Rattle.std.specs.Prelude.{◌≡◌, ◌≤◌, length, nat_le, pos, t
 ghost use Rattle.posix_terms.specs.declared.reply.Reply.TheVariants.{Number};
 ghost use Rattle.posix_terms.specs.Outcomes.{fits};
 ghost use Rattle.posix_terms.specs.declared.outcome.Outcome.TheVariants.{Fail as failure};
-ghost use Rattle.decisions.specs.Bytes.{reply_bytes};
+ghost use Rattle.sequential_object.specs.Bytes.{reply_bytes};
 ghost use Rattle.descriptor_table.specs.Plans.{bytes_asked};
 ghost use Rattle.object_store.specs.Patience.{EndsOutside, Waits, act_bytes, stopped_ending, turn_bytes};
 
-use decisions::Deed;
 use descriptor_table::Errand;
 use posix_terms::{Bytes, Carried, Errno, Moved, OutKind, Outcome, Reply};
-use sequential_object::{ActEnd, TurnEnd};
+use sequential_object::{ActEnd, Deed, TurnEnd};
 use std::mem::replace;
 
 /// What a call comes to once its thread has the table.

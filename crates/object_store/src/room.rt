@@ -1,6 +1,6 @@
 ghost use Rattle.std.specs.Prelude.{◌≡◌, ◌+◌, ◌≤◌, ◌<◌, ◌^◌, Ok, None, IfOk, IfSome};
 ghost use Rattle.std.specs.Prelude.{false, not, true};
-ghost use Rattle.decisions.specs.Bytes.{read_count, reply_bytes};
+ghost use Rattle.sequential_object.specs.Bytes.{read_count, reply_bytes};
 ghost use Rattle.descriptor_table.specs.Plans.{bytes_asked};
 ghost use Rattle.posix_terms.specs.Outcomes.{fits};
 ghost use Rattle.object_store.specs.Patience.{EndsOutside, turn_bytes};

@@ -2,7 +2,7 @@ ghost use Rattle.std.specs.Prelude.{◌≡◌, ◌<◌, ◌≤◌, ◌+◌, ◌^
 ghost use Rattle.sequential_object.specs.Object.{Pair, Pipe};
 ghost use Rattle.sequential_object.specs.Streams.{bytes_put, half_at, pair_read, pair_write};
 ghost use Rattle.sequential_object.specs.Streams.{pipe_write, stream_read, with_waiting};
-ghost use Rattle.sequential_object.specs.Transfers.{moved_by};
+ghost use Rattle.sequential_object.specs.Acts.{moved_by};
 ghost use Rattle.posix_terms.specs.Ends.{peer_of};
 ghost use Rattle.posix_terms.specs.declared.limits.TheConstants.Limits as limit;
 ghost use Rattle.posix_terms.specs.declared.object.End.TheVariants as part;
@@ -10,9 +10,9 @@ ghost use Rattle.file_descriptions.specs.Descriptions.{ContainsKey};
 ghost use Rattle.pipes.specs.Pipe as pipes;
 ghost use Rattle.pipes.specs.Pipe.{read_answer, write_answer};
 ghost use Rattle.stream_sockets.specs.Pair.{left_by_read, left_by_write, read_into};
-ghost use Rattle.decisions.specs.Acts.{blocked_after, has_read, has_written, write_acted};
-ghost use Rattle.decisions.specs.Acts.{write_pipe};
-ghost use Rattle.decisions.specs.declared.decision.Act.TheVariants as act;
+ghost use Rattle.sequential_object.specs.Acts.{blocked_after, has_read, has_written, write_acted};
+ghost use Rattle.sequential_object.specs.Acts.{write_pipe};
+ghost use Rattle.sequential_object.specs.declared.decision.Act.TheVariants as act;
 ghost use Rattle.descriptor_table.specs.Table.{is_open};
 ghost use Rattle.object_store.specs.Acting.{Leaves, acts_at, ending_of_pipe, ending_of_read};
 ghost use Rattle.object_store.specs.Acting.{ending_of_write, held_by, holding, offset_of_key};
@@ -22,10 +22,9 @@ ghost use Rattle.object_store.specs.Store.{kept_at};
 
 use crate::patience::stopped;
 use crate::store::Store;
-use decisions::Seen;
 use pipes::PipeAnswer;
 use posix_terms::{Bytes, Call, End, Errno, Limits, Moved, Reply, ShutdownHow, Side};
-use sequential_object::ActEnd;
+use sequential_object::{ActEnd, Seen};
 
 // A read and a write, and what calls do with a pipe or a pair of sockets, whose lock they took.
 impl Store {

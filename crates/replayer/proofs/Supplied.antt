@@ -1,6 +1,7 @@
 -- What supplies a run of real threads: the scripts of its actors, and the log that it wrote or was made by.
 use Rattle.lock_model.specs.Transcripts as seen
 use Rattle.posix_terms.specs.declared.limits.TheConstants.Limits as limit
+use Rattle.sequential_object.specs.Meant.{request_asked}
 use Rattle.sequential_object.specs.Numbers.{first_world}
 use Rattle.lock_machine.specs.Conditions.{setup_under}
 use Rattle.logged_machine.specs.Runs.{terms_with}
@@ -49,7 +50,8 @@ use Rattle.thread_scripts.specs.declared.actor.ScriptState.{ScriptState}
 use Rattle.thread_scripts.specs.declared.line.Line.{Line}
 use Rattle.worker_notes.specs.Agrees.{before, brought, brought_by, brought_in, replies_in}
 use Rattle.worker_notes.specs.Leads.{Leads}
-use Rattle.worker_notes.specs.Requests.{amount_asked, query_of_kind, request_for}
+use Rattle.lock_machine.specs.Requests.{query_of_kind}
+use Rattle.worker_notes.specs.Requests.{request_for}
 use Rattle.worker_notes.specs.declared.own.Brought.{Brought}
 use Rattle.replayer.specs.Outcomes.{outcomes_by, settings_of}
 use Rattle.replayer.specs.Replay.{inputs_of}
@@ -270,7 +272,7 @@ come_one row (Some o) k r os ks cs bs asks come (x ∷ came) n g outcomes kinds 
 
 asks_kind : (row : HistoryRow) (x : OutKind) → kind_asked row.call ≡ Some x → AsksAt row (request_for row.turn row.call) x
 asks_kind row x h =
-    (record { kind = x; asked = amount_asked row.call; call = row.call; turn = row.turn }, ap (λ (k : Option OutKind). requested_at row.turn (query_of_kind row.call k)) h, refl, refl)
+    (record { kind = x; asked = request_asked row.call; call = row.call; turn = row.turn }, ap (λ (k : Option OutKind). requested_at row.turn (query_of_kind row.call k)) h, refl, refl)
 
 all_come : (i : ℕ) (rows : List HistoryRow) → Come (outcomes_in i rows) (kinds_in i rows) (clocks_in 2 i rows) (brought_in i rows)
 all_come i [] [] k g outcomes kinds clocks at = absurd (none-some g at)

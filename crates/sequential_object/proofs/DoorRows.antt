@@ -3,16 +3,18 @@ use Rattle.std.proofs.Common.{◌≡◌, ℕ, Bool, List, [], ◌∷◌, map, tr
 use Rattle.std.specs.Prelude.{is_some}
 use Rattle.std.specs.Str.{is_utf8}
 use Rattle.std.proofs.lemmas.Str.{IsUtf8-from_ascii, is_utf8-from_IsUtf8}
-use Rattle.sequential_object.specs.Descriptors.{open_result, close_result, lowest_from}
+use Rattle.sequential_object.specs.Descriptors.{lowest_from}
+use Rattle.sequential_object.specs.Doors.{host_open_decided, port_decided, tcp_accept_decided}
+use Rattle.sequential_object.specs.Duplicates.{dup_decided, dup2_decided}
+use Rattle.sequential_object.specs.Meant.{seen}
+use Rattle.sequential_object.specs.Opening.{close_decided, open_decided}
+use Rattle.sequential_object.specs.Sockets.{shutdown_decided}
+use Rattle.sequential_object.specs.Status.{fstat_decided, getfl_decided, setfl_decided}
+use Rattle.sequential_object.specs.Transfers.{lseek_decided, read_decided, write_decided}
 use Rattle.sequential_object.specs.DoorExamples.{CallTurn, TurnsAnswer, Visit, appended_host_file, asked_from, turns_from, impatient_door, missing_host_file, no_bytes_of_a_door, over_loopback, patient_door, shared_door, short_host_write, asked_in_turn, visits_from, would_block}
-use Rattle.sequential_object.specs.Doors.{host_open_result, tcp_accept_result, tcp_connect_result, tcp_listen_result}
-use Rattle.sequential_object.specs.Duplicates.{dup_result, dup2_result}
 use Rattle.sequential_object.specs.Object.{State, Description, DoorTo, File, FileNode, empty_state}
 use Rattle.sequential_object.specs.Paths.{path_form}
-use Rattle.sequential_object.specs.Sockets.{shutdown_result}
-use Rattle.sequential_object.specs.Status.{fstat_result, getfl_result, setfl_result}
 use Rattle.sequential_object.specs.Step.{Carried, Stepped, asks, nothing_carried, nothing_moved, step}
-use Rattle.sequential_object.specs.Transfers.{first_write, lseek_result, read_result, write_result}
 use Rattle.posix_terms.specs.declared.call.Access.TheVariants as access
 use Rattle.posix_terms.specs.declared.object.Door.{Door}
 use Rattle.posix_terms.specs.declared.object.Door.TheVariants as door
@@ -59,7 +61,7 @@ abbrev pub short_states : List State
 short_states = host_1 ∷ host_1 ∷ host_1 ∷ []
 
 pub short : (settings : Settings) → Leads settings empty_state short_host_write short_states
-unfolding host_open_result lowest_from write_result first_write
+unfolding seen host_open_decided lowest_from write_decided
 short settings = (simp (listed, out-utf8), simp (listed, out-utf8), (simp listed, simp listed, (simp listed, simp listed, tt)))
 
 abbrev file_1 : State
@@ -69,7 +71,7 @@ abbrev pub missing_states : List State
 missing_states = empty_state ∷ file_1 ∷ []
 
 pub missing : (settings : Settings) → Leads settings empty_state missing_host_file missing_states
-unfolding host_open_result open_result lowest_from path_form
+unfolding seen host_open_decided open_decided lowest_from path_form
 missing settings = (simp (listed, nofile-utf8), simp (listed, nofile-utf8), (simp listed, simp listed, tt))
 
 abbrev at_door : ℕ → Door → Description
@@ -97,7 +99,7 @@ abbrev pub net_states : List State
 net_states = net_1 ∷ net_1 ∷ net_1 ∷ net_2 ∷ net_3 ∷ net_3 ∷ net_3 ∷ net_3 ∷ net_3 ∷ net_3 ∷ net_4 ∷ net_4 ∷ net_4 ∷ []
 
 pub net : (settings : Settings) → Leads settings empty_state over_loopback net_states
-unfolding tcp_listen_result tcp_connect_result tcp_accept_result lowest_from fstat_result read_result write_result first_write shutdown_result dup2_result close_result
+unfolding seen port_decided tcp_accept_decided lowest_from fstat_decided read_decided write_decided shutdown_decided dup2_decided close_decided
 net settings =
     (simp listed, simp listed, (simp listed, simp listed, (simp listed, simp listed, (simp listed, simp listed, (simp listed, simp listed, (simp listed, simp listed, (simp listed, simp listed, (simp listed, simp listed, (simp listed, simp listed, (simp listed, simp listed, (simp listed, simp listed, (simp listed, simp listed, (simp listed, simp listed, tt)))))))))))))
 
@@ -132,7 +134,7 @@ abbrev pub shared_states : List State
 shared_states = shared_1 ∷ shared_2 ∷ shared_3 ∷ shared_2 ∷ shared_4 ∷ shared_5 ∷ shared_5 ∷ shared_5 ∷ shared_6 ∷ shared_6 ∷ []
 
 pub shared : (settings : Settings) → Leads settings empty_state shared_door shared_states
-unfolding host_open_result open_result lowest_from path_form dup_result dup2_result close_result fstat_result
+unfolding seen host_open_decided open_decided lowest_from path_form dup_decided dup2_decided close_decided fstat_decided
 shared settings =
     (simp (listed, out-utf8), simp (listed, out-utf8), (simp listed, simp listed, (simp listed, simp listed, (simp listed, simp listed, (simp listed, simp listed, (simp listed, simp listed, (simp listed, simp listed, (simp listed, simp listed, (simp listed, simp listed, (simp listed, simp listed, tt))))))))))
 
@@ -143,7 +145,7 @@ abbrev pub no_bytes_states : List State
 no_bytes_states = both_1 ∷ both_1 ∷ both_1 ∷ []
 
 pub no_bytes : (settings : Settings) → Leads settings empty_state no_bytes_of_a_door no_bytes_states
-unfolding host_open_result lowest_from read_result write_result first_write
+unfolding seen host_open_decided lowest_from read_decided write_decided
 no_bytes settings = (simp (listed, out-utf8), simp (listed, out-utf8), (simp listed, simp listed, (simp listed, simp listed, tt)))
 
 abbrev appended_1 : State
@@ -153,7 +155,7 @@ abbrev pub appended_states : List State
 appended_states = appended_1 ∷ appended_1 ∷ appended_1 ∷ appended_1 ∷ appended_1 ∷ []
 
 pub appended : (settings : Settings) → Leads settings empty_state appended_host_file appended_states
-unfolding host_open_result lowest_from getfl_result write_result first_write lseek_result
+unfolding seen host_open_decided lowest_from getfl_decided write_decided lseek_decided
 appended settings =
     (simp (listed, out-utf8), simp (listed, out-utf8), (simp listed, simp listed, (simp listed, simp listed, (simp listed, simp listed, (simp listed, simp listed, tt)))))
 
@@ -167,7 +169,7 @@ abbrev pub would_block_states : List State
 would_block_states = stream_1 ∷ stream_2 ∷ stream_2 ∷ []
 
 pub would : (settings : Settings) → Leads settings empty_state would_block would_block_states
-unfolding tcp_connect_result lowest_from setfl_result read_result
+unfolding seen port_decided lowest_from setfl_decided read_decided
 would settings = (simp listed, simp listed, (simp listed, simp listed, (simp listed, simp listed, tt)))
 
 -- each turn is answered so, and leads to the next of these states, with what it carries on
@@ -199,14 +201,14 @@ abbrev patient_states : List (State × Carried)
 patient_states = (stream_1, nothing_carried) ∷ (stream_1, record { turns = 1; moved = nothing_moved }) ∷ (stream_1, nothing_carried) ∷ (stream_1, record { turns = 1; moved = nothing_moved }) ∷ []
 
 patient_leads : (settings : Settings) → settings.patience ≡ 2 → LeadsOn settings empty_state nothing_carried patient_door patient_states
-unfolding tcp_connect_result lowest_from read_result
+unfolding seen port_decided lowest_from read_decided
 patient_leads settings is = (simp listed, simp listed, (simp (listed, is), simp listed, (simp (listed, is), simp listed, (simp (listed, is), simp listed, tt))))
 
 abbrev impatient_states : List (State × Carried)
 impatient_states = (stream_1, nothing_carried) ∷ (stream_1, nothing_carried) ∷ []
 
 impatient_leads : (settings : Settings) → settings.patience ≡ 1 → LeadsOn settings empty_state nothing_carried impatient_door impatient_states
-unfolding tcp_connect_result lowest_from read_result
+unfolding seen port_decided lowest_from read_decided
 impatient_leads settings is = (simp listed, simp listed, (simp (listed, is), simp listed, tt))
 
 pub patient : TurnsAnswer 2 patient_door

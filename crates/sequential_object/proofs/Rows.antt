@@ -1,17 +1,19 @@
 -- The states between the calls of the examples.
 use Rattle.std.proofs.Common.{◌≡◌, ℕ, ◌+◌, pos, Bool, List, [], ◌∷◌, length, None, true, false, codes, refl, ap, ◌∙◌, nat_lt}
 use Rattle.std.specs.FinMap as map
-use Rattle.sequential_object.specs.Descriptors.{open_result, close_result, lowest_from}
-use Rattle.sequential_object.specs.Duplicates.{dup_result, dup_from_result, dup2_result}
-use Rattle.sequential_object.specs.Examples.{gap_reads_zero, dup2_from_nothing, shared_offset, unlinked_but_open, directory_refusals, renamed_files, positioned_write_and_truncate, shared_flags, pipe_and_its_ends, half_closed_pair, AnswersAfter, closed_last, unlinked_last, replaced_last, renamed_last, linked_still, shared_still, closed_pipe, half_closed_pipe}
-use Rattle.sequential_object.specs.Names.{added, file_named, removed, removed_dir, renamed, link_result, mkdir_result, rename_result, rmdir_result, unlink_result}
+use Rattle.sequential_object.specs.Descriptors.{lowest_from}
+use Rattle.sequential_object.specs.Duplicates.{dup_decided, dup_from_decided, dup2_decided}
+use Rattle.sequential_object.specs.Meant.{seen}
+use Rattle.sequential_object.specs.Names.{addable, ends_by_name, file_named, link_decided, mkdir_decided, rename_decided, rmdir_decided, unlink_decided}
+use Rattle.sequential_object.specs.Opening.{close_decided, open_decided}
+use Rattle.sequential_object.specs.Sockets.{pipe_decided, shutdown_decided, socketpair_decided}
+use Rattle.sequential_object.specs.Status.{fstat_decided, getfl_decided, setfl_decided}
+use Rattle.sequential_object.specs.Transfers.{ftruncate_decided, lseek_decided, pread_decided, pwrite_decided, read_decided, write_decided}
+use Rattle.sequential_object.specs.Examples.{appended_at_the_end, gap_reads_zero, dup2_from_nothing, shared_offset, unlinked_but_open, directory_refusals, renamed_files, positioned_write_and_truncate, shared_flags, pipe_and_its_ends, half_closed_pair, AnswersAfter, closed_last, unlinked_last, replaced_last, renamed_last, linked_still, shared_still, closed_pipe, half_closed_pipe}
 use Rattle.sequential_object.specs.Object.{State, Description, File, Pipe, Pair, Node, FileNode, Directory, empty_state}
 use Rattle.sequential_object.specs.Paths.{path_form}
-use Rattle.sequential_object.specs.Sockets.{pipe_result, shutdown_result, socketpair_result}
 use Rattle.sequential_object.specs.Streams.{Half, PairState, new_half, new_pair}
 use Rattle.sequential_object.specs.Step.{Stepped, held_up, nothing_carried, nothing_moved, step, waited}
-use Rattle.sequential_object.specs.Status.{fstat_result, getfl_result, setfl_result}
-use Rattle.sequential_object.specs.Transfers.{first_write, ftruncate_result, lseek_result, pread_result, pwrite_result, read_result, write_result}
 use Rattle.posix_terms.specs.declared.call.Access.TheVariants as access
 use Rattle.posix_terms.specs.declared.call.Call.TheVariants as call
 use Rattle.posix_terms.specs.declared.errno.Errno.TheVariants.{EINTR}
@@ -37,7 +39,7 @@ abbrev pub gap_states : List State
 gap_states = gap_1 ∷ gap_2 ∷ gap_2 ∷ gap_3 ∷ gap_3 ∷ []
 
 pub gap : (settings : Settings) → Runs settings empty_state gap_reads_zero gap_states
-unfolding open_result lowest_from path_form lseek_result fstat_result write_result first_write pread_result
+unfolding seen open_decided lowest_from path_form lseek_decided fstat_decided write_decided pread_decided
 gap settings = (simp listed, (simp listed, (simp listed, (simp listed, (simp listed, tt)))))
 
 abbrev dup2_1 : State
@@ -50,7 +52,7 @@ abbrev pub dup2_states : List State
 dup2_states = dup2_1 ∷ dup2_2 ∷ dup2_2 ∷ dup2_2 ∷ dup2_2 ∷ []
 
 pub dup2 : (settings : Settings) → Runs settings empty_state dup2_from_nothing dup2_states
-unfolding open_result lowest_from path_form write_result first_write dup2_result pread_result
+unfolding seen open_decided lowest_from path_form write_decided dup2_decided pread_decided
 dup2 settings = (simp listed, (simp listed, (simp listed, (simp listed, (simp listed, tt)))))
 
 abbrev shared_1 : State
@@ -69,7 +71,7 @@ abbrev pub shared_states : List State
 shared_states = shared_1 ∷ shared_2 ∷ shared_3 ∷ shared_3 ∷ shared_4 ∷ shared_4 ∷ shared_4 ∷ []
 
 pub shared : (settings : Settings) → Runs settings empty_state shared_offset shared_states
-unfolding open_result lowest_from path_form dup_result write_result first_write lseek_result dup_from_result read_result
+unfolding seen open_decided lowest_from path_form dup_decided write_decided lseek_decided dup_from_decided read_decided
 shared settings = (simp listed, (simp listed, (simp listed, (simp listed, (simp listed, (simp listed, (simp listed, tt)))))))
 
 abbrev unlinked_1 : State
@@ -88,7 +90,7 @@ abbrev pub unlinked_states : List State
 unlinked_states = unlinked_1 ∷ unlinked_2 ∷ unlinked_3 ∷ unlinked_3 ∷ unlinked_3 ∷ unlinked_4 ∷ unlinked_4 ∷ []
 
 pub unlinked : (settings : Settings) → Runs settings empty_state unlinked_but_open unlinked_states
-unfolding open_result lowest_from path_form write_result first_write unlink_result removed fstat_result pread_result close_result
+unfolding seen open_decided lowest_from path_form write_decided unlink_decided file_named ends_by_name fstat_decided pread_decided close_decided
 unlinked settings = (simp listed, (simp listed, (simp listed, (simp listed, (simp listed, (simp listed, (simp listed, tt)))))))
 
 abbrev directories_1 : State
@@ -110,7 +112,7 @@ abbrev pub directories_states : List State
 directories_states = directories_1 ∷ directories_1 ∷ directories_1 ∷ directories_2 ∷ directories_2 ∷ directories_2 ∷ directories_2 ∷ directories_2 ∷ directories_3 ∷ directories_4 ∷ directories_5 ∷ directories_5 ∷ directories_5 ∷ directories_5 ∷ []
 
 pub directories : (settings : Settings) → Runs settings empty_state directory_refusals directories_states
-unfolding mkdir_result added path_form open_result lowest_from rmdir_result removed_dir unlink_result removed link_result file_named fstat_result
+unfolding seen mkdir_decided addable path_form open_decided lowest_from rmdir_decided unlink_decided file_named ends_by_name link_decided fstat_decided
 directories settings = (simp listed, (simp listed, (simp listed, (simp listed, (simp listed, (simp listed, (simp listed, (refl, (simp listed, (simp listed, (simp listed, (simp listed, (refl, (refl, tt))))))))))))))
 
 -- a description of this file at this offset
@@ -161,9 +163,28 @@ renamed_states =
     ∷ renamed_5 ∷ renamed_5 ∷ renamed_5 ∷ renamed_6 ∷ renamed_6 ∷ renamed_6 ∷ renamed_6 ∷ []
 
 pub renamed_rows : (settings : Settings) → Runs settings empty_state renamed_files renamed_states
-unfolding open_result lowest_from path_form write_result first_write rename_result renamed fstat_result pread_result read_result link_result file_named added mkdir_result
+unfolding seen open_decided lowest_from path_form write_decided rename_decided file_named ends_by_name fstat_decided pread_decided read_decided link_decided addable mkdir_decided
 renamed_rows settings =
     (simp listed, (simp listed, (simp listed, (simp listed, (simp listed, (simp listed, (simp listed, (simp listed, (simp listed, (simp listed, (simp listed, (simp listed, (simp listed, (simp listed, (simp listed, (simp listed, (simp listed, tt)))))))))))))))))
+
+abbrev appended_1 : State
+appended_1 = holding ((0, 0) ∷ []) ((0, description 0 access.ReadWrite 0 true false) ∷ []) ((0, File []) ∷ []) ((codes "a" ∷ [], FileNode 0) ∷ []) 1 1
+
+abbrev appended_2 : State
+appended_2 = holding ((0, 0) ∷ []) ((0, description 0 access.ReadWrite 2 true false) ∷ []) ((0, File (codes "ab")) ∷ []) ((codes "a" ∷ [], FileNode 0) ∷ []) 1 1
+
+abbrev appended_3 : State
+appended_3 = holding ((0, 0) ∷ []) ((0, description 0 access.ReadWrite 0 true false) ∷ []) ((0, File (codes "ab")) ∷ []) ((codes "a" ∷ [], FileNode 0) ∷ []) 1 1
+
+abbrev appended_4 : State
+appended_4 = holding ((0, 0) ∷ []) ((0, description 0 access.ReadWrite 3 true false) ∷ []) ((0, File (codes "abc")) ∷ []) ((codes "a" ∷ [], FileNode 0) ∷ []) 1 1
+
+abbrev pub appended_states : List State
+appended_states = appended_1 ∷ appended_2 ∷ appended_3 ∷ appended_4 ∷ appended_4 ∷ appended_4 ∷ []
+
+pub appended : (settings : Settings) → Runs settings empty_state appended_at_the_end appended_states
+unfolding seen open_decided lowest_from path_form write_decided lseek_decided pread_decided
+appended settings = (simp listed, (simp listed, (simp listed, (simp listed, (simp listed, (simp listed, tt))))))
 
 abbrev positioned_1 : State
 positioned_1 = holding ((0, 0) ∷ []) ((0, description 0 access.WriteOnly 0 true false) ∷ []) ((0, File []) ∷ []) ((codes "a" ∷ [], FileNode 0) ∷ []) 1 1
@@ -184,7 +205,7 @@ abbrev pub positioned_states : List State
 positioned_states = positioned_1 ∷ positioned_2 ∷ positioned_3 ∷ positioned_4 ∷ positioned_4 ∷ positioned_4 ∷ positioned_4 ∷ positioned_4 ∷ positioned_5 ∷ positioned_5 ∷ positioned_5 ∷ positioned_5 ∷ []
 
 pub positioned : (settings : Settings) → Runs settings empty_state positioned_write_and_truncate positioned_states
-unfolding open_result lowest_from path_form write_result first_write pwrite_result ftruncate_result lseek_result pread_result
+unfolding seen open_decided lowest_from path_form write_decided pwrite_decided ftruncate_decided lseek_decided pread_decided
 positioned settings = (simp listed, (simp listed, (simp listed, (simp listed, (simp listed, (simp listed, (simp listed, (simp listed, (simp listed, (simp listed, (simp listed, (simp listed, tt))))))))))))
 
 abbrev flags_1 : State
@@ -224,7 +245,7 @@ abbrev pub flags_states : List State
 flags_states = flags_1 ∷ flags_1 ∷ flags_2 ∷ flags_3 ∷ flags_3 ∷ flags_4 ∷ flags_5 ∷ flags_6 ∷ flags_6 ∷ flags_7 ∷ flags_8 ∷ flags_9 ∷ flags_9 ∷ flags_10 ∷ flags_10 ∷ flags_11 ∷ flags_11 ∷ flags_11 ∷ []
 
 pub flags : (settings : Settings) → Runs settings empty_state shared_flags flags_states
-unfolding open_result lowest_from path_form getfl_result dup_result setfl_result write_result first_write link_result file_named added fstat_result unlink_result removed dup2_result close_result lseek_result
+unfolding seen open_decided lowest_from path_form getfl_decided dup_decided setfl_decided write_decided link_decided file_named addable fstat_decided unlink_decided ends_by_name dup2_decided close_decided lseek_decided
 flags settings = (simp listed, (simp listed, (simp listed, (simp listed, (simp listed, (simp listed, (simp listed, (simp listed, (simp listed, (simp listed, (simp listed, (simp listed, (simp listed, (simp listed, (simp listed, (simp listed, (simp listed, (simp listed, tt))))))))))))))))))
 
 abbrev closing_1 : State
@@ -240,7 +261,7 @@ abbrev pub closing_states : List State
 closing_states = closing_1 ∷ closing_2 ∷ closing_3 ∷ []
 
 pub closing : (settings : Settings) → Runs settings empty_state closed_last closing_states
-unfolding open_result lowest_from path_form unlink_result removed close_result
+unfolding seen open_decided lowest_from path_form unlink_decided file_named ends_by_name close_decided
 closing settings = (simp listed, (simp listed, (simp listed, tt)))
 
 pub closing-leaves : map.len (final empty_state closing_states).objects ≡ 0
@@ -259,7 +280,7 @@ abbrev pub unlinking_states : List State
 unlinking_states = unlinking_1 ∷ unlinking_2 ∷ unlinking_3 ∷ []
 
 pub unlinking : (settings : Settings) → Runs settings empty_state unlinked_last unlinking_states
-unfolding open_result lowest_from path_form close_result unlink_result removed
+unfolding seen open_decided lowest_from path_form close_decided unlink_decided file_named ends_by_name
 unlinking settings = (simp listed, (simp listed, (simp listed, tt)))
 
 pub unlinking-leaves : map.len (final empty_state unlinking_states).objects ≡ 0
@@ -281,7 +302,7 @@ abbrev pub replacing_states : List State
 replacing_states = replacing_1 ∷ replacing_2 ∷ replacing_3 ∷ replacing_4 ∷ []
 
 pub replacing : (settings : Settings) → Runs settings empty_state replaced_last replacing_states
-unfolding open_result lowest_from path_form unlink_result removed dup2_result
+unfolding seen open_decided lowest_from path_form unlink_decided file_named ends_by_name dup2_decided
 replacing settings = (simp listed, (simp listed, (simp listed, (simp listed, tt))))
 
 pub replacing-leaves : map.len (final empty_state replacing_states).objects ≡ 1
@@ -304,7 +325,7 @@ abbrev pub renaming_states : List State
 renaming_states = renamed_1 [] ∷ renaming_1 ∷ renaming_2 ∷ renaming_3 ∷ renaming_4 ∷ []
 
 pub renaming : (settings : Settings) → Runs settings empty_state renamed_last renaming_states
-unfolding open_result lowest_from path_form close_result rename_result renamed
+unfolding seen open_decided lowest_from path_form close_decided rename_decided file_named ends_by_name
 renaming settings = (simp listed, (simp listed, (simp listed, (simp listed, (simp listed, tt)))))
 
 pub renaming-leaves : map.len (final empty_state renaming_states).objects ≡ 1
@@ -326,7 +347,7 @@ abbrev pub linking_states : List State
 linking_states = linking_1 ∷ linking_2 ∷ linking_3 ∷ linking_4 ∷ []
 
 pub linking : (settings : Settings) → Runs settings empty_state linked_still linking_states
-unfolding open_result lowest_from path_form link_result file_named added unlink_result removed close_result
+unfolding seen open_decided lowest_from path_form link_decided file_named addable unlink_decided ends_by_name close_decided
 linking settings = (simp listed, (simp listed, (simp listed, (simp listed, tt))))
 
 pub linking-leaves : map.len (final empty_state linking_states).objects ≡ 1
@@ -348,7 +369,7 @@ abbrev pub sharing_states : List State
 sharing_states = sharing_1 ∷ sharing_2 ∷ sharing_3 ∷ sharing_4 ∷ []
 
 pub sharing : (settings : Settings) → Runs settings empty_state shared_still sharing_states
-unfolding open_result lowest_from path_form dup_result unlink_result removed close_result
+unfolding seen open_decided lowest_from path_form dup_decided unlink_decided file_named ends_by_name close_decided
 sharing settings = (simp listed, (simp listed, (simp listed, (simp listed, tt))))
 
 pub sharing-leaves : map.len (final empty_state sharing_states).objects ≡ 1
@@ -384,7 +405,7 @@ pipe_states =
     ∷ pipe_1 [] true ∷ pipe_1 [] true ∷ pipe_1 [] true ∷ pipe_2 ∷ pipe_2 ∷ pipe_2 ∷ pipe_3 ∷ pipe_4 ∷ pipe_4 ∷ pipe_4 ∷ []
 
 pub pipe : (settings : Settings) → Runs settings empty_state pipe_and_its_ends pipe_states
-unfolding pipe_result lowest_from write_result first_write read_result fstat_result lseek_result setfl_result close_result shutdown_result
+unfolding seen pipe_decided lowest_from write_decided read_decided fstat_decided lseek_decided setfl_decided close_decided shutdown_decided
 pipe settings =
     (simp listed, (simp listed, (simp listed, (simp listed, (simp listed, (simp listed, (simp listed, (simp listed, (simp listed, (simp listed, (simp listed, (simp listed, (simp listed, (simp listed, (simp listed, (simp listed, (simp listed, tt)))))))))))))))))
 
@@ -396,7 +417,7 @@ abbrev pub half_closing_states : List State
 half_closing_states = pipe_1 [] false ∷ pipe_written ∷ []
 
 pub half_closing : (settings : Settings) → Runs settings empty_state half_closed_pipe half_closing_states
-unfolding pipe_result lowest_from close_result
+unfolding seen pipe_decided lowest_from close_decided
 half_closing settings = (simp listed, (simp listed, tt))
 
 pub half_closing-leaves : map.len (final empty_state half_closing_states).objects ≡ 1
@@ -406,7 +427,7 @@ abbrev pub pipe_closing_states : List State
 pipe_closing_states = pipe_1 [] false ∷ pipe_written ∷ holding [] [] [] [] 2 1 ∷ []
 
 pub pipe_closing : (settings : Settings) → Runs settings empty_state closed_pipe pipe_closing_states
-unfolding pipe_result lowest_from close_result
+unfolding seen pipe_decided lowest_from close_decided
 pipe_closing settings = (simp listed, (simp listed, (simp listed, tt)))
 
 pub pipe_closing-leaves : map.len (final empty_state pipe_closing_states).objects ≡ 0
@@ -434,14 +455,14 @@ pair_states =
     ∷ pair_2 (sockets_of (socket_of [] true) new_half) ∷ pair_2 (sockets_of (socket_of [] true) new_half) ∷ []
 
 pub pair : (settings : Settings) → Runs settings empty_state half_closed_pair pair_states
-unfolding socketpair_result lowest_from write_result first_write read_result close_result shutdown_result
+unfolding seen socketpair_decided lowest_from write_decided read_decided close_decided shutdown_decided
 pair settings = (simp listed, (simp listed, (simp listed, (simp listed, (simp listed, (simp listed, (simp listed, (simp listed, (simp listed, (simp listed, tt))))))))))
 
 -- ## Patience
 
 read_waits : (settings : Settings) (turns : ℕ) → step settings (step settings empty_state call.Pipe None nothing_carried).after (call.Read (pos 0) (pos 4)) None (record { turns = turns; moved = nothing_moved })
     ≡ waited settings (pipe_1 [] false) nothing_moved (record { turns = turns; moved = nothing_moved })
-unfolding pipe_result lowest_from read_result
+unfolding seen pipe_decided lowest_from read_decided
 read_waits settings turns = simp listed
 
 abbrev answer_by : State → ℕ → ℕ → Answer

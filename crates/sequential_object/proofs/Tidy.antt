@@ -5,7 +5,7 @@ use Rattle.std.proofs.lemmas.Option.{none-some, same_Some}
 use Rattle.std.specs.FinMap as fin
 use Rattle.std.specs.FinMap.{FinMap, get-empty}
 use Rattle.std.specs.Ordering.{nat_cmp}
-use Rattle.sequential_object.specs.Descriptors.{freed, has_description, has_descriptor, has_end, has_path, is_file, is_key, is_of, is_of_end, key_at, opened, released, truncated, with_file, without_unused}
+use Rattle.sequential_object.specs.Descriptors.{freed, has_description, has_descriptor, has_end, has_path, is_file, is_key, is_of, is_of_end, key_at, opened, released, with_file, without_unused}
 use Rattle.sequential_object.specs.Duplicates.{shared}
 use Rattle.sequential_object.specs.Names.{PathMap, with_paths}
 use Rattle.sequential_object.specs.Object.{Content, Description, Directory, File, FileNode, Node, State, any_below, empty_state, path_cmp, with_content, with_object}
@@ -286,15 +286,6 @@ file_tidy s components new h =
           (h.uses other c (sym (insert_other s.objects s.next_object (File []) other apart) ∙ at));
       whole = file_whole s components h.whole;
     }
-
--- a file with a name, which may be cut
-pub cut_tidy : (s : State) (object : ℕ) (b : Bool) → Named s.paths object → IsTidy s → IsTidy (truncated s object b)
-cut_tidy s object true named h = content_tidy s object (File []) (inr (refl, named)) (λ _. refl) h
-cut_tidy s object false named h = h
-
-pub cut_there : (s : State) (object : ℕ) (b : Bool) → Named s.paths object → IsTidy s → (let after = truncated s object b in is_some (fin.get after.objects object)) ≡ true
-cut_there s object true named h = ap (λ (o : Option Content). is_some o) (insert_same s.objects object (File []))
-cut_there s object false named h = file_is_there (fin.get s.objects object) (let whole = h.whole in whole.names named.path object named.refers)
 
 -- a description that is changed, and stays one of its object
 redescribed : (m : FinMap nat_cmp Description) (key : ℕ) (x y : Description) (object : ℕ) → fin.get m key ≡ Some x → x.object ≡ y.object → Described m object → Described (fin.insert m key y) object

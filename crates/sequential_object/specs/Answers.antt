@@ -1,6 +1,6 @@
 -- Believed: a contract of the headline stands on it.
--- How the turn of a call ends, in the words of whoever grants turns: its answer with what the call carries on, the number of the object that it
--- is about, and the outcomes that can come for it.
+-- How the turn of a call ends, in the words of whoever grants turns: its answer with what the call
+-- carries on, the number of the object that it is about, and the outcomes that can come for it.
 use Rattle.std.specs.Prelude.{ℕ, Bool, false, Option, Some, None}
 use Rattle.posix_terms.specs.Outcomes.{suits}
 use Rattle.posix_terms.specs.declared.outcome.Given.{Given}

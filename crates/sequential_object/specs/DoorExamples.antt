@@ -1,5 +1,6 @@
 -- Internal: no contract of the headline or of a command stands on it.
--- Examples of calls that go outside, worked out by hand from the rules: one thread's calls, each with its outcome and its reply.
+-- Examples of calls that go outside, worked out by hand from the rules: one thread's calls, each
+-- with its outcome and its reply.
 use Rattle.std.specs.Prelude.{◌≡◌, ℕ, pos, negsuc, List, [], ◌∷◌, Bool, map, Option, Some, None, is_some, true, false, codes}
 use Rattle.sequential_object.specs.Examples.{appending, creating, plainly}
 use Rattle.sequential_object.specs.Object.{State, empty_state}
@@ -37,9 +38,12 @@ visits_from settings s (v ∷ visits) =
 -- which of the calls go outside
 abbrev pub asked_from : Settings → State → List Visit → List Bool
 asked_from settings s [] = []
-asked_from settings s (v ∷ visits) = is_some (asks s v.call nothing_carried) ∷ asked_from settings (step settings s v.call v.outcome nothing_carried).after visits
+asked_from settings s (v ∷ visits) =
+    is_some (asks s v.call nothing_carried)
+    ∷ asked_from settings (step settings s v.call v.outcome nothing_carried).after visits
 
--- from the empty state, the calls that have these outcomes go outside, and all are answered by these replies
+-- from the empty state, the calls that have these outcomes go outside, and all are answered by
+-- these replies
 abbrev pub Visits : List Visit → Type 0
 Visits visits =
     (settings : Settings)
@@ -60,7 +64,8 @@ short_host_write =
 -- an opening that failed outside leaves its number free
 abbrev pub missing_host_file : List Visit
 missing_host_file =
-    visit (call.HostOpen (codes "nofile") access.ReadOnly plainly) (Some (outcome.Fail ENOENT)) (reply.Fail ENOENT)
+    visit (call.HostOpen (codes "nofile") access.ReadOnly plainly) (Some (outcome.Fail ENOENT))
+    (reply.Fail ENOENT)
     ∷ visit (call.Open (codes "/b") access.ReadWrite creating) None (reply.Number (pos 0))
     ∷ []
 
@@ -105,7 +110,8 @@ no_bytes_of_a_door =
     ∷ visit (call.Write (pos 0) []) None (reply.Count 0)
     ∷ []
 
--- `getfl` tells O_APPEND of a host file. An offset before the start is refused here, and one that counts from the offset the host tells
+-- `getfl` tells O_APPEND of a host file. An offset before the start is refused here, and one that
+-- counts from the offset the host tells
 abbrev pub appended_host_file : List Visit
 appended_host_file =
     visit (call.HostOpen (codes "out") access.WriteOnly appending) (done 0) (reply.Number (pos 0))
@@ -146,12 +152,15 @@ asked_in_turn settings s carried (t ∷ turns) =
     let stepped = step settings s t.call t.outcome carried in
     is_some (asks s t.call carried) ∷ asked_in_turn settings stepped.after stepped.carried turns
 
--- with this patience, the turns of one thread that have these outcomes go outside, and all are answered so
+-- with this patience, the turns of one thread that have these outcomes go outside, and all are
+-- answered so
 abbrev pub TurnsAnswer : ℕ → List CallTurn → Type 0
 TurnsAnswer patience turns =
     (settings : Settings) → settings.patience ≡ patience
-    → (turns_from settings empty_state nothing_carried turns ≡ map (λ (t : CallTurn). t.answer) turns)
-    × (asked_in_turn settings empty_state nothing_carried turns ≡ map (λ (t : CallTurn). is_some t.outcome) turns)
+    → (turns_from settings empty_state nothing_carried turns
+    ≡ map (λ (t : CallTurn). t.answer) turns)
+    × (asked_in_turn settings empty_state nothing_carried turns
+    ≡ map (λ (t : CallTurn). is_some t.outcome) turns)
 
 -- a stream to a peer from which nothing came yet, read so
 abbrev pub read_early : List Answer → List CallTurn
@@ -159,7 +168,8 @@ read_early answers =
     call_turn (call.TcpConnect (pos 40000)) (done 0) (answer.Reply (reply.Number (pos 0)))
     ∷ map (call_turn (call.Read (pos 0) (pos 4)) (Some (outcome.Fail EAGAIN))) answers
 
--- without O_NONBLOCK the call is blocked. Each of its turns goes outside, the last of its patience too, and the next call begins anew
+-- without O_NONBLOCK the call is blocked. Each of its turns goes outside, the last of its patience
+-- too, and the next call begins anew
 abbrev pub patient_door : List CallTurn
 patient_door = read_early (answer.Again ∷ answer.Reply (reply.Fail EINTR) ∷ answer.Again ∷ [])
 

@@ -1,9 +1,8 @@
 -- Believed: a contract of the headline stands on it.
--- What is decided of a call that the table does not refuse: which object's lock it takes, and what it does.
-use Rattle.std.specs.Prelude.{ℕ, List, Bool, Option, Some, None, Result, Ok, Err}
+-- What a call does that is not refused: it completes, it is blocked, or it asks the outside.
+use Rattle.std.specs.Prelude.{ℕ, List, Bool, None}
 use Rattle.sequential_object.specs.Object.{State}
 use Rattle.posix_terms.specs.declared.carried.Moved.{Moved}
-use Rattle.posix_terms.specs.declared.errno.Errno.{Errno}
 use Rattle.posix_terms.specs.declared.outcome.OutKind.{OutKind}
 use Rattle.posix_terms.specs.declared.reply.Reply.{Reply}
 
@@ -33,26 +32,10 @@ pub data Effect : Type 0 where
 -- a request that leaves this state, whatever its outcome is
 abbrev pub asks_of : State → OutKind → ℕ → Bool → (ℕ → List ℕ → Reply) → Effect
 asks_of s kind asked waits told =
-    Asks (record { kind = kind; asked = asked; succeeds = λ value bytes. (s, told value bytes); otherwise = s; waits = waits })
-
--- the object whose lock it takes beside the table's, if any, and what it does then, where it may still be refused
-pub record Decision : Type 0 where
-  pub locks : Option ℕ
-  pub does : Result Effect Errno
-
--- the table alone answers it
-abbrev pub alone : State → Reply → Decision
-alone after reply = record { locks = None; does = Ok (Completes after reply) }
-
--- it takes the lock of this object
-abbrev pub locking : ℕ → Result Effect Errno → Decision
-locking object does = record { locks = Some object; does = does }
-
--- none where the table alone refuses or answers the call
-abbrev pub locks_of : Result Decision Errno → Option ℕ
-locks_of (Ok d) = d.locks
-locks_of (Err e) = None
-
-abbrev pub does_of : Result Decision Errno → Result Effect Errno
-does_of (Ok d) = d.does
-does_of (Err e) = Err e
+    Asks (record {
+      kind = kind;
+      asked = asked;
+      succeeds = λ value bytes. (s, told value bytes);
+      otherwise = s;
+      waits = waits;
+    })

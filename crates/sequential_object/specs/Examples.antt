@@ -27,19 +27,30 @@ answers_from settings s (c ∷ calls) =
 
 -- from the empty state the calls are answered by these replies
 abbrev pub Replies : List (Call × Reply) → Type 0
-Replies rows = (settings : Settings) → answers_from settings empty_state (map (λ (row : Call × Reply). row.0) rows) ≡ map (λ (row : Call × Reply). answer.Reply row.1) rows
+Replies rows = (settings : Settings)
+    → answers_from settings empty_state (map (λ (row : Call × Reply). row.0) rows)
+    ≡ map (λ (row : Call × Reply). answer.Reply row.1) rows
 
 -- the state that calls made one after another leave
 abbrev pub state_after : Settings → State → List Call → State
 state_after settings s [] = s
-state_after settings s (c ∷ calls) = state_after settings (step settings s c None nothing_carried).after calls
+state_after settings s (c ∷ calls) =
+    state_after settings (step settings s c None nothing_carried).after calls
 
 -- from the empty state these calls leave so many objects
 abbrev pub Leaves : ℕ → List (Call × Reply) → Type 0
-Leaves n rows = (settings : Settings) → fin.len (state_after settings empty_state (map (λ (row : Call × Reply). row.0) rows)).objects ≡ n
+Leaves n rows = (settings : Settings)
+    → fin.len (state_after settings empty_state (map (λ (row : Call × Reply). row.0) rows)).objects
+    ≡ n
 
 abbrev pub plainly : OpenFlags
-plainly = record { create = false; exclusive = false; truncate = false; append = false; nonblock = false }
+plainly = record {
+  create = false;
+  exclusive = false;
+  truncate = false;
+  append = false;
+  nonblock = false;
+}
 
 abbrev pub creating : OpenFlags
 creating = record plainly { create = true }
@@ -54,7 +65,11 @@ gap_reads_zero =
     ∷ (call.Lseek (pos 0) (pos 10) whence.Set, reply.Number (pos 10))
     ∷ (call.Fstat (pos 0), reply.Stat kind.File 0 1)
     ∷ (call.Write (pos 0) (255 ∷ []), reply.Count 1)
-    ∷ (call.Pread (pos 0) (pos 11) (pos 0), reply.Data (0 ∷ 0 ∷ 0 ∷ 0 ∷ 0 ∷ 0 ∷ 0 ∷ 0 ∷ 0 ∷ 0 ∷ 255 ∷ []))
+    ∷ (
+      call.Pread (pos 0) (pos 11) (pos 0),
+      reply.Data
+          (0 ∷ 0 ∷ 0 ∷ 0 ∷ 0 ∷ 0 ∷ 0 ∷ 0 ∷ 0 ∷ 0 ∷ 255 ∷ []),
+    )
     ∷ []
 
 -- `dup2` looks at its source first, and of one descriptor alone it does nothing
@@ -132,6 +147,17 @@ renamed_files =
     ∷ (call.Rename (codes "/x") (codes "/c"), reply.Fail ENOENT)
     ∷ []
 
+-- a write with O_APPEND goes to the end, wherever the offset is, and leaves the offset after it
+abbrev pub appended_at_the_end : List (Call × Reply)
+appended_at_the_end =
+    (call.Open (codes "/a") access.ReadWrite appending, reply.Number (pos 0))
+    ∷ (call.Write (pos 0) (codes "ab"), reply.Count 2)
+    ∷ (call.Lseek (pos 0) (pos 0) whence.Set, reply.Number (pos 0))
+    ∷ (call.Write (pos 0) (codes "c"), reply.Count 1)
+    ∷ (call.Lseek (pos 0) (pos 0) whence.Current, reply.Number (pos 3))
+    ∷ (call.Pread (pos 0) (pos 9) (pos 0), reply.Data (codes "abc"))
+    ∷ []
+
 -- `pwrite` goes to its position with O_APPEND too
 abbrev pub positioned_write_and_truncate : List (Call × Reply)
 positioned_write_and_truncate =
@@ -149,7 +175,8 @@ positioned_write_and_truncate =
     ∷ (call.Lseek (pos 1) (pos 9223372036854775807) whence.End, reply.Fail EOVERFLOW)
     ∷ []
 
--- descriptors that share a description share its flags; `dup2` closes its target, and a file without names ends there
+-- descriptors that share a description share its flags; `dup2` closes its target, and a file
+-- without names ends there
 abbrev pub shared_flags : List (Call × Reply)
 shared_flags =
     (call.Open (codes "/a") access.WriteOnly creating, reply.Number (pos 0))
@@ -172,7 +199,8 @@ shared_flags =
     ∷ (call.Lseek (pos 2) (pos 0) whence.Current, reply.Number (pos 2))
     ∷ []
 
--- what is written to a pipe is read from its other end; without a writer a read ends, without a reader a write fails
+-- what is written to a pipe is read from its other end; without a writer a read ends, without a
+-- reader a write fails
 abbrev pub pipe_and_its_ends : List (Call × Reply)
 pipe_and_its_ends =
     (call.Pipe, reply.Pair (pos 0) (pos 1))

@@ -1,5 +1,6 @@
 -- Believed: a contract of the headline stands on it.
--- The numbers of objects. An object has the lowest free one from its birth on, which is free again once the object is gone.
+-- The numbers of objects. An object has the lowest free one from its birth on, which is free again
+-- once the object is gone.
 use Rattle.std.specs.Prelude.{ℕ, zero, suc, ◌-◌, List, [], ◌∷◌, map, set, replicate, Option, Some, None, is_some, if◌then◌else◌}
 use Rattle.std.specs.FinMap as fin
 use Rattle.sequential_object.specs.Descriptors.{is_key}
@@ -20,7 +21,9 @@ number_in (slot ∷ numbers) object = if is_key slot object then 0 else suc (num
 
 -- the number of an object, or the one that it would have
 abbrev pub number_of : World → ℕ → ℕ
-number_of w object = if is_some (fin.get w.object.objects object) then number_in w.numbers object else first_free w.numbers
+number_of w object =
+    if is_some (fin.get w.object.objects object) then number_in w.numbers object
+    else first_free w.numbers
 
 abbrev pub if_there : State → Option ℕ → Option ℕ
 if_there s None = None
@@ -29,14 +32,17 @@ if_there s (Some object) = if is_some (fin.get s.objects object) then Some objec
 -- so many objects are born, the first of which is this one
 abbrev pub with_births : ℕ → ℕ → List (Option ℕ) → List (Option ℕ)
 with_births zero object numbers = numbers
-with_births (suc n) object numbers = with_births n (suc object) (set numbers (first_free numbers) (Some object))
+with_births (suc n) object numbers =
+    with_births n (suc object) (set numbers (first_free numbers) (Some object))
 
 -- the world once a call has left this state
 unfoldable pub world_with : World → State → World
 world_with w after =
     record {
       object = after;
-      numbers = with_births (after.next_object - w.object.next_object) w.object.next_object (map (if_there after) w.numbers);
+      numbers =
+          with_births (after.next_object - w.object.next_object) w.object.next_object
+          (map (if_there after) w.numbers);
     }
 
 -- nothing is open, and there is only the root

@@ -1,6 +1,7 @@
 -- Believed: a contract of the headline stands on it.
 -- The sequential object: one table of descriptors, as one thread after another uses it.
--- POSIX.1-2017, Base Definitions, 3.258 (open file description): a descriptor refers to an open file description, and this to an object.
+-- POSIX.1-2017, Base Definitions, 3.258 (open file description): a descriptor refers to an open
+-- file description, and this to an object.
 use Rattle.std.specs.Prelude.{ℕ, ◌+◌, zero, suc, List, [], Bool, true, false, ◌||◌, unwrap_or}
 use Rattle.std.specs.Ordering.{nat_cmp}
 use Rattle.std.specs.declared.cmp.Ordering.{Ordering}
@@ -12,7 +13,8 @@ use Rattle.posix_terms.specs.declared.call.Access.{Access}
 use Rattle.posix_terms.specs.declared.object.Door.{Door}
 use Rattle.posix_terms.specs.declared.object.End.{End}
 
--- an open file description: what it refers to and which end of that, how it may be used, its offset and its flags
+-- an open file description: what it refers to and which end of that, how it may be used, its offset
+-- and its flags
 pub record Description : Type 0 where
   pub object : ℕ
   pub «end» : End
@@ -37,8 +39,9 @@ pub data Node : Type 0 where
 abbrev pub path_cmp : List (List ℕ) → List (List ℕ) → Ordering
 path_cmp = slice_cmp (slice_cmp nat_cmp)
 
--- Descriptions and objects have keys that are never used again: `next_description` and `next_object` are the next ones.
--- A path is the list of its components. The root, the path with none, is always a directory and stands in no map
+-- Descriptions and objects have keys that are never used again: `next_description` and
+-- `next_object` are the next ones. A path is the list of its components. The root, the path with
+-- none, is always a directory and stands in no map
 pub record State : Type 0 where
   pub descriptors : FinMap nat_cmp ℕ
   pub descriptions : FinMap nat_cmp Description
@@ -78,4 +81,7 @@ any_below (suc n) test = any_below n test || test n
 
 -- a new object that no path names
 abbrev pub with_object : State → Content → State
-with_object s content = record s { objects = map.insert s.objects s.next_object content; next_object = s.next_object + 1 }
+with_object s content = record s {
+  objects = map.insert s.objects s.next_object content;
+  next_object = s.next_object + 1;
+}

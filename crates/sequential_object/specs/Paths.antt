@@ -1,6 +1,6 @@
 -- Believed: a contract of the headline stands on it.
--- Paths, and what they name.
--- POSIX.1-2017, Base Definitions, 4.13 (pathname resolution), without `.`, `..`, symbolic links and trailing slashes.
+-- Paths, and what they name. POSIX.1-2017, Base Definitions, 4.13 (pathname resolution), without
+-- `.`, `..`, symbolic links and trailing slashes.
 use Rattle.std.specs.Prelude.{ℕ, List, [], ◌∷◌, ◌++◌, length, Bool, ◌&&◌, ◌||◌, ◌==◌, nat_lt, nat_eq, Result, Ok, Err, Option, Some, None, codes, slice_index}
 use Rattle.std.specs.Prelude.{◌-◌}
 use Rattle.std.specs.List.{list_any}
@@ -27,7 +27,8 @@ is_dots name = pointwise nat_eq name (codes ".") || pointwise nat_eq name (codes
 
 -- there is a component, and the path goes on behind the last one
 abbrev pub has_trailing_slash : List ℕ → Bool
-has_trailing_slash path = nat_lt 0 (length (components_of path)) && (slice_index path (length path - 1) == slash)
+has_trailing_slash path =
+    nat_lt 0 (length (components_of path)) && (slice_index path (length path - 1) == slash)
 
 -- the components of a path that is well formed
 unfoldable pub path_form : List ℕ → Result (List (List ℕ)) Errno
@@ -37,7 +38,8 @@ path_form path = do
   _ ← refuse_if (list_any (λ b. b == 0) path) EINVAL
   _ ← refuse_if (list_any is_dots (components_of path)) EINVAL
   _ ← refuse_if (has_trailing_slash path) EINVAL
-  _ ← refuse_if (list_any (λ name. nat_lt limit.NAME_BYTES (length name)) (components_of path)) ENAMETOOLONG
+  _ ← refuse_if
+      (list_any (λ name. nat_lt limit.NAME_BYTES (length name)) (components_of path)) ENAMETOOLONG
   Ok (components_of path)
 
 -- what a list of components names, if anything: none of them is the root
@@ -51,13 +53,17 @@ passed None = Err ENOENT
 passed (Some (FileNode object)) = Err ENOTDIR
 passed (Some Directory) = Ok tt
 
--- Each component but the last must lead to a directory, from the left; `before` are those already passed
+-- Each component but the last must lead to a directory, from the left; `before` are those already
+-- passed
 abbrev pub walked : FinMap path_cmp Node → List (List ℕ) → List (List ℕ) → Result (Unit {0}) Errno
 walked paths before [] = Ok tt
 walked paths before (name ∷ []) = Ok tt
-walked paths before (name ∷ next ∷ names) = passed (node_at paths (before ++ name ∷ [])) >>= (λ _. walked paths (before ++ name ∷ []) (next ∷ names))
+walked paths before (name ∷ next ∷ names) =
+    passed (node_at paths (before ++ name ∷ []))
+    >>= (λ _. walked paths (before ++ name ∷ []) (next ∷ names))
 
--- the components of a path whose prefix is there; whether it names something itself is left to the call
+-- the components of a path whose prefix is there; whether it names something itself is left to the
+-- call
 abbrev pub resolved : FinMap path_cmp Node → List ℕ → Result (List (List ℕ)) Errno
 resolved paths path = do
   components ← path_form path

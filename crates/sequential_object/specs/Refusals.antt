@@ -1,5 +1,6 @@
 -- Believed: a contract of the headline stands on it.
--- A call is a chain of refusals, in the order in which they are looked for, and then what is decided of it.
+-- A call is a chain of refusals, in the order in which they are looked for, and then what is
+-- decided of it.
 use Rattle.std.specs.Prelude.{ℕ, ℤ, pos, negsuc, Bool, true, false, Result, Ok, Err, Option, Some, None, if◌then◌else◌, nat_lt}
 use Rattle.posix_terms.specs.declared.errno.Errno.{Errno}
 use Rattle.posix_terms.specs.declared.errno.Errno.TheVariants.{EINVAL}

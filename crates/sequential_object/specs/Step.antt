@@ -2,16 +2,11 @@
 -- What one call, taken alone, answers and leaves.
 use Rattle.std.specs.Prelude.{◌≡◌, ℕ, zero, suc, ◌+◌, Bool, true, false, ◌&&◌, Result, Ok, Err}
 use Rattle.std.specs.Prelude.{Option, Some, None, is_some, if◌then◌else◌, nat_lt}
-use Rattle.sequential_object.specs.Descriptors.{open_result, close_result}
-use Rattle.sequential_object.specs.Duplicates.{dup_result, dup_from_result, dup2_result}
-use Rattle.sequential_object.specs.Doors.{host_open_result, tcp_accept_result, tcp_connect_result, tcp_listen_result}
-use Rattle.sequential_object.specs.Effects.{Decision, Effect, Asking, Asks, Blocks, Completes, does_of}
+use Rattle.sequential_object.specs.Decided.{decided}
+use Rattle.sequential_object.specs.Effects.{Effect, Asking, Asks, Blocks, Completes}
 pub use Rattle.sequential_object.specs.Effects.{nothing_moved}
-use Rattle.sequential_object.specs.Names.{link_result, unlink_result, rename_result, mkdir_result, rmdir_result}
+use Rattle.sequential_object.specs.Meant.{meant, seen}
 use Rattle.sequential_object.specs.Object.{State}
-use Rattle.sequential_object.specs.Sockets.{pipe_result, socketpair_result, shutdown_result}
-use Rattle.sequential_object.specs.Status.{fstat_result, getfl_result, setfl_result}
-use Rattle.sequential_object.specs.Transfers.{read_result, write_result, pread_result, pwrite_result, lseek_result, ftruncate_result}
 use Rattle.posix_terms.specs.Calls.{Call}
 use Rattle.posix_terms.specs.declared.call.Call.TheVariants as call
 pub use Rattle.posix_terms.specs.declared.carried.Carried.{Carried}
@@ -32,38 +27,10 @@ use Rattle.posix_terms.specs.declared.transcript.Settings.{Settings}
 abbrev pub nothing_carried : Carried
 nothing_carried = record { turns = 0; moved = nothing_moved }
 
--- what is decided of a call, by the rows of the call table
-abbrev pub decided : State → Call → Carried → Result Decision Errno
-decided s (call.Open path access flags) carried = open_result s path access flags
-decided s (call.Close descriptor) carried = close_result s descriptor
-decided s (call.Read descriptor count) carried = read_result s descriptor count
-decided s (call.Write descriptor bytes) carried = write_result s descriptor bytes carried.moved
-decided s (call.Pread descriptor count position) carried = pread_result s descriptor count position
-decided s (call.Pwrite descriptor bytes position) carried = pwrite_result s descriptor bytes position
-decided s (call.Lseek descriptor offset whence) carried = lseek_result s descriptor offset whence
-decided s (call.Ftruncate descriptor size) carried = ftruncate_result s descriptor size
-decided s (call.Fstat descriptor) carried = fstat_result s descriptor
-decided s (call.Dup descriptor) carried = dup_result s descriptor
-decided s (call.DupFrom descriptor least) carried = dup_from_result s descriptor least
-decided s (call.Dup2 descriptor target) carried = dup2_result s descriptor target
-decided s (call.Getfl descriptor) carried = getfl_result s descriptor
-decided s (call.Setfl descriptor append nonblock) carried = setfl_result s descriptor append nonblock
-decided s (call.Link old_path new_path) carried = link_result s old_path new_path
-decided s (call.Unlink path) carried = unlink_result s path
-decided s (call.Rename old_path new_path) carried = rename_result s old_path new_path
-decided s (call.Mkdir path) carried = mkdir_result s path
-decided s (call.Rmdir path) carried = rmdir_result s path
-decided s call.Pipe carried = pipe_result s
-decided s call.Socketpair carried = socketpair_result s
-decided s (call.Shutdown descriptor how) carried = shutdown_result s descriptor how
-decided s (call.HostOpen path access flags) carried = host_open_result s path access flags
-decided s (call.TcpListen port) carried = tcp_listen_result s port
-decided s (call.TcpConnect port) carried = tcp_connect_result s port
-decided s (call.TcpAccept descriptor) carried = tcp_accept_result s descriptor
-
--- what it then does, or its refusal, by the table or under the lock
+-- what a call does, by what is decided of what it sees, or its refusal, by the table or under the
+-- lock
 abbrev pub effect_of : State → Call → Carried → Result Effect Errno
-effect_of s c carried = does_of (decided s c carried)
+effect_of s c carried = meant s c (decided (seen s) c carried.moved)
 
 -- what a call asks of the outside, if it goes there
 abbrev pub query_of : Call → Result Effect Errno → Option Query
@@ -73,7 +40,8 @@ query_of c effect = None
 abbrev pub asks : State → Call → Carried → Option Query
 asks s c carried = query_of c (effect_of s c carried)
 
--- the state after a turn of a call, how it was answered, and what the thread's next call turn carries
+-- the state after a turn of a call, how it was answered, and what the thread's next call turn
+-- carries
 pub record Stepped : Type 0 where
   pub after : State
   pub answer : Answer
@@ -104,21 +72,33 @@ is_again e = false
 
 -- a call that failed, and leaves this state
 abbrev pub failed : State → Errno → Stepped
-failed after e = record { after = after; answer = answer.Reply (reply.Fail e); carried = nothing_carried }
+failed after e = record {
+  after = after;
+  answer = answer.Reply (reply.Fail e);
+  carried = nothing_carried;
+}
 
 -- how a call went on outside. EAGAIN may make it wait, which moves nothing, and every other failure
 -- is its reply. An outcome that is still missing leaves what a failure leaves; until it comes, the
 -- answer says nothing
 abbrev pub outside : Settings → State → Asking → Option Outcome → Carried → Stepped
 outside settings s a (Some (outcome.Ok value bytes)) carried =
-    record { after = (a.succeeds value bytes).0; answer = answer.Reply (a.succeeds value bytes).1; carried = nothing_carried }
+    record {
+      after = (a.succeeds value bytes).0;
+      answer = answer.Reply (a.succeeds value bytes).1;
+      carried = nothing_carried;
+    }
 outside settings s a (Some (outcome.Fail e)) carried =
     if a.waits && is_again e then waited settings s nothing_moved carried else failed a.otherwise e
 outside settings s a None carried = failed a.otherwise EIO
 
 -- The outcome is that of the request which the call makes of the outside
 abbrev pub concluded : Settings → State → Option Outcome → Carried → Result Effect Errno → Stepped
-concluded settings s outcome carried (Ok (Completes after r)) = record { after = after; answer = answer.Reply r; carried = nothing_carried }
+concluded settings s outcome carried (Ok (Completes after r)) = record {
+  after = after;
+  answer = answer.Reply r;
+  carried = nothing_carried;
+}
 concluded settings s outcome carried (Ok (Blocks after moved)) = waited settings after moved carried
 concluded settings s outcome carried (Ok (Asks a)) = outside settings s a outcome carried
 concluded settings s outcome carried (Err e) = failed s e
@@ -134,7 +114,8 @@ closes_door s c carried = false
 -- any other call that fails leaves the state as it was
 abbrev pub FailChangesNothing : Type 0
 FailChangesNothing =
-    (settings : Settings) (s : State) (c : Call) (outcome : Option Outcome) (carried : Carried) (e : Errno)
+    (settings : Settings) (s : State) (c : Call) (outcome : Option Outcome) (carried : Carried)
+    (e : Errno)
     → closes_door s c carried ≡ false
     → (step settings s c outcome carried).answer ≡ answer.Reply (reply.Fail e)
     → (step settings s c outcome carried).after ≡ s

@@ -1,7 +1,7 @@
 -- Believed: a contract of the headline stands on it.
--- Streams of bytes in memory: what is in a pipe, and what goes each way between the two sockets of a pair.
--- POSIX.1-2017, System Interfaces: `read`, `write`, `shutdown`. A write is whole or in parts:
--- a whole one moves all of its bytes or none, one in parts as many as fit.
+-- Streams of bytes in memory: what is in a pipe, and what goes each way between the two sockets of
+-- a pair. POSIX.1-2017, System Interfaces: `read`, `write`, `shutdown`. A write is whole or in
+-- parts: a whole one moves all of its bytes or none, one in parts as many as fit.
 use Rattle.std.specs.Prelude.{ℕ, ◌+◌, ◌-◌, List, [], ◌++◌, length, take, drop, Bool, true, false}
 use Rattle.std.specs.Prelude.{not, ◌&&◌, ◌==◌, nat_le, if◌then◌else◌}
 use Rattle.posix_terms.specs.declared.call.ShutdownHow.{ShutdownHow}
@@ -13,7 +13,8 @@ use Rattle.posix_terms.specs.declared.object.Side.TheVariants.{Side0, Side1}
 
 -- ## One stream
 
--- a read has these bytes and leaves those; or there are none and none will come; or there are none yet
+-- a read has these bytes and leaves those; or there are none and none will come; or there are none
+-- yet
 pub data Reading : Type 0 where
   Reads : (bytes left : List ℕ) → Reading
   Ends : Reading
@@ -93,13 +94,15 @@ with_waiting p side bytes = with_half p side (record (half_at p side) { waiting 
 abbrev pub pair_read : PairState → Side → ℕ → Bool → Reading
 pair_read p side count peer_open =
     let own = half_at p side in
-    if own.reading_shut then Ends else stream_read own.waiting count (peer_open && not (half_at p (peer_of side)).writing_shut)
+    if own.reading_shut then Ends
+    else stream_read own.waiting count (peer_open && not (half_at p (peer_of side)).writing_shut)
 
 -- a write at a side, which goes to the peer
 abbrev pub pair_write : PairState → Side → List ℕ → Bool → Writing
 pair_write p side bytes peer_open =
     let peer = half_at p (peer_of side) in
-    stream_write limit.PAIR_BYTES peer.waiting bytes (peer_open && (not (half_at p side).writing_shut && not peer.reading_shut))
+    stream_write limit.PAIR_BYTES peer.waiting bytes
+    (peer_open && (not (half_at p side).writing_shut && not peer.reading_shut))
 
 -- the bytes that wait where reading is shut are dropped
 abbrev pub half_shut : Half → ShutdownHow → Half

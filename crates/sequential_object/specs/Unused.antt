@@ -18,12 +18,15 @@ is_a_file other = false
 
 pub record HoldsNothingUnused (s : State) : Type 0 where
   -- a descriptor refers to each description
-  pub described : (key : ℕ) (d : Description) → map.get s.descriptions key ≡ Some d → has_descriptor s key ≡ true
+  pub described : (key : ℕ) (d : Description) → map.get s.descriptions key ≡ Some d
+      → has_descriptor s key ≡ true
   -- a description refers to each object; of a file it may be a path
   pub used : (object : ℕ) (c : Content) → map.get s.objects object ≡ Some c
       → (has_description s object || (is_a_file (Some c) && has_path s object)) ≡ true
-  -- what is referred to is there: the description of a descriptor, the object of a description, the file of a path
-  pub opens : (n key : ℕ) → map.get s.descriptors n ≡ Some key → is_some (map.get s.descriptions key) ≡ true
+  -- what is referred to is there: the description of a descriptor, the object of a description, the
+  -- file of a path
+  pub opens : (n key : ℕ) → map.get s.descriptors n ≡ Some key
+      → is_some (map.get s.descriptions key) ≡ true
   pub refers : (key : ℕ) (d : Description) → map.get s.descriptions key ≡ Some d
       → is_some (map.get s.objects d.object) ≡ true
   pub names : (path : List (List ℕ)) (object : ℕ) → map.get s.paths path ≡ Some (FileNode object)
@@ -31,7 +34,8 @@ pub record HoldsNothingUnused (s : State) : Type 0 where
   -- descriptors are below their limit, so that `has_descriptor` looks at each
   pub within : (n key : ℕ) → map.get s.descriptors n ≡ Some key → n < limit.DESCRIPTORS
   -- keys in use are below the next one, so that this is new, and `has_description` looks at each
-  pub numbered : (key : ℕ) (d : Description) → map.get s.descriptions key ≡ Some d → key < s.next_description
+  pub numbered : (key : ℕ) (d : Description) → map.get s.descriptions key ≡ Some d
+      → key < s.next_description
   pub made : (object : ℕ) (c : Content) → map.get s.objects object ≡ Some c → object < s.next_object
 
 -- it is so of the state in which nothing is open
@@ -54,4 +58,5 @@ pub record IsOpenAt (s : State) (object : ℕ) (which : End) : Type 0 where
 
 -- so an object has an end exactly when some description is of it
 abbrev pub EndsAreOpen : Type 0
-EndsAreOpen = (s : State) (object : ℕ) (which : End) → HoldsNothingUnused s → (has_end s object which ≡ true) ↔ IsOpenAt s object which
+EndsAreOpen = (s : State) (object : ℕ) (which : End) → HoldsNothingUnused s
+    → (has_end s object which ≡ true) ↔ IsOpenAt s object which

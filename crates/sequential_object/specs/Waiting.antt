@@ -1,9 +1,13 @@
 -- Internal: no contract of the headline or of a command stands on it.
 -- What a call leaves that cannot go on, and that the bytes which it moved are reported.
 use Rattle.std.specs.Prelude.{◌≡◌, ◌⊎◌, ◌<◌, ◌≤◌, ◌+◌, ℕ, ℤ, List, ◌++◌, length, take, drop}
-use Rattle.std.specs.Prelude.{Option, Ok}
+use Rattle.std.specs.Prelude.{Option, Some, Ok}
 use Rattle.sequential_object.specs.Descriptors.{described}
-use Rattle.sequential_object.specs.Object.{State, Description, Pipe, content_of, with_content}
+use Rattle.std.specs.FinMap as map
+use Rattle.posix_terms.specs.declared.object.End.{End}
+use Rattle.posix_terms.specs.declared.object.End.TheVariants as part
+use Rattle.posix_terms.specs.declared.object.Side.{Side}
+use Rattle.sequential_object.specs.Object.{State, Content, Description, File, Pipe, Pair, DoorTo, content_of, with_content}
 use Rattle.sequential_object.specs.Step.{Carried, Moved, step}
 use Rattle.posix_terms.specs.Calls.{Call}
 use Rattle.posix_terms.specs.declared.call.Call.TheVariants as call
@@ -13,6 +17,19 @@ use Rattle.posix_terms.specs.declared.reply.Answer.{Answer}
 use Rattle.posix_terms.specs.declared.reply.Answer.TheVariants as answer
 use Rattle.posix_terms.specs.declared.reply.Reply.TheVariants as reply
 use Rattle.posix_terms.specs.declared.transcript.Settings.{Settings}
+
+-- an object that holds this has such an end
+abbrev pub HasEnd : Content → End → Type 0
+HasEnd (File bytes) which = which ≡ part.Only
+HasEnd (Pipe bytes) which = (which ≡ part.Read) ⊎ (which ≡ part.Write)
+HasEnd (Pair sockets) which = (side : Side) × (which ≡ part.Socket side)
+HasEnd (DoorTo door) which = which ≡ part.Door door
+
+-- each description is of an end that its object has
+abbrev pub EndsMatch : State → Type 0
+EndsMatch s =
+    (key : ℕ) (d : Description) → map.get s.descriptions key ≡ Some d
+    → HasEnd (content_of s d.object) d.«end»
 
 -- the next bytes of a write wait in the pipe of its descriptor too, and all else is as it was; so
 -- many of its bytes went before, and so many with these
@@ -39,6 +56,7 @@ WaitsInParts s c before after moved = after ≡ s
 abbrev pub AgainMovesInParts : Type 0
 AgainMovesInParts =
     (settings : Settings) (s : State) (c : Call) (outcome : Option Outcome) (carried : Carried)
+    → EndsMatch s
     → (step settings s c outcome carried).answer ≡ answer.Again
     → let stepped = step settings s c outcome carried in
     WaitsInParts s c carried.moved.bytes stepped.after stepped.carried.moved.bytes
@@ -54,6 +72,6 @@ abbrev pub MovedBytesAreReported : Type 0
 MovedBytesAreReported =
     (settings : Settings) (s : State) (descriptor : ℤ) (bytes : List ℕ)
     (outcome : Option Outcome) (carried : Carried)
-    → 0 < carried.moved.bytes
+    → EndsMatch s → 0 < carried.moved.bytes
     → let stepped = step settings s (call.Write descriptor bytes) outcome carried in
     ReportsMoved carried.moved.bytes stepped.answer stepped.carried.moved

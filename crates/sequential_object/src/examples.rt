@@ -1,5 +1,5 @@
 ghost use Rattle.sequential_object.specs.DoorExamples.{TurnsAnswer, Visits, appended_host_file, impatient_door, missing_host_file, no_bytes_of_a_door, over_loopback, patient_door, shared_door, short_host_write, would_block};
-ghost use Rattle.sequential_object.specs.Examples.{Leaves, Replies, gap_reads_zero, dup2_from_nothing, shared_offset, unlinked_but_open, directory_refusals, renamed_files, positioned_write_and_truncate, shared_flags, pipe_and_its_ends, half_closed_pair, AnswersAfter, closed_last, unlinked_last, replaced_last, renamed_last, linked_still, shared_still, closed_pipe, half_closed_pipe};
+ghost use Rattle.sequential_object.specs.Examples.{Leaves, Replies, appended_at_the_end, gap_reads_zero, dup2_from_nothing, shared_offset, unlinked_but_open, directory_refusals, renamed_files, positioned_write_and_truncate, shared_flags, pipe_and_its_ends, half_closed_pair, AnswersAfter, closed_last, unlinked_last, replaced_last, renamed_last, linked_still, shared_still, closed_pipe, half_closed_pipe};
 ghost use Rattle.posix_terms.specs.declared.errno.Errno.TheVariants.{EINTR};
 ghost use Rattle.posix_terms.specs.declared.reply.Answer.TheVariants.{Again, Reply};
 ghost use Rattle.posix_terms.specs.declared.reply.Reply.TheVariants.{Fail};
@@ -14,6 +14,7 @@ pub fn worked_examples()
     ensures unlinked { Replies unlinked_but_open }
     ensures directories { Replies directory_refusals }
     ensures renamed { Replies renamed_files }
+    ensures appended { Replies appended_at_the_end }
     ensures positioned { Replies positioned_write_and_truncate }
     ensures flags { Replies shared_flags }
     ensures pipe { Replies pipe_and_its_ends }

@@ -1,3 +1,2 @@
 pub mod Replying
 pub mod Agreeing
-pub mod CallRequests

@@ -28,7 +28,9 @@ replies_noted (n ∷ notes) = before n.reply (replies_noted notes)
 -- the replies that the rows of a thread have, in order
 abbrev pub replies_in : ℕ → List HistoryRow → List Reply
 replies_in thread [] = []
-replies_in thread (row ∷ rows) = if row.turn.thread == thread then before (reply_of row.answer) (replies_in thread rows) else replies_in thread rows
+replies_in thread (row ∷ rows) =
+    if row.turn.thread == thread then before (reply_of row.answer) (replies_in thread rows)
+    else replies_in thread rows
 
 -- what a request brought, if its outcome came
 abbrev pub brought : Option Request → Option Outcome → Option Brought
@@ -44,10 +46,14 @@ brought_by row = brought (request_for row.turn row.call) row.outcome
 -- turns, with the outcomes
 abbrev pub brought_in : ℕ → List HistoryRow → List Brought
 brought_in thread [] = []
-brought_in thread (row ∷ rows) = if row.turn.thread == thread then before (brought_by row) (brought_in thread rows) else brought_in thread rows
+brought_in thread (row ∷ rows) =
+    if row.turn.thread == thread then before (brought_by row) (brought_in thread rows)
+    else brought_in thread rows
 
--- the steps that were noted are those that the thread asked, the replies are those of its rows, and so is what came from outside
-pub record AgreesWith (thread : ℕ) (rows : List HistoryRow) (asked : List Step) (own : Own) : Type 0 where
+-- the steps that were noted are those that the thread asked, the replies are those of its rows, and
+-- so is what came from outside
+pub record AgreesWith (thread : ℕ) (rows : List HistoryRow) (asked : List Step) (own : Own)
+    : Type 0 where
   pub steps : steps_noted own.steps.items ≡ asked
   pub replies : replies_noted own.steps.items ≡ replies_in thread rows
   pub outcomes : own.outcomes.items ≡ brought_in thread rows
@@ -55,7 +61,8 @@ pub record AgreesWith (thread : ℕ) (rows : List HistoryRow) (asked : List Step
 -- so it is of each thread from this one on, and there are no more notes than threads, nor fewer
 abbrev pub AgreeFrom : ℕ → List HistoryRow → List (List Step) → List Own → Type 0
 AgreeFrom thread rows [] [] = Unit {0}
-AgreeFrom thread rows (asked ∷ others) (notes ∷ more) = AgreesWith thread rows asked notes × AgreeFrom (thread + 1) rows others more
+AgreeFrom thread rows (asked ∷ others) (notes ∷ more) =
+    AgreesWith thread rows asked notes × AgreeFrom (thread + 1) rows others more
 AgreeFrom thread rows asked own = ⊥
 
 -- the notes of all threads agree with the rows and the steps that each thread asked

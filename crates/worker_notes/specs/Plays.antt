@@ -10,7 +10,8 @@ use Rattle.posix_terms.specs.declared.step.Step.TheVariants as step
 use Rattle.lock_machine.specs.Waiting.{is_call}
 use Rattle.worker_notes.specs.declared.own.Noted.{Noted}
 
--- the reply after these steps, where there was this one before them: that of the last one, if it came
+-- the reply after these steps, where there was this one before them: that of the last one, if it
+-- came
 abbrev pub reply_after : Option Reply → List Noted → Option Reply
 reply_after last [] = last
 reply_after last (n ∷ notes) = reply_after n.reply notes
@@ -24,15 +25,19 @@ with_reply reply [] = []
 with_reply reply (n ∷ []) = record n { reply = Some reply } ∷ []
 with_reply reply (n ∷ m ∷ notes) = n ∷ with_reply reply (m ∷ notes)
 
--- from this state and last reply, the steps are those that the script's meaning gives under these replies, and lead to that state
+-- from this state and last reply, the steps are those that the script's meaning gives under these
+-- replies, and lead to that state
 abbrev pub Plays : ScriptState → Option Reply → List Noted → ScriptState → Type 0
 Plays s last [] t = t ≡ s
-Plays s last (n ∷ notes) t = let next = next_of last s in (n.step ≡ next.0) × Plays next.1 n.reply notes t
+Plays s last (n ∷ notes) t = let next = next_of last s in
+    (n.step ≡ next.0) × Plays next.1 n.reply notes t
 
--- an actor that stood at s stands after these steps; or, where it may be ahead of its notes, one step further
+-- an actor that stood at s stands after these steps; or, where it may be ahead of its notes, one
+-- step further
 abbrev pub PlaysTo : Bool → ScriptState → List Noted → ScriptState → Type 0
 PlaysTo false s notes t = Plays s None notes t
-PlaysTo true s notes t = (u : ScriptState) × Plays s None notes u × ((t ≡ u) ⊎ (t ≡ (next_of (last_reply notes) u).1))
+PlaysTo true s notes t =
+    (u : ScriptState) × Plays s None notes u × ((t ≡ u) ⊎ (t ≡ (next_of (last_reply notes) u).1))
 
 -- the last step is `End`
 abbrev pub gave_end : List Noted → Type 0
@@ -73,6 +78,8 @@ AreHeardSoFar (n ∷ m ∷ notes) = IsHeard n × AreHeardSoFar (m ∷ notes)
 abbrev pub noted : List Step → List Reply → List Noted
 noted [] replies = []
 noted (step.Call c ∷ steps) [] = record { step = step.Call c; reply = None } ∷ noted steps []
-noted (step.Call c ∷ steps) (r ∷ replies) = record { step = step.Call c; reply = Some r } ∷ noted steps replies
-noted (step.Work n ∷ steps) replies = record { step = step.Work n; reply = None } ∷ noted steps replies
+noted (step.Call c ∷ steps) (r ∷ replies) =
+    record { step = step.Call c; reply = Some r } ∷ noted steps replies
+noted (step.Work n ∷ steps) replies =
+    record { step = step.Work n; reply = None } ∷ noted steps replies
 noted (step.End ∷ steps) replies = record { step = step.End; reply = None } ∷ noted steps replies

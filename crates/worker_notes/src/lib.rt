@@ -29,12 +29,10 @@
 #![tactic(auto)]
 
 mod agreement;
-mod laws;
 mod own;
 mod requests;
 mod same;
 
 pub use agreement::agree;
-pub use laws::requests_are_of_calls;
 pub use own::{Brought, Noted, Own, last_reply, note_reply, open_call};
 pub use requests::{is_request_of, request_for};

@@ -1,6 +1,7 @@
 ghost use Rattle.std.specs.Prelude.{◌≡◌, ◌↔◌, IfOk, IsTrue, Some};
 ghost use Rattle.lock_machine.specs.Requests.{kind_asked};
-ghost use Rattle.worker_notes.specs.Requests.{amount_asked, counted, request_for};
+ghost use Rattle.sequential_object.specs.Meant.{natural_of, request_asked};
+ghost use Rattle.worker_notes.specs.Requests.{request_for};
 
 use crate::same::same_call;
 use posix_terms::{Call, OutKind, Request, Turn};
@@ -51,7 +52,7 @@ pub fn kind_asked(call: &Call) -> Option<OutKind>
 }
 
 fn amount_asked(call: &Call) -> u64
-    ensures { result ≡ amount_asked call.now }
+    ensures { result ≡ request_asked call.now }
 {
     match call {
         Call::Read { count, .. } => counted(*count),
@@ -62,7 +63,7 @@ fn amount_asked(call: &Call) -> u64
 }
 
 fn counted(number: i64) -> u64
-    ensures { result ≡ counted number }
+    ensures { result ≡ natural_of number }
 {
     if number < 0 { 0 } else { number as u64 }
 }

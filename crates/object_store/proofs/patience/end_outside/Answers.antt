@@ -7,7 +7,7 @@ use Rattle.posix_terms.specs.declared.outcome.Outcome.{Outcome}
 use Rattle.posix_terms.specs.declared.outcome.Outcome.TheVariants as outcome
 use Rattle.posix_terms.specs.declared.reply.Reply.{Reply}
 use Rattle.posix_terms.specs.declared.reply.Reply.TheVariants as reply
-use Rattle.decisions.specs.Bytes.{bytes_of_kind, reply_bytes}
+use Rattle.sequential_object.specs.Bytes.{bytes_of_kind, reply_bytes}
 use Rattle.object_store.specs.Patience.{told_outside}
 use Rattle.object_store.proofs.Outside.{offset_fits, read_fits, succeeds, told_done}
 use Rattle.object_store.proofs.patience.end_outside.Goals as goal

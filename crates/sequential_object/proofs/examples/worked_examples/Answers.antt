@@ -1,7 +1,7 @@
-use Rattle.sequential_object.specs.Examples.{gap_reads_zero, dup2_from_nothing, shared_offset, unlinked_but_open, directory_refusals, renamed_files, positioned_write_and_truncate, shared_flags, pipe_and_its_ends, half_closed_pair, closed_last, unlinked_last, replaced_last, renamed_last, linked_still, shared_still, closed_pipe, half_closed_pipe}
+use Rattle.sequential_object.specs.Examples.{appended_at_the_end, gap_reads_zero, dup2_from_nothing, shared_offset, unlinked_but_open, directory_refusals, renamed_files, positioned_write_and_truncate, shared_flags, pipe_and_its_ends, half_closed_pair, closed_last, unlinked_last, replaced_last, renamed_last, linked_still, shared_still, closed_pipe, half_closed_pipe}
 use Rattle.sequential_object.specs.Object.{empty_state}
 use Rattle.sequential_object.proofs.Chains.{left_of, replies_of}
-use Rattle.sequential_object.proofs.Rows.{gap, gap_states, dup2, dup2_states, shared, shared_states, unlinked, unlinked_states, directories, directories_states, renamed_rows, renamed_states, positioned, positioned_states, flags, flags_states, pipe, pipe_states, pair, pair_states, patient, closing, closing_states, closing-leaves, unlinking, unlinking_states, unlinking-leaves, replacing, replacing_states, replacing-leaves, renaming, renaming_states, renaming-leaves, linking, linking_states, linking-leaves, sharing, sharing_states, sharing-leaves, pipe_closing, pipe_closing_states, pipe_closing-leaves, half_closing, half_closing_states, half_closing-leaves}
+use Rattle.sequential_object.proofs.Rows.{appended, appended_states, gap, gap_states, dup2, dup2_states, shared, shared_states, unlinked, unlinked_states, directories, directories_states, renamed_rows, renamed_states, positioned, positioned_states, flags, flags_states, pipe, pipe_states, pair, pair_states, patient, closing, closing_states, closing-leaves, unlinking, unlinking_states, unlinking-leaves, replacing, replacing_states, replacing-leaves, renaming, renaming_states, renaming-leaves, linking, linking_states, linking-leaves, sharing, sharing_states, sharing-leaves, pipe_closing, pipe_closing_states, pipe_closing-leaves, half_closing, half_closing_states, half_closing-leaves}
 use Rattle.sequential_object.proofs.examples.worked_examples.Goals as goal
 
 pub returns : goal.returns
@@ -13,6 +13,7 @@ returns c =
       unlinked = λ settings. replies_of settings empty_state unlinked_but_open unlinked_states (unlinked settings);
       directories = λ settings. replies_of settings empty_state directory_refusals directories_states (directories settings);
       renamed = λ settings. replies_of settings empty_state renamed_files renamed_states (renamed_rows settings);
+      appended = λ settings. replies_of settings empty_state appended_at_the_end appended_states (appended settings);
       positioned = λ settings. replies_of settings empty_state positioned_write_and_truncate positioned_states (positioned settings);
       flags = λ settings. replies_of settings empty_state shared_flags flags_states (flags settings);
       pipe = λ settings. replies_of settings empty_state pipe_and_its_ends pipe_states (pipe settings);

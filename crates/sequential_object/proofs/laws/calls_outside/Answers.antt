@@ -1,5 +1,5 @@
-use Rattle.sequential_object.proofs.Outside.{after_any_outcome, keeps_outside, locks}
+use Rattle.sequential_object.proofs.Outside.{keeps_outside, leaves_alike, outside_locks}
 use Rattle.sequential_object.proofs.laws.calls_outside.Goals as goal
 
 pub returns : goal.returns
-returns c = record { locks = locks; keeps = keeps_outside; leaves = after_any_outcome }
+returns c = record { locks = outside_locks; keeps = keeps_outside; leaves = leaves_alike }

@@ -1,6 +1,6 @@
 use Rattle.std.proofs.Common.{◌≡◌, Ok, Err, ◌∙◌, ap, rules, sym}
 use Rattle.std.specs.FinMap as fin
-use Rattle.sequential_object.specs.Names.{removed_dir}
+use Rattle.directories.specs.Naming.{removed_dir}
 use Rattle.sequential_object.specs.Paths.{components_of}
 use Rattle.descriptor_table.proofs.DecideLemmas.{gone, removes}
 use Rattle.descriptor_table.proofs.table.Table.removing_directory.Goals as goal

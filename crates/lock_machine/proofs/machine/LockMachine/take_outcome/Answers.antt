@@ -43,7 +43,7 @@ returns-clause-event c =
     let outside = phase_at m.threads.items c.args.i c.index_mut.result.now (phase.Outside c.args.outing) inside c.index_mut.ensures.value (item_in (λ p. p ≡ phase.Outside c.args.outing) m.threads.items m.clocks v c.args.self.now c.args.i refl view inside c.requires.outside) in
     let item = item_recorded m.threads.items m.clocks c.args.i c.args.outing c.index_mut.result.now c.record.new.thread m.agree inside c.index_mut.ensures.value outside c.record.ensures.live in
     subst (λ (w : Whole). RecordsGiven c.record.result c.args.i c.args.given w (record v { threads = joined (set m.threads.items c.args.i c.record.new.thread) m.clocks; rows = c.record.new.rows.items })) view
-    (record_done c.arising_states.ensures.rows c.arising_states.ensures.plans v m.threads.items m.clocks c.args.i c.args.outing c.args.given c.index_mut.result.now c.record.new.thread c.record.new.rows.items c.record.result item outside c.record.ensures.event)
+    (record_done c.requests_asked.ensures.little c.arising_states.ensures.rows c.arising_states.ensures.plans v m.threads.items m.clocks c.args.i c.args.outing c.args.given c.index_mut.result.now c.record.new.thread c.record.new.rows.items c.record.result item outside c.record.ensures.event)
 
 pub index_mut-requires : goal.index_mut-requires
 index_mut-requires c =

@@ -3,17 +3,17 @@ use Rattle.std.specs.Prelude.{pos}
 use Rattle.posix_terms.specs.declared.limits.TheConstants.Limits as limit
 use Rattle.posix_terms.specs.declared.reply.Reply.TheVariants as reply
 use Rattle.sequential_object.specs.declared.turn_end.ActEnd.TheVariants as act_end
-use Rattle.decisions.specs.So.{CanDo}
-use Rattle.decisions.specs.declared.decision.Act.{Act}
-use Rattle.decisions.specs.declared.decision.Act.TheVariants as act
-use Rattle.decisions.specs.declared.decision.Deed.TheVariants as deed
+use Rattle.sequential_object.specs.So.{CanDo}
+use Rattle.sequential_object.specs.declared.decision.Act.{Act}
+use Rattle.sequential_object.specs.declared.decision.Act.TheVariants as act
+use Rattle.sequential_object.specs.declared.decision.Deed.TheVariants as deed
 use Rattle.descriptor_table.specs.View.{view}
 use Rattle.descriptor_table.specs.Table.{IsSound}
-use Rattle.decisions.specs.Acts.{released_reply}
-use Rattle.decisions.specs.Bytes.{read_count}
-use Rattle.decisions.specs.Acts.{Replies}
-use Rattle.decisions.specs.Meant.{acts, ended, key_of}
-use Rattle.decisions.specs.Renaming.{act_by}
+use Rattle.sequential_object.specs.Acts.{released_reply}
+use Rattle.sequential_object.specs.Bytes.{read_count}
+use Rattle.sequential_object.specs.Acts.{Replies}
+use Rattle.sequential_object.specs.Meant.{acts, ended, key_of}
+use Rattle.sequential_object.specs.Renaming.{act_by}
 use Rattle.descriptor_table.specs.Shows.{birth_at}
 use Rattle.descriptor_table.specs.View.{names_of}
 use Rattle.sequential_object.specs.Object.{State}

@@ -1,6 +1,6 @@
 use Rattle.std.proofs.Common.{◌≡◌, length, rules}
 use Rattle.posix_terms.specs.declared.limits.TheConstants.Limits as limit
-use Rattle.decisions.specs.So.{Can}
+use Rattle.sequential_object.specs.So.{Can}
 use Rattle.descriptor_table.specs.View.{view}
 use Rattle.object_store.specs.Store.{Stands, Stored}
 use Rattle.object_store.proofs.Changing.{inside, stands_changed}

@@ -1,9 +1,9 @@
 use Rattle.std.proofs.Common.{◌≡◌, refl, subst, rules}
 use Rattle.sequential_object.specs.declared.turn_end.ActEnd.{ActEnd}
 use Rattle.file_descriptions.specs.Descriptions.{AreSound}
-use Rattle.decisions.specs.So.{CanDo}
-use Rattle.decisions.specs.declared.decision.Deed.{Deed}
-use Rattle.decisions.specs.declared.decision.Deed.TheVariants as deed
+use Rattle.sequential_object.specs.So.{CanDo}
+use Rattle.sequential_object.specs.declared.decision.Deed.{Deed}
+use Rattle.sequential_object.specs.declared.decision.Deed.TheVariants as deed
 use Rattle.descriptor_table.specs.Table.{IsSound}
 use Rattle.descriptor_table.specs.View.{view}
 use Rattle.object_store.specs.Store.{EndsTurn, IsDecided, Stored}

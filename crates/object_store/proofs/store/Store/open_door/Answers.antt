@@ -7,11 +7,11 @@ use Rattle.posix_terms.specs.declared.errno.Errno.TheVariants.{EIO}
 use Rattle.sequential_object.specs.Object.{State}
 use Rattle.sequential_object.specs.declared.turn_end.TurnEnd.TheVariants as end
 use Rattle.file_descriptions.specs.Descriptions.{AreSound}
-use Rattle.decisions.specs.Changes.{door_opened}
-use Rattle.decisions.specs.Renaming.{new_by}
-use Rattle.decisions.specs.So.{CanDo}
-use Rattle.decisions.specs.declared.decision.Deed.{Deed}
-use Rattle.decisions.specs.declared.decision.Deed.TheVariants as deed
+use Rattle.sequential_object.specs.Changes.{door_opened}
+use Rattle.sequential_object.specs.Renaming.{new_by}
+use Rattle.sequential_object.specs.So.{CanDo}
+use Rattle.sequential_object.specs.declared.decision.Deed.{Deed}
+use Rattle.sequential_object.specs.declared.decision.Deed.TheVariants as deed
 use Rattle.descriptor_table.specs.Plans.{errand_of}
 use Rattle.descriptor_table.specs.Table.{IsSound, free_object}
 use Rattle.descriptor_table.specs.Agreement.{NumbersStay}

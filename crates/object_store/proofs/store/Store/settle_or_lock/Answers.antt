@@ -1,5 +1,5 @@
 use Rattle.std.proofs.Common.{◌≡◌, Err, ◌∙◌, sym, arith}
-use Rattle.decisions.specs.Decided.{decided}
+use Rattle.sequential_object.specs.Decided.{decided}
 use Rattle.descriptor_table.specs.View.{view}
 use Rattle.object_store.specs.Store.{Stored}
 use Rattle.object_store.proofs.Making.{refuses}

@@ -1,4 +1,0 @@
-pub mod Counting
-pub mod Same
-pub mod So
-pub mod Alike
