@@ -19,6 +19,8 @@ complete -c detio -n '__fish_seen_subcommand_from check' -F
 complete -c detio -n '__fish_seen_subcommand_from plain' -l patience -x -d 'For how many turns a call may be blocked'
 complete -c detio -n '__fish_seen_subcommand_from plain' -l door-cost -x -d 'What a call that goes outside adds to the clock of its thread'
 complete -c detio -n '__fish_seen_subcommand_from plain' -l turns -d 'Prints the clock of each turn'
+complete -c detio -n '__fish_seen_subcommand_from plain' -l calls -d 'Prints each call with what it was asked, as read 3 9 = data 6869'
+complete -c detio -n '__fish_seen_subcommand_from plain' -l by-turn -d 'Prints the rows of all threads in the order of their turns'
 complete -c detio -n '__fish_seen_subcommand_from plain' -l expect -d 'Holds each reply to the lines #= below its call, as #= fail ENOENT'
 complete -c detio -n '__fish_seen_subcommand_from plain' -s h -l help -d 'Print help (see a summary with \'-h\')'
 complete -c detio -n '__fish_seen_subcommand_from plain' -F
@@ -57,12 +59,16 @@ complete -c detio -n '__fish_seen_subcommand_from record' -l in-turn -d 'Makes t
 complete -c detio -n '__fish_seen_subcommand_from record' -l patience -x -d 'For how many turns a call may be blocked'
 complete -c detio -n '__fish_seen_subcommand_from record' -l door-cost -x -d 'What a call that goes outside adds to the clock of its thread'
 complete -c detio -n '__fish_seen_subcommand_from record' -l turns -d 'Prints the clock of each turn'
+complete -c detio -n '__fish_seen_subcommand_from record' -l calls -d 'Prints each call with what it was asked, as read 3 9 = data 6869'
+complete -c detio -n '__fish_seen_subcommand_from record' -l by-turn -d 'Prints the rows of all threads in the order of their turns'
 complete -c detio -n '__fish_seen_subcommand_from record' -l expect -d 'Holds each reply to the lines #= below its call, as #= fail ENOENT'
 complete -c detio -n '__fish_seen_subcommand_from record' -s h -l help -d 'Print help (see a summary with \'-h\')'
 complete -c detio -n '__fish_seen_subcommand_from record' -F
 complete -c detio -n '__fish_seen_subcommand_from replay' -l log -r -F -d 'The log to replay; - is standard input'
 complete -c detio -n '__fish_seen_subcommand_from replay' -l threads -d 'Runs each script in a thread of its own'
 complete -c detio -n '__fish_seen_subcommand_from replay' -l turns -d 'Prints the clock of each turn'
+complete -c detio -n '__fish_seen_subcommand_from replay' -l calls -d 'Prints each call with what it was asked, as read 3 9 = data 6869'
+complete -c detio -n '__fish_seen_subcommand_from replay' -l by-turn -d 'Prints the rows of all threads in the order of their turns'
 complete -c detio -n '__fish_seen_subcommand_from replay' -l expect -d 'Holds each reply to the lines #= below its call, as #= fail ENOENT'
 complete -c detio -n '__fish_seen_subcommand_from replay' -s h -l help -d 'Print help (see a summary with \'-h\')'
 complete -c detio -n '__fish_seen_subcommand_from replay' -F

@@ -19,10 +19,11 @@ use Rattle.expectations.specs.declared.unmet.Unmet.{Unmet}
 use Rattle.logged_machine.specs.declared.stop.Stop.{Stop}
 use Rattle.command_texts.specs.Expecting.{IsFirstBad, IsGood, expectation_fault, unmet_line}
 use Rattle.command_texts.specs.Expecting.{with_unmet}
-use Rattle.command_texts.specs.Printing.{run_printed, script_fault}
+use Rattle.command_texts.specs.Printing.{script_fault}
 use Rattle.command_texts.specs.Reading.{scripts_from}
 use Rattle.command_texts.specs.declared.expecting.BadExpectation.{BadExpectation}
 use Rattle.command_texts.specs.declared.printed.Printed.{Printed}
+use Rattle.run_views.specs.Rows.{IsViewed}
 use Rattle.command_inputs.specs.declared.settings.RunOptions.{RunOptions}
 use Rattle.command_inputs.specs.declared.running.ToRun.{ToRun}
 use Rattle.command_inputs.specs.declared.running.ToRun.TheVariants as runs
@@ -104,8 +105,8 @@ HeldShows true threads run printed =
     (All IsAsExpected threads × (printed ≡ run))
     ⊎ ((line : List ℕ) × IsFirstUnmetLine threads line × (printed ≡ with_unmet run line))
 
--- what is printed for a run of the scripts of these texts
+-- what is printed for a run of the scripts of these texts, in the view that is asked
 abbrev pub RunShows : RunOptions → List (List ℕ) → List (List Row) → Option Stop → Printed → Type 0
 RunShows options texts transcripts stop printed =
-    HeldShows options.expect (zip texts transcripts)
-    (run_printed options.turns transcripts stop) printed
+    (run : Printed) × IsViewed options.view transcripts stop run
+    × HeldShows options.expect (zip texts transcripts) run printed

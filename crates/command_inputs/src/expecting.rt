@@ -4,14 +4,15 @@ ghost use Rattle.command_inputs.specs.Expects.{IsAsExpected, IsFirstUnmetLine, I
 
 use crate::settings::RunOptions;
 use call_machine::Stop;
-use command_texts::{Printed, run_printed, unmet_line, with_unmet};
+use command_texts::{Printed, unmet_line, with_unmet};
 use expectations::{Unmet, expectations_of, first_unmet};
 use posix_terms::{Bytes, Row, Transcript, Transcripts};
+use run_views::run_viewed;
 use std::alloc::{AllocError, Global};
 use thread_scripts::parse;
 
-/// What is to be printed for a run of the scripts of these texts: its transcripts and how it ended
-/// and, if that is asked, the first reply that is not as they expect.
+/// What is to be printed for a run of the scripts of these texts: its transcripts, in the view that
+/// is asked, and how it ended and, if that is asked, the first reply that is not as they expect.
 pub fn run_shown(
     alloc: Global,
     options: RunOptions,
@@ -21,7 +22,7 @@ pub fn run_shown(
 ) -> Result<Printed, AllocError>
     ensures { IfOk result (RunShows options texts.now transcripts.now stop) }
 {
-    let run = run_printed(alloc, options.turns, transcripts, stop)?;
+    let run = run_viewed(alloc, options.view, transcripts, stop)?;
     if !options.expect {
         return Ok(run);
     }

@@ -1,12 +1,13 @@
 ghost use Rattle.std.specs.Prelude.{◌≡◌, unwrap_or};
 
 use posix_terms::Settings;
+use run_views::View;
 
 /// What is asked of a run, beside its settings.
 #[derive(Clone, Copy, Debug, PartialEq, Eq)]
 pub struct RunOptions {
-    /// Whether the clocks of the turns are printed.
-    pub turns: bool,
+    /// What of it is printed, and in which order.
+    pub view: View,
     /// Whether the replies are held to what the texts of the scripts expect.
     pub expect: bool,
 }

@@ -1,6 +1,6 @@
 use crate::devices::{Sources, Text};
 use commands::{
-    RunOptions, Source, compare_over, plain_over, replay_over, replay_threads_over, show_over,
+    RunOptions, Source, View, compare_over, plain_over, replay_over, replay_threads_over, show_over,
 };
 use posix_terms::Settings;
 use std::alloc::Global;
@@ -61,7 +61,10 @@ impl Told {
 /// A run with the clocks of its turns, or without. What the replies are held to is in `examples/`.
 pub(crate) fn with_turns(turns: bool) -> RunOptions {
     RunOptions {
-        turns,
+        view: View {
+            turns,
+            ..View::default()
+        },
         expect: false,
     }
 }

@@ -8,8 +8,9 @@
 //! is not as expected ([`unmet_line`]), and [`bad_line`], [`cannot_read`] and the like make that of
 //! a fault; [`log_text`] is the text of a log, of which [`header_line`], [`push_record`] and
 //! [`last_line`] give the lines. [`print`] writes it and answers the status. By the
-//! contracts the bytes are those of the definitions in `specs/`. [`push_call`], [`push_end`],
-//! [`push_word`] and [`push_number`] add the parts of a line to a text. What makes a text takes
+//! contracts the bytes are those of the definitions in `specs/`. [`push_row`] adds the line of a row
+//! to a text, and [`push_place`], [`push_call`], [`push_reply`], [`push_data`], [`push_word`],
+//! [`push_number`], [`push_signed`] and [`push_end`] add the parts of a line. What makes a text takes
 //! memory, and fails only for want of it.
 //!
 //! ```rust
@@ -57,5 +58,5 @@ pub use source::{
     LARGEST_FILE, ReadFault, Source, SourceFault, TextReader, Unread, read_all, read_once,
     read_text,
 };
-pub use text_parts::{push_number, push_word};
-pub use transcripts::{push_call, push_end, run_printed};
+pub use text_parts::{push_data, push_number, push_place, push_signed, push_word};
+pub use transcripts::{end_status, push_call, push_end, push_reply, push_row, run_printed};

@@ -26,7 +26,7 @@ pub fn push_number(text: &mut Vec<u8>, number: u64) -> Result<(), AllocError>
     push_digits(text, number)
 }
 
-// Adds a number in decimal, with a sign where it is below zero.
+/// Adds a number in decimal, with a sign where it is below zero.
 #[inline(always)]
 pub fn push_signed(text: &mut Vec<u8>, number: i64) -> Result<(), AllocError>
     ensures { OnOk result (text.new.items ≡ text.old.items ++ signed_decimal number) }
@@ -45,7 +45,7 @@ fn push_digits<I: Integer>(text: &mut Vec<u8>, number: I) -> Result<(), AllocErr
     push_word(text, digits.format(number))
 }
 
-// Adds where a line of a thread stands: the thread, and the number of the line among its own.
+/// Adds where a line of a thread stands: the thread, and the number of the line among its own.
 pub fn push_place(text: &mut Vec<u8>, thread: u64, number: u64) -> Result<(), AllocError>
     ensures { OnOk result (text.new.items
         ≡ text.old.items ++ decimal thread ++ codes " " ++ decimal number ++ codes " ") }
@@ -56,7 +56,7 @@ pub fn push_place(text: &mut Vec<u8>, thread: u64, number: u64) -> Result<(), Al
     push_word(text, " ")
 }
 
-// Adds bytes as hexadecimal digits, and `-` for none.
+/// Adds bytes as hexadecimal digits, and `-` for none.
 pub fn push_data(text: &mut Vec<u8>, bytes: &[u8]) -> Result<(), AllocError>
     ensures { OnOk result (text.new.items ≡ text.old.items ++ data_text bytes.now) }
 {

@@ -56,8 +56,10 @@ fn push_rows(text: &mut Vec<u8>, turns: bool, thread: usize, rows: &[Row]) -> Re
     Ok(())
 }
 
+/// Adds the line of a row, with the clock of its turn if that is asked: the thread, the number of the
+/// row, the call and its reply.
 #[tactic(auto, unfolding(crate::specs::Transcripts::row_text))]
-fn push_row(
+pub fn push_row(
     text: &mut Vec<u8>,
     turns: bool,
     thread: usize,
@@ -85,7 +87,7 @@ pub fn push_call(text: &mut Vec<u8>, row: &Row) -> Result<(), AllocError>
     push_reply(text, &row.reply)
 }
 
-// Adds a reply, in the words of a row.
+/// Adds a reply, in the words of a row.
 #[tactic(auto, unfolding(crate::specs::Transcripts::reply_text))]
 pub fn push_reply(text: &mut Vec<u8>, reply: &Reply) -> Result<(), AllocError>
     ensures { OnOk result (text.new.items ≡ text.old.items ++ reply_text reply.now) }
@@ -165,8 +167,8 @@ fn push_diverged(text: &mut Vec<u8>, thread: usize, number: u32) -> Result<(), A
     push_number(text, u64::from(number))
 }
 
-// The exit status of a run that ended so.
-fn end_status(stop: Option<Stop>) -> u8
+/// The exit status of a run that ended so.
+pub fn end_status(stop: Option<Stop>) -> u8
     ensures { result ≡ end_status stop }
 {
     match stop {

@@ -8,12 +8,12 @@
 //! and asks for one outside for each script, of which none gave anything yet. [`upgrade_over`] and
 //! [`make_over`] make their file, a [`NewFile`], only when they have the bytes of the new log; by
 //! [`what_is_shown_is_made`] the second is the inverse of [`show_over`]. [`DEFAULTS`] are the
-//! settings where no option says otherwise. By [`RunOptions`] a run is held to what the texts of
-//! its scripts expect: a bad expectation is a fault, and the first unmet one has a line after the
-//! run's own last one.
+//! settings where no option says otherwise. [`RunOptions`] have the [`View`] in which a run is
+//! printed, and by them it is held to what the texts of its scripts expect: a bad expectation is a
+//! fault, and the first unmet one has a line after the run's own last one.
 //!
 //! ```rust
-//! use commands::{DEFAULTS, RunOptions, Source, plain_over};
+//! use commands::{DEFAULTS, RunOptions, Source, View, plain_over};
 //!
 //! let mut sources = Vec::new(alloc);
 //! sources.push(Source {
@@ -23,7 +23,7 @@
 //! let mut output: Vec<u8> = Vec::new(alloc);
 //! let mut errors: Vec<u8> = Vec::new(alloc);
 //! let options = RunOptions {
-//!     turns: false,
+//!     view: View::default(),
 //!     expect: true,
 //! };
 //! let status = plain_over(alloc, DEFAULTS, options, sources, &mut output, &mut errors)?;
@@ -43,7 +43,7 @@ mod show;
 mod told;
 mod upgrade;
 
-pub use command_inputs::{DEFAULTS, RunOptions, settings_of};
+pub use command_inputs::{DEFAULTS, RunOptions, View, settings_of};
 pub use command_texts::{
     LARGEST_FILE, Source, SourceFault, TextReader, cannot_write, no_memory, print, read_once,
 };

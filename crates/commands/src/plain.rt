@@ -15,9 +15,9 @@ use std::io;
 use std::io::Write;
 use thread_scripts::Script;
 
-/// `detio plain`: runs the scripts on the plain schedule and prints their transcripts, with the
-/// clocks of the turns if that is asked, and the first reply that is not as its script expects if
-/// that is; or one line for the first fault; the answer is the exit status. Where there is no
+/// `detio plain`: runs the scripts on the plain schedule and prints their transcripts, in the view
+/// that is asked, and the first reply that is not as its script expects if that is asked too; or
+/// one line for the first fault; the answer is the exit status. Where there is no
 /// memory, a script cannot be read or the output cannot be written, that is the fault. An error is
 /// one of the writer `errors`.
 pub fn plain_over<R: TextReader + Drop, W: Write, E: Write>(

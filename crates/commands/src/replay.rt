@@ -15,8 +15,8 @@ use std::sync::Wait;
 use std::thread::Threads;
 
 /// `detio replay`: runs the scripts by the log of what came from outside and prints their
-/// transcripts, with the clocks of the turns if that is asked, and how that ended, with the first
-/// reply that is not as its script expects if that is; or one line for the first fault; the answer
+/// transcripts, in the view that is asked, and how that ended, with the first reply that is not as
+/// its script expects if that is asked too; or one line for the first fault; the answer
 /// is the exit status. Where there is no memory, a file cannot be read or the output cannot be
 /// written, that is the fault. An error is one of the writer `errors`.
 pub fn replay_over<R: TextReader + Drop, W: Write, E: Write>(

@@ -73,8 +73,15 @@ const PLAIN_LONG_ABOUT: &str = "Runs 1 to 16 scripts together and prints their t
 Each script is a thread, from 0 in the order given. All share one table of descriptors and the files,
 pipes and pairs of sockets in memory, and the thread whose logical clock is least has the turn; of two
 with the same clock, the one that was given first. A line is printed for each reply: thread, number of
-the row, with --turns the clock of the turn, call and reply. The first fault goes to standard error, on
-one line.
+the row, with --turns the clock of the turn, call and reply. With --calls the call stands there with what
+it was asked, in the order and the words of its line below, and = before the reply:
+  0 2 write 0 \"hello\" = count 5
+There numbers stand for registers. Bytes are text in double quotes where all are printable ASCII, but none
+is \" or \\, and else hexadecimal digits, - for none; a path with such a byte is \\ and its digits. With
+--by-turn the rows of all threads are printed in the order of their turns, and not thread by thread:
+  1 0 open number 0
+  0 0 open number 1
+Each goes with the others. The first fault goes to standard error, on one line.
 
 A script is ASCII text, one of these a line. Lines that are empty or start with # do nothing.
 
@@ -391,8 +398,10 @@ The last line is end where all threads came to their end, or one of
   stop strayed                  what the threads noted is not what the history says: a fault of this program
 after which the lines before are what each thread saw until then.
 
-With --expect replies are held to the lines #= of the scripts, as detio plain --help says. The log
-is the same.
+With --expect replies are held to the lines #= of the scripts, and --turns, --calls and --by-turn
+say what is printed of the rows, as detio plain --help says:
+  0 1 write 0 \"hi\" = count 2
+The log is the same.
 
 Exit statuses:
   0  all threads came to their end
@@ -450,7 +459,9 @@ What is not a log, and a log of another number of threads, has one line on stand
   log: torn at 0 after 0 records
   log has COUNT threads, COUNT scripts given
 
-With --expect replies are held to the lines #= of the scripts, as detio plain --help says.
+With --expect replies are held to the lines #= of the scripts, and --turns, --calls and --by-turn
+say what is printed of the rows, as detio plain --help says. With all three a row is
+  0 1 105 open /b rw create = number 0
 
 Exit statuses:
   0  all threads came to their end, and every record was used
@@ -1016,7 +1027,8 @@ fn upgrade<'a>(alloc: Global) -> Result<Command<'a>, AllocError> {
 
 // A subcommand that runs scripts.
 fn with_scripts<'a>(alloc: Global, command: Command<'a>) -> Result<Command<'a>, AllocError> {
-    let command = command.arg(turns(alloc))?.arg(expect(alloc))?;
+    let command = command.arg(turns(alloc))?.arg(calls(alloc))?;
+    let command = command.arg(by_turn(alloc))?.arg(expect(alloc))?;
     command.arg(scripts(alloc))
 }
 
@@ -1048,6 +1060,20 @@ fn turns<'a>(alloc: Global) -> Arg<'a> {
         .long("turns")
         .action(ArgAction::SetTrue)
         .help("Prints the clock of each turn")
+}
+
+fn calls<'a>(alloc: Global) -> Arg<'a> {
+    Arg::new(alloc, "calls")
+        .long("calls")
+        .action(ArgAction::SetTrue)
+        .help("Prints each call with what it was asked, as read 3 9 = data 6869")
+}
+
+fn by_turn<'a>(alloc: Global) -> Arg<'a> {
+    Arg::new(alloc, "by-turn")
+        .long("by-turn")
+        .action(ArgAction::SetTrue)
+        .help("Prints the rows of all threads in the order of their turns")
 }
 
 fn expect<'a>(alloc: Global) -> Arg<'a> {

@@ -16,8 +16,8 @@ use clap::ArgMatches;
 use clap::error::ErrorKind;
 use command::command;
 use commands::{
-    LogTo, RunOptions, cannot_write, compare_over, make_over, no_memory, plain_over, replay_over,
-    replay_threads_over, settings_of, show_over, upgrade_over,
+    LogTo, RunOptions, View, cannot_write, compare_over, make_over, no_memory, plain_over,
+    replay_over, replay_threads_over, settings_of, show_over, upgrade_over,
 };
 use explore::{run_explore, run_minimise};
 use faults::run_faults;
@@ -134,7 +134,11 @@ fn other_usage(rt: &HostRuntime, error: clap::Error) -> Result<u8, AllocError> {
 // What is asked of any run of scripts.
 pub(crate) fn run_options(matches: &ArgMatches<'_>) -> RunOptions {
     RunOptions {
-        turns: matches.get_flag("turns"),
+        view: View {
+            turns: matches.get_flag("turns"),
+            calls: matches.get_flag("calls"),
+            by_turn: matches.get_flag("by-turn"),
+        },
         expect: matches.get_flag("expect"),
     }
 }
