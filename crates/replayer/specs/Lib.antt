@@ -1,6 +1,7 @@
 pub mod Outcomes
 pub mod OwnLog
 pub mod Replay
+pub mod Runs
 pub mod Threads
 pub mod Upgrade
 pub mod UpgradeLaws

@@ -40,6 +40,6 @@ pub use laws::{
     own_log, recorded_runs_are_replayed, recorded_runs_are_upgraded, runs_are_upgraded,
 };
 pub use replayed::Replayed;
-pub use run::replay;
+pub use run::{RunByLog, replay, replay_run};
 pub use threads::{NotReplayed, replay_threads};
 pub use version_two::upgrade;

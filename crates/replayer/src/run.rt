@@ -1,11 +1,12 @@
 ghost use Rattle.std.specs.Prelude.{◌≡◌, IfErr, IfOk, length};
 ghost use Rattle.input_log.specs.Grammar.{IsLog};
 ghost use Rattle.replayer.specs.Replay.{IsNoReplay, IsRunByText, IsRunOf, Replays, Tells};
+ghost use Rattle.replayer.specs.Runs.{IsReplayRun};
 
 use crate::fault::ReplayFault;
 use crate::outcomes::outcomes_by;
 use crate::replayed::Replayed;
-use crate::unused::unused_record;
+use crate::unused::{stop_by, unused_record};
 use call_machine::{Plain, PlainFault, Stop, plain_run};
 use input_log::{LogText, decode_front};
 use std::alloc::Global;
@@ -26,11 +27,26 @@ pub fn replay(alloc: Global, log: &[u8], scripts: Vec<Script>) -> Result<Replaye
     told(&log, plain)
 }
 
-// A log, and the plain run by it.
-#[derive(Drop)]
+/// A log, and the run of scripts by it.
+#[derive(Debug, Drop)]
 pub struct RunByLog {
     pub log: LogText,
     pub plain: Plain,
+}
+
+/// Runs scripts as [`replay`] does, and gives the run as far as it came, with its history: where
+/// nothing stopped it and a record was not used, its stop is `Diverged`. A fault is that of the log,
+/// another number of threads, or no memory.
+pub fn replay_run(alloc: Global, log: &[u8], scripts: Vec<Script>) -> Result<RunByLog, ReplayFault>
+    ensures run { IfOk result (λ by. IsReplayRun log.now scripts.items by.log by.plain) }
+    ensures fault { IfErr result (IsNoReplay log.now (length scripts.items)) }
+{
+    let RunByLog { log, plain } = run_by_text(alloc, log, scripts)?;
+    let stop = stop_by(&log, plain.stop, plain.history.rows());
+    Ok(RunByLog {
+        log,
+        plain: Plain { stop, ..plain },
+    })
 }
 
 // Runs scripts by the log at the front of a text.

@@ -1,4 +1,4 @@
-ghost use Rattle.std.specs.Prelude.{◌≡◌, ◌≢◌, ◌+◌, ◌≤◌, IfOk, IfErr, [], None, Some, length, vec_len};
+ghost use Rattle.std.specs.Prelude.{◌≡◌, ◌≢◌, ◌+◌, ◌≤◌, IfOk, IfErr, [], Some, length, vec_len};
 ghost use Rattle.input_log.specs.Fronts.{IsFront};
 ghost use Rattle.input_log.specs.Grammar.{IsLog};
 ghost use Rattle.logged_machine.specs.declared.stop.Stop.TheVariants as stop;
@@ -9,11 +9,10 @@ ghost use Rattle.replayer.specs.declared.fault.ReplayFault.TheVariants as replay
 
 use crate::fault::ReplayFault;
 use crate::laws::runs_agree_with_replays;
-use crate::unused::unused_record;
+use crate::unused::unused_stop;
 use call_machine::Stop;
 use host_doors::LogDoors;
 use input_log::{LogText, MemorySink, decode_front};
-use posix_terms::PackedRow;
 use recorder::{Ended, record_actors};
 use std::alloc::{AllocError, Global};
 use std::sync::Wait;
@@ -148,12 +147,4 @@ fn told<A: Drop>(
         Some(cause) => Some(cause),
     };
     ended
-}
-
-// The stop of a run that nothing stopped: at a record that it did not use.
-fn unused_stop(log: &LogText, rows: &[PackedRow]) -> Option<Stop>
-    requires log { IsLog log.now }
-    ensures { result ≡ stop_told None (first_unused log.now.header.threads log.now.records rows.now) }
-{
-    unused_record(log, rows).map(|(thread, number)| Stop::Diverged(thread, number))
 }

@@ -1,7 +1,10 @@
-ghost use Rattle.std.specs.Prelude.{◌≡◌, option_copied};
+ghost use Rattle.std.specs.Prelude.{◌≡◌, None, option_copied};
 ghost use Rattle.input_log.specs.Grammar.{IsLog, number_of};
 ghost use Rattle.replayer.specs.Outcomes.{came_for, first_unused, is_there};
+ghost use Rattle.replayer.specs.Runs.{stop_by};
+ghost use Rattle.replayer.specs.Threads.{stop_told};
 
+use call_machine::Stop;
 use input_log::{LogText, Record};
 use posix_terms::{Outcome, PackedRow};
 
@@ -13,6 +16,27 @@ pub fn unused_record(log: &LogText, rows: &[PackedRow]) -> Option<(usize, u32)>
     let threads = usize::from(log.header.threads);
     let (thread, number) = first_unused(threads, log.records.as_slice(), rows)?;
     Some((thread, number as u32))
+}
+
+// The stop of a run that nothing stopped: at a record that it did not use.
+pub fn unused_stop(log: &LogText, rows: &[PackedRow]) -> Option<Stop>
+    requires log { IsLog log.now }
+    ensures { result ≡ stop_told None
+        (first_unused log.now.header.threads log.now.records rows.now) }
+{
+    unused_record(log, rows).map(|(thread, number)| Stop::Diverged(thread, number))
+}
+
+// The stop of a run by a log that has this stop itself.
+pub fn stop_by(log: &LogText, stop: Option<Stop>, rows: &[PackedRow]) -> Option<Stop>
+    requires log { IsLog log.now }
+    ensures { result ≡ stop_by stop
+        (first_unused log.now.header.threads log.now.records rows.now) }
+{
+    match stop {
+        None => unused_stop(log, rows),
+        Some(cause) => Some(cause),
+    }
 }
 
 // Of the first threads, so many, the least that has more records than outcomes came for it, with the number of the
