@@ -1,6 +1,7 @@
 pub mod Calls
 pub mod Lines
 pub mod Rows
+pub mod Placing
 pub mod Cutting
 pub mod Shapes
 pub mod CallPlaces

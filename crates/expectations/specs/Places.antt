@@ -1,6 +1,7 @@
 -- Believed: a contract of a command stands on it.
 -- Where the calls of a thread stand in its script, by the replies that it had.
-use Rattle.std.specs.Prelude.{ℕ, zero, suc, ◌+◌, List, [], ◌∷◌, Option, Some, None}
+use Rattle.std.specs.Prelude.{ℕ, zero, suc, ◌+◌, List, [], ◌∷◌, map, Option, Some, None}
+use Rattle.std.specs.Prelude.{option_map}
 use Rattle.posix_terms.specs.declared.reply.Reply.{Reply}
 use Rattle.posix_terms.specs.declared.step.Step.{Step}
 use Rattle.posix_terms.specs.declared.step.Step.TheVariants as step
@@ -52,3 +53,23 @@ calls_from last s (reply ∷ replies) =
 -- the places of a script's calls to which these are the replies, each with its reply
 abbrev pub calls_of : List Line → List Reply → List (ℕ × Reply)
 calls_of script replies = calls_from None (start_of script) replies
+
+-- these places alone
+abbrev pub places_of : List Line → List Reply → List ℕ
+places_of script replies = map (λ call. call.0) (calls_of script replies)
+
+-- ---- the next call
+
+-- what follows a call, if there is one
+abbrev pub place_past : Option ScriptState → (ScriptState → Option ℕ) → Option ℕ
+place_past None others = None
+place_past (Some s) others = others s
+
+-- the place of the call after those to which these are the replies, if there is one
+abbrev pub next_place_from : Option Reply → ScriptState → List Reply → Option ℕ
+next_place_from last s [] = option_map (λ after. after.place) (call_after last s)
+next_place_from last s (reply ∷ replies) =
+    place_past (call_after last s) (λ after. next_place_from (Some reply) after replies)
+
+abbrev pub next_place : List Line → List Reply → Option ℕ
+next_place script replies = next_place_from None (start_of script) replies

@@ -13,8 +13,9 @@
 //! `thread_scripts::parse` says. [`first_unmet`] follows a script by the replies of its thread,
 //! finds the line of each call, and gives the first reply that does not meet an expectation of its
 //! line. [`Wanted::is_met_by`] is the test of one reply; [`Wanted::text`] writes what is wanted.
-//! [`is_cut_off`] follows a script in the same way, up to its end. [`bytes_of`] and [`error_named`]
-//! read the words of a transcript that stand for bytes and errors.
+//! [`is_cut_off`] follows a script in the same way, up to its end; [`call_places`] gives the places
+//! of its calls, and [`next_call_place`] that of the next. [`bytes_of`] and [`error_named`] read the
+//! words of a transcript that stand for bytes and errors.
 //!
 //! By the laws each expectation of a script stands for a line that makes a call, each call has the
 //! place of such a line, what is written is read back, and there are no other answers than these.
@@ -46,6 +47,7 @@ mod fault;
 mod following;
 mod laws;
 mod operands;
+mod places;
 mod printing;
 mod reading;
 mod unmet;
@@ -60,5 +62,6 @@ pub use laws::{
     texts_read_back,
 };
 pub use operands::{bytes_of, error_named};
+pub use places::{call_places, next_call_place};
 pub use unmet::{Unmet, first_unmet};
 pub use wanted::Wanted;
