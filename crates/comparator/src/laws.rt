@@ -1,6 +1,8 @@
-ghost use Rattle.comparator.specs.Comparison.{OneVerdict};
+ghost use Rattle.comparator.specs.Comparison.{OneVerdict, OneVerdictBy};
 
-/// There is one verdict on the transcripts of two runs: so `compare` gives no other. The body is empty: the contract is the law.
+/// There is one verdict on the transcripts of two runs, whether turns count or not: so `compare` and
+/// `compare_by` give no other. The body is empty: the contract is the law.
 pub fn one_verdict()
-    ensures { OneVerdict }
+    ensures whole { OneVerdict }
+    ensures by { OneVerdictBy }
 {}

@@ -3,12 +3,13 @@
 //!
 //! [`compare`] looks at the transcripts of both and gives a [`Verdict`]: `Same`, or the least
 //! thread that differs and the least of its rows that does. Rows are compared whole: call, turn and
-//! reply. By the law `one_verdict` there is no other verdict on them. [`prefix_of`] tells exactly
-//! whether there are as many threads in both and each thread's transcript is a prefix of that
-//! thread's in the other. Neither fails, and neither takes memory.
+//! reply; by [`compare_by`] without their turns, where those do not count. By the law `one_verdict`
+//! there is no other verdict on them. [`prefix_of`] says exactly whether there are as many threads
+//! in both and each thread's transcript is a prefix of that thread's in the other. None of them
+//! fails, and none takes memory.
 //!
 //! ```rust
-//! use comparator::{Verdict, compare, prefix_of};
+//! use comparator::{Verdict, compare, compare_by, prefix_of};
 //! use posix_terms::{Call, Reply, Row, Transcript, Transcripts, Turn};
 //!
 //! let mut rows = Transcript::new(alloc);
@@ -22,6 +23,7 @@
 //! assert!(rt; compare(&one, &one) == Verdict::Same);
 //! // The row behind the last of the shorter transcript is the first that differs.
 //! assert!(rt; compare(&one, &other) == Verdict::Differs { thread: 0, row: 0 });
+//! assert!(rt; compare_by(false, &one, &one) == Verdict::Same);
 //! assert!(rt; prefix_of(&other, &one) && !prefix_of(&one, &other));
 //! ```
 #![tactic(auto)]
@@ -33,4 +35,4 @@ mod verdict;
 
 pub use laws::one_verdict;
 pub use prefix::prefix_of;
-pub use verdict::{Verdict, compare};
+pub use verdict::{Verdict, compare, compare_by};
