@@ -1,0 +1,5 @@
+pub mod Answered
+pub mod Lines
+pub mod Ways
+pub mod Seen
+pub mod Steps
