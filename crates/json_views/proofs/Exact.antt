@@ -1,0 +1,153 @@
+-- No float is among the values of runs and logs, so their texts are known.
+use Rattle.std.proofs.Common.{◌≡◌, ℕ, ℤ, pos, negsuc, Bool, true, false, ◌||◌, List, [], ◌∷◌, ◌++◌, Option, Some, None}
+use Rattle.std.proofs.Common.{Ordering, Less, Equal, Greater, nat_cmp, if◌then◌else◌, codes, refl}
+use Rattle.std.specs.Cmp.Lexicographic.{slice_cmp}
+use Rattle.std.specs.Ordering.{match_ordering}
+use Rattle.posix_terms.specs.Calls.{Call}
+use Rattle.posix_terms.specs.Errors.{name_of}
+use Rattle.posix_terms.specs.Replies.{kind_code}
+use Rattle.posix_terms.specs.declared.call.Call.TheVariants as call
+use Rattle.posix_terms.specs.declared.call.OpenFlags.{OpenFlags}
+use Rattle.posix_terms.specs.declared.reply.Reply.{Reply}
+use Rattle.posix_terms.specs.declared.reply.Reply.TheVariants as reply
+use Rattle.serde_json.specs.Data.{Data, Members, boolean, no_members, member, put, string}
+use Rattle.serde_json.specs.View.{items_of}
+use Rattle.serde_json.specs.Written.{has_float, items_have_float, members_have_float}
+use Rattle.thread_scripts.specs.Words.{is_ascii}
+use Rattle.json_views.specs.Calls.{arguments_of, arguments_value, flag_word, flags_value, number_value}
+use Rattle.json_views.specs.Calls.{pair_value, reply_value, stat_value, status_flags}
+use Rattle.json_views.specs.Objects.{Member, count_value, hex_value, object_of, optional_value, text_value}
+use Rattle.json_views.specs.Objects.{with_members}
+
+either : (a b : Bool) → (a || b) ≡ false → (a ≡ false) × (b ≡ false)
+either false false none = (refl, refl)
+either false true none = cc
+either true b none = cc
+
+neither : (a b : Bool) → a ≡ false → b ≡ false → (a || b) ≡ false
+neither a b first second = rw (first, second) refl
+
+in_order : (o : Ordering) (a b c : Members) → members_have_float a ≡ false → members_have_float b ≡ false
+    → members_have_float c ≡ false → members_have_float (match_ordering o a b c) ≡ false
+in_order Less a b c p q r = p
+in_order Equal a b c p q r = q
+in_order Greater a b c p q r = r
+
+put_exact : (name : List ℕ) (d : Data) (members : Members) → has_float d ≡ false → members_have_float members ≡ false
+    → members_have_float (put name d members) ≡ false
+put_exact name d no_members exact others = neither (has_float d) false exact refl
+put_exact name d (member other e rest) exact others =
+    let both = either (has_float e) (members_have_float rest) others in
+    in_order (slice_cmp nat_cmp name other) _ _ _
+    (neither (has_float d) (has_float e || members_have_float rest) exact others)
+    (neither (has_float d) (members_have_float rest) exact both.1)
+    (neither (has_float e) (members_have_float (put name d rest)) both.0 (put_exact name d rest exact both.1))
+
+-- none of these members has a float
+abbrev pub AreExact : List Member → Type 0
+AreExact [] = Unit {0}
+AreExact (m ∷ more) = (has_float m.1 ≡ false) × AreExact more
+
+with_exact : (before : Members) (more : List Member) → members_have_float before ≡ false → AreExact more
+    → members_have_float (with_members before more) ≡ false
+with_exact before [] none exact = none
+with_exact before (m ∷ more) none exact =
+    with_exact (put m.0 m.1 before) more (put_exact m.0 m.1 before exact.0 none) exact.1
+
+pub object_exact : (members : List Member) → AreExact members → has_float (object_of members) ≡ false
+object_exact members exact = with_exact no_members members refl exact
+
+number_exact : (n : ℤ) → has_float (number_value n) ≡ false
+number_exact (pos n) = refl
+number_exact (negsuc n) = refl
+
+pub optional_exact : (n : Option ℕ) → has_float (optional_value n) ≡ false
+optional_exact None = refl
+optional_exact (Some n) = refl
+
+of_either : (b : Bool) (x y : Data) → has_float x ≡ false → has_float y ≡ false → has_float (if b then x else y) ≡ false
+of_either true x y p q = p
+of_either false x y p q = q
+
+pub text_exact : (text : List ℕ) → has_float (text_value text) ≡ false
+text_exact text = of_either (is_ascii text) _ _ refl (object_exact ((codes "hex", hex_value text) ∷ []) (refl, tt))
+
+flag_exact : (is_set : Bool) (word : List ℕ) (others : List Data) → items_have_float (items_of others) ≡ false
+    → items_have_float (items_of (flag_word is_set word ++ others)) ≡ false
+flag_exact true word others more = more
+flag_exact false word others more = more
+
+last_exact : (is_set : Bool) (word : List ℕ) → items_have_float (items_of (flag_word is_set word)) ≡ false
+last_exact true word = refl
+last_exact false word = refl
+
+flags_exact : (flags : OpenFlags) → has_float (flags_value flags) ≡ false
+flags_exact flags =
+    let last = flag_word flags.nonblock (codes "nonblock") in
+    let two = flag_word flags.append (codes "append") ++ last in
+    let three = flag_word flags.truncate (codes "trunc") ++ two in
+    let four = flag_word flags.exclusive (codes "excl") ++ three in
+    flag_exact flags.create (codes "create") four
+    (flag_exact flags.exclusive (codes "excl") three
+    (flag_exact flags.truncate (codes "trunc") two
+    (flag_exact flags.append (codes "append") last
+    (last_exact flags.nonblock (codes "nonblock")))))
+
+arguments_are_exact : (c : Call) → AreExact (arguments_of c)
+unfolding arguments_of
+arguments_are_exact (call.Open path access flags) = (text_exact path, (refl, (flags_exact flags, tt)))
+arguments_are_exact (call.Close descriptor) = (number_exact descriptor, tt)
+arguments_are_exact (call.Read descriptor count) = (number_exact descriptor, (number_exact count, tt))
+arguments_are_exact (call.Write descriptor bytes) = (number_exact descriptor, (refl, tt))
+arguments_are_exact (call.Pread descriptor count position) =
+    (number_exact descriptor, (number_exact count, (number_exact position, tt)))
+arguments_are_exact (call.Pwrite descriptor bytes position) =
+    (number_exact descriptor, (refl, (number_exact position, tt)))
+arguments_are_exact (call.Lseek descriptor offset whence) = (number_exact descriptor, (number_exact offset, (refl, tt)))
+arguments_are_exact (call.Ftruncate descriptor size) = (number_exact descriptor, (number_exact size, tt))
+arguments_are_exact (call.Fstat descriptor) = (number_exact descriptor, tt)
+arguments_are_exact (call.Dup descriptor) = (number_exact descriptor, tt)
+arguments_are_exact (call.DupFrom descriptor least) = (number_exact descriptor, (number_exact least, tt))
+arguments_are_exact (call.Dup2 descriptor target) = (number_exact descriptor, (number_exact target, tt))
+arguments_are_exact (call.Getfl descriptor) = (number_exact descriptor, tt)
+arguments_are_exact (call.Setfl descriptor append nonblock) =
+    (number_exact descriptor, (flags_exact (status_flags append nonblock), tt))
+arguments_are_exact (call.Link old_path new_path) = (text_exact old_path, (text_exact new_path, tt))
+arguments_are_exact (call.Unlink path) = (text_exact path, tt)
+arguments_are_exact (call.Rename old_path new_path) = (text_exact old_path, (text_exact new_path, tt))
+arguments_are_exact (call.Mkdir path) = (text_exact path, tt)
+arguments_are_exact (call.Rmdir path) = (text_exact path, tt)
+arguments_are_exact call.Pipe = tt
+arguments_are_exact call.Socketpair = tt
+arguments_are_exact (call.Shutdown descriptor how) = (number_exact descriptor, (refl, tt))
+arguments_are_exact (call.HostOpen path access flags) = (text_exact path, (refl, (flags_exact flags, tt)))
+arguments_are_exact (call.TcpListen port) = (number_exact port, tt)
+arguments_are_exact (call.TcpConnect port) = (number_exact port, tt)
+arguments_are_exact (call.TcpAccept descriptor) = (number_exact descriptor, tt)
+
+pub arguments_exact : (c : Call) → has_float (arguments_value c) ≡ false
+arguments_exact c = object_exact (arguments_of c) (arguments_are_exact c)
+
+one_exact : (name : List ℕ) (d : Data) → has_float d ≡ false → has_float (object_of ((name, d) ∷ [])) ≡ false
+one_exact name d exact = object_exact ((name, d) ∷ []) (exact, tt)
+
+pair_exact : (first second : ℤ) → has_float (pair_value first second) ≡ false
+pair_exact first second =
+    neither (has_float (number_value first)) _ (number_exact first)
+    (neither (has_float (number_value second)) false (number_exact second) refl)
+
+stat_exact : (kind size links : ℕ) → has_float (stat_value kind size links) ≡ false
+stat_exact kind size links =
+    object_exact
+    ((codes "kind", count_value kind) ∷ (codes "size", count_value size) ∷ (codes "links", count_value links) ∷ [])
+    (refl, (refl, (refl, tt)))
+
+pub reply_exact : (r : Reply) → has_float (reply_value r) ≡ false
+reply_exact (reply.Count count) = one_exact (codes "count") (count_value count) refl
+reply_exact (reply.Data bytes) = one_exact (codes "data") (hex_value bytes) refl
+reply_exact (reply.Number n) = one_exact (codes "number") (number_value n) (number_exact n)
+reply_exact (reply.Pair first second) = one_exact (codes "pair") (pair_value first second) (pair_exact first second)
+reply_exact (reply.Stat kind size links) =
+    one_exact (codes "stat") (stat_value (kind_code kind) size links) (stat_exact (kind_code kind) size links)
+reply_exact reply.Done = one_exact (codes "done") (boolean true) refl
+reply_exact (reply.Fail error) = one_exact (codes "fail") (string (name_of error)) refl

@@ -1,0 +1,6 @@
+pub mod Texts
+pub mod Places
+pub mod Exact
+pub mod ExactRows
+pub mod ExactEnds
+pub mod ExactLogs

@@ -1,0 +1,6 @@
+pub mod Objects
+pub mod Calls
+pub mod Rows
+pub mod Ends
+pub mod Logs
+pub mod Arguments
