@@ -138,6 +138,7 @@ pub(crate) fn run_options(matches: &ArgMatches<'_>) -> RunOptions {
             turns: matches.get_flag("turns"),
             calls: matches.get_flag("calls"),
             by_turn: matches.get_flag("by-turn"),
+            lanes: false,
         },
         expect: matches.get_flag("expect"),
     }

@@ -10,6 +10,7 @@ use Rattle.command_texts.specs.Printing.{run_printed}
 use Rattle.command_texts.specs.Transcripts.{◌+++◌, end_status, end_text, reply_text, row_text}
 use Rattle.command_texts.specs.declared.printed.Printed.{Printed}
 use Rattle.run_views.specs.Calls.{asked_text}
+use Rattle.run_views.specs.Lanes.{LanesPrint}
 use Rattle.run_views.specs.Order.{AreInOrder, Placed}
 use Rattle.run_views.specs.declared.view.View.{View}
 
@@ -40,13 +41,20 @@ rows_printed view rows stop = record {
   errors = [];
 }
 
--- this is printed: with true where the calls or the order of turns is asked, with false where not
-abbrev pub ViewPrints : Bool → View → List (List Row) → Option Stop → Printed → Type 0
-ViewPrints true view transcripts stop printed =
+-- this is printed where there are no lanes: with true where the calls or the order of turns is
+-- asked, with false where not
+abbrev pub RowsPrint : Bool → View → List (List Row) → Option Stop → Printed → Type 0
+RowsPrint true view transcripts stop printed =
     (rows : List Placed) × AreInOrder view.by_turn transcripts rows
     × (printed ≡ rows_printed view rows stop)
-ViewPrints false view transcripts stop printed = printed ≡ run_printed view.turns transcripts stop
+RowsPrint false view transcripts stop printed = printed ≡ run_printed view.turns transcripts stop
+
+-- this is printed in lanes, or else
+abbrev pub ViewPrints : Bool → View → List (List Row) → Option Stop → Printed → Type 0
+ViewPrints true view transcripts stop printed = LanesPrint view transcripts stop printed
+ViewPrints false view transcripts stop printed =
+    RowsPrint (view.calls || view.by_turn) view transcripts stop printed
 
 -- this is printed of a run in this view
 abbrev pub IsViewed : View → List (List Row) → Option Stop → Printed → Type 0
-IsViewed view = ViewPrints (view.calls || view.by_turn) view
+IsViewed view = ViewPrints view.lanes view

@@ -12,7 +12,7 @@ use std::alloc::AllocError;
 
 /// Adds what a call was asked, as the line of a script has it, with values in place of registers.
 #[tactic(auto, unfolding(crate::specs::Calls::asked_text))]
-pub(crate) fn push_asked(text: &mut Vec<u8>, call: &Call) -> Result<(), AllocError>
+pub fn push_asked(text: &mut Vec<u8>, call: &Call) -> Result<(), AllocError>
     ensures { OnOk result (text.new.items ≡ text.old.items ++ asked_text call.now) }
 {
     push_word(text, call.kind().word())?;

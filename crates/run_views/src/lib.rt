@@ -1,11 +1,12 @@
 //! Views of a run: which rows are printed in which order, and what of each.
 //!
 //! A [`View`] says what is asked. [`run_viewed`] makes what is printed of a run: with `calls` each
-//! call with what it was asked, as `0 2 write 0 "hello" = count 5`, and with `by_turn` the rows of
-//! all threads in the order of their turns. In every other view it is the text of
+//! call with what it was asked, as `0 2 write 0 "hello" = count 5`, with `by_turn` the rows of all
+//! threads in the order of their turns, and with `lanes` in a column a thread. In every other view it is the text of
 //! [`run_printed`](command_texts::run_printed), so a line is `0 2 write count 5`, with the clock of
-//! the turn after the number where `turns` is asked. By the contract the bytes are those of the
-//! definitions in `specs/`. It takes memory, and fails only for want of it.
+//! the turn after the number where `turns` is asked. [`push_call_row`] adds the line of one row with
+//! what its call was asked, and [`push_asked`] what that was. By the contracts the bytes are those of
+//! the definitions in `specs/`. All take memory, and fail only for want of it.
 //!
 //! ```rust
 //! use call_machine::Plain;
@@ -19,6 +20,7 @@
 //!         turns: true,
 //!         calls: true,
 //!         by_turn: true,
+//!         lanes: false,
 //!     };
 //!     run_viewed(alloc, view, &plain.transcripts, plain.stop)
 //! }
@@ -26,9 +28,12 @@
 #![tactic(auto)]
 
 mod asked;
+mod lanes;
 mod operands;
 mod order;
 mod rows;
 mod view;
 
+pub use asked::push_asked;
+pub use rows::push_call_row;
 pub use view::{View, run_viewed};

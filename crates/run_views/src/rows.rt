@@ -37,8 +37,9 @@ fn push_viewed_row(text: &mut Vec<u8>, view: View, placed: &PlacedRow<'_>) -> Re
     }
 }
 
-// Adds the line of a row, with what its call was asked.
-fn push_call_row(
+/// Adds the line of a row, with what its call was asked and, if that is asked, the clock of its turn:
+/// the thread, the number of the row among its own, the call, `=` and the reply.
+pub fn push_call_row(
     text: &mut Vec<u8>,
     turns: bool,
     thread: usize,

@@ -2,6 +2,7 @@ ghost use Rattle.std.specs.Prelude.{◌≡◌, IfOk, map};
 ghost use Rattle.run_views.specs.Rows.{IsViewed, rows_printed};
 ghost use Rattle.run_views.specs.Seen.{seen};
 
+use crate::lanes::lanes_printed;
 use crate::order::{PlacedRow, rows_in_order};
 use crate::rows::push_rows;
 use call_machine::Stop;
@@ -19,6 +20,8 @@ pub struct View {
     pub calls: bool,
     /// Whether the rows of all threads are printed in the order of their turns.
     pub by_turn: bool,
+    /// Whether each thread has a column of its own; then the rows have the order of their turns too.
+    pub lanes: bool,
 }
 
 /// What is to be printed for a run that ended so. In the usual view, with the clocks of the turns
@@ -31,6 +34,9 @@ pub fn run_viewed(
 ) -> Result<Printed, AllocError>
     ensures { IfOk result (IsViewed view transcripts.now stop) }
 {
+    if view.lanes {
+        return lanes_printed(alloc, view, transcripts.threads(), stop);
+    }
     if !view.calls && !view.by_turn {
         return run_printed(alloc, view.turns, transcripts, stop);
     }

@@ -1,0 +1,6 @@
+use Rattle.std.proofs.Common.{◌≡◌, ◌++◌, replicate}
+use Rattle.run_views.proofs.lanes.push_padding.Given as goal
+
+abbrev pub invariant-loop : goal.invariant-loop
+invariant-loop l =
+    l.text.items ≡ l.initial.text.items ++ replicate l.counter 32
