@@ -1,0 +1,7 @@
+use Rattle.std.proofs.Common.{append_assoc}
+use Rattle.stop_reasons.specs.Reasons.{record_words}
+use Rattle.stop_reasons.proofs.reason.push_record_line.Goals as goal
+
+pub returns : goal.returns
+unfolding record_words
+returns c = simp (append_assoc, c.in_ok-push_word.ensures) at c.push_record.ensures
