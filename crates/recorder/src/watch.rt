@@ -5,11 +5,19 @@ use logged_machine::Machine;
 use std::sync::Wait;
 use std::time::Duration;
 
-/// Who is shown a run in which nothing moves.
+/// Who is shown a run in which nothing moves, or that goes on.
 pub trait Watch {
     /// After how long without a new step a run counts as standing still. None where it is not
     /// watched: then no thread is started for it.
     fn pause(&self) -> Option<Duration>;
+
+    /// Whether the run is shown while it goes on, too: eight times in a pause, and once more when
+    /// all threads are back.
+    fn follows(&self) -> bool;
+
+    /// The run goes on, or is over. It is called where the watch follows, with the machine locked:
+    /// nothing moves before it returns.
+    fn goes_on<S: LogSink, D: Drop>(&mut self, machine: &Machine<S, D>);
 
     /// No thread has asked a step, or ended, for about that long. It is called once for each such
     /// time, with the machine locked: nothing moves before it returns.
@@ -24,6 +32,12 @@ impl Watch for Unwatched {
     fn pause(&self) -> Option<Duration> {
         None
     }
+
+    fn follows(&self) -> bool {
+        false
+    }
+
+    fn goes_on<S: LogSink, D: Drop>(&mut self, _machine: &Machine<S, D>) {}
 
     fn stands<S: LogSink, D: Drop>(&mut self, _machine: &Machine<S, D>) {}
 }
@@ -49,7 +63,11 @@ pub fn keep_watch<W: Watch + Drop, S: LogSink, D: Drop, R: Wait>(
     let mut stillness = Stillness::new();
     for _ in rt.forever() {
         shared.pulse.sleep(rt, pause / LOOKS);
-        if shared.pulse.is_over() {
+        let is_over = shared.pulse.is_over();
+        if watch.follows() {
+            watch.goes_on(&shared.held.lock(rt).machine);
+        }
+        if is_over {
             return;
         }
         if stillness.has_come(shared.pulse.beats()) {

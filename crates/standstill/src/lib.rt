@@ -4,11 +4,13 @@
 //! [`Notices`] watch a run for `recorder::record_as`. They write to a device of their own, and what
 //! they cannot write, or have no memory for, is left out: a notice is no part of a run. Lines are
 //! those of the scripts' texts, counted from 1, and scripts are named by their numbers, as faults
-//! name them.
+//! name them. With a [`Follower`] they also write each row of the run once its call has a reply.
 #![tactic(auto)]
 
+mod follower;
 mod notice;
 mod places;
 mod standing;
 
+pub use follower::Follower;
 pub use notice::Notices;

@@ -1,5 +1,6 @@
 ghost use Rattle.std.specs.Prelude.{◌≡◌, ◌<◌, Some, length};
 
+use crate::follower::Follower;
 use crate::places::line_of;
 use crate::standing::{Standing, blocked_turns, where_stands};
 use input_log::LogSink;
@@ -10,8 +11,9 @@ use std::alloc::{AllocError, Global};
 use std::io::Write;
 use std::time::Duration;
 
-/// Says on a device where a run of scripts stands in which no thread has come to a new step for a while: a line for the
-/// run, and one for each thread that has not ended.
+/// Says on a device where a run of scripts stands in which no thread has come to a new step for a
+/// while: a line for the run, and one for each thread that has not ended. Where the run is followed
+/// it says each row, too.
 #[derive(Drop)]
 pub struct Notices<'a, N: Write + Drop> {
     /// Where the memory for what is said comes from.
@@ -20,6 +22,8 @@ pub struct Notices<'a, N: Write + Drop> {
     pub pause: Duration,
     /// The texts of the scripts, by thread.
     pub texts: &'a [Bytes],
+    /// Which rows were shown, where the run is followed.
+    pub follower: Option<Follower>,
     pub device: N,
 }
 
@@ -28,6 +32,19 @@ impl<N: Write + Drop> Watch for Notices<'_, N> {
         ensures { result ≡ Some self.now.pause }
     {
         Some(self.pause)
+    }
+
+    fn follows(&self) -> bool {
+        self.follower.is_some()
+    }
+
+    fn goes_on<S: LogSink, D: Drop>(&mut self, machine: &Machine<S, D>) {
+        let Some(follower) = &mut self.follower else {
+            return;
+        };
+        if let Ok(text) = follower.new_lines(self.alloc, machine.history()) {
+            let _ = self.device.write_all(text.as_slice());
+        }
     }
 
     fn stands<S: LogSink, D: Drop>(&mut self, machine: &Machine<S, D>) {
