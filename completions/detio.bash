@@ -12,17 +12,17 @@ _detio() {
   case $command in
     '') options='check plain explore faults minimise record replay compare show make upgrade help -h --help -V --version' ;;
     help) options='check plain explore faults minimise record replay compare show make upgrade help' ;;
-    check) options='-h --help' paths=yes ;;
-    plain) options='--patience --door-cost --turns --calls --by-turn --expect -h --help' paths=yes ;;
-    explore) options='--seeds --delays --most --only --reach --jobs --write --patience --door-cost --log -h --help' paths=yes ;;
-    faults) options='--log --errors --short --then --only --out --jobs -h --help' paths=yes ;;
-    minimise) options='--write --patience --door-cost --log -h --help' paths=yes ;;
-    record) options='--log --log-version --force --wait --in-turn --patience --door-cost --turns --calls --by-turn --expect -h --help' paths=yes ;;
-    replay) options='--log --threads --turns --calls --by-turn --expect -h --help' paths=yes ;;
-    compare) options='--log --with -h --help' paths=yes ;;
-    show) options='--log -h --help' ;;
-    make) options='--out --force -h --help' paths=yes ;;
-    upgrade) options='--log --out --force -h --help' paths=yes ;;
+    check) options='--why -h --help' paths=yes ;;
+    plain) options='--patience --door-cost --turns --calls --by-turn --lanes --json --expect --why -h --help' paths=yes ;;
+    explore) options='--seeds --delays --most --only --reach --jobs --write --patience --door-cost --log --why -h --help' paths=yes ;;
+    faults) options='--log --errors --short --then --only --out --jobs --why -h --help' paths=yes ;;
+    minimise) options='--write --patience --door-cost --log --why -h --help' paths=yes ;;
+    record) options='--log --log-version --force --wait --in-turn --follow --patience --door-cost --turns --calls --by-turn --lanes --json --expect --why -h --help' paths=yes ;;
+    replay) options='--log --threads --turns --calls --by-turn --lanes --json --expect --why -h --help' paths=yes ;;
+    compare) options='--log --with --rows --no-turns --why -h --help' paths=yes ;;
+    show) options='--log --json --why -h --help' ;;
+    make) options='--out --force --why -h --help' paths=yes ;;
+    upgrade) options='--log --out --force --why -h --help' paths=yes ;;
   esac
   case $command,$before in
     plain,--patience | plain,--door-cost) return ;;

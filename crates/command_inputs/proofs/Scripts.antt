@@ -2,14 +2,11 @@
 use Rattle.std.proofs.Common.{◌≡◌, ℕ, zero, suc, ◌+◌, List, [], ◌∷◌, ◌++◌, length, map, replicate, Option, Result, Ok, Err, refl, ap, sym, ◌∙◌, subst}
 use Rattle.std.proofs.lemmas.List.{length-map}
 use Rattle.std.specs.Prelude.{Bool, true, IfOk}
-use Rattle.posix_terms.specs.declared.transcript.Settings.{Settings}
 use Rattle.thread_scripts.specs.Faults.{Fault}
 use Rattle.thread_scripts.specs.Grammar.{script_of}
 use Rattle.thread_scripts.specs.declared.line.Line.{Line}
 use Rattle.call_machine.specs.Plain.{counts_fit}
-use Rattle.command_texts.specs.Reading.{AreRead, AreTexts, script_before, scripts_from}
-use Rattle.command_texts.specs.declared.printed.Printed.{Printed}
-use Rattle.command_inputs.specs.declared.settings.RunOptions.{RunOptions}
+use Rattle.command_texts.specs.Reading.{AreTexts, script_before, scripts_from}
 
 pub replicate_push : {A : Type 0} (n : ℕ) (x : A) → replicate n x ++ x ∷ [] ≡ replicate (suc n) x
 replicate_push zero x = refl

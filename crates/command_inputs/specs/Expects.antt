@@ -1,11 +1,12 @@
 -- Believed: a contract of a command stands on it.
 -- What is run of scripts' texts, and what is printed of a run: where that is asked, its replies are
 -- held to what the texts expect.
-use Rattle.std.specs.Prelude.{◌≡◌, ◌⊎◌, ℕ, All, Bool, true, false, List, length, map, take, slice_get}
-use Rattle.std.specs.Prelude.{Option, Some, Ok, Err}
+use Rattle.std.specs.Prelude.{◌≡◌, ◌⊎◌, ℕ, ◌-◌, All, Bool, true, false, List, length, map, take}
+use Rattle.std.specs.Prelude.{slice_get, Option, Some, None, option_map, Ok, Err}
 use Rattle.std.specs.Bool.{OnTrue}
 use Rattle.std.specs.List.{zip}
 use Rattle.posix_terms.specs.declared.reply.Reply.{Reply}
+use Rattle.posix_terms.specs.declared.transcript.HistoryRow.{HistoryRow}
 use Rattle.posix_terms.specs.declared.transcript.Row.{Row}
 use Rattle.thread_scripts.specs.Faults.{Fault}
 use Rattle.thread_scripts.specs.Grammar.{script_of}
@@ -24,6 +25,9 @@ use Rattle.command_texts.specs.Reading.{scripts_from}
 use Rattle.command_texts.specs.declared.expecting.BadExpectation.{BadExpectation}
 use Rattle.command_texts.specs.declared.printed.Printed.{Printed}
 use Rattle.run_views.specs.Rows.{IsViewed}
+use Rattle.answered_calls.specs.Answered.{answered_calls}
+use Rattle.json_views.specs.Ends.{run_json}
+use Rattle.stop_reasons.specs.Reasons.{IsReason}
 use Rattle.command_inputs.specs.declared.settings.RunOptions.{RunOptions}
 use Rattle.command_inputs.specs.declared.running.ToRun.{ToRun}
 use Rattle.command_inputs.specs.declared.running.ToRun.TheVariants as runs
@@ -105,8 +109,48 @@ HeldShows true threads run printed =
     (All IsAsExpected threads × (printed ≡ run))
     ⊎ ((line : List ℕ) × IsFirstUnmetLine threads line × (printed ≡ with_unmet run line))
 
--- what is printed for a run of the scripts of these texts, in the view that is asked
-abbrev pub RunShows : RunOptions → List (List ℕ) → List (List Row) → Option Stop → Printed → Type 0
-RunShows options texts transcripts stop printed =
+-- the line of the first reply that is not as the texts expect, if that is asked and there is one
+abbrev pub IsUnmet : Bool → List (List ℕ × List Row) → Option (List ℕ) → Type 0
+IsUnmet false threads line = line ≡ None
+IsUnmet true threads None = All IsAsExpected threads
+IsUnmet true threads (Some line) = IsFirstUnmetLine threads line
+
+-- a line without its line feed
+abbrev pub without_feed : List ℕ → List ℕ
+without_feed line = take (length line - 1) line
+
+-- what is printed in JSON of a run of the scripts of these texts, with these rows and granted turns
+abbrev pub JsonShows : Bool → List (List ℕ) → List (List Row) → List HistoryRow → Option Stop
+    → Printed → Type 0
+JsonShows expect texts transcripts rows stop printed =
+    (line : Option (List ℕ)) × IsUnmet expect (zip texts transcripts) line
+    × (printed
+    ≡ run_json (answered_calls 0 texts rows transcripts) stop (option_map without_feed line))
+
+-- what is printed in the view that is asked
+abbrev pub ViewShows : RunOptions → List (List ℕ) → List (List Row) → Option Stop → Printed → Type 0
+ViewShows options texts transcripts stop printed =
     (run : Printed) × IsViewed options.view transcripts stop run
     × HeldShows options.expect (zip texts transcripts) run printed
+
+-- what goes to standard output for a run of the scripts of these texts: with true in JSON, with
+-- false in the view that is asked
+abbrev pub RunHeld : Bool → RunOptions → List (List ℕ) → List (List Row) → List HistoryRow
+    → Option Stop → Printed → Type 0
+RunHeld true options texts transcripts rows stop printed =
+    JsonShows options.expect texts transcripts rows stop printed
+RunHeld false options texts transcripts rows stop printed =
+    ViewShows options texts transcripts stop printed
+
+-- with the lines on standard error that say why it stopped, where they are asked
+abbrev pub IsExplained : Bool → (List ℕ → Type 0) → Printed → Printed → Type 0
+IsExplained false Reason shown printed = printed ≡ shown
+IsExplained true Reason shown printed =
+    (lines : List ℕ) × Reason lines × (printed ≡ record shown { errors = lines })
+
+-- what is printed for a run of the scripts of these texts, by the log in this text or by none
+abbrev pub RunShows : RunOptions → List (List ℕ) → List (List Row) → List HistoryRow
+    → Option (List ℕ) → Option Stop → Printed → Type 0
+RunShows options texts transcripts rows log stop printed =
+    (shown : Printed) × RunHeld options.json options texts transcripts rows stop shown
+    × IsExplained options.why (IsReason texts transcripts rows log stop) shown printed

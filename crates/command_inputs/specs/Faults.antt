@@ -1,6 +1,6 @@
 -- Believed: a contract of a command stands on it.
 -- What is printed for what the commands are given, where it is at fault.
-use Rattle.std.specs.Prelude.{◌≡◌, ℕ, codes}
+use Rattle.std.specs.Prelude.{ℕ, codes}
 use Rattle.std.specs.Fmt.{decimal}
 use Rattle.input_log.specs.Faults.{bad_magic, bad_record, bad_version, torn}
 use Rattle.input_log.specs.declared.fault.LogFault.{LogFault}

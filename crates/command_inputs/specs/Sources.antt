@@ -4,7 +4,6 @@ use Rattle.std.specs.Prelude.{◌≡◌, ◌⊎◌, ℕ, true, false, List, leng
 use Rattle.call_machine.specs.Plain.{counts_fit}
 use Rattle.command_texts.specs.Printing.{cannot_read, needs_scripts}
 use Rattle.command_texts.specs.Reading.{AreTexts, IsFirstUnread}
-use Rattle.command_texts.specs.declared.printed.Printed.{Printed}
 use Rattle.command_inputs.specs.declared.sources.SourceTexts.{SourceTexts}
 use Rattle.command_inputs.specs.declared.sources.SourceTexts.TheVariants as texts
 

@@ -1,26 +1,81 @@
-ghost use Rattle.std.specs.Prelude.{All, IfOk, MatchOption};
+ghost use Rattle.std.specs.Prelude.{◌≡◌, All, IfOk, MatchOption, option_copied};
 ghost use Rattle.std.specs.List.{zip};
-ghost use Rattle.command_inputs.specs.Expects.{IsAsExpected, IsFirstUnmetLine, IsUnmetLine, RunShows};
+ghost use Rattle.command_inputs.specs.Expects.{IsAsExpected, IsFirstUnmetLine, IsUnmet};
+ghost use Rattle.command_inputs.specs.Expects.{IsUnmetLine, JsonShows, RunHeld, RunShows};
+ghost use Rattle.command_inputs.specs.Expects.{ViewShows, without_feed};
 
 use crate::settings::RunOptions;
+use answered_calls::answered_calls;
 use call_machine::Stop;
 use command_texts::{Printed, unmet_line, with_unmet};
 use expectations::{Unmet, expectations_of, first_unmet};
-use posix_terms::{Bytes, Row, Transcript, Transcripts};
+use json_views::run_json;
+use posix_terms::{Bytes, PackedRow, Row, Transcript, Transcripts};
 use run_views::run_viewed;
 use std::alloc::{AllocError, Global};
+use stop_reasons::{StoppedRun, stop_reason};
 use thread_scripts::parse;
 
 /// What is to be printed for a run of the scripts of these texts: its transcripts, in the view that
 /// is asked, and how it ended and, if that is asked, the first reply that is not as they expect.
+/// The rows are the granted turns of the run, in their order, and the log is that from which its
+/// outcomes came.
 pub fn run_shown(
+    alloc: Global,
+    options: RunOptions,
+    texts: &[Bytes],
+    transcripts: &Transcripts,
+    rows: &[PackedRow],
+    log: Option<&[u8]>,
+    stop: Option<Stop>,
+) -> Result<Printed, AllocError>
+    ensures { IfOk result (
+        RunShows options texts.now transcripts.now rows.now (option_copied log.entry) stop) }
+{
+    let shown = run_held(alloc, options, texts, transcripts, rows, stop)?;
+    if !options.why {
+        return Ok(shown);
+    }
+    let run = StoppedRun {
+        texts,
+        transcripts,
+        rows,
+        log,
+    };
+    let reason = stop_reason(alloc, run, stop)?;
+    Ok(Printed {
+        errors: Bytes::from_vec(reason),
+        ..shown
+    })
+}
+
+// What is to be printed on standard output: the run, held to what the texts expect if that is asked.
+fn run_held(
+    alloc: Global,
+    options: RunOptions,
+    texts: &[Bytes],
+    transcripts: &Transcripts,
+    rows: &[PackedRow],
+    stop: Option<Stop>,
+) -> Result<Printed, AllocError>
+    ensures { IfOk result (
+        RunHeld options.json options texts.now transcripts.now rows.now stop) }
+{
+    if options.json {
+        return json_held(alloc, options.expect, texts, transcripts, rows, stop);
+    }
+    view_held(alloc, options, texts, transcripts, stop)
+}
+
+// The run in the view that is asked.
+fn view_held(
     alloc: Global,
     options: RunOptions,
     texts: &[Bytes],
     transcripts: &Transcripts,
     stop: Option<Stop>,
 ) -> Result<Printed, AllocError>
-    ensures { IfOk result (RunShows options texts.now transcripts.now stop) }
+    ensures { IfOk result (ViewShows options texts.now transcripts.now stop) }
 {
     let run = run_viewed(alloc, options.view, transcripts, stop)?;
     if !options.expect {
@@ -30,6 +85,46 @@ pub fn run_shown(
         Some(line) => with_unmet(run, &line),
         None => Ok(run),
     }
+}
+
+// The run in JSON.
+fn json_held(
+    alloc: Global,
+    expect: bool,
+    texts: &[Bytes],
+    transcripts: &Transcripts,
+    rows: &[PackedRow],
+    stop: Option<Stop>,
+) -> Result<Printed, AllocError>
+    ensures { IfOk result (JsonShows expect texts.now transcripts.now rows.now stop) }
+{
+    let calls = answered_calls(alloc, texts, transcripts, rows)?;
+    match unmet_if_asked(alloc, expect, texts, transcripts)? {
+        Some(line) => run_json(alloc, &calls, stop, Some(without_feed(line.as_slice()))),
+        None => run_json(alloc, &calls, stop, None),
+    }
+}
+
+// The line of the first reply that is not as the texts expect, if that is asked.
+fn unmet_if_asked(
+    alloc: Global,
+    expect: bool,
+    texts: &[Bytes],
+    transcripts: &Transcripts,
+) -> Result<Option<Bytes>, AllocError>
+    ensures { IfOk result (IsUnmet expect (zip texts.now transcripts.now)) }
+{
+    if !expect {
+        return Ok(None);
+    }
+    first_unmet_line(alloc, texts, transcripts.threads())
+}
+
+// A line without its line feed.
+fn without_feed(line: &[u8]) -> &[u8]
+    ensures { result.now ≡ without_feed line.now }
+{
+    &line[..line.len().saturating_sub(1)]
 }
 
 /// The line of the first thread that saw something else than its text expects, if there is one.

@@ -8,6 +8,10 @@ use run_views::View;
 pub struct RunOptions {
     /// What of it is printed, and in which order.
     pub view: View,
+    /// Whether it is printed in JSON, one object a line, whatever the view.
+    pub json: bool,
+    /// Whether it is said on standard error why it stopped.
+    pub why: bool,
     /// Whether the replies are held to what the texts of the scripts expect.
     pub expect: bool,
 }

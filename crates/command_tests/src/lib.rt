@@ -14,6 +14,8 @@ mod generated;
 #[cfg(test)]
 mod hosts;
 #[cfg(test)]
+mod json_lines;
+#[cfg(test)]
 mod listed;
 #[cfg(test)]
 mod logs;

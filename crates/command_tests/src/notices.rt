@@ -39,6 +39,7 @@ fn run(rt: &(impl Threads + Wait + Sync), log: LogFile<'_>, notices: File) -> io
         run: with_turns(false),
         in_turn: false,
         pause: Duration::from_millis(300),
+        follow: false,
     };
     let mut output: Vec<u8> = Vec::new(alloc);
     let mut errors: Vec<u8> = Vec::new(alloc);

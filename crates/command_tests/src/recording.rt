@@ -69,6 +69,7 @@ fn options(settings: Settings) -> RecordOptions {
         run: with_turns(true),
         in_turn: false,
         pause: Duration::from_secs(2),
+        follow: false,
     }
 }
 

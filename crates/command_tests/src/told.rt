@@ -1,7 +1,6 @@
 use crate::devices::{Sources, Text};
-use commands::{
-    RunOptions, Source, View, compare_over, plain_over, replay_over, replay_threads_over, show_over,
-};
+use commands::{RunOptions, Source, View, plain_over, replay_over, replay_threads_over, show_over};
+use compare_commands::{CompareOptions, compare_over};
 use posix_terms::Settings;
 use std::alloc::Global;
 use std::io;
@@ -65,6 +64,8 @@ pub(crate) fn with_turns(turns: bool) -> RunOptions {
             turns,
             ..View::default()
         },
+        json: false,
+        why: false,
         expect: false,
     }
 }
@@ -129,7 +130,16 @@ pub(crate) fn compare<'a>(
     let other = log_at("b.log", other);
     let mut output: Vec<u8> = Vec::new(alloc);
     let mut errors: Vec<u8> = Vec::new(alloc);
-    let status = compare_over(alloc, log, other, scripts, &mut output, &mut errors);
+    let options = CompareOptions::default();
+    let status = compare_over(
+        alloc,
+        options,
+        log,
+        other,
+        scripts,
+        &mut output,
+        &mut errors,
+    );
     Told::new(status, output, errors)
 }
 
@@ -137,6 +147,6 @@ pub(crate) fn compare<'a>(
 pub(crate) fn show(alloc: Global, log: Text<'_>) -> io::Result<Told> {
     let mut output: Vec<u8> = Vec::new(alloc);
     let mut errors: Vec<u8> = Vec::new(alloc);
-    let status = show_over(alloc, log_at("a.log", log), &mut output, &mut errors);
+    let status = show_over(alloc, false, log_at("a.log", log), &mut output, &mut errors);
     Told::new(status, output, errors)
 }

@@ -57,7 +57,7 @@ fn upgrade<'a>(
     let mut output: Vec<u8> = Vec::new(alloc);
     let mut errors: Vec<u8> = Vec::new(alloc);
     let log = log_at("a.log", log);
-    let upgraded = upgrade_over(alloc, log, out, scripts, &mut output, &mut errors);
+    let upgraded = upgrade_over(alloc, false, log, out, scripts, &mut output, &mut errors);
     Done::new(upgraded, output, errors)
 }
 

@@ -1,8 +1,9 @@
 pub mod Plains
 pub mod Shows
 pub mod Tells
+pub mod TurnsKept
+pub mod Ran
 pub mod Replays
-pub mod Compares
 pub mod Records
 pub mod Upgrades
 pub mod Makes

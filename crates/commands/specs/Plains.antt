@@ -1,6 +1,7 @@
 -- Believed: a contract of a command stands on it.
 -- What `detio plain` prints for the scripts that it reads.
-use Rattle.std.specs.Prelude.{◌≡◌, ℕ, Bool, true, false, replicate, List, [], length, Option}
+use Rattle.std.specs.Prelude.{◌≡◌, ℕ, Bool, true, false, replicate, List, [], length}
+use Rattle.std.specs.Prelude.{Option, None}
 use Rattle.posix_terms.specs.declared.transcript.Settings.{Settings}
 use Rattle.thread_scripts.specs.declared.line.Line.{Line}
 use Rattle.call_machine.specs.Plain.{IsPlainRun}
@@ -26,7 +27,7 @@ abbrev pub RunPrints : Bool → RunOptions → List (List ℕ) → Inputs → Pr
 RunPrints false options texts input printed = printed ≡ bad_settings
 RunPrints true options texts input printed =
     (plain : Plain) × IsPlainRun input plain
-    × RunShows options texts plain.transcripts plain.stop printed
+    × RunShows options texts plain.transcripts plain.history.rows None plain.stop printed
 
 -- what is printed for what is to be run of them
 abbrev pub ToRunPrints : Settings → RunOptions → List (List ℕ) → ToRun → Printed → Type 0

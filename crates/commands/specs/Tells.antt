@@ -1,18 +1,14 @@
 -- Believed: a contract of a command stands on it.
 -- What is told of the replay of a log with scripts.
-use Rattle.std.specs.Prelude.{◌≡◌, ◌⊎◌, ℕ, List, length, map, Option, Some, None, Result, Ok, Err}
-use Rattle.logged_machine.specs.declared.stop.Stop.{Stop}
+use Rattle.std.specs.Prelude.{◌≡◌, ℕ, List, length, Option, Some, None, Result, Ok, Err}
 use Rattle.logged_machine.specs.declared.stop.Stop.TheVariants as stops
 use Rattle.input_log.specs.Fronts.{IsFront}
 use Rattle.input_log.specs.declared.log.LogText.{LogText}
-use Rattle.replayer.specs.Replay.{IsNoReplay, Replays}
-use Rattle.replayer.specs.Threads.{AtEnd, IsReplayedBy}
+use Rattle.replayer.specs.Replay.{Replays}
 use Rattle.replayer.specs.declared.fault.ReplayFault.{ReplayFault}
 use Rattle.replayer.specs.declared.fault.ReplayFault.TheVariants as replay_fault
 use Rattle.replayer.specs.declared.replayed.Replayed.{Replayed}
 use Rattle.thread_scripts.specs.Faults.{Fault}
-use Rattle.thread_scripts.specs.Meaning.{start_of}
-use Rattle.thread_scripts.specs.declared.actor.ScriptState.{ScriptState}
 use Rattle.thread_scripts.specs.declared.line.Line.{Line}
 use Rattle.command_texts.specs.Printing.{no_memory, script_fault}
 use Rattle.command_texts.specs.declared.printed.Printed.{Printed}
@@ -40,18 +36,6 @@ AnswerTells text count (Err fault) told = FaultTells text count fault told
 -- the replay of a text with these scripts is told
 abbrev pub RunTells : List ℕ → List (List Line) → Told → Type 0
 RunTells text scripts told = (answer : Result Replayed ReplayFault) × Replays text scripts answer × AnswerTells text (length scripts) answer told
-
--- a replay by threads of a text with these scripts: what stands at its end, and why it stopped
-pub record IsByThreads (text : List ℕ) (scripts : List (List Line)) (last : AtEnd ScriptState) (stop : Option Stop) : Type 0 where
-  pub taken : List ℕ
-  pub failures : ℕ
-  pub run : IsReplayedBy (λ s. s) text (map start_of scripts) last taken failures stop
-
--- the same is told of a replay by threads
-abbrev pub ThreadsTell : List ℕ → List (List Line) → Told → Type 0
-ThreadsTell text scripts told =
-    ((last : AtEnd ScriptState) × (stop : Option Stop) × IsByThreads text scripts last stop × (told ≡ tells.Run last.transcripts stop))
-    ⊎ ((fault : ReplayFault) × IsNoReplay text (length scripts) fault × FaultTells text (length scripts) fault told)
 
 -- what is told of scripts, or of the first fault among them
 abbrev pub ScriptsTell : List ℕ → Result (List (List Line)) (ℕ × Fault) → Told → Type 0

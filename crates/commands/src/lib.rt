@@ -1,5 +1,5 @@
-//! What the commands `plain`, `record`, `replay`, `compare`, `show`, `make` and `upgrade` do, over
-//! any readers and writers, for the program `detio` and for its tests.
+//! What the commands `plain`, `record`, `replay`, `show`, `make` and `upgrade` do, over any readers
+//! and writers, for the program `detio` and for its tests.
 //!
 //! Each command is a function, as [`plain_over`]: it reads its [`Source`]s, writes what the command
 //! prints to two writers, and answers the exit status. Its contract says what is printed for which
@@ -10,7 +10,8 @@
 //! [`what_is_shown_is_made`] the second is the inverse of [`show_over`]. [`DEFAULTS`] are the
 //! settings where no option says otherwise. [`RunOptions`] have the [`View`] in which a run is
 //! printed, and by them it is held to what the texts of its scripts expect: a bad expectation is a
-//! fault, and the first unmet one has a line after the run's own last one.
+//! fault, and the first unmet one has a line after the run's own last one. [`told_of`] replays for a
+//! command that prints something else of what the threads saw.
 //!
 //! ```rust
 //! use commands::{DEFAULTS, RunOptions, Source, View, plain_over};
@@ -24,6 +25,8 @@
 //! let mut errors: Vec<u8> = Vec::new(alloc);
 //! let options = RunOptions {
 //!     view: View::default(),
+//!     json: false,
+//!     why: true,
 //!     expect: true,
 //! };
 //! let status = plain_over(alloc, DEFAULTS, options, sources, &mut output, &mut errors)?;
@@ -34,9 +37,9 @@
 //! ```
 #![tactic(auto)]
 
-mod compare;
 mod make;
 mod plain;
+mod ran;
 mod record;
 mod replay;
 mod show;
@@ -47,10 +50,10 @@ pub use command_inputs::{DEFAULTS, RunOptions, View, settings_of};
 pub use command_texts::{
     LARGEST_FILE, Source, SourceFault, TextReader, cannot_write, no_memory, print, read_once,
 };
-pub use compare::compare_over;
 pub use make::{LogMade, make_over, what_is_shown_is_made};
 pub use plain::plain_over;
 pub use record::{LogTo, NewLog, NotCreated, RecordOptions, Recorded, log_sink, record_over};
 pub use replay::{replay_over, replay_threads_over};
 pub use show::show_over;
+pub use told::{Told, told_of};
 pub use upgrade::{NewFile, OutFile, Upgraded, upgrade_over};

@@ -88,7 +88,18 @@ fn scripts_run(
 {
     let outcomes = no_outcomes(alloc, scripts.len())?;
     match plain_run(alloc, scripts, outcomes, settings) {
-        Ok(plain) => run_shown(alloc, options, texts, &plain.transcripts, plain.stop),
+        Ok(plain) => {
+            let rows = plain.history.rows();
+            run_shown(
+                alloc,
+                options,
+                texts,
+                &plain.transcripts,
+                rows,
+                None,
+                plain.stop,
+            )
+        }
         Err(PlainFault::Memory) => Err(AllocError),
         Err(PlainFault::Threads) => unreachable!(),
         Err(PlainFault::Settings) => bad_settings(alloc),

@@ -1,10 +1,10 @@
 ghost use Rattle.std.specs.Prelude.{◌≡◌, IfOk, map};
 ghost use Rattle.command_texts.specs.Printing.{Prints};
 ghost use Rattle.commands.specs.Replays.{ReplayPrints, TextsReplay};
-ghost use Rattle.commands.specs.Replays.{ToldPrints};
-ghost use Rattle.commands.specs.Tells.{RunTells, ThreadsTell};
+ghost use Rattle.commands.specs.Replays.{RanPrints};
+ghost use Rattle.commands.specs.Ran.{RunRan, ThreadsRan};
 
-use crate::told::{Told, run_told, threads_told};
+use crate::ran::{Ran, run_ran, threads_ran};
 use command_inputs::{RunOptions, ToReplay, ToRun, run_shown, to_replay, to_run};
 use command_texts::{Printed, Source, TextReader, no_memory, print};
 use posix_terms::Bytes;
@@ -29,7 +29,7 @@ pub fn replay_over<R: TextReader + Drop, W: Write, E: Write>(
 ) -> io::Result<u8>
     ensures { IfOk result (λ status.
         Prints
-        (ReplayPrints RunTells options
+        (ReplayPrints RunRan options
         (log.entry.path.now, R.remaining log.entry.reader)
         (map (λ s. (s.path.now, R.remaining s.reader)) sources.entry.items))
         status (W.contents output.old) (W.contents output.new)
@@ -53,7 +53,7 @@ pub fn replay_threads_over<R: TextReader + Drop, W: Write, E: Write, T: Threads 
 ) -> io::Result<u8>
     ensures { IfOk result (λ status.
         Prints
-        (ReplayPrints ThreadsTell options
+        (ReplayPrints ThreadsRan options
         (log.entry.path.now, R.remaining log.entry.reader)
         (map (λ s. (s.path.now, R.remaining s.reader)) sources.entry.items))
         status (W.contents output.old) (W.contents output.new)
@@ -73,7 +73,7 @@ fn replay_printed<R: TextReader + Drop>(
     sources: Vec<Source<'_, R>>,
 ) -> Result<Printed, AllocError>
     ensures { IfOk result (
-        ReplayPrints RunTells options
+        ReplayPrints RunRan options
         (log.entry.path.now, R.remaining log.entry.reader)
         (map (λ s. (s.path.now, R.remaining s.reader)) sources.entry.items)) }
 {
@@ -92,7 +92,7 @@ fn replay_threads_printed<R: TextReader + Drop, T: Threads + Wait + Sync>(
     sources: Vec<Source<'_, R>>,
 ) -> Result<Printed, AllocError>
     ensures { IfOk result (
-        ReplayPrints ThreadsTell options
+        ReplayPrints ThreadsRan options
         (log.entry.path.now, R.remaining log.entry.reader)
         (map (λ s. (s.path.now, R.remaining s.reader)) sources.entry.items)) }
 {
@@ -109,12 +109,12 @@ fn texts_replayed(
     log: &Bytes,
     texts: &[Bytes],
 ) -> Result<Printed, AllocError>
-    ensures { IfOk result (TextsReplay RunTells options log.now texts.now) }
+    ensures { IfOk result (TextsReplay RunRan options log.now texts.now) }
 {
     match to_run(alloc, options.expect, texts)? {
         ToRun::Scripts(scripts) => {
-            let told = run_told(alloc, log.as_slice(), scripts)?;
-            told_printed(alloc, options, texts, told)
+            let ran = run_ran(alloc, log.as_slice(), scripts)?;
+            ran_printed(alloc, options, log, texts, ran)
         }
         ToRun::Fault(printed) => Ok(printed),
     }
@@ -128,28 +128,33 @@ fn texts_replayed_by_threads<T: Threads + Wait + Sync>(
     log: &Bytes,
     texts: &[Bytes],
 ) -> Result<Printed, AllocError>
-    ensures { IfOk result (TextsReplay ThreadsTell options log.now texts.now) }
+    ensures { IfOk result (TextsReplay ThreadsRan options log.now texts.now) }
 {
     match to_run(alloc, options.expect, texts)? {
         ToRun::Scripts(scripts) => {
-            let told = threads_told(rt, alloc, log.as_slice(), scripts)?;
-            told_printed(alloc, options, texts, told)
+            let ran = threads_ran(rt, alloc, log.as_slice(), scripts)?;
+            ran_printed(alloc, options, log, texts, ran)
         }
         ToRun::Fault(printed) => Ok(printed),
     }
 }
 
-// What is to be printed for what is told of a replay.
-fn told_printed(
+// What is to be printed for what came of a replay.
+fn ran_printed(
     alloc: Global,
     options: RunOptions,
+    log: &Bytes,
     texts: &[Bytes],
-    told: Told,
+    ran: Ran,
 ) -> Result<Printed, AllocError>
-    ensures { IfOk result (ToldPrints options texts.now told) }
+    ensures { IfOk result (RanPrints options log.now texts.now ran) }
 {
-    match told {
-        Told::Run(transcripts, stop) => run_shown(alloc, options, texts, &transcripts, stop),
-        Told::Fault(printed) => Ok(printed),
+    match ran {
+        Ran::Run(run) => {
+            let rows = run.history.rows();
+            let log = Some(log.as_slice());
+            run_shown(alloc, options, texts, &run.transcripts, rows, log, run.stop)
+        }
+        Ran::Fault(printed) => Ok(printed),
     }
 }

@@ -1,30 +1,27 @@
 ghost use Rattle.std.specs.Prelude.{◌≡◌, IfOk};
 ghost use Rattle.command_texts.specs.Reading.{scripts_from};
 ghost use Rattle.commands.specs.Tells.{FaultTells, RunTells, ScriptsTell, ThreadsPrint};
-ghost use Rattle.commands.specs.Tells.{ThreadsTell};
 
-use crate::record::actors;
 use call_machine::Stop;
 use command_inputs::{no_log, threads_line};
 use command_texts::{FirstFault, Printed, bad_line, scripts, too_long};
 use input_log::decode_front;
 use posix_terms::{Bytes, Transcripts};
-use replayer::{ReplayFault, replay, replay_threads};
+use replayer::{ReplayFault, replay};
 use std::alloc::{AllocError, Global};
-use std::sync::Wait;
-use std::thread::Threads;
 use thread_scripts::Script;
 
-// What is told of a replay.
+/// What came of a replay.
 #[derive(Debug, Drop)]
 pub enum Told {
-    // What each thread saw as far as the run came, and why it stopped, if it did.
+    /// What each thread saw as far as the run came, and why it stopped, if it did.
     Run(Transcripts, Option<Stop>),
-    // There was no run: what is printed in its place.
+    /// There was no run: what is printed in its place.
     Fault(Printed),
 }
 
-// What is told of the replay of a log with the scripts of these texts.
+/// What came of the replay of a log with the scripts of these texts, or what is printed for the first
+/// fault among them, or of the log. It fails only where there is no memory.
 pub fn told_of(alloc: Global, log: &Bytes, texts: &[Bytes]) -> Result<Told, AllocError>
     ensures { IfOk result (ScriptsTell log.now (scripts_from 0 texts.now)) }
 {
@@ -37,30 +34,13 @@ pub fn told_of(alloc: Global, log: &Bytes, texts: &[Bytes]) -> Result<Told, Allo
 }
 
 // What is told of the replay of a log with these scripts.
-pub fn run_told(alloc: Global, log: &[u8], scripts: Vec<Script>) -> Result<Told, AllocError>
+fn run_told(alloc: Global, log: &[u8], scripts: Vec<Script>) -> Result<Told, AllocError>
     ensures { IfOk result (RunTells log.now scripts.items) }
 {
     let count = scripts.len();
     match replay(alloc, log, scripts) {
         Ok(replayed) => Ok(Told::Run(replayed.transcripts, None)),
         Err(fault) => fault_told(alloc, log, count, fault),
-    }
-}
-
-// What is told of the replay of a log with these scripts, each in a thread of its own.
-pub fn threads_told<T: Threads + Wait + Sync>(
-    rt: &T,
-    alloc: Global,
-    log: &[u8],
-    scripts: Vec<Script>,
-) -> Result<Told, AllocError>
-    ensures { IfOk result (ThreadsTell log.now scripts.items) }
-{
-    let count = scripts.len();
-    let actors = actors(alloc, scripts)?;
-    match replay_threads(rt, alloc, log, actors) {
-        Ok(ended) => Ok(Told::Run(ended.transcripts, ended.stop)),
-        Err(refused) => fault_told(alloc, log, count, refused.fault),
     }
 }
 
@@ -88,7 +68,7 @@ pub fn fault_told(
 }
 
 // The log is of another number of threads than there are scripts: that number is read again.
-fn other_threads(alloc: Global, log: &[u8], scripts: usize) -> Result<Printed, AllocError>
+pub fn other_threads(alloc: Global, log: &[u8], scripts: usize) -> Result<Printed, AllocError>
     ensures { IfOk result (ThreadsPrint log.now scripts) }
 {
     match decode_front(alloc, log) {

@@ -81,7 +81,15 @@ is \" or \\, and else hexadecimal digits, - for none; a path with such a byte is
 --by-turn the rows of all threads are printed in the order of their turns, and not thread by thread:
   1 0 open number 0
   0 0 open number 1
-Each goes with the others. The first fault goes to standard error, on one line.
+With --lanes they have that order too, and a column for each thread. Each goes with the others.
+
+With --json each line is an object instead: for a call that was answered
+  {\"arguments\":{\"count\":1,\"descriptor\":0},\"blocked\":5,\"call\":\"read\",\"clock\":28,\"line\":2,
+   \"outcome\":null,\"reply\":{\"data\":\"7a\"},\"row\":0,\"thread\":1}
+on one line, where line is that of the script's text, blocked is at how many turns the call was blocked, and
+outcome the number of the record that came for it; and a last one, which says how the run ended.
+
+The first fault goes to standard error, on one line.
 
 A script is ASCII text, one of these a line. Lines that are empty or start with # do nothing.
 
@@ -398,10 +406,11 @@ The last line is end where all threads came to their end, or one of
   stop strayed                  what the threads noted is not what the history says: a fault of this program
 after which the lines before are what each thread saw until then.
 
-With --expect replies are held to the lines #= of the scripts, and --turns, --calls and --by-turn
-say what is printed of the rows, as detio plain --help says:
+With --expect replies are held to the lines #= of the scripts, and --turns, --calls, --by-turn, --lanes and
+--json say what is printed of the rows, as detio plain --help says:
   0 1 write 0 \"hi\" = count 2
-The log is the same.
+The log is the same. With --follow each row is printed on standard error too, with its clock and what was
+asked, once its call has a reply.
 
 Exit statuses:
   0  all threads came to their end
@@ -459,9 +468,12 @@ What is not a log, and a log of another number of threads, has one line on stand
   log: torn at 0 after 0 records
   log has COUNT threads, COUNT scripts given
 
-With --expect replies are held to the lines #= of the scripts, and --turns, --calls and --by-turn
-say what is printed of the rows, as detio plain --help says. With all three a row is
+With --expect replies are held to the lines #= of the scripts, and --turns, --calls, --by-turn, --lanes and
+--json say what is printed of the rows, as detio plain --help says. With --turns and --calls a row is
   0 1 105 open /b rw create = number 0
+With --why two lines follow on standard error where a replay stops: what was asked, and what the log has:
+  line 2 of script 0 asked at 105: lseek 0 0 set
+  the log has: 0 1 write ok 3 -
 
 Exit statuses:
   0  all threads came to their end, and every record was used
@@ -494,8 +506,18 @@ by row: the call, the turn with its clock, and the reply. One line is printed:
 
 Both are counted from 0. Where one log gave a thread fewer rows, it is the row after the last of these. A
 replay that stops, at the end of its log or where it diverges, is compared as far as it came, and why it
-stopped is not: detio replay says that. So a log that was cut off is compared with the whole one. A log has at
+stopped is not: --rows says that. So a log that was cut off is compared with the whole one. A log has at
 most 16777216 bytes.
+
+With --rows more lines follow. After differs come up to three rows of the thread before the one that
+differs, which are the same by both logs; then that row by the log of --log, after <, and by that of
+--with, after >. A row has its clock and what its call was asked, as by detio replay --turns --calls. Where
+a log gave none, - stands after the number of the row. The last two lines, after < and >, are the last lines
+of the two replays: end, or stop and why.
+
+With --no-turns the call and the reply are compared alone, and --rows prints no clocks. So runs in which
+clocks alone moved are the same, as those recorded with another --door-cost. Where one thread had another
+reply and so kept others waiting, it finds that reply, and not the first turn that came later.
 
 What cannot be replayed has one line on standard error, as by detio replay: first for the log of --log, then
 for that of --with.
@@ -513,10 +535,14 @@ const COMPARE_AFTER_HELP: &str = "Example:
   cp there.log missing.log
   printf '\\0\\0\\0\\0\\0\\0\\0\\0\\0\\0\\0' >> there.log
   printf '\\12\\0\\0\\0\\0\\0\\0\\0\\0\\0\\0' >> missing.log
-  detio compare --log there.log --with missing.log open.script
+  detio compare --log there.log --with missing.log --rows open.script
 
 prints
   differs 0 0
+  < 0 0 1 host_open notes r = number 0
+  > 0 0 1 host_open notes r = fail ENOENT
+  < end
+  > end
 since the file was there in one run, and not in the other.";
 
 const SHOW_ABOUT: &str = "Prints a log";
@@ -534,6 +560,9 @@ What is not a log has one line on standard error, for its first fault:
   log: bad version
   log: bad record at PLACE
   log: torn at PLACE after COUNT records
+
+With --json each line is an object instead: the header, one for each record, and one that says how the log
+ends.
 
 A place is counted in bytes from 0. Where a log is torn after its header, the first line and the lines of
 the records before the tear are printed on standard output. A file of more than 16777216 bytes cannot be
@@ -651,18 +680,27 @@ pub(crate) fn command<'a>(alloc: Global) -> Result<Command<'a>, AllocError> {
 
 fn subcommands<'a>(alloc: Global) -> Result<Vec<Command<'a>>, AllocError> {
     let mut subcommands = Vec::new(alloc);
-    subcommands.push(check(alloc)?)?;
-    subcommands.push(plain(alloc)?)?;
-    subcommands.push(explore(alloc)?)?;
-    subcommands.push(faults(alloc)?)?;
-    subcommands.push(minimise(alloc)?)?;
-    subcommands.push(record(alloc)?)?;
-    subcommands.push(replay(alloc)?)?;
-    subcommands.push(compare(alloc)?)?;
-    subcommands.push(show(alloc)?)?;
-    subcommands.push(make(alloc)?)?;
-    subcommands.push(upgrade(alloc)?)?;
+    subcommands.push(with_why(alloc, check(alloc)?)?)?;
+    subcommands.push(with_why(alloc, plain(alloc)?)?)?;
+    subcommands.push(with_why(alloc, explore(alloc)?)?)?;
+    subcommands.push(with_why(alloc, faults(alloc)?)?)?;
+    subcommands.push(with_why(alloc, minimise(alloc)?)?)?;
+    subcommands.push(with_why(alloc, record(alloc)?)?)?;
+    subcommands.push(with_why(alloc, replay(alloc)?)?)?;
+    subcommands.push(with_why(alloc, compare(alloc)?)?)?;
+    subcommands.push(with_why(alloc, show(alloc)?)?)?;
+    subcommands.push(with_why(alloc, make(alloc)?)?)?;
+    subcommands.push(with_why(alloc, upgrade(alloc)?)?)?;
     Ok(subcommands)
+}
+
+// A subcommand that may say why the host refused something.
+fn with_why<'a>(alloc: Global, command: Command<'a>) -> Result<Command<'a>, AllocError> {
+    let why = Arg::new(alloc, "why")
+        .long("why")
+        .action(ArgAction::SetTrue)
+        .help("Adds after a fault why the host refused, or why a run stopped");
+    command.arg(why)
 }
 
 // The program with no subcommand.
@@ -924,6 +962,7 @@ fn record<'a>(alloc: Global) -> Result<Command<'a>, AllocError> {
     );
     let command = command.arg(log)?.arg(log_version(alloc))?.arg(force)?;
     let command = command.arg(wait(alloc))?.arg(in_turn(alloc))?;
+    let command = command.arg(follow(alloc))?;
     with_door_cost(alloc, command.arg(patience)?)
 }
 
@@ -959,6 +998,13 @@ fn in_turn<'a>(alloc: Global) -> Arg<'a> {
         .help("Makes the calls to the outside in the order of their turns")
 }
 
+fn follow<'a>(alloc: Global) -> Arg<'a> {
+    Arg::new(alloc, "follow")
+        .long("follow")
+        .action(ArgAction::SetTrue)
+        .help("Prints each row on standard error too, once its call has a reply")
+}
+
 fn replay<'a>(alloc: Global) -> Result<Command<'a>, AllocError> {
     let log = log(alloc, "The log to replay; - is standard input");
     let command = described(
@@ -988,12 +1034,30 @@ fn compare<'a>(alloc: Global) -> Result<Command<'a>, AllocError> {
         COMPARE_LONG_ABOUT,
         COMPARE_AFTER_HELP,
     );
-    command.arg(log)?.arg(with)?.arg(scripts(alloc))
+    let command = command.arg(log)?.arg(with)?;
+    let command = command.arg(rows(alloc))?.arg(no_turns(alloc))?;
+    command.arg(scripts(alloc))
+}
+
+fn rows<'a>(alloc: Global) -> Arg<'a> {
+    Arg::new(alloc, "rows")
+        .long("rows")
+        .action(ArgAction::SetTrue)
+        .help("Prints the rows that differ, those before, and how each replay ended")
+}
+
+fn no_turns<'a>(alloc: Global) -> Arg<'a> {
+    Arg::new(alloc, "no-turns")
+        .long("no-turns")
+        .action(ArgAction::SetTrue)
+        .help("Compares calls and replies alone, whatever the clocks of their turns")
 }
 
 fn show<'a>(alloc: Global) -> Result<Command<'a>, AllocError> {
     let log = log(alloc, "The log to print; - is standard input");
-    described(alloc, "show", SHOW_ABOUT, SHOW_LONG_ABOUT, SHOW_AFTER_HELP).arg(log)
+    described(alloc, "show", SHOW_ABOUT, SHOW_LONG_ABOUT, SHOW_AFTER_HELP)
+        .arg(log)?
+        .arg(json(alloc))
 }
 
 fn make<'a>(alloc: Global) -> Result<Command<'a>, AllocError> {
@@ -1028,7 +1092,11 @@ fn upgrade<'a>(alloc: Global) -> Result<Command<'a>, AllocError> {
 // A subcommand that runs scripts.
 fn with_scripts<'a>(alloc: Global, command: Command<'a>) -> Result<Command<'a>, AllocError> {
     let command = command.arg(turns(alloc))?.arg(calls(alloc))?;
-    let command = command.arg(by_turn(alloc))?.arg(expect(alloc))?;
+    let command = command
+        .arg(by_turn(alloc))?
+        .arg(lanes(alloc))?
+        .arg(json(alloc))?;
+    let command = command.arg(expect(alloc))?;
     command.arg(scripts(alloc))
 }
 
@@ -1074,6 +1142,20 @@ fn by_turn<'a>(alloc: Global) -> Arg<'a> {
         .long("by-turn")
         .action(ArgAction::SetTrue)
         .help("Prints the rows of all threads in the order of their turns")
+}
+
+fn json<'a>(alloc: Global) -> Arg<'a> {
+    Arg::new(alloc, "json")
+        .long("json")
+        .action(ArgAction::SetTrue)
+        .help("Prints an object of JSON on each line")
+}
+
+fn lanes<'a>(alloc: Global) -> Arg<'a> {
+    Arg::new(alloc, "lanes")
+        .long("lanes")
+        .action(ArgAction::SetTrue)
+        .help("Prints the rows in the order of their turns, with a column for each thread")
 }
 
 fn expect<'a>(alloc: Global) -> Arg<'a> {

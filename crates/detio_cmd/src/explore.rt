@@ -1,6 +1,7 @@
 use crate::input::{open_scripts, open_source};
 use crate::output::Output;
 use crate::progress::ProgressLine;
+use crate::refusals::Host;
 use crate::writing::write_scripts;
 use clap::ArgMatches;
 use commands::settings_of;
@@ -10,10 +11,11 @@ use std::thread::Threads;
 
 // `detio explore`, as the command line has it.
 pub(crate) fn run_explore<T: Threads + Sync>(
-    rt: &HostRuntime,
+    host: Host<'_>,
     threads: &T,
     matches: &ArgMatches<'_>,
 ) -> Result<u8, AllocError> {
+    let rt = host.rt;
     let Some(options) = options(matches) else {
         return Ok(not_seeds(rt));
     };
@@ -23,16 +25,16 @@ pub(crate) fn run_explore<T: Threads + Sync>(
         None,
     );
     let alloc = rt.alloc();
-    let log = matches.get_str("log").map(|path| open_source(rt, path));
-    let sources = open_scripts(rt, matches.get_strs("script").unwrap_or(&[]))?;
+    let log = matches.get_str("log").map(|path| open_source(host, path));
+    let sources = open_scripts(host, matches.get_strs("script").unwrap_or(&[]))?;
     if let Some(folder) = matches.get_str("write") {
         let by_log = log.is_some();
         let to_write = to_write(alloc, settings, options, log, sources)?;
-        return write_scripts(rt, to_write, folder, by_log);
+        return write_scripts(host, to_write, folder, by_log);
     }
     keep_memory(alloc);
     let mut progress = ProgressLine::new(rt);
-    let (mut output, mut errors) = (Output::new(rt), rt.stderr());
+    let (mut output, mut errors) = (Output::new(host), rt.stderr());
     let workers = Workers {
         threads,
         jobs: jobs(matches),
@@ -52,7 +54,8 @@ pub(crate) fn run_explore<T: Threads + Sync>(
 }
 
 // `detio minimise`, as the command line has it.
-pub(crate) fn run_minimise(rt: &HostRuntime, matches: &ArgMatches<'_>) -> Result<u8, AllocError> {
+pub(crate) fn run_minimise(host: Host<'_>, matches: &ArgMatches<'_>) -> Result<u8, AllocError> {
+    let rt = host.rt;
     let Some(folder) = matches.get_str("write") else {
         return Ok(2);
     };
@@ -61,12 +64,12 @@ pub(crate) fn run_minimise(rt: &HostRuntime, matches: &ArgMatches<'_>) -> Result
         matches.get_one::<u32>("door-cost"),
         None,
     );
-    let log = matches.get_str("log").map(|path| open_source(rt, path));
+    let log = matches.get_str("log").map(|path| open_source(host, path));
     let by_log = log.is_some();
-    let sources = open_scripts(rt, matches.get_strs("script").unwrap_or(&[]))?;
+    let sources = open_scripts(host, matches.get_strs("script").unwrap_or(&[]))?;
     keep_memory(rt.alloc());
     let to_write = to_minimise(rt.alloc(), settings, log, sources)?;
-    write_scripts(rt, to_write, folder, by_log)
+    write_scripts(host, to_write, folder, by_log)
 }
 
 // Has the allocator keep what a run gives back, for the next run. That of glibc gives memory back to

@@ -2,6 +2,7 @@ use crate::explore::{jobs, keep_memory};
 use crate::input::{open_scripts, open_source};
 use crate::output::Output;
 use crate::progress::ProgressLine;
+use crate::refusals::Host;
 use crate::writing::write_log;
 use clap::ArgMatches;
 use expectations::error_named;
@@ -13,15 +14,16 @@ use std::thread::Threads;
 
 // `detio faults`, as the command line has it.
 pub(crate) fn run_faults<T: Threads + Sync>(
-    rt: &HostRuntime,
+    host: Host<'_>,
     threads: &T,
     matches: &ArgMatches<'_>,
 ) -> Result<u8, AllocError> {
+    let rt = host.rt;
     let Some(path) = matches.get_str("log") else {
         return Ok(2);
     };
     if let Some(out) = matches.get_str("out") {
-        return write_case(rt, matches, path, out);
+        return write_case(host, matches, path, out);
     }
     let errors = match matches.get_str("errors") {
         Some(names) => match errors_named(rt.alloc(), names)? {
@@ -37,8 +39,8 @@ pub(crate) fn run_faults<T: Threads + Sync>(
         },
         filling: filling_of(matches),
     };
-    let log = open_source(rt, path);
-    let sources = open_scripts(rt, matches.get_strs("script").unwrap_or(&[]))?;
+    let log = open_source(host, path);
+    let sources = open_scripts(host, matches.get_strs("script").unwrap_or(&[]))?;
     keep_memory(rt.alloc());
     let mut progress = ProgressLine::new(rt);
     let workers = Workers {
@@ -52,7 +54,7 @@ pub(crate) fn run_faults<T: Threads + Sync>(
         log,
         sources,
         &mut progress,
-        &mut Output::new(rt),
+        &mut Output::new(host),
         &mut rt.stderr(),
     );
     Ok(status.unwrap_or(4))
@@ -60,18 +62,19 @@ pub(crate) fn run_faults<T: Threads + Sync>(
 
 // Writes the log of the one case that is asked for.
 fn write_case(
-    rt: &HostRuntime,
+    host: Host<'_>,
     matches: &ArgMatches<'_>,
     path: &str,
     out: &str,
 ) -> Result<u8, AllocError> {
+    let rt = host.rt;
     let Some(case) = case_of(matches.get_strs("only").unwrap_or(&[])) else {
         return Ok(not_a_case(rt));
     };
-    let log = open_source(rt, path);
-    let sources = open_scripts(rt, matches.get_strs("script").unwrap_or(&[]))?;
+    let log = open_source(host, path);
+    let sources = open_scripts(host, matches.get_strs("script").unwrap_or(&[]))?;
     let to_write = to_write_case(rt.alloc(), case, filling_of(matches), log, sources)?;
-    Ok(write_log(rt, to_write, out))
+    Ok(write_log(host, to_write, out))
 }
 
 // The case of these words: a thread, the number of one of its records, and an error or a count.

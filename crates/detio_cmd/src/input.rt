@@ -1,11 +1,11 @@
 ghost use Rattle.std.specs.Prelude.{None};
 
+use crate::refusals::{Host, Noted, Refusals};
 use clap::ArgMatches;
 use commands::{Source, SourceFault, TextReader, read_once};
 use std::alloc::{AllocError, Global};
-use std::fs;
-use std::fs::File;
-use std::io::Stdin;
+use std::fs::{self, File};
+use std::io::{self, Stdin};
 
 // Standard input, as the command line has it in place of a path.
 const STDIN: &str = "-";
@@ -18,51 +18,66 @@ pub(crate) fn path_of(path: &str) -> &str {
     if path == STDIN { STDIN_PATH } else { path }
 }
 
-// Where a text comes from. One that could not be opened fails when it is read, so that the faults of all
-// scripts are found in one order.
+// Where a text comes from.
 #[derive(Drop)]
-pub(crate) enum Input {
-    Stdin(Stdin),
-    File(File),
-    Unreadable,
+pub(crate) struct Input<'h> {
+    place: Place,
+    refusals: &'h Refusals,
 }
 
-impl TextReader for Input {
+// A text that could not be opened fails when it is read, so that the faults of all scripts are found in
+// one order.
+#[derive(Drop)]
+enum Place {
+    Stdin(Stdin),
+    File(File),
+    Unreadable(io::Error),
+}
+
+impl TextReader for Input<'_> {
     ghost remaining = { λ _. None };
 
     fn next_bytes(&mut self, buffer: &mut [u8]) -> Result<usize, SourceFault> {
-        match self {
-            Input::Stdin(stdin) => read_once(stdin, buffer),
-            Input::File(file) => read_once(file, buffer),
-            Input::Unreadable => Err(SourceFault),
+        let refusals = self.refusals;
+        match &mut self.place {
+            Place::Stdin(reader) => read_once(&mut Noted { reader, refusals }, buffer),
+            Place::File(reader) => read_once(&mut Noted { reader, refusals }, buffer),
+            Place::Unreadable(error) => {
+                refusals.note(*error);
+                Err(SourceFault)
+            }
         }
     }
 }
 
 // The scripts at these paths.
-pub(crate) fn open_scripts<'a>(
-    rt: &HostRuntime,
+pub(crate) fn open_scripts<'a, 'h>(
+    host: Host<'h>,
     paths: &[&'a str],
-) -> Result<Vec<Source<'a, Input>>, AllocError> {
-    let mut sources = Vec::new(rt.alloc());
+) -> Result<Vec<Source<'a, Input<'h>>>, AllocError> {
+    let mut sources = Vec::new(host.rt.alloc());
     for path in paths {
-        sources.push(open_source(rt, path))?;
+        sources.push(open_source(host, path))?;
     }
     Ok(sources)
 }
 
 // The text at this path. Standard input is read as such, since opening its path again is refused where
 // another user made the pipe behind it.
-pub(crate) fn open_source<'a>(rt: &HostRuntime, path: &'a str) -> Source<'a, Input> {
-    let reader = if path_of(path) == STDIN_PATH {
-        Input::Stdin(rt.stdin())
+pub(crate) fn open_source<'a, 'h>(host: Host<'h>, path: &'a str) -> Source<'a, Input<'h>> {
+    let place = if path_of(path) == STDIN_PATH {
+        Place::Stdin(host.rt.stdin())
     } else {
-        match fs::open(rt, path) {
-            Ok(file) => Input::File(file),
-            Err(_) => Input::Unreadable,
+        match fs::open(host.rt, path) {
+            Ok(file) => Place::File(file),
+            Err(error) => Place::Unreadable(error),
         }
     };
-    Source { path, reader }
+    let refusals = host.refusals;
+    Source {
+        path,
+        reader: Input { place, refusals },
+    }
 }
 
 // Whether standard input, given as `-`, is to be read a second time.

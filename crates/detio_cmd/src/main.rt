@@ -9,6 +9,7 @@ mod log_file;
 mod output;
 mod progress;
 mod record;
+mod refusals;
 mod writing;
 
 use check_commands::check_over;
@@ -16,9 +17,10 @@ use clap::ArgMatches;
 use clap::error::ErrorKind;
 use command::command;
 use commands::{
-    LogTo, RunOptions, View, cannot_write, compare_over, make_over, no_memory, plain_over,
-    replay_over, replay_threads_over, settings_of, show_over, upgrade_over,
+    LogTo, RunOptions, View, cannot_write, make_over, no_memory, plain_over, replay_over,
+    replay_threads_over, settings_of, show_over, upgrade_over,
 };
+use compare_commands::{CompareOptions, compare_over};
 use explore::{run_explore, run_minimise};
 use faults::run_faults;
 use host_doors::Outside;
@@ -26,6 +28,7 @@ use input::{is_read_twice, open_scripts, open_source, read_twice};
 use log_file::{LogFile, is_script, log_is_script};
 use output::Output;
 use record::{HostOutsides, NewOutsides, run_record};
+use refusals::{Host, Refusals};
 use std::alloc::AllocError;
 use std::fs::File;
 use std::process::ExitCode;
@@ -90,18 +93,38 @@ fn run_matches<O: Outside + Send + Drop, N: NewOutsides<O> + Drop, T: Threads + 
     if is_read_twice(rt.alloc(), command, matches)? {
         return Ok(read_twice(rt));
     }
+    let refusals = Refusals::new();
+    let host = Host {
+        rt,
+        refusals: &refusals,
+    };
+    let status = run_command(host, handles, outsides, command, matches)?;
+    if matches.get_flag("why") {
+        refusals.say(rt);
+    }
+    Ok(status)
+}
+
+// Runs the command of this name.
+fn run_command<O: Outside + Send + Drop, N: NewOutsides<O> + Drop, T: Threads + Wait + Sync>(
+    host: Host<'_>,
+    handles: &T,
+    outsides: N,
+    command: &str,
+    matches: &ArgMatches<'_>,
+) -> Result<u8, AllocError> {
     match command {
-        "check" => run_check(rt, matches),
-        "plain" => run_plain(rt, matches),
-        "explore" => run_explore(rt, handles, matches),
-        "faults" => run_faults(rt, handles, matches),
-        "minimise" => run_minimise(rt, matches),
-        "record" => run_record(rt, handles, outsides, matches),
-        "replay" => run_replay(rt, handles, matches),
-        "compare" => run_compare(rt, matches),
-        "show" => Ok(run_show(rt, matches)),
-        "make" => Ok(run_make(rt, matches)),
-        "upgrade" => run_upgrade(rt, matches),
+        "check" => run_check(host, matches),
+        "plain" => run_plain(host, matches),
+        "explore" => run_explore(host, handles, matches),
+        "faults" => run_faults(host, handles, matches),
+        "minimise" => run_minimise(host, matches),
+        "record" => run_record(host, handles, outsides, matches),
+        "replay" => run_replay(host, handles, matches),
+        "compare" => run_compare(host, matches),
+        "show" => Ok(run_show(host, matches)),
+        "make" => Ok(run_make(host, matches)),
+        "upgrade" => run_upgrade(host, matches),
         _ => Ok(2),
     }
 }
@@ -138,34 +161,38 @@ pub(crate) fn run_options(matches: &ArgMatches<'_>) -> RunOptions {
             turns: matches.get_flag("turns"),
             calls: matches.get_flag("calls"),
             by_turn: matches.get_flag("by-turn"),
-            lanes: false,
+            lanes: matches.get_flag("lanes"),
         },
+        json: matches.get_flag("json"),
+        why: matches.get_flag("why"),
         expect: matches.get_flag("expect"),
     }
 }
 
 // `detio check`, as the command line has it.
-fn run_check(rt: &HostRuntime, matches: &ArgMatches<'_>) -> Result<u8, AllocError> {
-    let sources = open_scripts(rt, matches.get_strs("script").unwrap_or(&[]))?;
-    let (mut output, mut errors) = (Output::new(rt), rt.stderr());
+fn run_check(host: Host<'_>, matches: &ArgMatches<'_>) -> Result<u8, AllocError> {
+    let rt = host.rt;
+    let sources = open_scripts(host, matches.get_strs("script").unwrap_or(&[]))?;
+    let (mut output, mut errors) = (Output::new(host), rt.stderr());
     let status = check_over(rt.alloc(), sources, &mut output, &mut errors);
     Ok(status.unwrap_or(4))
 }
 
 // `detio plain`, as the command line has it.
-fn run_plain(rt: &HostRuntime, matches: &ArgMatches<'_>) -> Result<u8, AllocError> {
+fn run_plain(host: Host<'_>, matches: &ArgMatches<'_>) -> Result<u8, AllocError> {
+    let rt = host.rt;
     let settings = settings_of(
         matches.get_one::<u32>("patience"),
         matches.get_one::<u32>("door-cost"),
         None,
     );
-    let sources = open_scripts(rt, matches.get_strs("script").unwrap_or(&[]))?;
+    let sources = open_scripts(host, matches.get_strs("script").unwrap_or(&[]))?;
     let status = plain_over(
         rt.alloc(),
         settings,
         run_options(matches),
         sources,
-        &mut Output::new(rt),
+        &mut Output::new(host),
         &mut rt.stderr(),
     );
     Ok(status.unwrap_or(4))
@@ -173,18 +200,19 @@ fn run_plain(rt: &HostRuntime, matches: &ArgMatches<'_>) -> Result<u8, AllocErro
 
 // `detio replay`, as the command line has it.
 fn run_replay<T: Threads + Wait + Sync>(
-    rt: &HostRuntime,
+    host: Host<'_>,
     handles: &T,
     matches: &ArgMatches<'_>,
 ) -> Result<u8, AllocError> {
+    let rt = host.rt;
     let Some(path) = matches.get_str("log") else {
         return Ok(2);
     };
     let options = run_options(matches);
-    let log = open_source(rt, path);
-    let sources = open_scripts(rt, matches.get_strs("script").unwrap_or(&[]))?;
+    let log = open_source(host, path);
+    let sources = open_scripts(host, matches.get_strs("script").unwrap_or(&[]))?;
     let alloc = rt.alloc();
-    let (mut output, mut errors) = (Output::new(rt), rt.stderr());
+    let (mut output, mut errors) = (Output::new(host), rt.stderr());
     let status = if matches.get_flag("threads") {
         replay_threads_over(
             handles,
@@ -202,56 +230,73 @@ fn run_replay<T: Threads + Wait + Sync>(
 }
 
 // `detio compare`, as the command line has it.
-fn run_compare(rt: &HostRuntime, matches: &ArgMatches<'_>) -> Result<u8, AllocError> {
+fn run_compare(host: Host<'_>, matches: &ArgMatches<'_>) -> Result<u8, AllocError> {
+    let rt = host.rt;
     let (Some(log), Some(other)) = (matches.get_str("log"), matches.get_str("with")) else {
         return Ok(2);
     };
-    let log = open_source(rt, log);
-    let other = open_source(rt, other);
-    let sources = open_scripts(rt, matches.get_strs("script").unwrap_or(&[]))?;
+    let log = open_source(host, log);
+    let other = open_source(host, other);
+    let sources = open_scripts(host, matches.get_strs("script").unwrap_or(&[]))?;
+    let options = CompareOptions {
+        rows: matches.get_flag("rows"),
+        turns: !matches.get_flag("no-turns"),
+    };
     let status = compare_over(
         rt.alloc(),
+        options,
         log,
         other,
         sources,
-        &mut Output::new(rt),
+        &mut Output::new(host),
         &mut rt.stderr(),
     );
     Ok(status.unwrap_or(4))
 }
 
 // `detio show`, as the command line has it.
-fn run_show(rt: &HostRuntime, matches: &ArgMatches<'_>) -> u8 {
+fn run_show(host: Host<'_>, matches: &ArgMatches<'_>) -> u8 {
+    let rt = host.rt;
     let Some(path) = matches.get_str("log") else {
         return 2;
     };
-    let source = open_source(rt, path);
-    show_over(rt.alloc(), source, &mut Output::new(rt), &mut rt.stderr()).unwrap_or(4)
+    let source = open_source(host, path);
+    let json = matches.get_flag("json");
+    show_over(
+        rt.alloc(),
+        json,
+        source,
+        &mut Output::new(host),
+        &mut rt.stderr(),
+    )
+    .unwrap_or(4)
 }
 
 // `detio make`, as the command line has it.
-fn run_make(rt: &HostRuntime, matches: &ArgMatches<'_>) -> u8 {
+fn run_make(host: Host<'_>, matches: &ArgMatches<'_>) -> u8 {
+    let rt = host.rt;
     let (Some(text), Some(path)) = (matches.get_str("text"), matches.get_str("out")) else {
         return 2;
     };
-    let text = open_source(rt, text);
+    let text = open_source(host, text);
     let force = matches.get_flag("force");
     let out = LogTo {
         path,
-        log: LogFile { rt, path, force },
+        log: LogFile { host, path, force },
     };
     let made = make_over(
         rt.alloc(),
         text,
         out,
-        &mut Output::new(rt),
+        &mut Output::new(host),
         &mut rt.stderr(),
     );
     made.map(|it| it.status).unwrap_or(4)
 }
 
 // `detio upgrade`, as the command line has it.
-fn run_upgrade(rt: &HostRuntime, matches: &ArgMatches<'_>) -> Result<u8, AllocError> {
+fn run_upgrade(host: Host<'_>, matches: &ArgMatches<'_>) -> Result<u8, AllocError> {
+    let rt = host.rt;
     let (Some(log), Some(path)) = (matches.get_str("log"), matches.get_str("out")) else {
         return Ok(2);
     };
@@ -259,19 +304,20 @@ fn run_upgrade(rt: &HostRuntime, matches: &ArgMatches<'_>) -> Result<u8, AllocEr
     if is_script(rt, path, scripts) {
         return Ok(log_is_script(rt, path));
     }
-    let log = open_source(rt, log);
-    let sources = open_scripts(rt, scripts)?;
+    let log = open_source(host, log);
+    let sources = open_scripts(host, scripts)?;
     let force = matches.get_flag("force");
     let out = LogTo {
         path,
-        log: LogFile { rt, path, force },
+        log: LogFile { host, path, force },
     };
     let upgraded = upgrade_over(
         rt.alloc(),
+        matches.get_flag("why"),
         log,
         out,
         sources,
-        &mut Output::new(rt),
+        &mut Output::new(host),
         &mut rt.stderr(),
     );
     Ok(upgraded.map(|it| it.status).unwrap_or(4))

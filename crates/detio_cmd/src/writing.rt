@@ -1,4 +1,5 @@
 use crate::output::Output;
+use crate::refusals::Host;
 use commands::{cannot_write, print};
 use explore_commands::ToWrite;
 use posix_terms::Bytes;
@@ -9,7 +10,7 @@ use std::io::Write;
 // Writes scripts to new files of this directory, which is made where it is not there, and prints
 // their paths; with them the log of their run, where outcomes came from a log.
 pub(crate) fn write_scripts(
-    rt: &HostRuntime,
+    host: Host<'_>,
     to_write: ToWrite,
     folder: &str,
     by_log: bool,
@@ -17,20 +18,20 @@ pub(crate) fn write_scripts(
     let (texts, log) = match to_write {
         ToWrite::Texts(texts, log) => (texts, log),
         ToWrite::Fault(printed) => {
-            return Ok(print(&printed, &mut Output::new(rt), &mut rt.stderr()).unwrap_or(4));
+            return Ok(print(&printed, &mut Output::new(host), &mut host.rt.stderr()).unwrap_or(4));
         }
     };
     // Where there is no directory, no file of it can be made.
-    let _ = fs::create_dir_all(rt, folder);
+    let _ = fs::create_dir_all(host.rt, folder);
     for (thread, text) in texts.iter().enumerate() {
-        let path = format!(in rt.alloc(); "{folder}/{thread}.script")?;
-        if !write_new(rt, path.as_str(), text) {
+        let path = format!(in host.rt.alloc(); "{folder}/{thread}.script")?;
+        if !write_new(host, path.as_str(), text) {
             return Ok(4);
         }
     }
     if by_log {
-        let path = format!(in rt.alloc(); "{folder}/run.log")?;
-        if !write_new(rt, path.as_str(), &log) {
+        let path = format!(in host.rt.alloc(); "{folder}/run.log")?;
+        if !write_new(host, path.as_str(), &log) {
             return Ok(4);
         }
     }
@@ -38,33 +39,42 @@ pub(crate) fn write_scripts(
 }
 
 // Writes the log of a run to a new file.
-pub(crate) fn write_log(rt: &HostRuntime, to_write: ToWrite, path: &str) -> u8 {
+pub(crate) fn write_log(host: Host<'_>, to_write: ToWrite, path: &str) -> u8 {
     match to_write {
-        ToWrite::Texts(_, log) => { if write_new(rt, path, &log) { 0 } else { 4 } }
+        ToWrite::Texts(_, log) => { if write_new(host, path, &log) { 0 } else { 4 } }
         ToWrite::Fault(printed) => {
-            print(&printed, &mut Output::new(rt), &mut rt.stderr()).unwrap_or(4)
+            print(&printed, &mut Output::new(host), &mut host.rt.stderr()).unwrap_or(4)
         }
     }
 }
 
 // Writes these bytes to a new file, and prints its path; or a line that says that it cannot.
-fn write_new(rt: &HostRuntime, path: &str, bytes: &Bytes) -> bool {
-    if !is_new_with(rt, path, bytes.as_slice()) {
-        let _ = eprintln!(rt; "cannot write {path}");
+fn write_new(host: Host<'_>, path: &str, bytes: &Bytes) -> bool {
+    if !is_new_with(host, path, bytes.as_slice()) {
+        let _ = eprintln!(host.rt; "cannot write {path}");
         return false;
     }
-    let mut output = Output::new(rt);
+    let mut output = Output::new(host);
     if writeln!(output, "{path}").is_err() {
-        let _ = cannot_write(&mut rt.stderr());
+        let _ = cannot_write(&mut host.rt.stderr());
         return false;
     }
     true
 }
 
 // Whether a new file at this path has these bytes.
-fn is_new_with(rt: &HostRuntime, path: &str, bytes: &[u8]) -> bool {
-    match File::create_new(rt, path) {
-        Ok(mut file) => file.write_all(bytes).is_ok(),
-        Err(_) => false,
+fn is_new_with(host: Host<'_>, path: &str, bytes: &[u8]) -> bool {
+    match File::create_new(host.rt, path) {
+        Ok(mut file) => match file.write_all(bytes) {
+            Ok(()) => true,
+            Err(error) => {
+                host.refusals.note(error);
+                false
+            }
+        },
+        Err(error) => {
+            host.refusals.note(error);
+            false
+        }
     }
 }

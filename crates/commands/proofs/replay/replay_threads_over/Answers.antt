@@ -1,14 +1,14 @@
 use Rattle.std.proofs.Common.{map}
 use Rattle.command_texts.specs.declared.source.Source.{Source}
 use Rattle.commands.specs.Replays.{ReplayPrints}
-use Rattle.commands.specs.Tells.{ThreadsTell}
+use Rattle.commands.specs.Ran.{ThreadsRan}
 use Rattle.commands.proofs.Printing.{prints_meant}
 use Rattle.commands.proofs.replay.replay_threads_over.Goals as goal
 
 pub returns-in-Ok : goal.returns-in-Ok
 returns-in-Ok g c =
     prints_meant
-    (ReplayPrints ThreadsTell c.args.options
+    (ReplayPrints ThreadsRan c.args.options
     (c.args.log.path.now, g.R.TextReader.remaining c.args.log.reader)
     (map (λ (s : Source g.row.R.Denot). (s.path.now, g.R.TextReader.remaining s.reader))
     c.args.sources.items))

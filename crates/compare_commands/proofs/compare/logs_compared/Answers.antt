@@ -2,19 +2,19 @@ use Rattle.std.proofs.Common.{ℕ, List, Option, map, rules, subst, Ok, Err}
 use Rattle.std.specs.Prelude.{IfOk}
 use Rattle.std.proofs.lemmas.Result.{IfOk-weaker}
 use Rattle.command_texts.specs.FirstFaults.{IsUnread}
-use Rattle.commands.specs.Compares.{LogsCompare, TextsCompare}
-use Rattle.commands.proofs.compare.logs_compared.Goals as goal
+use Rattle.compare_commands.specs.Compares.{LogsCompare, TextsCompare}
+use Rattle.compare_commands.proofs.compare.logs_compared.Goals as goal
 
 pub returns-in-Ok : goal.returns-in-Ok
 returns-in-Ok g c =
     let sources : List (List ℕ × Option (List ℕ)) = map (λ s. (s.path.now, g.R.TextReader.remaining s.reader)) c.args.sources.items in
-    let P : List (List ℕ) → Type 0 = λ texts. IfOk c.texts_compared.result (TextsCompare c.args.log.now c.args.other.now (Ok texts)) in
-    IfOk-weaker c.texts_compared.result (TextsCompare c.args.log.now c.args.other.now (Ok c.in-Ok.texts.items)) (LogsCompare c.args.log.now c.args.other.now sources)
+    let P : List (List ℕ) → Type 0 = λ texts. IfOk c.texts_compared.result (TextsCompare c.args.options c.args.log.now c.args.other.now (Ok texts)) in
+    IfOk-weaker c.texts_compared.result (TextsCompare c.args.options c.args.log.now c.args.other.now (Ok c.in-Ok.texts.items)) (LogsCompare c.args.options c.args.log.now c.args.other.now sources)
     (λ printed prints. (Ok c.in-Ok.texts.items, c.in-Ok.ensures.texts, prints)) (subst P c.deref.ensures.value c.texts_compared.ensures)
 
 pub returns-in-Err-Script : goal.returns-in-Err-Script
 returns-in-Err-Script g c =
     let sources : List (List ℕ × Option (List ℕ)) = map (λ s. (s.path.now, g.R.TextReader.remaining s.reader)) c.args.sources.items in
     let unread = subst (λ e. IsUnread (map (λ s. (s.path.now, g.R.TextReader.remaining s.reader)) c.args.sources.items) e) c.in-Err-Script.field-0-is c.in-Err-Script.ensures.unread in
-    IfOk-weaker c.cannot_read.result (TextsCompare c.args.log.now c.args.other.now (Err c.in-Err-Script.path.now)) (LogsCompare c.args.log.now c.args.other.now sources)
+    IfOk-weaker c.cannot_read.result (TextsCompare c.args.options c.args.log.now c.args.other.now (Err c.in-Err-Script.path.now)) (LogsCompare c.args.options c.args.log.now c.args.other.now sources)
     (λ printed prints. (Err c.in-Err-Script.path.now, unread, prints)) (search rules)
