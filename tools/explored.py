@@ -11,6 +11,7 @@ import argparse
 import os
 import sys
 import tempfile
+from collections.abc import Iterable, Iterator, Sequence
 
 sys.dont_write_bytecode = True
 import model  # noqa: E402
@@ -18,13 +19,19 @@ import runs  # noqa: E402
 
 MASK = 2**64 - 1
 LINES = 1000
+# A run by `detio plain`: by thread its rows, its last line, and the line of its unmet expectation, if it has one.
+Ran = tuple[list[list[str]], str, str | None]
+# A list of delays: thread, line and units of each.
+Delays = list[tuple[int, int, int]]
+# The words of the line of a seed or a list, and the texts with its delays.
+Case = tuple[str, list[str]]
 CALLS = set(
-    "open close read write pread pwrite lseek ftruncate fstat dup dup_from dup2 getfl setfl link unlink rename mkdir rmdir pipe "
-    "socketpair shutdown host_open tcp_listen tcp_connect tcp_accept".split()
+    "open close read write pread pwrite lseek ftruncate fstat dup dup_from dup2 getfl setfl link unlink rename mkdir "
+    "rmdir pipe socketpair shutdown host_open tcp_listen tcp_connect tcp_accept".split()
 )
 
 
-def mixed(hash, number):
+def mixed(hash: int, number: int) -> int:
     """A number mixed into a hash, by a step of SplitMix64."""
     z = ((hash ^ number) + 0x9E3779B97F4A7C15) & MASK
     z = ((z ^ (z >> 30)) * 0xBF58476D1CE4E5B9) & MASK
@@ -32,17 +39,17 @@ def mixed(hash, number):
     return z ^ (z >> 31)
 
 
-def lines_of(text):
+def lines_of(text: str) -> list[str]:
     lines = text.split("\n")
     return lines[:-1] if lines[-1] == "" else lines
 
 
-def is_call(line):
+def is_call(line: str) -> bool:
     words = [] if line.startswith("#") else [word for word in line.split(" ") if word]
     return bool(words) and words[0] in CALLS
 
 
-def varied(seed, reach, thread, text):
+def varied(seed: int, reach: int, thread: int, text: str) -> str:
     """The text of a thread's script with the delays of a seed."""
     out = []
     for number, line in enumerate(lines_of(text), 1):
@@ -52,7 +59,7 @@ def varied(seed, reach, thread, text):
     return "".join(out)
 
 
-def expecting(text, each):
+def expecting(text: str, each: int) -> str:
     """The text, with the expectation after each so many lines of calls that they do not fail."""
     out, calls = [], 0
     for line in lines_of(text):
@@ -63,8 +70,9 @@ def expecting(text, each):
     return "".join(out)
 
 
-def plain(program, texts, settings):
-    """By thread its rows, and then the end of a run and the line of its unmet expectation, as `detio plain` prints them."""
+def plain(program: str, texts: list[str], settings: Sequence[str]) -> Ran:
+    """By thread its rows, and then the end of a run and the line of its unmet expectation, as `detio plain` prints
+    them."""
     with tempfile.TemporaryDirectory() as room:
         names = [f"{room}/{thread}" for thread in range(len(texts))]
         for name, text in zip(names, texts):
@@ -82,7 +90,7 @@ def plain(program, texts, settings):
     return rows, lines[-1], unmet
 
 
-def given(unmet, varied_texts, texts):
+def given(unmet: str | None, varied_texts: list[str], texts: list[str]) -> str:
     """The line of an unmet expectation, with the number that its call's line has in the script as it was given."""
     if unmet is None:
         return ""
@@ -92,7 +100,7 @@ def given(unmet, varied_texts, texts):
     return f" {word} {thread} {places[calls - 1]} {rest}"
 
 
-def reply_of(row):
+def reply_of(row: str) -> list:
     """The reply of a row, as the model has it."""
     what, *words = row.split(" ")[1:]
     if what == "fail":
@@ -102,7 +110,7 @@ def reply_of(row):
     return [what, *map(int, words)]
 
 
-def is_cut_off(text, rows):
+def is_cut_off(text: str, rows: list[str]) -> bool:
     """Whether a thread with these rows ended before its script did. Whatever stops a run, a thread that is not
     at a call has ended by then."""
     script, replies = model.Script(text), map(reply_of, rows)
@@ -116,14 +124,14 @@ def is_cut_off(text, rows):
         script.tell(reply)
 
 
-def ending(run, texts):
+def ending(run: Ran, texts: list[str]) -> str:
     """How a run ended, and which threads were cut off in it."""
     rows, end = run[:2]
     cut = [str(thread) for thread, (text, rows_of) in enumerate(zip(texts, rows)) if is_cut_off(text, rows_of)]
     return end + (f" cut off {','.join(cut)}" if cut else "")
 
 
-def difference(before, now):
+def difference(before: Ran, now: Ran) -> str:
     for thread, (old, new) in enumerate(zip(before[0], now[0])):
         for row in range(max(len(old), len(new))):
             was, is_now = (rows[row] if row < len(rows) else "-" for rows in (old, new))
@@ -132,13 +140,13 @@ def difference(before, now):
     return "same" if before[1] == now[1] else "ends otherwise"
 
 
-def by_seeds(texts, seeds, reach):
+def by_seeds(texts: list[str], seeds: Iterable[int], reach: int) -> Iterator[Case]:
     """For each seed the words of its line, and the texts with its delays."""
     for seed in seeds:
         yield f"seed {seed} ", [varied(seed, reach, thread, text) for thread, text in enumerate(texts)]
 
 
-def lists_of(texts, most_delays, reach):
+def lists_of(texts: list[str], most_delays: int, reach: int) -> Iterator[Delays]:
     """All lists of at most so many delays, 1 or 2, each at a line of a call of its own: by thread, line and units."""
     places = [
         (thread, number)
@@ -156,7 +164,7 @@ def lists_of(texts, most_delays, reach):
                     yield from ([(*place, units), (*other, more)] for more in range(1, reach + 1))
 
 
-def delayed(delays, thread, text):
+def delayed(delays: Delays, thread: int, text: str) -> str:
     """The text of a thread with the delays of a list."""
     out = []
     for number, line in enumerate(lines_of(text), 1):
@@ -165,7 +173,7 @@ def delayed(delays, thread, text):
     return "".join(out)
 
 
-def by_lists(texts, lists):
+def by_lists(texts: list[str], lists: Iterable[tuple[int, Delays]]) -> Iterator[Case]:
     """For each of these lists the words of its line, and the texts with its delays."""
     for case, delays in lists:
         words = "".join(f"delay {thread} {line} {units} " for thread, line, units in delays)
@@ -192,14 +200,22 @@ def explored(program, texts, cases, left="", settings=()):
     return 1 if failed or before[2] else 0, "".join(out), ""
 
 
-def check(program, paths, texts, asked, wanted, first, first_texts):
+def check(
+    program: str,
+    paths: list[str],
+    texts: list[str],
+    asked: argparse.Namespace,
+    wanted: runs.Answer,
+    first: int,
+    first_texts: list[str],
+) -> None:
     """Ends with what is wrong, if something is."""
     words = ["--reach", str(asked.reach), *map(os.path.abspath, paths)]
     of_lists = ["--delays", str(asked.delays)] if asked.delays else []
     all_cases = [*of_lists, "--most", str(asked.most)] if asked.delays else ["--seeds", asked.seeds]
     found = runs.answer([program, "explore", *all_cases, *words], "/")
     if found != wanted:
-        sys.exit(f"explored: {runs.said(found)}\nwanted: {runs.said(wanted)}")
+        sys.exit(f"explored: failed\n{runs.both_said(found, wanted)}")
     with tempfile.TemporaryDirectory() as room:
         only = ["explore", *of_lists, "--only", str(first), "--write", "new", *words]
         status, out, err = runs.answer([program, *only], room)
@@ -207,12 +223,13 @@ def check(program, paths, texts, asked, wanted, first, first_texts):
             sys.exit(f"explored: what is written: {runs.said((status, out, err))}")
         for thread, text in enumerate(first_texts):
             with open(f"{room}/new/{thread}.script", encoding="latin-1") as it:
-                if it.read() != text:
-                    sys.exit(f"explored: thread {thread} has other delays")
+                written = it.read()
+            if written != text:
+                sys.exit(f"explored: failed\nthread {thread} has other delays: {runs.difference(written, text)}")
     print("all runs as the rules say")
 
 
-def main():
+def main() -> None:
     options = argparse.ArgumentParser(description=__doc__, formatter_class=argparse.RawDescriptionHelpFormatter)
     options.add_argument("--program", help="the program (default: the one that was built here)")
     options.add_argument("--seeds", default="0..1000")

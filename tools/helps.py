@@ -1,4 +1,5 @@
 """The command line of the program, as its help texts have it."""
+import functools
 import re
 import subprocess
 import sys
@@ -19,29 +20,29 @@ class Item:
     notes: list = field(default_factory=list)
 
     @property
-    def flags(self):
+    def flags(self) -> list[str]:
         """Its names as an option, `-h` and `--help`."""
         return re.findall(r"(?<!\S)--?[A-Za-z][\w-]*", self.written)
 
     @property
-    def values(self):
+    def values(self) -> list[str]:
         """The names of its values."""
         return re.findall(r"<(\S+?)>", self.written) or re.findall(r"\[(\w+)\]", self.written)
 
     @property
-    def is_value_optional(self):
+    def is_value_optional(self) -> bool:
         return "[<" in self.written
 
     @property
-    def is_path(self):
+    def is_path(self) -> bool:
         return self.values[:1] != [] and self.values[0] in FILES
 
     @property
-    def is_folder(self):
+    def is_folder(self) -> bool:
         return self.values[:1] != [] and self.values[0] in FOLDERS
 
     @property
-    def choices(self):
+    def choices(self) -> list[str]:
         """The values that it may have, where its notes name them."""
         named = [it.removeprefix("possible values: ") for it in self.notes if it.startswith("possible values: ")]
         return named[0].split(", ") if named else []
@@ -60,18 +61,19 @@ class Help:
     after: list = field(default_factory=list)
 
     @property
-    def takes_paths(self):
+    def takes_paths(self) -> bool:
         return any(it.is_path for it in self.arguments)
 
 
-def printed(program, *words):
+@functools.cache
+def printed(program: str, *words: str) -> str:
     ran = subprocess.run([program, *words], stdin=subprocess.DEVNULL, capture_output=True, text=True)
     if ran.returncode or ran.stderr:
         sys.exit(f"{program} {' '.join(words)}: status {ran.returncode}: {ran.stderr}")
     return ran.stdout
 
 
-def parted(name, text):
+def parted(name: str, text: str) -> Help:
     """The parts of a help text."""
     lines = text.rstrip("\n").split("\n")
     at = next(number for number, line in enumerate(lines) if line.startswith("Usage: "))
@@ -88,7 +90,7 @@ def parted(name, text):
     return found
 
 
-def add_line(items, line):
+def add_line(items: list[Item], line: str) -> None:
     """An item begins in the first columns. What is said of it stands there after two spaces, or in the lines below."""
     if not line.strip():
         return
@@ -101,13 +103,13 @@ def add_line(items, line):
         items[-1].about = f"{items[-1].about} {line.strip()}".strip()
 
 
-def stripped(lines):
+def stripped(lines: list[str]) -> list[str]:
     """The lines without empty ones at both ends."""
     text = "\n".join(lines).strip("\n")
     return text.split("\n") if text else []
 
 
-def read(program):
+def read(program: str) -> tuple[Help, list[Help]]:
     """The help of the program, and that of each of its commands but `help`, of which there is only a line."""
     top = parted("detio", printed(program, "--help"))
     names = [it.written for it in top.commands if it.written != "help"]

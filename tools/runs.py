@@ -1,19 +1,29 @@
-"""How the tools run the program: where it stands, one run of it with a limit of time, and many runs, several at a time."""
+"""How the tools run the program: where it stands, one run with a limit of time, and many runs, several at a time."""
+import argparse
+import itertools
 import multiprocessing
 import os
 import subprocess
 import sys
 import time
+from collections.abc import Callable, Iterator
 from concurrent.futures import ProcessPoolExecutor
 
 TOP = os.path.dirname(os.path.dirname(os.path.realpath(__file__)))
 PROGRAM = TOP + "/crates/detio_cmd/out/detio_cmd"
 UNPROVED = TOP + "/crates/detio_cmd/out/unproved"
 SECONDS = 30
+# Programs that are wrong, which run the one that the variable DETIO names.
+WRONG = TOP + "/tools/wrong"
+# What a run has of the environment; wrong programs need what is not PATH.
+PASSED = ["PATH", "DETIO", "DETIO_WRONG"]
+
+# The status of a run, or "hung", its standard output and its standard error.
+Answer = tuple[int | str, str, str]
 
 
-def program_of(path):
-    """The program at this path, or the one that was built here: the proved one, or else the other, which is then said."""
+def program_of(path: str | None) -> str:
+    """The program at this path, or the one that was built here: the proved one, or else the other, and says so."""
     if not path and not os.access(PROGRAM, os.X_OK) and os.access(UNPROVED, os.X_OK):
         print("the program here is not proved, and slow: tools/build makes the proved one", file=sys.stderr, flush=True)
         path = UNPROVED
@@ -23,9 +33,9 @@ def program_of(path):
     return path
 
 
-def answer(words, folder, more=None, seconds=SECONDS):
-    """Status, standard output and standard error of a run; the status is "hung" where it did not end in time."""
-    env = {"PATH": os.environ.get("PATH", ""), **(more or {})}
+def answer(words: list[str], folder: str, more: dict[str, str] | None = None, seconds: float = SECONDS) -> Answer:
+    """What a run answers; the status is "hung" where it did not end in time."""
+    env = {**{name: os.environ[name] for name in PASSED if name in os.environ}, **(more or {})}
     try:
         ran = subprocess.run(words, cwd=folder, env=env, stdin=subprocess.DEVNULL, capture_output=True, timeout=seconds)
     except subprocess.TimeoutExpired:
@@ -33,9 +43,12 @@ def answer(words, folder, more=None, seconds=SECONDS):
     return ran.returncode, ran.stdout.decode("latin-1"), ran.stderr.decode("latin-1")
 
 
-def in_parts(name, work, program, asked, size):
-    """Has `work` make the runs that are asked for, asked.jobs parts of `size` runs at a time, and yields what it answers of each.
-    It is called with the program, the seed and the numbers; the last that it answers is a failure, which ends all, or None."""
+def in_parts(
+    name: str, work: Callable[..., tuple], program: str, asked: argparse.Namespace, size: int
+) -> Iterator[tuple]:
+    """Has `work` make the runs that are asked for, asked.jobs parts of `size` runs at a time, and yields what it
+    answers of each. It is called with the program, the seed and the numbers; the last that it answers is a failure,
+    which ends all, or None."""
     begun, told, last = time.time(), 0, asked.first + asked.count
     parts = [range(at, min(at + size, last)) for at in range(asked.first, last, size)]
     with ProcessPoolExecutor(asked.jobs, multiprocessing.get_context("fork")) as pool:
@@ -49,11 +62,30 @@ def in_parts(name, work, program, asked, size):
                 print(f"{name}: {done} of {asked.count} runs, {told - begun:.0f} seconds", file=sys.stderr, flush=True)
 
 
-def said(found):
+def said(found: Answer) -> str:
     """An answer as a text, for a failure."""
     status, out, err = found
     return f"status {status}, standard output {shortened(out)!r}, standard error {shortened(err)!r}"
 
 
-def shortened(text):
+def both_said(found: Answer, wanted: Answer) -> str:
+    """An answer and what it had to be, for a failure, and the first line in which they differ where much is printed."""
+    text = f"answered: {said(found)}\nwanted:   {said(wanted)}"
+    for name, mine, other in zip(("standard output", "standard error"), found[1:], wanted[1:]):
+        if mine != other and shortened(mine) + shortened(other) != mine + other:
+            text += f"\n{name} differs in {difference(mine, other)}"
+    return text
+
+
+def difference(text: str, wanted: str) -> str:
+    """The first line in which a text is not what is wanted."""
+    lines = itertools.zip_longest(text.split("\n"), wanted.split("\n"))
+    for number, (line, other) in enumerate(lines, 1):
+        if line != other:
+            named = ["no line" if it is None else repr(shortened(it)) for it in (line, other)]
+            return f"line {number}: {named[0]}, and not {named[1]}"
+    return "no line"
+
+
+def shortened(text: str) -> str:
     return text if len(text) <= 2000 else f"{text[:1000]} .. {text[-1000:]}"
