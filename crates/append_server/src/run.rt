@@ -4,7 +4,7 @@ ghost use Rattle.recorder.specs.Each.{IsUnused};
 use crate::actors::scripts;
 use host_doors::Outside;
 use input_log::MemorySink;
-use logged_machine::Stop;
+use machine::Stop;
 use posix_terms::{Settings, Transcripts};
 use recorder::{BoxedActor, run_recorded};
 use replayer::{Replayed, replay};

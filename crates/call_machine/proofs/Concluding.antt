@@ -14,8 +14,8 @@ use Rattle.call_machine.specs.Covered.{HasSpelling, IsCovered, RecordsCame}
 use Rattle.call_machine.specs.Driven.{Begins, Ends}
 use Rattle.call_machine.specs.History.{AreRising}
 use Rattle.call_machine.specs.Plain.{IsPlainRun, are_threads, header_of, plain_of}
-use Rattle.logged_machine.specs.RecordLaws.{RecordLaws}
-use Rattle.logged_machine.specs.Starting.{are_settings}
+use Rattle.machine.specs.RecordLaws.{RecordLaws}
+use Rattle.machine.specs.Starting.{are_settings}
 use Rattle.call_machine.specs.Playing.{Played}
 use Rattle.call_machine.specs.Setup.{Inputs, setup_of}
 use Rattle.call_machine.specs.Starting.{first_played, told}

@@ -12,8 +12,8 @@ use Rattle.logical_clocks.specs.TurnOrder.{turn_holder}
 use Rattle.call_machine.specs.Driven.{Begins, IsLogged}
 use Rattle.call_machine.specs.Logs.{Written, plain_records}
 use Rattle.call_machine.specs.Diverging.{diverging}
-use Rattle.logged_machine.specs.declared.stop.Stop.{Stop}
-use Rattle.logged_machine.specs.declared.stop.Stop.TheVariants as stop
+use Rattle.machine.specs.declared.stop.Stop.{Stop}
+use Rattle.machine.specs.declared.stop.Stop.TheVariants as stop
 use Rattle.call_machine.specs.Plain.{all_true, has_ended, header_of, log_of, plain_of, stop_by, stop_of, stuck_in}
 use Rattle.call_machine.specs.Playing.{Plays, no_player}
 use Rattle.lock_machine.specs.Conditions.{Conditions}

@@ -21,9 +21,9 @@ use Rattle.call_machine.specs.Diverging.{diverging}
 use Rattle.call_machine.specs.Setup.{Inputs, first_state, setup_of}
 use Rattle.call_machine.specs.declared.fault.PlainFault.{PlainFault}
 use Rattle.call_machine.specs.declared.fault.PlainFault.TheVariants as plain_fault
-use Rattle.logged_machine.specs.Starting.{are_settings}
-use Rattle.logged_machine.specs.declared.stop.Stop.{Stop}
-use Rattle.logged_machine.specs.declared.stop.Stop.TheVariants as stop
+use Rattle.machine.specs.Starting.{are_settings}
+use Rattle.machine.specs.declared.stop.Stop.{Stop}
+use Rattle.machine.specs.declared.stop.Stop.TheVariants as stop
 use Rattle.call_machine.specs.declared.plain.Plain.{Plain}
 
 abbrev pub has_ended : Phase → Bool

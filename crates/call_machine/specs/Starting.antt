@@ -11,8 +11,8 @@ use Rattle.call_machine.specs.Playing.{Played}
 use Rattle.lock_machine.specs.Starting.{first_whole}
 use Rattle.lock_machine.specs.Whole.{Whole}
 use Rattle.lock_machine.specs.Views.{clocks_of, no_thread}
-use Rattle.logged_machine.specs.declared.stop.Stop.{Stop}
-use Rattle.logged_machine.specs.declared.stop.Stop.TheVariants as stop
+use Rattle.machine.specs.declared.stop.Stop.{Stop}
+use Rattle.machine.specs.declared.stop.Stop.TheVariants as stop
 use Rattle.logical_clocks.specs.TurnOrder.{turn_holder}
 use Rattle.posix_terms.specs.declared.outcome.Given.{Given}
 use Rattle.call_machine.specs.declared.players.Player.{Player}

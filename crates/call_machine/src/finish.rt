@@ -7,7 +7,7 @@ use crate::driver::Driver;
 use crate::history::History;
 use crate::plain::Plain;
 use lock_machine::Phase;
-use logged_machine::Stop;
+use machine::Stop;
 use posix_terms::{PackedRow, Row, Transcript, Transcripts};
 use std::alloc::{AllocError, Global};
 

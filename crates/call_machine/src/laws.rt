@@ -5,7 +5,7 @@ ghost use Rattle.call_machine.specs.RunLogs.{RunsOfBothVersions};
 
 use lock_machine::requests_asked;
 use lock_model::{arising_states, one_event, outcomes_that_came};
-use logged_machine::outcomes_are_recorded;
+use machine::outcomes_are_recorded;
 
 /// The log of a plain run, after any number of events. By thread the outcomes of its records are
 /// those that came, in order, in version 1 without their clocks (`came`); it is a log, which has a

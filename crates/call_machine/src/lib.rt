@@ -44,7 +44,7 @@ pub use fault::PlainFault;
 pub use history::History;
 pub use laws::{logs_of_plain_runs, logs_of_runs, plain_runs_agree};
 pub use lock_machine::Asked;
-pub use logged_machine::{
+pub use machine::{
     Attempt, Finished, Left, Machine, NotRecorded, Outing, Phase, Refused, Stop,
 };
 pub use plain::Plain;

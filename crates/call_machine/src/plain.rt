@@ -1,5 +1,5 @@
 use crate::history::History;
-use logged_machine::Stop;
+use machine::Stop;
 use posix_terms::{Bytes, Transcripts};
 
 /// A plain run: what each thread saw, the history, the bytes of the log, and why it stopped, if it did

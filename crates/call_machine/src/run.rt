@@ -8,7 +8,7 @@ ghost use Rattle.lock_model.specs.RealLaws.{RealLegalOfArisen};
 ghost use Rattle.call_machine.specs.Covered.{HasSpelling, IsCovered, RecordsCame};
 ghost use Rattle.call_machine.specs.History.{AreRising};
 ghost use Rattle.call_machine.specs.Plain.{Runs, counts_fit, header_of};
-ghost use Rattle.logged_machine.specs.RecordLaws.{RecordLaws};
+ghost use Rattle.machine.specs.RecordLaws.{RecordLaws};
 
 use crate::driver::Driver;
 use crate::fault::PlainFault;
@@ -17,7 +17,7 @@ use crate::plain::Plain;
 use input_log::Header;
 use lock_machine::machines_show;
 use lock_model::{arising_states, outcomes_that_came, real_runs};
-use logged_machine::{are_in_range, outcomes_are_recorded};
+use machine::{are_in_range, outcomes_are_recorded};
 use posix_terms::{Limits, Outcomes, Settings};
 use std::alloc::Global;
 use thread_scripts::Script;

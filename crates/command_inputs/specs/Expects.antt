@@ -17,7 +17,7 @@ use Rattle.expectations.specs.Places.{calls_of}
 use Rattle.expectations.specs.Unmet.{AreMet, IsFirstUnmet}
 use Rattle.expectations.specs.declared.expected.Expectation.{Expectation}
 use Rattle.expectations.specs.declared.unmet.Unmet.{Unmet}
-use Rattle.logged_machine.specs.declared.stop.Stop.{Stop}
+use Rattle.machine.specs.declared.stop.Stop.{Stop}
 use Rattle.command_texts.specs.Expecting.{IsFirstBad, IsGood, expectation_fault, unmet_line}
 use Rattle.command_texts.specs.Expecting.{with_unmet}
 use Rattle.command_texts.specs.Printing.{script_fault}

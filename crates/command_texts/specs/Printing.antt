@@ -6,7 +6,7 @@ use Rattle.std.specs.Io.KnownBytes.{Appends}
 use Rattle.posix_terms.specs.declared.limits.TheConstants.Limits as limit
 use Rattle.posix_terms.specs.declared.transcript.Row.{Row}
 use Rattle.thread_scripts.specs.Faults.{Fault, bad_line, too_long}
-use Rattle.logged_machine.specs.declared.stop.Stop.{Stop}
+use Rattle.machine.specs.declared.stop.Stop.{Stop}
 use Rattle.command_texts.specs.Transcripts.{◌+++◌, transcripts_text, end_text, end_status}
 use Rattle.command_texts.specs.declared.printed.Printed.{Printed}
 

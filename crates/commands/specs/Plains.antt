@@ -5,7 +5,7 @@ use Rattle.std.specs.Prelude.{Option, None}
 use Rattle.posix_terms.specs.declared.transcript.Settings.{Settings}
 use Rattle.thread_scripts.specs.declared.line.Line.{Line}
 use Rattle.call_machine.specs.Plain.{IsPlainRun}
-use Rattle.logged_machine.specs.Starting.{are_settings}
+use Rattle.machine.specs.Starting.{are_settings}
 use Rattle.call_machine.specs.Setup.{Inputs}
 use Rattle.call_machine.specs.declared.plain.Plain.{Plain}
 use Rattle.command_texts.specs.declared.printed.Printed.{Printed}

@@ -1,7 +1,7 @@
 -- Believed: a contract of a command stands on it.
 -- What is told of the replay of a log with scripts.
 use Rattle.std.specs.Prelude.{◌≡◌, ℕ, List, length, Option, Some, None, Result, Ok, Err}
-use Rattle.logged_machine.specs.declared.stop.Stop.TheVariants as stops
+use Rattle.machine.specs.declared.stop.Stop.TheVariants as stops
 use Rattle.input_log.specs.Fronts.{IsFront}
 use Rattle.input_log.specs.declared.log.LogText.{LogText}
 use Rattle.replayer.specs.Replay.{Replays}

@@ -1,6 +1,6 @@
 ghost use Rattle.std.specs.Prelude.{◌≡◌, length, map, IfOk, true};
 ghost use Rattle.call_machine.specs.Plain.{counts_fit};
-ghost use Rattle.logged_machine.specs.Starting.{are_settings};
+ghost use Rattle.machine.specs.Starting.{are_settings};
 ghost use Rattle.command_texts.specs.Printing.{Prints};
 ghost use Rattle.commands.specs.Plains.{PlainPrints, RunPrints, TextsPrint, inputs_of};
 

@@ -6,7 +6,7 @@ use Rattle.call_machine.specs.Plain.{counts_fit}
 use Rattle.comparator.specs.Comparison.{IsVerdictBy}
 use Rattle.comparator.specs.declared.verdict.Verdict.{Verdict}
 use Rattle.posix_terms.specs.declared.transcript.Row.{Row}
-use Rattle.logged_machine.specs.declared.stop.Stop.{Stop}
+use Rattle.machine.specs.declared.stop.Stop.{Stop}
 use Rattle.thread_scripts.specs.Faults.{Fault}
 use Rattle.thread_scripts.specs.declared.line.Line.{Line}
 use Rattle.command_texts.specs.Printing.{cannot_read, needs_scripts}

@@ -6,7 +6,7 @@ use Rattle.std.specs.Fmt.{decimal}
 use Rattle.comparator.specs.declared.verdict.Verdict.{Verdict}
 use Rattle.comparator.specs.declared.verdict.Verdict.TheVariants as verdicts
 use Rattle.posix_terms.specs.declared.transcript.Row.{Row}
-use Rattle.logged_machine.specs.declared.stop.Stop.{Stop}
+use Rattle.machine.specs.declared.stop.Stop.{Stop}
 use Rattle.command_texts.specs.Transcripts.{◌+++◌, end_text}
 use Rattle.command_texts.specs.declared.printed.Printed.{Printed}
 use Rattle.run_views.specs.Rows.{call_row_text}

@@ -7,7 +7,7 @@ use Rattle.call_machine.specs.Setup.{Inputs}
 use Rattle.call_machine.specs.declared.fault.PlainFault.{PlainFault}
 use Rattle.call_machine.specs.declared.fault.PlainFault.TheVariants as plain_fault
 use Rattle.call_machine.specs.declared.plain.Plain.{Plain}
-use Rattle.logged_machine.specs.Starting.{are_settings}
+use Rattle.machine.specs.Starting.{are_settings}
 use Rattle.command_texts.specs.FirstFaults.{IsFirst}
 use Rattle.command_texts.specs.Reading.{scripts_from}
 use Rattle.command_texts.specs.declared.first_fault.FirstFault.{FirstFault}

@@ -8,8 +8,8 @@ use Rattle.posix_terms.specs.declared.outcome.Given.{Given}
 use Rattle.posix_terms.specs.declared.step.Step.{Step}
 use Rattle.lock_model.specs.Held.{last_call}
 use Rattle.worker_notes.specs.Requests.{query_for}
-use Rattle.logged_machine.specs.declared.stop.Stop.{Stop}
-use Rattle.logged_machine.specs.declared.stop.Stop.TheVariants as stop
+use Rattle.machine.specs.declared.stop.Stop.{Stop}
+use Rattle.machine.specs.declared.stop.Stop.TheVariants as stop
 use Rattle.call_machine.specs.declared.plain.Plain.{Plain}
 use Rattle.explorer.specs.Runs.{IsRun}
 use Rattle.explorer.specs.Subject.{Subject}

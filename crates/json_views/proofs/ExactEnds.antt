@@ -2,7 +2,7 @@
 use Rattle.std.proofs.Common.{◌≡◌, ℕ, false, List, [], ◌∷◌, Option, Some, None, codes, refl}
 use Rattle.serde_json.specs.Data.{string}
 use Rattle.serde_json.specs.Written.{has_float}
-use Rattle.logged_machine.specs.declared.stop.Stop.{Stop}
+use Rattle.machine.specs.declared.stop.Stop.{Stop}
 use Rattle.json_views.specs.Ends.{end_value, end_words, outcome_stopped, thread_stopped, unmet_value}
 use Rattle.json_views.specs.Objects.{count_value, optional_value}
 use Rattle.json_views.proofs.Exact.{object_exact, optional_exact, text_exact}

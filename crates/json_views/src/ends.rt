@@ -11,7 +11,7 @@ use crate::rows::push_row_json;
 use crate::values::{push_line, text_value};
 use answered_calls::AnsweredCall;
 use command_texts::{Printed, end_status};
-use logged_machine::Stop;
+use machine::Stop;
 use posix_terms::Bytes;
 use serde_json::{Value, json};
 use std::alloc::{AllocError, Global};

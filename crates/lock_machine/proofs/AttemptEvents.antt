@@ -18,7 +18,7 @@ use Rattle.sequential_object.specs.Numbers.{first_world}
 use Rattle.sequential_object.specs.Step.{Carried}
 use Rattle.lock_model.specs.State as lock
 use Rattle.lock_model.specs.State.{Row, thread_of}
-use Rattle.object_store.specs.Store.{LocksAsStep, Stored}
+use Rattle.call_turns.specs.Store.{LocksAsStep, Stored}
 use Rattle.lock_machine.specs.Events.{Parts, Reaches, Tries, parts}
 use Rattle.lock_machine.specs.Lives.{Agree}
 use Rattle.lock_machine.specs.Conditions.{Conditions, setup_under}

@@ -27,7 +27,7 @@ use Rattle.lock_model.specs.State as lock
 use Rattle.lock_model.specs.State.{Job, Row, State, live_clocks, nobody, thread_of}
 use Rattle.lock_model.specs.State.Phase.{WantsObject, WantsTable}
 use Rattle.sequential_object.specs.Worlds.{World}
-use Rattle.object_store.specs.Store.{EndsAt, GoesOut, LocksAsStep, Stands, StartsIn, Stored, number_locked}
+use Rattle.call_turns.specs.Store.{EndsAt, GoesOut, LocksAsStep, Stands, StartsIn, Stored, number_locked}
 use Rattle.lock_machine.specs.Held.{turn_started}
 use Rattle.lock_machine.specs.Events.{Grants, Parts, PlansTo, Tries, TriesIn, TriesInTime, TriesLock, granted_row, in_time, later, parts}
 use Rattle.lock_model.specs.Rows.{shown}
@@ -37,8 +37,8 @@ use Rattle.lock_machine.specs.Whole.{Whole, thread_at}
 use Rattle.lock_machine.specs.Threads.{Thread}
 use Rattle.lock_machine.specs.Views.{no_thread}
 use Rattle.sequential_object.specs.declared.turn_end.TurnEnd.{TurnEnd}
-use Rattle.object_store.specs.declared.patience.TurnStart.{TurnStart}
-use Rattle.object_store.specs.declared.patience.TurnStart.TheVariants as start
+use Rattle.call_turns.specs.declared.patience.TurnStart.{TurnStart}
+use Rattle.call_turns.specs.declared.patience.TurnStart.TheVariants as start
 use Rattle.descriptor_table.specs.declared.plan.Errand.{Errand}
 use Rattle.lock_machine.specs.declared.thread.Outing.{Outing}
 use Rattle.lock_machine.specs.declared.thread.Phase.{Phase}

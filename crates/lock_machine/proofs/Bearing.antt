@@ -5,7 +5,7 @@ use Rattle.std.proofs.lemmas.List.Sums.{sum_by-le, sum_by-set}
 use Rattle.logical_clocks.specs.ThreadClocks.{AreWithinLimit, clock_at, first_clock, no_thread, thread_at}
 use Rattle.logical_clocks.specs.declared.clocks.ThreadClock.{ThreadClock}
 use Rattle.posix_terms.specs.declared.limits.TheConstants.Limits as limit
-use Rattle.object_store.specs.Store.{Stored, first_stored}
+use Rattle.call_turns.specs.Store.{Stored, first_stored}
 use Rattle.lock_machine.proofs.Joining.{agree_length}
 use Rattle.lock_machine.specs.Lives.{Agree}
 use Rattle.lock_machine.specs.Births.{BearsInTime, BornWithin, time_of}

@@ -8,7 +8,7 @@ use Rattle.lock_model.specs.State as lock
 use Rattle.lock_model.specs.State.{nobody}
 use Rattle.lock_model.specs.State.Phase.{Working}
 use Rattle.sequential_object.specs.Numbers.{first_world}
-use Rattle.object_store.specs.Store.{Stands, first_stored}
+use Rattle.call_turns.specs.Store.{Stands, first_stored}
 use Rattle.lock_machine.specs.Conditions.{Conditions}
 use Rattle.lock_machine.specs.Shows.{ThreadShows}
 use Rattle.lock_machine.specs.Starting.{ShowsAtStart, first_thread}

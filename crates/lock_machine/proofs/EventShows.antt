@@ -31,7 +31,7 @@ use Rattle.lock_machine.specs.Conditions.{setup_under}
 use Rattle.lock_machine.specs.declared.outside.Progress.{Progress}
 use Rattle.lock_machine.specs.declared.thread.Outing.{Outing}
 use Rattle.posix_terms.specs.declared.outcome.Given.{Given}
-use Rattle.object_store.specs.Store.{Stored}
+use Rattle.call_turns.specs.Store.{Stored}
 use Rattle.lock_machine.specs.Shows.{AdvancesQuietly, AsksFor, BlockedIn, GrantedIn, PhaseShows, RecordsGiven, Tells, WantsIn}
 use Rattle.lock_machine.specs.Whole.{Whole, thread_at}
 use Rattle.lock_machine.specs.Threads.{KeepsOthers, Thread, joined, timed}

@@ -3,9 +3,9 @@ use Rattle.std.proofs.Common.{◌≡◌, ℕ, ◌+◌, List, [], ◌∷◌, ◌+
 use Rattle.std.proofs.lemmas.Option.{none-some, same_Some}
 use Rattle.std.specs.Prelude.{IfOk, Result, Ok, Err}
 use Rattle.std.specs.declared.alloc.AllocError.{AllocError}
-use Rattle.object_store.specs.Store.{Makes, Stored, number_locked}
-use Rattle.object_store.specs.declared.patience.TurnStart.{TurnStart}
-use Rattle.object_store.specs.declared.patience.TurnStart.TheVariants as start
+use Rattle.call_turns.specs.Store.{Makes, Stored, number_locked}
+use Rattle.call_turns.specs.declared.patience.TurnStart.{TurnStart}
+use Rattle.call_turns.specs.declared.patience.TurnStart.TheVariants as start
 use Rattle.sequential_object.specs.Locked.{keeps_table}
 use Rattle.sequential_object.specs.Step.{Carried}
 use Rattle.posix_terms.specs.Calls.{Call}

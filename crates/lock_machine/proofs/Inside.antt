@@ -6,7 +6,7 @@ use Rattle.det_mutex.specs.declared.lock.DetLock.{DetLock}
 use Rattle.logical_clocks.specs.ThreadClocks.{clock_at, live_clocks}
 use Rattle.logical_clocks.specs.TurnOrder.{has_turn}
 use Rattle.logical_clocks.specs.declared.clocks.ThreadClock.{ThreadClock}
-use Rattle.object_store.specs.Store.{Stored}
+use Rattle.call_turns.specs.Store.{Stored}
 use Rattle.posix_terms.specs.declared.transcript.HistoryRow.{HistoryRow}
 use Rattle.lock_machine.specs.Lives.{Agree, is_live}
 use Rattle.lock_machine.specs.Threads.{Thread, joined, timed}

@@ -20,8 +20,8 @@ use Rattle.lock_model.specs.State as lock
 use Rattle.lock_model.specs.State.{Job, Row, State, nobody, thread_of}
 use Rattle.lock_model.specs.State.Phase.{Outside, Recorded, ToOutside}
 use Rattle.sequential_object.specs.Worlds.{World}
-use Rattle.object_store.specs.Patience.{as_answer, ended, outside_ending}
-use Rattle.object_store.specs.Store.{Stands, Stored}
+use Rattle.call_turns.specs.Patience.{as_answer, ended, outside_ending}
+use Rattle.call_turns.specs.Store.{Stands, Stored}
 use Rattle.sequential_object.specs.declared.turn_end.TurnEnd.{TurnEnd}
 use Rattle.sequential_object.specs.declared.turn_end.TurnEnd.TheVariants as end
 use Rattle.descriptor_table.specs.Agreement.{query_of}

@@ -14,7 +14,7 @@ use Rattle.lock_model.specs.State.{Job, Row, State, nobody, thread_of}
 use Rattle.sequential_object.specs.Worlds.{World}
 use Rattle.lock_machine.specs.Conditions.{Conditions, setup_under}
 use Rattle.lock_model.specs.Rows.{shown}
-use Rattle.object_store.specs.Store.{Stands, Stored}
+use Rattle.call_turns.specs.Store.{Stands, Stored}
 use Rattle.lock_machine.specs.Shows.{IsGranted, IsOut, PhaseShows, Shows, ThreadShows}
 use Rattle.lock_machine.specs.Whole.{Whole}
 use Rattle.lock_machine.specs.Views.{no_thread}

@@ -12,7 +12,7 @@ use Rattle.lock_model.specs.Skipping.{SkipLaw, Skipped, StaysShut, first_from, t
 use Rattle.lock_model.specs.State as lock
 use Rattle.lock_model.specs.State.{Row, State, nobody, object_of, thread_of}
 use Rattle.lock_model.specs.Rows.{shown}
-use Rattle.object_store.specs.Store.{Stands, Stored}
+use Rattle.call_turns.specs.Store.{Stands, Stored}
 use Rattle.posix_terms.specs.declared.limits.TheConstants.Limits as limit
 use Rattle.posix_terms.specs.declared.transcript.Turn.{Turn}
 use Rattle.lock_machine.specs.Births.{BornWithin}

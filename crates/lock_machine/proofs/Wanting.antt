@@ -13,10 +13,10 @@ use Rattle.posix_terms.specs.declared.transcript.Turn.{Turn}
 use Rattle.det_mutex.specs.declared.lock.DetLock.{DetLock}
 use Rattle.sequential_object.specs.Locked.{keeps_table}
 use Rattle.sequential_object.specs.Step.{Carried}
-use Rattle.object_store.specs.Store.{IsDecided, KeepsStore, Stored}
-use Rattle.object_store.specs.declared.patience.Locking.{Locking}
-use Rattle.object_store.specs.declared.patience.TurnStart.{TurnStart}
-use Rattle.object_store.specs.declared.patience.TurnStart.TheVariants as start
+use Rattle.call_turns.specs.Store.{IsDecided, KeepsStore, Stored}
+use Rattle.call_turns.specs.declared.patience.Locking.{Locking}
+use Rattle.call_turns.specs.declared.patience.TurnStart.{TurnStart}
+use Rattle.call_turns.specs.declared.patience.TurnStart.TheVariants as start
 use Rattle.lock_machine.specs.Events.{granted_row}
 use Rattle.lock_machine.specs.Held.{phase_started}
 use Rattle.lock_machine.specs.Wanted.{AllHaveDecided, IsWanted, BringsNoCall, KeepsCalls, KeepsWanted, LeavesWanted, HasDecided, HasDecidedAt, call_at, kept_call, wanted_call}

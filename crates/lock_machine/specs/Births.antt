@@ -3,7 +3,7 @@
 use Rattle.std.specs.Prelude.{ℕ, ◌+◌, ◌*◌, ◌≤◌, List}
 use Rattle.std.specs.List.{sum_by}
 use Rattle.logical_clocks.specs.declared.clocks.ThreadClock.{ThreadClock}
-use Rattle.object_store.specs.Store.{Stored}
+use Rattle.call_turns.specs.Store.{Stored}
 
 -- how far the clocks of all threads came, together
 abbrev pub time_of : List ThreadClock → ℕ

@@ -11,11 +11,11 @@ use Rattle.det_mutex.specs.Attempt.{freed, held, takes}
 use Rattle.det_mutex.specs.declared.lock.DetLock.{DetLock}
 use Rattle.lock_model.specs.Machine.{is_number}
 use Rattle.lock_machine.specs.Held.{end_held, turn_started, phase_behind, told_as}
-use Rattle.object_store.specs.Store.{Makes, Stored, number_locked}
+use Rattle.call_turns.specs.Store.{Makes, Stored, number_locked}
 use Rattle.lock_machine.specs.Threads.{Thread}
 use Rattle.sequential_object.specs.declared.turn_end.TurnEnd.{TurnEnd}
 use Rattle.sequential_object.specs.Step.{Carried}
-use Rattle.object_store.specs.declared.patience.TurnStart.{TurnStart}
+use Rattle.call_turns.specs.declared.patience.TurnStart.{TurnStart}
 use Rattle.lock_machine.specs.declared.thread.Phase.{Phase}
 use Rattle.lock_machine.specs.declared.thread.Phase.TheVariants as phase
 

@@ -8,8 +8,8 @@ use Rattle.posix_terms.specs.declared.reply.Answer as posix
 use Rattle.posix_terms.specs.declared.reply.Answer.TheVariants as answer
 use Rattle.sequential_object.specs.declared.turn_end.TurnEnd.{TurnEnd}
 use Rattle.sequential_object.specs.declared.turn_end.TurnEnd.TheVariants as end
-use Rattle.object_store.specs.declared.patience.TurnStart.{TurnStart}
-use Rattle.object_store.specs.declared.patience.TurnStart.TheVariants as start
+use Rattle.call_turns.specs.declared.patience.TurnStart.{TurnStart}
+use Rattle.call_turns.specs.declared.patience.TurnStart.TheVariants as start
 use Rattle.lock_machine.specs.Threads.{Thread}
 use Rattle.lock_machine.specs.declared.thread.Phase.{Phase}
 use Rattle.lock_machine.specs.declared.thread.Phase.TheVariants as phase

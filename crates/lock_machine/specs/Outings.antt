@@ -5,8 +5,8 @@ use Rattle.descriptor_table.specs.declared.plan.Errand.{Errand}
 use Rattle.det_mutex.specs.Attempt.{freed}
 use Rattle.det_mutex.specs.declared.lock.DetLock.{DetLock}
 use Rattle.lock_model.specs.Machine.{is_number}
-use Rattle.object_store.specs.Patience.{EndsOutside}
-use Rattle.object_store.specs.Store.{Opens, Stored}
+use Rattle.call_turns.specs.Patience.{EndsOutside}
+use Rattle.call_turns.specs.Store.{Opens, Stored}
 use Rattle.sequential_object.specs.declared.turn_end.TurnEnd.{TurnEnd}
 use Rattle.posix_terms.specs.Outcomes.{fits, is_at, suits}
 use Rattle.posix_terms.specs.Calls.{Call}

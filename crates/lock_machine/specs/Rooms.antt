@@ -3,8 +3,8 @@
 use Rattle.std.specs.Prelude.{◌≡◌, ◌≤◌, ℕ, Bool, true, false, not, ◌||◌}
 use Rattle.sequential_object.specs.Bytes.{read_count}
 use Rattle.descriptor_table.specs.Plans.{bytes_asked}
-use Rattle.object_store.specs.Patience.{turn_bytes}
-use Rattle.object_store.specs.Space.{Space}
+use Rattle.call_turns.specs.Patience.{turn_bytes}
+use Rattle.call_turns.specs.Space.{Space}
 use Rattle.lock_machine.specs.declared.thread.Phase.{Phase}
 use Rattle.lock_machine.specs.declared.thread.Phase.TheVariants as phase
 

@@ -2,7 +2,7 @@
 -- How the data of a run stand for a state of the lock machine.
 use Rattle.std.specs.Prelude.{◌≡◌, ℕ, ◌<◌, ◌≤◌, ◌^◌, List, [], ◌∷◌, ◌++◌, length, map, slice_get, is_some, Option, Some, None, IfSome, Bool, true, false, ◌==◌, if◌then◌else◌}
 use Rattle.descriptor_table.specs.Agreement.{query_of}
-use Rattle.object_store.specs.Patience.{ended, outside_ending}
+use Rattle.call_turns.specs.Patience.{ended, outside_ending}
 use Rattle.sequential_object.specs.Locked.{keeps_table}
 use Rattle.sequential_object.specs.Step.{asks, step}
 use Rattle.posix_terms.specs.Calls.{Call}
@@ -28,8 +28,8 @@ use Rattle.lock_model.specs.State.{Job, Row, State, live_clocks, thread_of}
 use Rattle.lock_model.specs.State.Phase.{Working, WantsTable, WantsObject, Granted, ToOutside, Outside, Recorded, Blocked, Ended}
 use Rattle.lock_model.specs.Rows.{shown}
 use Rattle.lock_machine.specs.Conditions.{Conditions, setup_under, start_under}
-use Rattle.object_store.specs.Errands.{door_taken, waits_outside}
-use Rattle.object_store.specs.Store.{Stands}
+use Rattle.call_turns.specs.Errands.{door_taken, waits_outside}
+use Rattle.call_turns.specs.Store.{Stands}
 use Rattle.lock_machine.specs.Diverging.{is_diverging}
 use Rattle.lock_machine.specs.declared.outside.Progress.{Progress}
 use Rattle.lock_machine.specs.declared.outside.Progress.TheVariants as progress

@@ -2,13 +2,13 @@
 -- A lock machine at its start.
 use Rattle.std.specs.Prelude.{ℕ, [], replicate, refl}
 use Rattle.det_mutex.specs.Attempt.{new_lock}
-use Rattle.object_store.specs.Store.{first_stored}
+use Rattle.call_turns.specs.Store.{first_stored}
 use Rattle.posix_terms.specs.declared.limits.TheConstants.Limits as limit
 use Rattle.posix_terms.specs.declared.transcript.Settings.{Settings}
 use Rattle.lock_machine.specs.Conditions.{Conditions, start_under}
 use Rattle.lock_machine.specs.Shows.{Shows}
 use Rattle.std.proofs.Math.Nat.{le_refl}
-use Rattle.object_store.specs.Space.{no_space}
+use Rattle.call_turns.specs.Space.{no_space}
 use Rattle.lock_machine.specs.Threads.{Thread}
 use Rattle.lock_machine.specs.Whole.{Whole}
 use Rattle.lock_machine.specs.declared.thread.Phase.TheVariants as phase

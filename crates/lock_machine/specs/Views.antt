@@ -2,7 +2,7 @@
 -- The clocks of a run's live threads.
 use Rattle.std.specs.Prelude.{ℕ, List, [], get_or, map, Option, Some, None, refl}
 use Rattle.std.proofs.Math.Nat.{le_refl}
-use Rattle.object_store.specs.Space.{no_space}
+use Rattle.call_turns.specs.Space.{no_space}
 use Rattle.lock_machine.specs.Threads.{Thread, timed}
 use Rattle.lock_machine.specs.declared.thread.Thread as declared
 use Rattle.lock_machine.specs.declared.thread.Phase.{Phase}

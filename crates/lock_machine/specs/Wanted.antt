@@ -7,8 +7,8 @@ use Rattle.posix_terms.specs.Calls.{Call}
 use Rattle.posix_terms.specs.declared.transcript.HistoryRow.{HistoryRow}
 use Rattle.det_mutex.specs.declared.lock.DetLock.{DetLock}
 use Rattle.posix_terms.specs.declared.carried.Moved.{Moved}
-use Rattle.object_store.specs.Store.{Stored, locking_at}
-use Rattle.object_store.specs.declared.patience.Locking.{Locking}
+use Rattle.call_turns.specs.Store.{Stored, locking_at}
+use Rattle.call_turns.specs.declared.patience.Locking.{Locking}
 use Rattle.lock_machine.specs.declared.thread.Phase.{Phase}
 use Rattle.lock_machine.specs.declared.thread.Phase.TheVariants as phase
 use Rattle.lock_machine.specs.declared.thread.Thread.{Thread}

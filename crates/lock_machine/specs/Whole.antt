@@ -2,7 +2,7 @@
 -- What contracts see of a lock machine.
 use Rattle.std.specs.Prelude.{ℕ, List, get_or}
 use Rattle.det_mutex.specs.declared.lock.DetLock.{DetLock}
-use Rattle.object_store.specs.Store.{Stored}
+use Rattle.call_turns.specs.Store.{Stored}
 use Rattle.posix_terms.specs.declared.transcript.HistoryRow.{HistoryRow}
 use Rattle.posix_terms.specs.declared.transcript.Settings.{Settings}
 use Rattle.lock_machine.specs.Threads.{Thread}

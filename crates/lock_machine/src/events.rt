@@ -10,15 +10,15 @@ ghost use Rattle.lock_machine.specs.Wanted.{BringsNoCall, KeepsCalls, KeepsWante
 ghost use Rattle.lock_machine.specs.Held.{phase_behind, phase_started, told_as};
 ghost use Rattle.lock_machine.specs.Threads.{KeepsOthers, timed};
 ghost use Rattle.lock_machine.specs.Waiting.{HasRoom, KeepsRoom, rows_due};
-ghost use Rattle.object_store.specs.Patience.{turn_bytes};
-ghost use Rattle.object_store.specs.Space.{HasSpaceFor};
-ghost use Rattle.object_store.specs.Store.{IsDecided, Stored, number_locked};
+ghost use Rattle.call_turns.specs.Patience.{turn_bytes};
+ghost use Rattle.call_turns.specs.Space.{HasSpaceFor};
+ghost use Rattle.call_turns.specs.Store.{IsDecided, Stored, number_locked};
 
 use crate::machine::Shared;
 use crate::thread::{Outing, Phase, Thread};
 use det_mutex::DetLock;
 use logical_clocks::Clocks;
-use object_store::{AtTable, Locking, Room, TurnEnd, TurnStart, keeps_table};
+use call_turns::{AtTable, Locking, Room, TurnEnd, TurnStart, keeps_table};
 use posix_terms::{Answer, Call, Carried, PackedRow, Turn};
 use std::mem;
 

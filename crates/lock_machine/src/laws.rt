@@ -3,7 +3,7 @@ ghost use Rattle.lock_machine.specs.Requests.{AskByTheirCall, AskLittle, AskThei
 ghost use Rattle.lock_machine.specs.Shows.{ClocksShown};
 ghost use Rattle.lock_machine.specs.Starting.{ShowsAtStart};
 
-use object_store::first_store;
+use call_turns::first_store;
 use sequential_object::decided_so;
 
 /// What calls ask outside. None asks for more than a record of its outcome can hold: at most 32,767 bytes to read or

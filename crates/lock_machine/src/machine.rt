@@ -14,7 +14,7 @@ use crate::asked::Asked;
 use crate::thread::{Phase, Thread};
 use det_mutex::DetLock;
 use logical_clocks::Clocks;
-use object_store::{Locking, Store};
+use call_turns::{Locking, Store};
 use posix_terms::{PackedRow, Settings, Step};
 use std::marker::Model;
 
@@ -53,7 +53,7 @@ pub struct LockMachine {
 impl Model for LockMachine {
     ghost use Rattle.lock_machine.specs.Threads.{joined};
     ghost use Rattle.lock_machine.specs.Whole.{Whole};
-    ghost use Rattle.object_store.specs.StoreCode.{stored_code};
+    ghost use Rattle.call_turns.specs.StoreCode.{stored_code};
     ghost use Rattle.std.specs.Coded.{codes};
 
     ghost Value = { Whole };

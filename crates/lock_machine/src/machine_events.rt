@@ -14,7 +14,7 @@ use crate::machine::LockMachine;
 use crate::outside::{Progress, answer_outside, begin_outside, record};
 use crate::thread::Outing;
 use lock_model::arising_states;
-use object_store::locks_and_doors;
+use call_turns::locks_and_doors;
 use posix_terms::{Answer, Given, Step};
 use sequential_object::calls_outside;
 use std::alloc::AllocError;

@@ -13,7 +13,7 @@ ghost use Rattle.lock_machine.specs.Outings.{progress_at, recorded_parts, table_
 ghost use Rattle.lock_machine.specs.Threads.{KeepsOthers, timed};
 ghost use Rattle.lock_machine.specs.declared.thread.Phase.TheVariants as phase;
 ghost use Rattle.descriptor_table.specs.Plans.{bytes_asked};
-ghost use Rattle.object_store.specs.Patience.{turn_bytes};
+ghost use Rattle.call_turns.specs.Patience.{turn_bytes};
 ghost use Rattle.lock_machine.specs.Waiting.{KeepsRoom, rows_due};
 
 use crate::events::{answer_copied, holds, phase_behind, told_as};
@@ -22,7 +22,7 @@ use crate::thread::{Outing, Phase, Thread};
 use descriptor_table::Errand;
 use det_mutex::DetLock;
 use logical_clocks::Clocks;
-use object_store::{Locking, Room, Store, TurnEnd};
+use call_turns::{Locking, Room, Store, TurnEnd};
 use posix_terms::{Answer, Call, Given, Limits, Outcome, PackedRow, Turn};
 
 /// How far an event comes that needs no turn.

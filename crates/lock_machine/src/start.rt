@@ -7,7 +7,7 @@ use crate::steps::Steps;
 use crate::thread::{Phase, Thread};
 use det_mutex::DetLock;
 use logical_clocks::Clocks;
-use object_store::{Room, Store};
+use call_turns::{Room, Store};
 use posix_terms::{Limits, Settings};
 use std::alloc::{AllocError, Global};
 

@@ -3,7 +3,7 @@ ghost use Rattle.lock_machine.specs.Rooms.{HasSpace};
 
 use crate::steps::Steps;
 use descriptor_table::Errand;
-use object_store::{Room, TurnEnd};
+use call_turns::{Room, TurnEnd};
 use posix_terms::{Call, Carried};
 
 /// A call that goes outside: the row of the history that it has, the object whose lock it holds, what it carries from

@@ -7,11 +7,11 @@ use Rattle.std.proofs.lemmas.Option.{none-some}
 use Rattle.input_log.specs.Format.{end_text, header_text, text_of}
 use Rattle.input_log.specs.Writing.{HasTaken, TakesPart, Writing, log_of}
 use Rattle.input_log.specs.declared.log.Header.{Header}
-use Rattle.logged_machine.specs.Finishing.{FinishesBy, have_ended}
-use Rattle.logged_machine.specs.Kept.{StopsFor, header_of, is_sink, is_strayed}
-use Rattle.logged_machine.specs.Shown.{Shown}
-use Rattle.logged_machine.specs.declared.stop.Stop.{Stop}
-use Rattle.logged_machine.specs.declared.stop.Stop.TheVariants as stop
+use Rattle.machine.specs.Finishing.{FinishesBy, have_ended}
+use Rattle.machine.specs.Kept.{StopsFor, header_of, is_sink, is_strayed}
+use Rattle.machine.specs.Shown.{Shown}
+use Rattle.machine.specs.declared.stop.Stop.{Stop}
+use Rattle.machine.specs.declared.stop.Stop.TheVariants as stop
 use Rattle.posix_terms.specs.declared.transcript.HistoryRow.{HistoryRow}
 use Rattle.posix_terms.specs.declared.transcript.Row.{Row}
 use Rattle.posix_terms.specs.declared.transcript.Settings.{Settings}

@@ -4,7 +4,7 @@ use Rattle.std.specs.Prelude.{◌↔◌, IsTrue, OnOk, OnErr}
 use Rattle.std.proofs.lemmas.Bool.{false≢true}
 use Rattle.std.proofs.lemmas.List.{append-nil, length-append}
 use Rattle.lock_model.specs.History.{IsPrefixOf}
-use Rattle.logged_machine.specs.History.{transcript_of}
+use Rattle.machine.specs.History.{transcript_of}
 use Rattle.posix_terms.specs.declared.transcript.HistoryRow.{HistoryRow}
 use Rattle.posix_terms.specs.declared.transcript.Row.{Row}
 use Rattle.recorder.specs.Recorded.{AreBeginnings, IsCutShort, IsWhole, transcripts_of}

@@ -4,10 +4,10 @@ use Rattle.std.specs.Prelude.{◌≡◌, ◌⊎◌, ℕ, Bool, true, false, Opti
 use Rattle.host_doors.specs.Opening.{HasDoor}
 use Rattle.host_doors.specs.declared.stop.DoorStop.{DoorStop}
 use Rattle.host_doors.specs.declared.stop.DoorStop.TheVariants as door_stop
-use Rattle.logged_machine.specs.declared.refused.Refused.{Refused}
-use Rattle.logged_machine.specs.declared.refused.Refused.TheVariants as refused
-use Rattle.logged_machine.specs.declared.stop.Stop.{Stop}
-use Rattle.logged_machine.specs.declared.stop.Stop.TheVariants as stop
+use Rattle.machine.specs.declared.refused.Refused.{Refused}
+use Rattle.machine.specs.declared.refused.Refused.TheVariants as refused
+use Rattle.machine.specs.declared.stop.Stop.{Stop}
+use Rattle.machine.specs.declared.stop.Stop.TheVariants as stop
 use Rattle.posix_terms.specs.declared.outcome.Outcome.{Outcome}
 use Rattle.posix_terms.specs.declared.outcome.OutKind.{OutKind}
 use Rattle.posix_terms.specs.declared.outcome.OutKind.TheVariants as kind

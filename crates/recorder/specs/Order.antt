@@ -5,8 +5,8 @@ use Rattle.lock_machine.specs.Threads.{Thread}
 use Rattle.lock_machine.specs.declared.thread.Outing.{Outing}
 use Rattle.lock_machine.specs.declared.thread.Phase.{Phase}
 use Rattle.lock_machine.specs.declared.thread.Phase.TheVariants as phase
-use Rattle.logged_machine.specs.Finishing.{all_true}
-use Rattle.logged_machine.specs.Requests.{out_of}
+use Rattle.machine.specs.Finishing.{all_true}
+use Rattle.machine.specs.Requests.{out_of}
 
 -- a call that goes outside, or is there, lets that with this row go where it was not granted before
 abbrev pub lets_go : ℕ → Option Outing → Bool

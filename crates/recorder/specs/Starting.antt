@@ -3,7 +3,7 @@
 use Rattle.std.specs.Prelude.{◌≡◌, ◌⊎◌, ℕ, ◌&&◌, ◌==◌, nat_lt, if◌then◌else◌, List}
 use Rattle.std.specs.Prelude.{Option, Some, None}
 use Rattle.input_log.specs.Format.{header_text}
-use Rattle.logged_machine.specs.Starting.{are_settings, header_for}
+use Rattle.machine.specs.Starting.{are_settings, header_for}
 use Rattle.posix_terms.specs.declared.limits.TheConstants.Limits as limit
 use Rattle.posix_terms.specs.declared.transcript.Settings.{Settings}
 use Rattle.recorder.specs.declared.ended.StartFault.{StartFault}

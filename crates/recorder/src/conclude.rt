@@ -1,8 +1,8 @@
 ghost use Rattle.std.specs.Prelude.{◌≡◌, ◌≤◌, ◌⊎◌, ◌↔◌, IsTrue, true, false, [], Some, None};
 ghost use Rattle.std.specs.Prelude.{is_some, vec_capacity, if◌then◌else◌};
-ghost use Rattle.logged_machine.specs.Finishing.{have_ended};
-ghost use Rattle.logged_machine.specs.Kept.{header_of};
-ghost use Rattle.logged_machine.specs.declared.stop.Stop.TheVariants as cause;
+ghost use Rattle.machine.specs.Finishing.{have_ended};
+ghost use Rattle.machine.specs.Kept.{header_of};
+ghost use Rattle.machine.specs.declared.stop.Stop.TheVariants as cause;
 ghost use Rattle.recorder.specs.Recorded.{AreAnswered, AreEnded, AreTold, IsRun, Shows};
 ghost use Rattle.worker_notes.specs.Agrees.{Agree};
 
@@ -11,7 +11,7 @@ use crate::history::History;
 use crate::threads::Gathered;
 use crate::transcripts::{Seen, seen_by};
 use input_log::{Header, LogSink};
-use logged_machine::{Finished, Machine, Stop};
+use machine::{Finished, Machine, Stop};
 use posix_terms::{PackedRow, Transcript};
 use std::alloc::Global;
 use worker_notes::{Own, agree};

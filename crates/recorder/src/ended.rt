@@ -1,6 +1,6 @@
 use crate::history::History;
 use input_log::LogSink;
-use logged_machine::Stop;
+use machine::Stop;
 use posix_terms::{Limits, Transcripts};
 use thiserror::Error;
 use worker_notes::Own;

@@ -1,9 +1,9 @@
 ghost use Rattle.std.specs.Prelude.{◌≡◌, false, Some};
-ghost use Rattle.logged_machine.specs.Kept.{is_sink, is_strayed};
+ghost use Rattle.machine.specs.Kept.{is_sink, is_strayed};
 ghost use Rattle.recorder.specs.Leaving.{cause_of, is_of_outside, left_on};
 ghost use Rattle.recorder.specs.declared.leave.Leave.TheVariants as why;
 
-use logged_machine::{Refused, Stop};
+use machine::{Refused, Stop};
 use std::alloc::{AllocError, AllocFailed};
 
 // Why a worker leaves before its actor's end.

@@ -1,12 +1,12 @@
 ghost use Rattle.std.specs.Prelude.{◌≡◌, ◌<◌, length};
 ghost use Rattle.lock_machine.specs.Refusals.{phase_at};
-ghost use Rattle.logged_machine.specs.Requests.{out_of};
+ghost use Rattle.machine.specs.Requests.{out_of};
 ghost use Rattle.recorder.specs.Order.{all_let_go, is_next_outside, lets_go};
 
 use crate::shared::Held;
 use input_log::LogSink;
 use lock_machine::Phase;
-use logged_machine::Machine;
+use machine::Machine;
 
 // Where calls go outside in the order of the turns, they go one after the other, by the numbers of
 // their rows. Nobody waits forever for that: of the calls that are about to go outside, or are

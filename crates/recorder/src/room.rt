@@ -1,11 +1,11 @@
 ghost use Rattle.std.specs.Prelude.{◌≡◌, ◌≤◌, true, [], IfOk, IfErr, None, vec_capacity};
 ghost use Rattle.input_log.specs.Grammar.{in_range};
-ghost use Rattle.logged_machine.specs.Starting.{header_for};
+ghost use Rattle.machine.specs.Starting.{header_for};
 ghost use Rattle.posix_terms.specs.declared.limits.TheConstants.Limits as limit;
 ghost use Rattle.recorder.specs.Starting.{IsRefusal, refusal};
 
 use crate::ended::StartFault;
-use logged_machine::are_in_range;
+use machine::are_in_range;
 use posix_terms::{Limits, Reply, Settings, Transcript};
 use std::alloc::{AllocError, Global};
 use std::sync::Condvar;

@@ -6,7 +6,7 @@ use crate::leave::Leave;
 use crate::shared::{Held, Wakes};
 use input_log::LogSink;
 use lock_machine::Phase;
-use logged_machine::{Machine, Refused};
+use machine::{Machine, Refused};
 use posix_terms::Answer;
 
 // Makes every attempt that can be made, for whichever thread has the turn, and answers each call

@@ -4,7 +4,7 @@ ghost use Rattle.posix_terms.specs.declared.limits.TheConstants.Limits as limit;
 
 use crate::pulse::Pulse;
 use input_log::LogSink;
-use logged_machine::Machine;
+use machine::Machine;
 use posix_terms::{Limits, Reply};
 use std::mem;
 use std::sync::{Condvar, Mutex, MutexGuard, Wait};

@@ -1,6 +1,6 @@
 ghost use Rattle.std.specs.Prelude.{◌≡◌, ◌≤◌, ◌↔◌, ◌&&◌, [], IsTrue, OnOk, OnErr, is_ok};
 ghost use Rattle.std.specs.Prelude.{vec_capacity};
-ghost use Rattle.logged_machine.specs.History.{transcript_of};
+ghost use Rattle.machine.specs.History.{transcript_of};
 ghost use Rattle.recorder.specs.Recorded.{AreBeginnings, IsCutShort, IsWhole, transcripts_of};
 
 use posix_terms::{PackedRow, Row, Transcript, Transcripts};

@@ -1,7 +1,7 @@
 use crate::pulse::{LOOKS, Stillness};
 use crate::shared::Shared;
 use input_log::LogSink;
-use logged_machine::Machine;
+use machine::Machine;
 use std::sync::Wait;
 use std::time::Duration;
 

@@ -1,7 +1,7 @@
 use crate::outcomes::{doors, outcomes};
 use crate::record::{NoRun, Over, push_actor};
 use input_log::MemorySink;
-use logged_machine::Stop;
+use machine::Stop;
 use posix_terms::{Call, Settings};
 use recorder::{BoxedActor, run_recorded};
 use std::alloc::{AllocError, Global};

@@ -5,7 +5,7 @@ use crate::record::{actors, script};
 use crate::seen::{Rows, Seen, saw};
 use host_doors::{Gate, NoGate, ScriptDoors};
 use input_log::MemorySink;
-use logged_machine::Stop;
+use machine::Stop;
 use posix_terms::{OutKind, Outcomes, Reply, Settings, Step};
 use recorder::{BoxedActor, Ended, NotStarted, record_actors, run_recorded};
 use std::alloc::{AllocError, Global};

@@ -1,6 +1,6 @@
 use crate::outcomes::Came;
 use crate::record::{Run, record};
-use logged_machine::Stop;
+use machine::Stop;
 use posix_terms::OutKind;
 use std::alloc::{AllocError, Global};
 use std::sync::Wait;

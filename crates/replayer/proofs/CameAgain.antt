@@ -1,6 +1,6 @@
 -- A run under the outcomes that came in another.
 use Rattle.lock_model.specs.Runs.{Supplies}
-use Rattle.logged_machine.specs.Records.{as_logged}
+use Rattle.machine.specs.Records.{as_logged}
 use Rattle.std.proofs.Common.{◌≡◌, ℕ, zero, suc, ◌+◌, ◌≤◌, true, false, List, [], length, slice_get, Option, Some, None, refl, sym, ap, ◌∙◌, subst, ⊎_elim, inl, inr, arith, map}
 use Rattle.std.proofs.lemmas.Bool.{false≢true, cases_Bool, cond-true, cond-false}
 use Rattle.std.proofs.lemmas.List.{get_or_past, length-replicate, length-map}

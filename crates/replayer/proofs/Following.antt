@@ -18,9 +18,9 @@ use Rattle.lock_model.specs.State.{Row, State, thread_of}
 use Rattle.lock_model.specs.Transcripts.{replies_of, reply_in}
 use Rattle.sequential_object.specs.declared.turn_end.TurnEnd.{TurnEnd}
 use Rattle.sequential_object.specs.declared.turn_end.TurnEnd.TheVariants as turn_end
-use Rattle.logged_machine.specs.Kept.{IsKept}
-use Rattle.logged_machine.specs.Runs.{terms_with}
-use Rattle.logged_machine.specs.Shown.{Shown}
+use Rattle.machine.specs.Kept.{IsKept}
+use Rattle.machine.specs.Runs.{terms_with}
+use Rattle.machine.specs.Shown.{Shown}
 use Rattle.posix_terms.specs.Answers.{reply_of}
 use Rattle.posix_terms.specs.declared.limits.TheConstants.Limits as limit
 use Rattle.posix_terms.specs.declared.outcome.Given.{Given}

@@ -1,7 +1,7 @@
 -- What is known of the log at the front of a text.
 use Rattle.std.proofs.Common.{◌≡◌, ℕ, List, length, true, inl, inr, arith}
 use Rattle.call_machine.specs.Plain.{counts_fit}
-use Rattle.logged_machine.specs.Starting.{are_settings}
+use Rattle.machine.specs.Starting.{are_settings}
 use Rattle.input_log.specs.Fronts.{IsFront}
 use Rattle.input_log.specs.Grammar.{IsLog, in_range}
 use Rattle.input_log.specs.declared.log.Header.{Header}

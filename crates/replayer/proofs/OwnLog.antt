@@ -1,15 +1,15 @@
 -- The replay of the log that a plain run wrote.
-use Rattle.logged_machine.specs.Records.{as_logged}
+use Rattle.machine.specs.Records.{as_logged}
 use Rattle.std.proofs.Common.{◌≡◌, ℕ, ◌+◌, ◌<◌, ◌≤◌, Bool, true, List, [], length, map, get_or, Option, Some, None, Result, refl, sym, ap, ◌∙◌, subst, ⊎_elim, inl, arith}
 use Rattle.std.proofs.lemmas.Bool.{cases_lt}
 use Rattle.std.proofs.lemmas.List.{get_or_past, length-map}
 use Rattle.call_machine.specs.History.{transcripts_of}
 use Rattle.call_machine.specs.Plain.{are_threads, has_ended, log_of, plain_of, stop_by, stop_of, stuck_in}
-use Rattle.logged_machine.specs.Starting.{are_settings}
+use Rattle.machine.specs.Starting.{are_settings}
 use Rattle.call_machine.specs.Logs.{plain_records}
 use Rattle.call_machine.specs.Setup.{Inputs, first_state, script_of, setup_of}
 use Rattle.call_machine.specs.Diverging.{diverging}
-use Rattle.logged_machine.specs.declared.stop.Stop.TheVariants as stop
+use Rattle.machine.specs.declared.stop.Stop.TheVariants as stop
 use Rattle.call_machine.specs.declared.plain.Plain.{Plain}
 use Rattle.input_log.specs.Format.{text_of}
 use Rattle.input_log.specs.Grammar.{IsLog, Spells}

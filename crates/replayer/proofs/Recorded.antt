@@ -8,10 +8,10 @@ use Rattle.input_log.specs.declared.log.Header.{Header}
 use Rattle.lock_model.specs.Schedule.{EndsIn}
 use Rattle.lock_model.specs.State.{State}
 use Rattle.call_machine.specs.Setup.{first_state, setup_of}
-use Rattle.logged_machine.specs.Kept.{header_of}
-use Rattle.logged_machine.specs.Starting.{header_for}
-use Rattle.logged_machine.specs.declared.stop.Stop.{Stop}
-use Rattle.logged_machine.specs.declared.stop.Stop.TheVariants as stop
+use Rattle.machine.specs.Kept.{header_of}
+use Rattle.machine.specs.Starting.{header_for}
+use Rattle.machine.specs.declared.stop.Stop.{Stop}
+use Rattle.machine.specs.declared.stop.Stop.TheVariants as stop
 use Rattle.recorder.specs.Each.{AreLedFrom}
 use Rattle.recorder.specs.Recorded.{AreBeginnings, Fits, HasNoLog, IsRun, IsWhy, its_own, no_memory, strayed}
 use Rattle.thread_scripts.specs.Meaning.{start_of}

@@ -20,7 +20,7 @@ use Rattle.input_log.specs.declared.log.Header.{Header}
 use Rattle.input_log.specs.declared.log.LogText.{LogText}
 use Rattle.input_log.specs.declared.log.Record.{Record}
 use Rattle.lock_model.specs.State.{State, thread_of}
-use Rattle.logged_machine.specs.Records.{as_logged, record_of}
+use Rattle.machine.specs.Records.{as_logged, record_of}
 use Rattle.posix_terms.specs.declared.outcome.Given.{Given}
 use Rattle.posix_terms.specs.declared.transcript.HistoryRow.{HistoryRow}
 use Rattle.thread_scripts.specs.declared.line.Line.{Line}

@@ -1,5 +1,5 @@
 -- What the replay of a log gives of a run of real threads that wrote it, or that was made by it.
-use Rattle.logged_machine.specs.Records.{as_logged}
+use Rattle.machine.specs.Records.{as_logged}
 use Rattle.std.proofs.Common.{◌≡◌, ℕ, zero, suc, ◌+◌, ◌<◌, ◌≤◌, true, false, List, [], ◌∷◌, ◌++◌, length, map, get_or, slice_get, Option, Some, None, Result, Ok, Err, refl, sym, ap, ap₂, ◌∙◌, subst, ⊎_elim, inl, inr, arith}
 use Rattle.std.proofs.lemmas.Bool.{false≢true, and_parts, cases_lt}
 use Rattle.std.proofs.lemmas.List.{append-nil, get_or_past, length-append, length-map}
@@ -32,12 +32,12 @@ use Rattle.lock_model.specs.State as lock
 use Rattle.lock_model.specs.State.{State, live_clock, live_clock_in, live_clocks, nobody, thread_of}
 use Rattle.lock_model.specs.State.Phase.{Ended, Outside}
 use Rattle.lock_model.specs.Transcripts as of_rows
-use Rattle.logged_machine.specs.Finishing.{have_ended, is_ended}
-use Rattle.logged_machine.specs.Kept.{IsKept}
-use Rattle.logged_machine.specs.Runs.{terms_with}
-use Rattle.logged_machine.specs.Shown.{Shown}
-use Rattle.logged_machine.specs.declared.stop.Stop.{Stop}
-use Rattle.logged_machine.specs.declared.stop.Stop.TheVariants as stop
+use Rattle.machine.specs.Finishing.{have_ended, is_ended}
+use Rattle.machine.specs.Kept.{IsKept}
+use Rattle.machine.specs.Runs.{terms_with}
+use Rattle.machine.specs.Shown.{Shown}
+use Rattle.machine.specs.declared.stop.Stop.{Stop}
+use Rattle.machine.specs.declared.stop.Stop.TheVariants as stop
 use Rattle.logical_clocks.specs.TurnOrder.{has_turn, has_turn_at, turn_holder}
 use Rattle.posix_terms.specs.declared.limits.TheConstants.Limits as limit
 use Rattle.posix_terms.specs.declared.errno.Errno.TheVariants as errno

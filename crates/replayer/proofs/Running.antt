@@ -5,9 +5,9 @@ use Rattle.host_doors.specs.LogList.{LogList}
 use Rattle.host_doors.specs.declared.script.ScriptDoor.{ScriptDoor}
 use Rattle.input_log.specs.declared.log.LogText.{LogText}
 use Rattle.input_log.specs.declared.log.Record.{Record}
-use Rattle.logged_machine.specs.Kept.{is_sink}
-use Rattle.logged_machine.specs.declared.stop.Stop.{Stop}
-use Rattle.logged_machine.specs.declared.stop.Stop.TheVariants as stop
+use Rattle.machine.specs.Kept.{is_sink}
+use Rattle.machine.specs.declared.stop.Stop.{Stop}
+use Rattle.machine.specs.declared.stop.Stop.TheVariants as stop
 use Rattle.posix_terms.specs.declared.transcript.Settings.{Settings}
 use Rattle.recorder.specs.Each.{AreLedFrom, ArePlayedFrom, AreTrue}
 use Rattle.recorder.specs.Recorded.{AreAnswered, AreEnded, AreTold, IsRecorded}

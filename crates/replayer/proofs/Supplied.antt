@@ -4,14 +4,14 @@ use Rattle.posix_terms.specs.declared.limits.TheConstants.Limits as limit
 use Rattle.sequential_object.specs.Meant.{request_asked}
 use Rattle.sequential_object.specs.Numbers.{first_world}
 use Rattle.lock_machine.specs.Conditions.{setup_under}
-use Rattle.logged_machine.specs.Runs.{terms_with}
+use Rattle.machine.specs.Runs.{terms_with}
 use Rattle.std.proofs.lemmas.Simd.{map-map}
 use Rattle.lock_model.specs.State.{State, thread_of}
 use Rattle.lock_model.specs.Laws.{AreDated}
 use Rattle.posix_terms.specs.Queries.{requested_at}
 use Rattle.posix_terms.specs.declared.transcript.Turn.{Turn}
 use Rattle.lock_model.specs.Runs.{Supplies, own}
-use Rattle.logged_machine.specs.Records.{as_logged}
+use Rattle.machine.specs.Records.{as_logged}
 use Rattle.std.proofs.Common.{◌≡◌, ℕ, zero, suc, ◌+◌, ◌<◌, ◌≤◌, Bool, true, false, ◌&&◌, List, [], ◌∷◌, ◌++◌, length, map, take, get_or, slice_get, slice_index_or, Option, Some, None, is_none, if◌then◌else◌, ◌==◌, refl, sym, ap, ◌∙◌, subst, ⊎_elim, inl, inr, arith, option_map, ◌⊎◌}
 use Rattle.std.proofs.lemmas.Bool.{false≢true, and_parts, cases_lt, eqb-true}
 use Rattle.std.proofs.lemmas.List.{append-nil, append_assoc, get_or_past, length-map}
@@ -30,13 +30,13 @@ use Rattle.lock_machine.specs.Requests.{kind_asked}
 use Rattle.lock_machine.specs.Threads.{Thread}
 use Rattle.lock_machine.specs.Views.{no_thread}
 use Rattle.lock_machine.specs.Whole.{settings_in, thread_at}
-use Rattle.logged_machine.specs.Covered.{IsCovered, kind_before, kinds_in}
-use Rattle.logged_machine.specs.Finishing.{EndsLog, Finishes, FinishesBy, have_ended}
-use Rattle.logged_machine.specs.History.{clock_before, clock_told, clocks_in, outcome_before, outcomes_in}
-use Rattle.logged_machine.specs.Kept.{IsKept, header_of, is_sink}
-use Rattle.logged_machine.specs.RecordLaws.{RecordLaws}
-use Rattle.logged_machine.specs.Shown.{Shown}
-use Rattle.logged_machine.specs.declared.stop.Stop.{Stop}
+use Rattle.machine.specs.Covered.{IsCovered, kind_before, kinds_in}
+use Rattle.machine.specs.Finishing.{EndsLog, Finishes, FinishesBy, have_ended}
+use Rattle.machine.specs.History.{clock_before, clock_told, clocks_in, outcome_before, outcomes_in}
+use Rattle.machine.specs.Kept.{IsKept, header_of, is_sink}
+use Rattle.machine.specs.RecordLaws.{RecordLaws}
+use Rattle.machine.specs.Shown.{Shown}
+use Rattle.machine.specs.declared.stop.Stop.{Stop}
 use Rattle.posix_terms.specs.Outcomes.{fits, is_kind, is_at, suits}
 use Rattle.posix_terms.specs.declared.outcome.Given.{Given}
 use Rattle.posix_terms.specs.declared.outcome.OutKind.{OutKind}

@@ -1,7 +1,7 @@
 -- What is told of a plain run is what a replay gives.
 use Rattle.std.proofs.Common.{◌≡◌, ℕ, List, Option, Some, None, Result, Ok, Err}
-use Rattle.logged_machine.specs.declared.stop.Stop.{Stop}
-use Rattle.logged_machine.specs.declared.stop.Stop.TheVariants as stop
+use Rattle.machine.specs.declared.stop.Stop.{Stop}
+use Rattle.machine.specs.declared.stop.Stop.TheVariants as stop
 use Rattle.call_machine.specs.declared.plain.Plain.{Plain}
 use Rattle.input_log.specs.declared.fault.LogFault.{LogFault}
 use Rattle.input_log.specs.declared.log.LogText.{LogText}

@@ -28,13 +28,13 @@ use Rattle.lock_model.specs.State as lock
 use Rattle.lock_model.specs.State.{State, live_clocks, thread_of}
 use Rattle.lock_model.specs.State.Phase.{Outside}
 use Rattle.lock_model.specs.Transcripts as of_rows
-use Rattle.logged_machine.specs.History.{clocks_in, outcomes_in}
-use Rattle.logged_machine.specs.Kept.{header_of}
-use Rattle.logged_machine.specs.Records.{as_logged}
-use Rattle.logged_machine.specs.Runs.{terms_with}
-use Rattle.logged_machine.specs.Starting.{header_for}
-use Rattle.logged_machine.specs.declared.stop.Stop.{Stop}
-use Rattle.logged_machine.specs.declared.stop.Stop.TheVariants as stop
+use Rattle.machine.specs.History.{clocks_in, outcomes_in}
+use Rattle.machine.specs.Kept.{header_of}
+use Rattle.machine.specs.Records.{as_logged}
+use Rattle.machine.specs.Runs.{terms_with}
+use Rattle.machine.specs.Starting.{header_for}
+use Rattle.machine.specs.declared.stop.Stop.{Stop}
+use Rattle.machine.specs.declared.stop.Stop.TheVariants as stop
 use Rattle.logical_clocks.specs.TurnOrder.{turn_holder}
 use Rattle.posix_terms.specs.declared.limits.TheConstants.Limits as limit
 use Rattle.posix_terms.specs.declared.outcome.Given.{Given}

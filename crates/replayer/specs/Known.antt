@@ -1,10 +1,10 @@
 -- Internal: no contract of the headline or of a command stands on it.
 -- The laws of other crates that the laws of this one rest on.
 use Rattle.lock_model.specs.Runs.{Keeps}
-use Rattle.logged_machine.specs.Records.{as_logged}
+use Rattle.machine.specs.Records.{as_logged}
 use Rattle.std.specs.Prelude.{◌≡◌, ◌==◌, ℕ, List, not}
 use Rattle.call_machine.specs.Covered.{HasSpelling, NoneDiverges, RecordsCame}
-use Rattle.logged_machine.specs.RecordLaws.{RecordLaws}
+use Rattle.machine.specs.RecordLaws.{RecordLaws}
 use Rattle.call_machine.specs.Plain.{OnePlainRun}
 use Rattle.call_machine.specs.RunLogs.{PlainIsMade, RunHasSpelling, RunRecordsCame, RunsOfBothVersions}
 use Rattle.input_log.specs.Faults.{Fault, HasFault, is_other_version}

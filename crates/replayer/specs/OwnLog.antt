@@ -3,8 +3,8 @@
 use Rattle.std.specs.Prelude.{◌≡◌, Option, Some, None, Result, Ok, Err}
 use Rattle.call_machine.specs.Plain.{IsPlainRun}
 use Rattle.call_machine.specs.Setup.{Inputs}
-use Rattle.logged_machine.specs.declared.stop.Stop.{Stop}
-use Rattle.logged_machine.specs.declared.stop.Stop.TheVariants as stop
+use Rattle.machine.specs.declared.stop.Stop.{Stop}
+use Rattle.machine.specs.declared.stop.Stop.TheVariants as stop
 use Rattle.call_machine.specs.declared.plain.Plain.{Plain}
 use Rattle.recorder.specs.Recorded.{AreBeginnings}
 use Rattle.replayer.specs.Replay.{Replays}

@@ -3,8 +3,8 @@
 use Rattle.std.specs.Prelude.{◌≡◌, ◌≢◌, ℕ, List, Option, Some, None, length, Result, Ok, Err}
 use Rattle.call_machine.specs.Plain.{IsPlainRun}
 use Rattle.call_machine.specs.Setup.{Inputs}
-use Rattle.logged_machine.specs.declared.stop.Stop.{Stop}
-use Rattle.logged_machine.specs.declared.stop.Stop.TheVariants as stop
+use Rattle.machine.specs.declared.stop.Stop.{Stop}
+use Rattle.machine.specs.declared.stop.Stop.TheVariants as stop
 use Rattle.call_machine.specs.declared.plain.Plain.{Plain}
 use Rattle.input_log.specs.Fronts.{HasNoFront, IsFront}
 use Rattle.input_log.specs.declared.fault.LogFault.{LogFault}

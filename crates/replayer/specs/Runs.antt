@@ -3,7 +3,7 @@
 use Rattle.std.specs.Prelude.{◌≡◌, ℕ, List, Option, Some, None}
 use Rattle.call_machine.specs.declared.plain.Plain.{Plain}
 use Rattle.input_log.specs.declared.log.LogText.{LogText}
-use Rattle.logged_machine.specs.declared.stop.Stop.{Stop}
+use Rattle.machine.specs.declared.stop.Stop.{Stop}
 use Rattle.replayer.specs.Outcomes.{first_unused}
 use Rattle.replayer.specs.Replay.{IsRunByText}
 use Rattle.replayer.specs.Threads.{stop_told}

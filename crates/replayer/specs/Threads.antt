@@ -14,9 +14,9 @@ use Rattle.input_log.specs.declared.log.Record.{Record}
 use Rattle.lock_model.specs.Rows.{shown}
 use Rattle.lock_model.specs.Schedule.{EndsIn}
 use Rattle.lock_model.specs.State.{State}
-use Rattle.logged_machine.specs.Starting.{header_for}
-use Rattle.logged_machine.specs.declared.stop.Stop.{Stop}
-use Rattle.logged_machine.specs.declared.stop.Stop.TheVariants as stop
+use Rattle.machine.specs.Starting.{header_for}
+use Rattle.machine.specs.declared.stop.Stop.{Stop}
+use Rattle.machine.specs.declared.stop.Stop.TheVariants as stop
 use Rattle.posix_terms.specs.declared.transcript.Row.{Row}
 use Rattle.posix_terms.specs.declared.transcript.Settings.{Settings}
 use Rattle.recorder.specs.Each.{AreLedFrom, ArePlayedFrom, AreTrue}

@@ -13,9 +13,9 @@ use Rattle.input_log.specs.Format.{text_of}
 use Rattle.input_log.specs.Fronts.{IsFront}
 use Rattle.input_log.specs.declared.log.LogText.{LogText}
 use Rattle.lock_model.specs.Machine.{Event}
-use Rattle.logged_machine.specs.Starting.{are_settings, header_for}
-use Rattle.logged_machine.specs.declared.stop.Stop.{Stop}
-use Rattle.logged_machine.specs.declared.stop.Stop.TheVariants as stop
+use Rattle.machine.specs.Starting.{are_settings, header_for}
+use Rattle.machine.specs.declared.stop.Stop.{Stop}
+use Rattle.machine.specs.declared.stop.Stop.TheVariants as stop
 use Rattle.posix_terms.specs.declared.transcript.HistoryRow.{HistoryRow}
 use Rattle.posix_terms.specs.declared.transcript.Row.{Row}
 use Rattle.posix_terms.specs.declared.transcript.Settings.{Settings}

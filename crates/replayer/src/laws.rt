@@ -10,7 +10,7 @@ use input_log::{fronts_have_their_version, one_fault, one_value, what_was_writte
 use lock_model::{
     arising_states, one_event, outcomes_that_came, plain_run_ends, prefix_law, turn_order,
 };
-use logged_machine::outcomes_are_recorded;
+use machine::outcomes_are_recorded;
 use thread_scripts::{Actor, programs_of_scripts};
 
 // What the laws of other crates say of runs, of their logs, and of texts.

@@ -1,7 +1,7 @@
 ghost use Rattle.std.specs.Prelude.{◌≡◌, ◌≢◌, ◌+◌, ◌≤◌, IfOk, IfErr, [], Some, length, vec_len};
 ghost use Rattle.input_log.specs.Fronts.{IsFront};
 ghost use Rattle.input_log.specs.Grammar.{IsLog};
-ghost use Rattle.logged_machine.specs.declared.stop.Stop.TheVariants as stop;
+ghost use Rattle.machine.specs.declared.stop.Stop.TheVariants as stop;
 ghost use Rattle.replayer.specs.Outcomes.{first_unused};
 ghost use Rattle.replayer.specs.Replay.{IsNoReplay};
 ghost use Rattle.replayer.specs.Threads.{EndsBy, IsReplayedBy, doors_by, stop_told};

@@ -5,7 +5,7 @@ use Rattle.std.specs.Prelude.{Some, None, codes, length, map, max, replicate, ta
 use Rattle.std.specs.Fmt.{decimal}
 use Rattle.std.specs.List.{flat_map}
 use Rattle.posix_terms.specs.declared.transcript.Row.{Row}
-use Rattle.logged_machine.specs.declared.stop.Stop.{Stop}
+use Rattle.machine.specs.declared.stop.Stop.{Stop}
 use Rattle.command_texts.specs.Transcripts.{◌+++◌, call_text, end_status, end_text, reply_text}
 use Rattle.command_texts.specs.declared.printed.Printed.{Printed}
 use Rattle.run_views.specs.Calls.{asked_text}

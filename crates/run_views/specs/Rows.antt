@@ -5,7 +5,7 @@ use Rattle.std.specs.Prelude.{if◌then◌else◌}
 use Rattle.std.specs.Fmt.{decimal}
 use Rattle.std.specs.List.{flat_map}
 use Rattle.posix_terms.specs.declared.transcript.Row.{Row}
-use Rattle.logged_machine.specs.declared.stop.Stop.{Stop}
+use Rattle.machine.specs.declared.stop.Stop.{Stop}
 use Rattle.command_texts.specs.Printing.{run_printed}
 use Rattle.command_texts.specs.Transcripts.{◌+++◌, end_status, end_text, reply_text, row_text}
 use Rattle.command_texts.specs.declared.printed.Printed.{Printed}

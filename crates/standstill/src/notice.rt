@@ -4,7 +4,7 @@ use crate::follower::Follower;
 use crate::places::line_of;
 use crate::standing::{Standing, blocked_turns, where_stands};
 use input_log::LogSink;
-use logged_machine::Machine;
+use machine::Machine;
 use posix_terms::{Bytes, Step};
 use recorder::Watch;
 use std::alloc::{AllocError, Global};

@@ -1,7 +1,7 @@
 ghost use Rattle.std.specs.Prelude.{◌<◌, length};
 
 use input_log::LogSink;
-use logged_machine::Machine;
+use machine::Machine;
 use posix_terms::{PackedRow, Reply};
 use std::alloc::{AllocError, Global};
 use thread_scripts::{Actor, Memory, Script, ScriptActor, Step, parse};

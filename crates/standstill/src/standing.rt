@@ -1,7 +1,7 @@
 ghost use Rattle.std.specs.Prelude.{◌<◌, length};
 
 use input_log::LogSink;
-use logged_machine::{Machine, Outing, Phase};
+use machine::{Machine, Outing, Phase};
 
 /// Where a thread is between its events, as one who waits for it would say.
 #[derive(Clone, Copy)]

@@ -1,7 +1,7 @@
 use crate::hostile::runs::{SHORT_HOST_WRITE, SHORT_LOG, SHORT_ROWS, SHORT_SEEN, Wanted};
 use crate::hostile::ways::{Told, recorded, recorded_short};
 use crate::seen::{Rows, Seen};
-use logged_machine::Stop;
+use machine::Stop;
 use std::alloc::{AllocError, Global};
 use std::sync::Wait;
 use std::test::Fail;

@@ -2,7 +2,7 @@ use crate::hostile::runs::{Run, SHORT_HOST_WRITE, Wanted};
 use crate::hostile::ways::is_run;
 use crate::outcomes::Came;
 use crate::seen::Seen;
-use logged_machine::Stop;
+use machine::Stop;
 use posix_terms::{Errno, OutKind};
 use std::test::Fail;
 

@@ -7,7 +7,7 @@ use crate::hostile::ways::{
 };
 use crate::record::scripts;
 use input_log::{Header, LogFault, LogReader, LogText, LogWriter, MemorySink, decode};
-use logged_machine::Machine;
+use machine::Machine;
 use posix_terms::Settings;
 use replayer::{ReplayFault, upgrade};
 use std::alloc::{AllocError, Global};

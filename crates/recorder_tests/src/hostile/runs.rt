@@ -1,7 +1,7 @@
 use crate::outcomes::{Came, outcomes};
 use crate::runs::{SHORT_WRITE, WRITTEN};
 use crate::seen::{Rows, Seen};
-use logged_machine::Stop;
+use machine::Stop;
 use posix_terms::{Errno, Outcomes};
 use std::alloc::{AllocError, Global};
 

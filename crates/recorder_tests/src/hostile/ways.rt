@@ -7,7 +7,7 @@ use crate::seen::{saw, saw_beginning};
 use call_machine::{PlainFault, plain_run};
 use host_doors::ScriptDoors;
 use input_log::ShortSink;
-use logged_machine::Stop;
+use machine::Stop;
 use posix_terms::Transcripts;
 use recorder::{BoxedActor, Ended, NotStarted, StartFault, run_recorded};
 use replayer::{ReplayFault, replay, replay_threads};

@@ -1,7 +1,7 @@
 use Rattle.std.proofs.Common.{◌≡◌, true, length, rules}
 use Rattle.call_machine.specs.Driven.{Ends}
 use Rattle.call_machine.specs.Plain.{are_threads}
-use Rattle.logged_machine.specs.Starting.{are_settings}
+use Rattle.machine.specs.Starting.{are_settings}
 use Rattle.call_machine.specs.Playing.{played_of}
 use Rattle.call_machine.specs.Setup.{Inputs}
 use Rattle.call_machine.proofs.Concluding.{begins_of, plain_covered, plain_legal, plain_rising, plain_run_is}

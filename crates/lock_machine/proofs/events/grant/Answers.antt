@@ -1,7 +1,7 @@
 use Rattle.std.proofs.Common.{List, [], ◌∷◌, ◌++◌, length, Option, Some, subst, sym, rules}
 use Rattle.posix_terms.specs.declared.transcript.HistoryRow.{HistoryRow}
 use Rattle.sequential_object.specs.Locked.{keeps_table}
-use Rattle.object_store.specs.declared.patience.Locking.{Locking}
+use Rattle.call_turns.specs.declared.patience.Locking.{Locking}
 use Rattle.lock_machine.specs.Events.{granted_row}
 use Rattle.lock_machine.specs.Held.{phase_started}
 use Rattle.lock_machine.specs.Wanted.{HasDecided}
@@ -10,7 +10,7 @@ use Rattle.lock_machine.proofs.Wanting.{started_waits}
 use Rattle.lock_machine.specs.Threads.{timed}
 use Rattle.lock_machine.proofs.Granting.{seated}
 use Rattle.lock_machine.proofs.events.grant.Goals as goal
-use Rattle.object_store.specs.Store.{IsDecided, KeepsStore, Makes}
+use Rattle.call_turns.specs.Store.{IsDecided, KeepsStore, Makes}
 
 pub returns-clause-event : goal.returns-clause-event
 returns-clause-event c =

@@ -1,5 +1,5 @@
 use Rattle.std.proofs.Common.{Ok, ◌≡◌, Option, Some, ap, subst, rules}
-use Rattle.object_store.specs.declared.patience.Locking.{Locking}
+use Rattle.call_turns.specs.declared.patience.Locking.{Locking}
 use Rattle.lock_machine.proofs.Wanting.{waits_decided, wanted_some}
 use Rattle.lock_machine.specs.Wanted.{IsWanted, wanted_call}
 use Rattle.lock_machine.specs.declared.thread.Phase.{Phase}

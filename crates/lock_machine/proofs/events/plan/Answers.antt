@@ -1,6 +1,6 @@
 use Rattle.std.proofs.Common.{◌≡◌, ℕ, None, [], ◌∷◌, ◌++◌, length, ap, rules}
-use Rattle.object_store.specs.Store.{Makes, number_locked}
-use Rattle.object_store.specs.declared.patience.TurnStart.TheVariants as start
+use Rattle.call_turns.specs.Store.{Makes, number_locked}
+use Rattle.call_turns.specs.declared.patience.TurnStart.TheVariants as start
 use Rattle.sequential_object.specs.declared.turn_end.TurnEnd.TheVariants as end
 use Rattle.lock_machine.specs.Events.{granted_row}
 use Rattle.lock_machine.specs.Threads.{timed}

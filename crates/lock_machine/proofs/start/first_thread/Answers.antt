@@ -3,7 +3,7 @@ use Rattle.std.specs.Coded.{×_prop, le_prop}
 use Rattle.std.proofs.Math.Bool.{Bool-set}
 use Rattle.posix_terms.specs.declared.step.Step.{Step}
 use Rattle.lock_machine.specs.Rooms.{HasSpace}
-use Rattle.object_store.specs.Space.{Space, no_space}
+use Rattle.call_turns.specs.Space.{Space, no_space}
 use Rattle.lock_machine.specs.Starting.{first_item}
 use Rattle.lock_machine.specs.declared.thread.Phase.TheVariants as phase
 use Rattle.lock_machine.specs.declared.thread.Thread.{Thread}

@@ -1,5 +1,5 @@
 use Rattle.std.proofs.Common.{◌≡◌, ◌++◌, drop}
-use Rattle.logged_machine.specs.History.{transcript_of}
+use Rattle.machine.specs.History.{transcript_of}
 use Rattle.recorder.proofs.transcripts.fill.Given as goal
 
 abbrev pub invariant-loop-row : goal.invariant-loop-row

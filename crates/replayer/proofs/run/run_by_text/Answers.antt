@@ -1,6 +1,6 @@
 use Rattle.std.proofs.Common.{◌≡◌, true, length, rules}
 use Rattle.call_machine.specs.Plain.{are_threads}
-use Rattle.logged_machine.specs.Starting.{are_settings}
+use Rattle.machine.specs.Starting.{are_settings}
 use Rattle.input_log.specs.Fronts.{IsFront}
 use Rattle.input_log.specs.Grammar.{IsLog}
 use Rattle.replayer.specs.Replay.{inputs_of}

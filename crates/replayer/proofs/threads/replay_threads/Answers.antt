@@ -1,7 +1,7 @@
 use Rattle.std.proofs.Common.{rules, ◌≡◌, ◌≢◌, Some, length}
 use Rattle.replayer.specs.Threads.{EndsBy, IsReplayedBy}
 use Rattle.std.proofs.lemmas.Result.{IfOk-weaker}
-use Rattle.logged_machine.specs.declared.stop.Stop.TheVariants as stop
+use Rattle.machine.specs.declared.stop.Stop.TheVariants as stop
 use Rattle.replayer.proofs.Running.{ends_for_other}
 use Rattle.replayer.proofs.threads.replay_threads.Goals as goal
 

@@ -8,7 +8,7 @@ use Rattle.lock_machine.specs.Lives.{lives}
 use Rattle.lock_machine.specs.Starting.{first_item}
 use Rattle.lock_machine.specs.Threads.{joined}
 use Rattle.lock_machine.proofs.Joining.{agree_first, joined_first}
-use Rattle.object_store.specs.Store.{Stored, first_stored}
+use Rattle.call_turns.specs.Store.{Stored, first_stored}
 use Rattle.lock_machine.specs.Births.{BornWithin, time_of}
 use Rattle.lock_machine.proofs.Bearing.{born_first}
 use Rattle.std.specs.Vec.{vec_len}

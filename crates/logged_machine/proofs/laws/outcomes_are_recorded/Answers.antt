@@ -1,5 +1,0 @@
-use Rattle.logged_machine.proofs.Recording.{record_laws}
-use Rattle.logged_machine.proofs.laws.outcomes_are_recorded.Goals as goal
-
-pub returns : goal.returns
-returns c = record_laws

@@ -1,5 +1,0 @@
-use Rattle.object_store.proofs.Standing.{stands_first}
-use Rattle.object_store.proofs.laws.first_store.Goals as goal
-
-pub returns : goal.returns
-returns c = stands_first c.table_follows_step.ensures.follows

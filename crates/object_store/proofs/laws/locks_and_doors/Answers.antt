@@ -1,6 +1,0 @@
-use Rattle.std.proofs.Common.{sym}
-use Rattle.object_store.proofs.Standing.{number_known}
-use Rattle.object_store.proofs.laws.locks_and_doors.Goals as goal
-
-pub returns-clause-numbers : goal.returns-clause-numbers
-returns-clause-numbers c h w call carried stands = sym (number_known c.table_follows_step.ensures.follows h w stands call carried)

@@ -1,4 +1,0 @@
-use Rattle.object_store.proofs.store.Store.write.Goals as goal
-
-pub returns-in-Socket-clause-acts : goal.returns-in-Socket-clause-acts
-returns-in-Socket-clause-acts c = rw c.in-Socket.is c.write_pair.ensures.acts
